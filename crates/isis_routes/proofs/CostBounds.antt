@@ -1,17 +1,19 @@
 -- No sum of a distance and of what an offer asks is too large.
-use Rattle.std.proofs.Common.{◌≡◌, ℕ, ◌+◌, ◌*◌, ◌^◌, ◌<◌, ◌≤◌, List, [], length, get_or, Some, sym, subst, arith}
-use Rattle.std.proofs.lemmas.Option.{slice_get-get_or}
+use Rattle.std.proofs.Common.{◌≡◌, ℕ, ◌+◌, ◌*◌, ◌^◌, ◌<◌, ◌≤◌, List, length, sym, subst, arith}
 use Rattle.net_addr.specs.Addresses.{Block}
 use Rattle.net_model.proofs.NetworkFacts.{HasConfiguration-within, UpInterface-keeps}
 use Rattle.net_model.specs.Configuration.{IsInterface}
-use Rattle.net_model.specs.Network.{Network}
+use Rattle.net_model.specs.Network.{Network, Adjacent}
 use Rattle.net_model.specs.Refusals.{IsNetwork}
-use Rattle.net_model.specs.declared.zone.Zone.TheVariants.{One as ZoneOne}
-use Rattle.walk_core.specs.Offers.{Offers}
-use Rattle.walk_core.specs.Reach.{Reach, distance_of}
+use Rattle.net_model.specs.declared.zone.Zone.{Zone}
+use Rattle.net_model.specs.declared.zone.Zone.TheVariants.{One as ZoneOne, Two as ZoneTwo}
+use Rattle.walk_core.specs.Offers.{Offers, BestCost}
+use Rattle.walk_core.specs.Reach.{Reach}
 use Rattle.walk_core.specs.declared.offers.Offer.{Offer}
 use Rattle.igp_theory.specs.Isis.{OffersLevelOne, LevelOneCost, OffersLevelTwo, LevelTwoAnnouncement, own, of_level_one, LevelTwoCost, DownAnnouncement, OffersDefault}
+use Rattle.igp_theory.specs.Ospf.{OfOthers}
 use Rattle.zone_graph.specs.Walks.{AreZoneWalks}
+use Rattle.isis_routes.proofs.LevelRoutes.{reach_of}
 use Rattle.isis_routes.specs.steps.Offered.{AreSmall, HoldsOffers}
 use Rattle.isis_routes.specs.steps.Routing.{AreLevelWalks}
 use Rattle.isis_routes.specs.declared.level_walks.LevelWalks.{LevelWalks}
@@ -36,22 +38,25 @@ two_is_small net p w cost network offers =
     let is : offers.interface.metric2 ≡ cost = offers.costs in
     omega arith
 
-no_walks : Reach
-no_walks = record { distances = []; hops = [] }
+-- a best cost is at most 200 arcs more than its offer asks
+best_is_small : (net : Network) (zone : Zone) (walks : List Reach) (u cost most : ℕ) (offer : Offers) → AreZoneWalks net zone walks → u < length net →
+    ((at asks : ℕ) → offer at asks → asks < most) → BestCost (Adjacent net zone) offer u cost → cost < 200 * 2 ^ 32 + most
+best_is_small net zone walks u cost most offer are within small best =
+    let known = reach_of net zone walks u are within in
+    let attained = best.attained in
+    let near : attained.walk < 200 * 2 ^ 32 =
+    known.near best.at attained.walk ((known.least.distances best.at attained.walk).1 attained.reached) in
+    let asked : attained.asks < most = small best.at attained.asks attained.offered in
+    let sum : attained.walk + attained.asks ≡ cost = attained.costs in
+    omega arith
 
 -- a level 1 cost is at most 200 arcs and a metric
 one_cost_is_small : (net : Network) (p : Block) (u cost : ℕ) (walks : List Reach) → IsNetwork net → AreZoneWalks net ZoneOne walks →
     LevelOneCost net p u cost → cost < 2 ^ 41
 one_cost_is_small net p u cost walks network are costs =
     let within : u < length net = HasConfiguration-within net u costs.runs.config costs.runs.router in
-    let inside : u < length walks = omega (arith, are.routers) in
-    let reach : Reach = get_or walks u no_walks in
-    let here = slice_get-get_or walks u no_walks inside in
-    let attained = costs.best.attained in
-    let far : distance_of reach costs.best.at ≡ Some attained.walk = ((are.least u reach here).distances costs.best.at attained.walk).1 attained.reached in
-    let near : attained.walk < 200 * 2 ^ 32 = are.near u reach here costs.best.at attained.walk far in
-    let small : attained.asks < 2 ^ 24 = one_is_small net p costs.best.at attained.asks network attained.offered in
-    let sum : attained.walk + attained.asks ≡ cost = attained.costs in
+    let small : cost < 200 * 2 ^ 32 + 2 ^ 24 = best_is_small net ZoneOne walks u cost (2 ^ 24) (OffersLevelOne net p) are within
+    (λ at asks is. one_is_small net p at asks network is) costs.best in
     omega arith
 
 -- so is what is announced into level 2
@@ -67,15 +72,8 @@ two_cost_is_small : (net : Network) (p : Block) (u cost : ℕ) (walks : LevelWal
     cost < 2 ^ 42
 two_cost_is_small net p u cost walks network are costs =
     let within : u < length net = HasConfiguration-within net u costs.runs.config costs.runs.router in
-    let inside : u < length walks.two = omega (arith, are.two.routers) in
-    let reach : Reach = get_or walks.two u no_walks in
-    let here = slice_get-get_or walks.two u no_walks inside in
-    let attained = costs.best.attained in
-    let far : distance_of reach costs.best.at ≡ Some attained.walk =
-    ((are.two.least u reach here).distances costs.best.at attained.walk).1 attained.reached in
-    let near : attained.walk < 200 * 2 ^ 32 = are.two.near u reach here costs.best.at attained.walk far in
-    let small : attained.asks < 2 ^ 41 = announcement_is_small net p costs.best.at attained.asks walks.one network are.one attained.offered.offered in
-    let sum : attained.walk + attained.asks ≡ cost = attained.costs in
+    let small : cost < 200 * 2 ^ 32 + 2 ^ 41 = best_is_small net ZoneTwo walks.two u cost (2 ^ 41) (OfOthers (LevelTwoAnnouncement net p) u) are.two within
+    (λ at asks is. announcement_is_small net p at asks walks.one network are.one is.offered) costs.best in
     omega arith
 
 -- What is listed of a prefix

@@ -11,7 +11,6 @@ use Rattle.net_model.proofs.NetworkFacts.{UpInterface-within}
 use Rattle.net_model.specs.Configuration.{Configuration}
 use Rattle.net_model.specs.Network.{Network, HasConfiguration, Connected}
 use Rattle.net_model.specs.declared.interface.Interface.{Interface}
-use Rattle.igp_theory.specs.Isis.{OffersLevelTwo}
 use Rattle.route_tables.specs.Lists.{Exactly}
 use Rattle.route_tables.proofs.ListFacts.{AnyBelow, any_of, any_in, exactly_same}
 use Rattle.isis_routes.specs.steps.Homes.{IsOwnSubnet, IsHomeOf, AreHomes, AreRoutersAt}
@@ -138,6 +137,3 @@ home_is_router net p homes i are within =
 pub offered_is_connected : (net : Network) (level : Level) (p : Block) (w cost : ℕ) → OffersIn net level p w cost → Connected net w p
 offered_is_connected net One p w cost offers = record { interface = offers.interface; up = offers.up; subnet = offers.subnet }
 offered_is_connected net Two p w cost offers = record { interface = offers.interface; up = offers.up; subnet = offers.subnet }
-
-pub two_is_connected : (net : Network) (p : Block) (w cost : ℕ) → OffersLevelTwo net p w cost → Connected net w p
-two_is_connected net p w cost offers = offered_is_connected net Two p w cost offers

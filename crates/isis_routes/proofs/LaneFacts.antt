@@ -18,7 +18,7 @@ use Rattle.route_tables.proofs.ListFacts.{any_in_one, any_in_two, the_one}
 use Rattle.isis_routes.specs.steps.Destinations.{HasAnnouncements, isis_prefixes}
 use Rattle.isis_routes.specs.steps.Domain.{IsisDomain, IsKnown}
 use Rattle.isis_routes.specs.steps.Homes.{AreRoutersAt}
-use Rattle.isis_routes.specs.steps.Lanes.{AreDecisions, DecidesIn, IsDecisionAmong, IsDecisionBy, IsDecisionOf, IsInLane, MakesOne, made_at_homes, left_open, of_one, of_down, of_two, of_none}
+use Rattle.isis_routes.specs.steps.Lanes.{DecidesIn, IsDecisionAmong, IsDecisionBy, IsDecisionOf, IsInLane, MakesOne, made_at_homes, left_open, of_one, of_down, of_two, of_none}
 use Rattle.isis_routes.specs.steps.LevelReach.{level_reach}
 use Rattle.isis_routes.specs.steps.Levels.{zone_number}
 use Rattle.isis_routes.specs.steps.Offered.{AreSmall}
@@ -90,20 +90,6 @@ lane_decides domain Two u d decision is has within lane (of_one wrong by) = absu
 lane_decides domain Two u d decision is has within lane (of_down wrong empty by) = absurd (let no : Two ≡ One = wrong in cc)
 lane_decides domain level u d decision is has within lane (of_none open_is) =
     subst (DecidesIn domain (zone_number level) u d.one.dest) (sym open_is) tt
-
--- and so does that at its place
-pub lane_at : (domain : IsisDomain) (level : Level) (all : List Destination) (decisions : List Decision) → IsKnown domain →
-    All (HasAnnouncements domain.net) all → AreDecisions level all decisions → (u place : ℕ) → u < length domain.net → IsInLane domain.net level u →
-    place < length (isis_prefixes all) → DecidesIn domain (zone_number level) u (prefix_at (isis_prefixes all) place) (get_or decisions place Unknown)
-lane_at domain level all decisions known has are u place within lane below =
-    let count = length-map all (λ (d : Destination). d.one.dest) in
-    elim (slice_get_cases all place).1 [
-      | inl (d, inside, here, read) ↦
-          let at = at_place domain.net all place d has here in
-          subst (λ (p : Block). DecidesIn domain (zone_number level) u p (get_or decisions place Unknown)) (sym at.1)
-          (lane_decides domain level u d (get_or decisions place Unknown) known at.0 within lane (are.each place d here))
-      | inr (past, none) ↦ absurd (omega (arith, below, count, past))
-    ]
 
 -- Decisions in the making
 

@@ -26,15 +26,15 @@ use Rattle.isis_routes.specs.declared.level.Level.{Level}
 use Rattle.isis_routes.specs.declared.level.Level.TheVariants.{One, Two}
 use Rattle.isis_routes.specs.declared.level_walks.LevelWalks.{LevelWalks}
 
-abbrev no_walks : Reach
+abbrev pub no_walks : Reach
 no_walks = record { distances = []; hops = [] }
 
 -- what is known of the least walks of a level from a router
-record IsReachIn (net : Network) (zone : Zone) (u : ℕ) (reach : Reach) : Type 0 where
-  least : AreLeastWalks (Adjacent net zone) u reach
-  near : AreNear 200 reach
+pub record IsReachIn (net : Network) (zone : Zone) (u : ℕ) (reach : Reach) : Type 0 where
+  pub least : AreLeastWalks (Adjacent net zone) u reach
+  pub near : AreNear 200 reach
 
-reach_of : (net : Network) (part : Zone) (walks : List Reach) (u : ℕ) → AreZoneWalks net part walks → u < length net →
+pub reach_of : (net : Network) (part : Zone) (walks : List Reach) (u : ℕ) → AreZoneWalks net part walks → u < length net →
     IsReachIn net part u (get_or walks u no_walks)
 reach_of net part walks u are within =
     let here = slice_get-get_or walks u no_walks (subst (λ (n : ℕ). u < n) (sym are.routers) within) in

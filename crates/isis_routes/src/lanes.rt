@@ -1,16 +1,14 @@
-ghost use Rattle.std.specs.Prelude.{◌≡◌, ◌<◌, ◌↔◌, Some, All, IfOk, IfSome, IsTrue, length};
+ghost use Rattle.std.specs.Prelude.{◌≡◌, ◌<◌, ◌↔◌, Some, All, IfSome, IsTrue, length};
 ghost use Rattle.isis_routes.specs.steps.Levels.{zone_number};
 ghost use Rattle.isis_routes.specs.declared.level.Level.{Level};
-ghost use Rattle.isis_routes.specs.steps.Lanes.{AreDecisions, IsDecisionBy, IsDecisionOf, IsInLane, MakesOne};
+ghost use Rattle.isis_routes.specs.steps.Lanes.{IsDecisionBy, IsDecisionOf, IsInLane, MakesOne};
 ghost use Rattle.isis_routes.specs.declared.level.Level.TheVariants.{One, Two};
 
-use crate::OutOfMemory;
 use crate::destinations::Destination;
 use crate::domain::Domain;
 use crate::level::Level;
 use crate::level_walks::{ZONE_ONE, ZONE_TWO};
 use route_tables::Decision;
-use std::alloc::Global;
 use walk_core::Offer;
 
 /// How many lanes routers fall into: that of each level, under the number of the level, and one for those that run neither.
@@ -52,23 +50,8 @@ pub fn level_of_lane(lane: usize) -> Option<Level>
     }
 }
 
-/// What decides the routes of the routers in the lane of a level, destination by destination.
-pub fn decisions(
-    alloc: Global,
-    destinations: &[Destination],
-    level: Level,
-) -> Result<Vec<Decision>, OutOfMemory>
-    ensures { IfOk result (λ all. AreDecisions level destinations.now all.items) }
-{
-    let mut all = Vec::new(alloc);
-    for destination in destinations {
-        all.push(decision_of(destination, level))?;
-    }
-    Ok(all)
-}
-
 /// What decides the routes of the routers in the lane of a level for a destination.
-fn decision_of(destination: &Destination, level: Level) -> Decision
+pub fn decision_of(destination: &Destination, level: Level) -> Decision
     ensures { IsDecisionOf level destination.now result }
 {
     match level {

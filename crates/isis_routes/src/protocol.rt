@@ -2,34 +2,29 @@ ghost use Rattle.std.specs.Prelude.{◌≡◌, ◌<◌, length, IfOk};
 ghost use Rattle.route_tables.specs.Prefixes.{prefix_at};
 ghost use Rattle.isis_routes.specs.steps.Destinations.{AreIsisDestinations, HasAnnouncements, isis_prefixes};
 ghost use Rattle.isis_routes.specs.steps.Domain.{IsKnown};
-ghost use Rattle.isis_routes.specs.steps.Lanes.{AreDecisions};
 
 use crate::OutOfMemory;
 use crate::alike::{earlier_alike, named_at};
 use crate::destinations::{Destination, destinations};
 use crate::domain::Domain;
 use crate::entry::route_of;
-use crate::lanes::{LANES, decisions, lane_of_level, level_of_lane, router_level};
-use crate::level::Level;
+use crate::lanes::{LANES, decision_of, lane_of_level, level_of_lane, router_level};
 use crate::segments::level_segments;
 use crate::target::target_of;
 use net_addr::Prefix;
 use net_model::Net;
-use route_tables::{Decision, Lane, Protocol, Route, Target};
+use route_tables::{Decision, Protocol, Route, Target};
 use std::alloc::Global;
 use std::marker::Model;
 use walk_core::{LeastWalks, Segment};
 
-/// IS-IS on a network: what its routers know, also of each prefix that may have entries, for each an earlier one with the
-/// same routes, where one is known, and what decides the routes of routers that run level 1 alone, and of those that run
-/// level 2.
+/// IS-IS on a network: what its routers know, also of each prefix that may have entries, and for each an earlier one with the
+/// same routes, where one is known.
 #[derive(Drop)]
 pub struct Isis<'a> {
     domain: Domain<'a>,
     destinations: Vec<Destination>,
     earlier: Vec<Option<usize>>,
-    lane_one: Vec<Decision>,
-    lane_two: Vec<Decision>,
 }
 
 impl<'a> Model for Isis<'a> {
@@ -39,8 +34,7 @@ impl<'a> Model for Isis<'a> {
 
     ghost view = { λ x. record { domain = x.domain; destinations = x.destinations.items } };
 
-    ghost invariant = { λ x. IsIsis (record { domain = x.domain; destinations = x.destinations.items })
-        (record { earlier = x.earlier.items; one = x.lane_one.items; two = x.lane_two.items }) };
+    ghost invariant = { λ x. IsIsis (record { domain = x.domain; destinations = x.destinations.items }) x.earlier.items };
 }
 
 impl<'a> Isis<'a> {
@@ -51,14 +45,10 @@ impl<'a> Isis<'a> {
         let domain = Domain::build(alloc, net)?;
         let destinations = destinations(alloc, &domain)?;
         let earlier = earlier_alike(alloc, destinations.as_slice(), domain.net().routers())?;
-        let lane_one = decisions(alloc, destinations.as_slice(), Level::One)?;
-        let lane_two = decisions(alloc, destinations.as_slice(), Level::Two)?;
         Ok(Isis {
             domain,
             destinations,
             earlier,
-            lane_one,
-            lane_two,
         })
     }
 
@@ -72,6 +62,7 @@ impl<'a> Isis<'a> {
     /// What is known of each prefix.
     fn known(&self) -> &[Destination]
         ensures is { result.now ≡ self.now.destinations }
+        ensures domain { IsKnown self.now.domain }
         ensures known { AreIsisDestinations self.now.domain.net self.now.destinations }
     {
         self.destinations.as_slice()
@@ -80,22 +71,11 @@ impl<'a> Isis<'a> {
     /// What is known of the prefix of this number.
     fn destination(&self, place: usize) -> &Destination
         requires { place < length (isis_prefixes self.now.destinations) }
+        ensures domain { IsKnown self.now.domain }
         ensures announced { HasAnnouncements self.now.domain.net result.now }
         ensures dest { result.now.one.dest ≡ prefix_at (isis_prefixes self.now.destinations) place }
     {
         &self.known()[place]
-    }
-
-    /// What decides the routes of the routers in the lane of a level, prefix by prefix.
-    fn level_decisions(&self, level: Level) -> &[Decision]
-        ensures domain { IsKnown self.now.domain }
-        ensures known { AreIsisDestinations self.now.domain.net self.now.destinations }
-        ensures decisions { AreDecisions level self.now.destinations result.now }
-    {
-        match level {
-            Level::One => self.lane_one.as_slice(),
-            Level::Two => self.lane_two.as_slice(),
-        }
     }
 }
 
@@ -122,6 +102,8 @@ impl<'a> Protocol for Isis<'a> {
 
     ghost in_lane = { λ isis. IsOfIsisLane isis.domain.net };
 
+    ghost lane_zone = { λ _ lane. lane };
+
     fn routers(&self) -> u32 {
         self.domain().net().routers()
     }
@@ -146,12 +128,16 @@ impl<'a> Protocol for Isis<'a> {
         named_at(self.earlier.as_slice(), place)
     }
 
-    fn decisions(&self, lane: usize) -> Option<Lane<'_>> {
+    fn zone_of_lane(&self, lane: usize) -> Option<usize> {
         let level = level_of_lane(lane)?;
-        Some(Lane {
-            zone: level.zone(),
-            decisions: self.level_decisions(level),
-        })
+        Some(level.zone())
+    }
+
+    fn decision(&self, lane: usize, place: usize) -> Decision {
+        match level_of_lane(lane) {
+            Some(level) => decision_of(self.destination(place), level),
+            None => Decision::Unknown,
+        }
     }
 
     fn route(

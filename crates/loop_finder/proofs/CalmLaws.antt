@@ -3,8 +3,8 @@ use Rattle.std.proofs.Common.{◌≡◌, ℕ, zero, suc, ◌+◌, ◌<◌, ◌�
 use Rattle.std.proofs.Common.{subst, below_more}
 use Rattle.std.specs.Bool.{OnTrue}
 use Rattle.std.specs.List.{All}
-use Rattle.std.proofs.lemmas.Bool.{cases_lt}
-use Rattle.std.proofs.lemmas.Bool.Decides.{eqb_tells, leb_tells}
+use Rattle.std.proofs.lemmas.Bool.{cases_eq, cases_lt}
+use Rattle.std.proofs.lemmas.Bool.Decides.{leb_tells}
 use Rattle.std.proofs.lemmas.List.{get_or_default, get_or-replicate, get_or-set_other, get_or-set_same}
 use Rattle.std.proofs.Math.ListN.{length-set, length-replicate, replicate}
 use Rattle.order_core.specs.Rankings.{rank_of}
@@ -82,51 +82,43 @@ calm_further part ranks steppers w v moves many are is unstirred next = calm_unt
 other_rank : (ranks : List ℕ) (u rank v : ℕ) → (¬ (v ≡ u)) → rank_of (set ranks u rank) v ≡ rank_of ranks v
 other_rank ranks u rank v apart = get_or-set_other ranks u v rank 0 apart
 
--- so its rank doesn't matter there
-calm_with_idle : (part : ClassPart) (ranks : List ℕ) (u rank w : ℕ) → IsIdle part u → IsCalmBefore part ranks w → IsCalmBefore part (set ranks u rank) w
-calm_with_idle part ranks u rank w idle is = record {
+-- where a router steps as before, and no walk returns to it in the wave of its other rank, a part stays calm
+calm_with : (part : ClassPart) (ranks : List ℕ) (u rank w : ℕ) → ((v h : ℕ) → v < w → WaveStep part (set ranks u rank) v u h → WaveStep part ranks v u h) →
+    ((v : ℕ) → v < w → rank_of (set ranks u rank) u ≡ v → NeverReturnsTo (WaveStep part (set ranks u rank) v) u) → IsCalmBefore part ranks w →
+    IsCalmBefore part (set ranks u rank) w
+calm_with part ranks u rank w steps never is = record {
   moves = is.moves;
-  calm = λ v less x within same h hops follows. elim (eqb_tells x u) [
-    | inl this ↦ bare_wave part (set ranks u rank) v u h idle.bare (subst (λ (y : ℕ). WaveStep part (set ranks u rank) v y h) this.1 follows.0)
-    | inr apart ↦ is.calm v less x (omega (arith, within, length-set ranks u rank)) (sym (other_rank ranks u rank x apart.1) ∙ same) h hops
-        (follows_over (λ y z steps. steps_before v y z steps) x (h ∷ hops) x follows)
+  calm = λ v less x within same. elim (cases_eq x u) [
+    | inl this ↦ subst (λ (y : ℕ). NeverReturnsTo (WaveStep part (set ranks u rank) v) y) (sym this)
+        (never v less (subst (λ (y : ℕ). rank_of (set ranks u rank) y ≡ v) this same))
+    | inr apart ↦ λ h hops follows. is.calm v less x (omega (arith, within, length-set ranks u rank)) (sym (other_rank ranks u rank x apart) ∙ same) h hops
+        (follows_over (λ y z step. as_before v less y z step) x (h ∷ hops) x follows)
   ];
 }
   where
-    steps_before : (v y z : ℕ) → WaveStep part (set ranks u rank) v y z → WaveStep part ranks v y z
-    steps_before v y z steps = elim (eqb_tells y u) [
-      | inl this ↦ absurd (bare_wave part (set ranks u rank) v u z idle.bare (subst (λ (x : ℕ). WaveStep part (set ranks u rank) v x z) this.1 steps))
+    as_before : (v : ℕ) → v < w → (y z : ℕ) → WaveStep part (set ranks u rank) v y z → WaveStep part ranks v y z
+    as_before v less y z step = elim (cases_eq y u) [
+      | inl this ↦ subst (λ (x : ℕ). WaveStep part ranks v x z) (sym this)
+          (steps v z less (subst (λ (x : ℕ). WaveStep part (set ranks u rank) v x z) this step))
       | inr apart ↦
-          let as_was : rank_of (set ranks u rank) y ≡ rank_of ranks y = other_rank ranks u rank y apart.1 in
-          elim steps [ inl one ↦ inl (omega (arith, one.0, as_was), one.1) | inr other ↦ inr (omega (arith, other.0, as_was), other.1) ]
+          let as_was : rank_of (set ranks u rank) y ≡ rank_of ranks y = other_rank ranks u rank y apart in
+          elim step [ inl one ↦ inl (omega (arith, one.0, as_was), one.1) | inr other ↦ inr (omega (arith, other.0, as_was), other.1) ]
     ]
+
+-- so the rank of an idle router doesn't matter
+calm_with_idle : (part : ClassPart) (ranks : List ℕ) (u rank w : ℕ) → IsIdle part u → IsCalmBefore part ranks w → IsCalmBefore part (set ranks u rank) w
+calm_with_idle part ranks u rank w idle is = calm_with part ranks u rank w
+    (λ v h less step. absurd (bare_wave part (set ranks u rank) v u h idle.bare step))
+    (λ v less same h hops follows. bare_wave part (set ranks u rank) v u h idle.bare follows.0) is
 
 -- nor does a rank matter before it and the one that it takes the place of
 calm_with_later : (part : ClassPart) (ranks : List ℕ) (u rank w : ℕ) → u < length ranks → w ≤ rank_of ranks u → w ≤ rank → IsCalmBefore part ranks w →
     IsCalmBefore part (set ranks u rank) w
-calm_with_later part ranks u rank w inside was now is = record {
-  moves = is.moves;
-  calm = λ v less x within same h hops follows. elim (eqb_tells x u) [
-    | inl this ↦
-        let here : rank_of (set ranks u rank) x ≡ rank =
-        subst (λ (y : ℕ). rank_of (set ranks u rank) y ≡ rank) (sym this.1) (get_or-set_same ranks u rank 0 inside) in
-        absurd (omega (arith, here, same, less, now))
-    | inr apart ↦ is.calm v less x (omega (arith, within, length-set ranks u rank)) (sym (other_rank ranks u rank x apart.1) ∙ same) h hops
-        (follows_over (λ y z steps. steps_before v less y z steps) x (h ∷ hops) x follows)
-  ];
-}
-  where
-    steps_before : (v : ℕ) → v < w → (y z : ℕ) → WaveStep part (set ranks u rank) v y z → WaveStep part ranks v y z
-    steps_before v less y z steps = elim (eqb_tells y u) [
-      | inl this ↦
-          let here : rank_of (set ranks u rank) y ≡ rank =
-          subst (λ (x : ℕ). rank_of (set ranks u rank) x ≡ rank) (sym this.1) (get_or-set_same ranks u rank 0 inside) in
-          let then : w ≤ rank_of ranks y = subst (λ (x : ℕ). w ≤ rank_of ranks x) (sym this.1) was in
-          elim steps [ inl one ↦ inl (omega (arith, then, less), one.1) | inr other ↦ absurd (omega (arith, other.0, here, now, less)) ]
-      | inr apart ↦
-          let as_was : rank_of (set ranks u rank) y ≡ rank_of ranks y = other_rank ranks u rank y apart.1 in
-          elim steps [ inl one ↦ inl (omega (arith, one.0, as_was), one.1) | inr other ↦ inr (omega (arith, other.0, as_was), other.1) ]
-    ]
+calm_with_later part ranks u rank w inside was now is =
+    let here : rank_of (set ranks u rank) u ≡ rank = get_or-set_same ranks u rank 0 inside in
+    calm_with part ranks u rank w
+    (λ v h less step. elim step [ inl one ↦ inl (omega (arith, was, less), one.1) | inr other ↦ absurd (omega (arith, other.0, here, now, less)) ])
+    (λ v less same. absurd (omega (arith, here, same, less, now))) is
 
 -- what is kept where a router takes another rank, and less of the parts which that concerns
 pub AreCalm-with_rank : (parts : List ClassPart) (ranks calm lowered places : List ℕ) (u rank most : ℕ) → u < length ranks → most ≤ rank_of ranks u →
@@ -149,18 +141,16 @@ pub AreCalm-at : (parts : List ClassPart) (ranks calm : List ℕ) (p w : ℕ) (p
     IsCalmBefore part ranks w → AreCalm parts ranks calm → AreCalm parts ranks (set calm p w)
 AreCalm-at parts ranks calm p w part there at one are = record {
   many = length-set calm p w ∙ are.many;
-  each = λ q d within. elim (eqb_tells q p) [
-    | inl same ↦
-        let now : w ≡ get_or (set calm p w) q 0 =
-        subst (λ (x : ℕ). w ≡ get_or (set calm p w) x 0) (sym same.1) (sym (set_here (omega (arith, there, are.many)))) in
-        let is : part ≡ get_or parts q d = at ∙ get_or_default parts p part d there ∙ ap (λ (x : ℕ). get_or parts x d) (sym same.1) in
-        subst (λ (x : ClassPart). IsCalmBefore x ranks (get_or (set calm p w) q 0)) is (subst (λ (v : ℕ). IsCalmBefore part ranks v) now one)
-    | inr apart ↦ subst (λ (v : ℕ). IsCalmBefore (get_or parts q d) ranks v) (sym (get_or-set_other calm p q w 0 apart.1)) (are.each q d within)
+  each = λ q d within. elim (cases_eq q p) [
+    | inl same ↦ subst (λ (x : ℕ). IsCalmBefore (get_or parts x d) ranks (get_or (set calm p w) x 0)) (sym same) (here d)
+    | inr apart ↦ subst (λ (v : ℕ). IsCalmBefore (get_or parts q d) ranks v) (sym (get_or-set_other calm p q w 0 apart)) (are.each q d within)
   ];
 }
   where
-    set_here : p < length calm → get_or (set calm p w) p 0 ≡ w
-    set_here within = get_or-set_same calm p w 0 within
+    here : (d : ClassPart) → IsCalmBefore (get_or parts p d) ranks (get_or (set calm p w) p 0)
+    here d =
+        subst (λ (v : ℕ). IsCalmBefore (get_or parts p d) ranks v) (sym (get_or-set_same calm p w 0 (omega (arith, there, are.many))))
+        (subst (λ (x : ClassPart). IsCalmBefore x ranks w) (at ∙ get_or_default parts p part d there) one)
 
 -- the rank of one router more is taken
 pub taken_more : (ranks kept taken : List ℕ) (n : ℕ) → n < length kept → taken ≡ set kept n (get_or ranks n 0) →

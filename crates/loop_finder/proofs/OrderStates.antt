@@ -2,7 +2,7 @@
 use Rattle.std.proofs.Common.{◌≡◌, ℕ, zero, suc, ◌+◌, ◌-◌, ◌*◌, ◌/◌, ◌<◌, ◌≤◌, ◌==◌, if◌then◌else◌, List, [], ◌∷◌, ◌++◌, length, get_or, take, Contains}
 use Rattle.std.proofs.Common.{Option, Some, None, IfNone, IfSome, MatchOption, Bool, true, false, arith, refl, sym, ap, ◌∙◌, subst, inl, inr}
 use Rattle.std.proofs.lemmas.Bool.Decides.{eqb_tells}
-use Rattle.std.proofs.lemmas.List.{take_more, take_all}
+use Rattle.std.proofs.lemmas.List.{get_or_read, take_more, take_all}
 use Rattle.std.proofs.lemmas.List.Elements.{Contains-get_or}
 use Rattle.igp_theory.specs.States.{State, changes_of, changes_on, phase_after, state_of}
 use Rattle.igp_theory.specs.declared.phase.Phase.{Phase}
@@ -50,8 +50,8 @@ phase_after-more (suc zero) = refl
 phase_after-more (suc (suc c)) = let e : suc (suc c) + 1 ≡ suc (suc (suc c)) = omega arith in ap phase_after e
 
 -- the router that changes is one of the order's
-pub changed_inside : (order : List ℕ) (n k r : ℕ) → ((u : ℕ) → Contains order u → u < n) → k < length order → r ≡ get_or order k 0 → r < n
-changed_inside order n k r all within read = all r (subst (λ (u : ℕ). Contains order u) (sym read) (Contains-get_or order k 0 within))
+pub changed_inside : (order : List ℕ) (n k r : ℕ) → ((u : ℕ) → Contains order u → u < n) → k < length order → r ≡ get_or order k r → r < n
+changed_inside order n k r all within read = all r (subst (λ (u : ℕ). Contains order u) (sym read) (Contains-get_or order k r within))
 
 -- a change more
 state_more : (order : List ℕ) (k u : ℕ) → k < 2 * length order →
@@ -63,20 +63,22 @@ state_more order k u within =
     ∙ ap (λ (v : ℕ). phase_after (changes_on u (take k (changes_of order)) + counted u v)) (change_at order k)
 
 -- the phases after change k, which the router at place k / 2 makes
-pub state_advanced : (order : List ℕ) (phases next : List Phase) (k r : ℕ) → k / 2 < length order → r ≡ get_or order (k / 2) 0 → IsAdvanced phases next r →
+pub state_advanced : (order : List ℕ) (phases next : List Phase) (k r : ℕ) → k / 2 < length order → r ≡ get_or order (k / 2) r → IsAdvanced phases next r →
     IsStateOf phases order k → IsStateOf next order (k + 1)
-state_advanced order phases next k r within at advanced state u = elim (eqb_tells u r) [
-  | inl same ↦
-      let one : counted u (get_or order (k / 2) 0) ≡ tally true = ap (λ (v : ℕ). counted u v) (sym at) ∙ ap tally same.0 in
-      subst (λ (v : ℕ). state_in next v ≡ next_phase (state_in phases v)) (sym same.1) advanced.here ∙ ap next_phase (state u)
-      ∙ sym (phase_after-more (changes_on u (take k (changes_of order))))
-      ∙ ap (λ (n : ℕ). phase_after (changes_on u (take k (changes_of order)) + n)) (sym one) ∙ sym (state_more order k u (omega (arith, within)))
-  | inr apart ↦
-      let none : counted u (get_or order (k / 2) 0) ≡ tally false = ap (λ (v : ℕ). counted u v) (sym at) ∙ ap tally apart.0 in
-      let same : changes_on u (take k (changes_of order)) ≡ changes_on u (take k (changes_of order)) + counted u (get_or order (k / 2) 0) =
-      omega (arith, none) in
-      advanced.others u apart.1 ∙ state u ∙ ap phase_after same ∙ sym (state_more order k u (omega (arith, within)))
-]
+state_advanced order phases next k r within at advanced state u =
+    let read : r ≡ get_or order (k / 2) 0 = get_or_read order (k / 2) r within at 0 in
+    elim (eqb_tells u r) [
+      | inl same ↦
+          let one : counted u (get_or order (k / 2) 0) ≡ tally true = ap (λ (v : ℕ). counted u v) (sym read) ∙ ap tally same.0 in
+          subst (λ (v : ℕ). state_in next v ≡ next_phase (state_in phases v)) (sym same.1) advanced.here ∙ ap next_phase (state u)
+          ∙ sym (phase_after-more (changes_on u (take k (changes_of order))))
+          ∙ ap (λ (n : ℕ). phase_after (changes_on u (take k (changes_of order)) + n)) (sym one) ∙ sym (state_more order k u (omega (arith, within)))
+      | inr apart ↦
+          let none : counted u (get_or order (k / 2) 0) ≡ tally false = ap (λ (v : ℕ). counted u v) (sym read) ∙ ap tally apart.0 in
+          let same : changes_on u (take k (changes_of order)) ≡ changes_on u (take k (changes_of order)) + counted u (get_or order (k / 2) 0) =
+          omega (arith, none) in
+          advanced.others u apart.1 ∙ state u ∙ ap phase_after same ∙ sym (state_more order k u (omega (arith, within)))
+    ]
 
 -- past its changes an order stays in its last state
 pub state_stays : (order : List ℕ) (phases : List Phase) (k : ℕ) → length order ≤ k / 2 → IsStateOf phases order k → IsStateOf phases order (k + 1)

@@ -19,12 +19,7 @@ use Rattle.loop_finder.specs.ClassSteps.{sample_of, Mix, migration_in}
 use Rattle.loop_finder.specs.Verdicts.{ClassesOf, SoundAt, SoundBelow, Sound}
 use Rattle.loop_finder.proofs.ClassVerdicts.{sample_in}
 
--- the samples ascend
-sample_before : (prefixes : List Block) (samples : List ℕ) (i j : ℕ) → AreSamples prefixes samples → i < j → j < length samples →
-    get_or samples i 0 < get_or samples j 0
-sample_before prefixes samples i j are before within = AllPairs-from_increasing samples are.ascending i j 0 before within
-
--- so their number is one of 32 bits
+-- the samples ascend, so their number is one of 32 bits
 pub classes_few : (prefixes : List Block) (samples : List ℕ) → AreSamples prefixes samples → length samples ≤ 2 ^ 32
 classes_few prefixes samples are =
     let apart : AllPairs (λ u v. u ≢ v) samples = λ i j d before within same. let less : get_or samples i d < get_or samples j d =
@@ -79,7 +74,7 @@ below_from m state k are within sound b below =
       | inr after ↦ elim (cases_lt k at.class) [
         | inl past ↦
             let less : get_or m.classes.samples k 0 < get_or m.classes.samples at.class 0 =
-            sample_before m.classes.prefixes m.classes.samples k at.class are.classing.samples past at.inside.class in
+            AllPairs-from_increasing m.classes.samples are.classing.samples.ascending k at.class 0 past at.inside.class in
             absurd (omega (arith, less, below, at.least))
         | inr equal ↦
             let same : at.class ≡ k = omega (arith, after, equal) in

@@ -2,7 +2,7 @@
 use Rattle.std.proofs.Common.{◌≡◌, ℕ, zero, suc, ◌+◌, ◌-◌, ◌<◌, ◌≤◌, ◌⊎◌, Bool, true, cond, leb, List, ◌∷◌, length, Contains, inl, inr, arith, sym, ap, ◌∙◌}
 use Rattle.std.proofs.Common.{subst}
 use Rattle.std.specs.Bool.{OnTrue}
-use Rattle.std.proofs.lemmas.Bool.{cases_lt, cases_order}
+use Rattle.std.proofs.lemmas.Bool.{cases_eq, cases_lt, cases_order}
 use Rattle.std.proofs.lemmas.Bool.Decides.{leb_tells}
 use Rattle.std.proofs.lemmas.List.{get_or_past}
 use Rattle.order_core.specs.Rankings.{rank_of}
@@ -113,27 +113,20 @@ part_wave_sound m part ranks w first last state is ends moves never begun of_wav
     ]
 
     unchanged : (r : ℕ) → state r ≡ state_in first r → (v : ℕ) → mixed state (state_in first) r v ≡ mixed state (state_in first) (suc r) v
-    unchanged r same v = elim (cases_lt v r) [
-      | inl below ↦ mixed_one state (state_in first) r v below ∙ sym (mixed_one state (state_in first) (suc r) v (omega (arith, below)))
-      | inr above ↦ elim (cases_lt r v) [
-        | inl past ↦ mixed_other state (state_in first) r v above ∙ sym (mixed_other state (state_in first) (suc r) v (omega (arith, past)))
-        | inr equal ↦
-            let is_r : r ≡ v = omega (arith, above, equal) in
-            mixed_other state (state_in first) r v above ∙ sym (subst (λ (x : ℕ). state x ≡ state_in first x) is_r same)
-            ∙ sym (mixed_one state (state_in first) (suc r) v (omega (arith, equal)))
-      ]
+    unchanged r same v = elim (cases_eq v r) [
+      | inl is_r ↦
+          mixed_other state (state_in first) r v (omega (arith, is_r)) ∙ sym (subst (λ (x : ℕ). state x ≡ state_in first x) (sym is_r) same)
+          ∙ sym (mixed_one state (state_in first) (suc r) v (omega (arith, is_r)))
+      | inr apart ↦ sym (mixed_more state (state_in first) r v apart)
     ]
 
     sound_to : (r : ℕ) → r ≤ length m.net → SoundAt m (mixed state (state_in first) r) (sample_of m.classes part.atom)
     sound_to zero most = sound_at_alike (λ u within. sym (mixed_other state (state_in first) zero u (omega arith))) begun
-    sound_to (suc r) most = elim (cases_order (rank_of ranks r) w) [
+    sound_to (suc r) most = elim (cases_eq (rank_of ranks r) w) [
       | inl same ↦ part_stays_sound m part first last r (mixed state (state_in first) r) (mixed state (state_in first) (suc r)) is moves
           (never_between r (omega (arith, most, ends.each)) same) (λ v within apart. mixed_more state (state_in first) r v apart) (between (suc r))
           (sound_to r (omega (arith, most)))
-      | inr (inl before) ↦ sound_at_alike (λ u within. unchanged r (as_first r (omega (arith, most)) (λ same. omega (arith, same, before))) u)
-          (sound_to r (omega (arith, most)))
-      | inr (inr after) ↦ sound_at_alike (λ u within. unchanged r (as_first r (omega (arith, most)) (λ same. omega (arith, same, after))) u)
-          (sound_to r (omega (arith, most)))
+      | inr apart ↦ sound_at_alike (λ u within. unchanged r (as_first r (omega (arith, most)) apart) u) (sound_to r (omega (arith, most)))
     ]
 
 -- the first state of a wave is the last one of the wave before, and that of the first wave is the one in which every

@@ -45,14 +45,15 @@ pub fn close_chain(
     None
 }
 
-/// Takes the layers from a router and those after it up to another, over hops that have no layers below this one.
+/// Takes the layers from a router, those after it up to another and that one, over hops that have no layers below this one.
+/// The last one has a layer where it steps to itself.
 fn open_chain(lists: &EndLists<'_>, first: u32, end: u32, next: u32, numbers: &mut [u32]) {
     let mut router = first;
     for _ in 0..numbers.len() {
+        set_number(numbers, router, NO_LAYER);
         if router == end {
             return;
         }
-        set_number(numbers, router, NO_LAYER);
         router = match lists.get(router) {
             Some(Ends::One(hop)) => *hop,
             Some(Ends::Two(old, new)) if number_of(numbers, *old) < next => *new,

@@ -1,6 +1,6 @@
 -- Areas: which there are, who is in them, who is a border router and who listens to whom.
 use Rattle.std.proofs.Common.{◌≡◌, ◌≢◌, ℕ, ◌+◌, ◌<◌, ◌↔◌, inl, inr, ⊎_elim, List, [], ◌∷◌, ◌++◌, length, Option, Some, None, MatchOption, Bool, true, false}
-use Rattle.std.proofs.Common.{not, ◌==◌, IsTrue, refl, sym, ap, subst, ◌∙◌, arith, get_or, length-append}
+use Rattle.std.proofs.Common.{not, ◌==◌, IsTrue, refl, sym, ap, subst, ◌∙◌, arith, get_or}
 use Rattle.std.proofs.lemmas.List.{get_or_default}
 use Rattle.std.specs.List.{Contains, Any}
 use Rattle.std.proofs.lemmas.Bool.{eqb-true, eqb-false, cases_eq, cases_lt, false≢true}
@@ -16,9 +16,8 @@ use Rattle.net_model.specs.declared.zone.Zone.TheVariants.{Area}
 use Rattle.walk_core.specs.Reach.{Reach}
 use Rattle.zone_graph.specs.Walks.{AreZoneWalks}
 use Rattle.igp_theory.specs.Ospf.{ListensTo, backbone, one_area}
-use Rattle.ospf_routes.specs.steps.Areas.{RunsOther, HasArea, IsAreaAt, AreNumbered, AreAreas, AreListeners, IsListener, IsListenerAt, IsReach}
+use Rattle.ospf_routes.specs.steps.Areas.{RunsOther, HasArea, IsAreaAt, AreNumbered, AreAreas, IsListener, IsListenerAt, IsReach}
 use Rattle.ospf_routes.specs.steps.Members.{AreMembersBelow, IsBorderIn, IsMember}
-use Rattle.ospf_routes.proofs.MemberFacts.{each_next}
 use Rattle.ospf_routes.specs.Lists.{Adds, Exactly}
 use Rattle.ospf_routes.specs.declared.areas.AreaWalks.{AreaWalks}
 use Rattle.route_tables.proofs.ListFacts.{any_of, any_in}
@@ -156,46 +155,39 @@ listened_place_is net areas u n None are listens none some = absurd (none (liste
 listened_place_is net areas u n (Some zone) are listens none at = record { area = n; listens = listens; at = at }
 
 -- the area at a place, as it is read
-pub number_at : (areas : List AreaWalks) (n zone : ℕ) (d : AreaWalks) → IsAreaAt areas n zone → (get_or areas zone d).number ≡ n
-number_at areas n zone d at = ap (λ (x : AreaWalks). x.number) (get_or_default areas zone d at.area at.within ∙ sym at.here) ∙ at.number
+pub number_at : (areas : List AreaWalks) (n zone : ℕ) (a : AreaWalks) → IsAreaAt areas n zone → a ≡ get_or areas zone a → a.number ≡ n
+number_at areas n zone a at here =
+    ap (λ (x : AreaWalks). x.number) (here ∙ get_or_default areas zone a at.area at.within ∙ sym at.here) ∙ at.number
 
-pub borders_at : (net : Network) (areas : List AreaWalks) (n zone : ℕ) (d : AreaWalks) → AreAreas net areas → IsAreaAt areas n zone →
-    Exactly (IsBorderIn net n) (get_or areas zone d).borders
-borders_at net areas n zone d are at =
-    subst (λ (m : ℕ). Exactly (IsBorderIn net m) (get_or areas zone d).borders) (number_at areas n zone d at) (are.borders zone d at.within)
+pub borders_at : (net : Network) (areas : List AreaWalks) (n zone : ℕ) (a : AreaWalks) → AreAreas net areas → IsAreaAt areas n zone →
+    a ≡ get_or areas zone a → Exactly (IsBorderIn net n) a.borders
+borders_at net areas n zone a are at here =
+    subst (λ (m : ℕ). Exactly (IsBorderIn net m) a.borders) (number_at areas n zone a at here)
+    (subst (λ (x : AreaWalks). Exactly (IsBorderIn net x.number) x.borders) (sym here) (are.borders zone a at.within))
+
+-- its walks
+walks_at : (net : Network) (areas : List AreaWalks) (zone : ℕ) (a : AreaWalks) → AreAreas net areas → zone < length areas → a ≡ get_or areas zone a →
+    AreZoneWalks net (Area a.number) a.walks
+walks_at net areas zone a are within here =
+    subst (λ (x : AreaWalks). AreZoneWalks net (Area x.number) x.walks) (sym here) (are.walks zone a within)
 
 -- as many walks as routers
-pub reach_within : (net : Network) (areas : List AreaWalks) (u zone : ℕ) (d : AreaWalks) → AreAreas net areas → zone < length areas → u < length net →
-    u < length (get_or areas zone d).walks
-reach_within net areas u zone d are within below = let walks = are.walks zone d within in omega (arith, walks.routers)
+pub reach_within : (net : Network) (areas : List AreaWalks) (u zone : ℕ) (a : AreaWalks) → AreAreas net areas → zone < length areas →
+    a ≡ get_or areas zone a → u < length net → u < length a.walks
+reach_within net areas u zone a are within here below = let walks = walks_at net areas zone a are within here in omega (arith, walks.routers)
 
-pub reach_is : (net : Network) (areas : List AreaWalks) (n u zone : ℕ) (d : AreaWalks) (reach : Reach) → AreAreas net areas → IsAreaAt areas n zone →
-    slice_get (get_or areas zone d).walks u ≡ Some reach → IsReach net n u reach
-reach_is net areas n u zone d reach are at here =
-    let walks : AreZoneWalks net (Area n) (get_or areas zone d).walks =
-    subst (λ (m : ℕ). AreZoneWalks net (Area m) (get_or areas zone d).walks) (number_at areas n zone d at) (are.walks zone d at.within) in
-    record { least = walks.least u reach here; near = walks.near u reach here }
+pub reach_is : (net : Network) (areas : List AreaWalks) (n u zone : ℕ) (a : AreaWalks) (reach : Reach) → AreAreas net areas → IsAreaAt areas n zone →
+    a ≡ get_or areas zone a → slice_get a.walks u ≡ Some reach → IsReach net n u reach
+reach_is net areas n u zone a reach are at here read =
+    let walks : AreZoneWalks net (Area n) a.walks =
+    subst (λ (m : ℕ). AreZoneWalks net (Area m) a.walks) (number_at areas n zone a at here) (walks_at net areas zone a are at.within here) in
+    record { least = walks.least u reach read; near = walks.near u reach read }
 
-pub member_at : (net : Network) (areas : List AreaWalks) (n u zone : ℕ) (d : AreaWalks) → AreAreas net areas → IsAreaAt areas n zone → u < length net →
-    IsMember (get_or areas zone d).members u ↔ InArea net u n
-member_at net areas n u zone d are at below =
-    subst (λ (m : ℕ). IsMember (get_or areas zone d).members u ↔ InArea net u m) (number_at areas n zone d at)
-    ((are.members zone d at.within).exact u below)
-
--- Router by router
-
-pub listeners_more : (net : Network) (areas : List AreaWalks) (n : ℕ) (all : List (Option ℕ)) (next : Option ℕ) → AreListeners net areas n all →
-    IsListenerAt net areas n next → AreListeners net areas (n + 1) (all ++ next ∷ [])
-listeners_more net areas n all next are is = record {
-  count = let long = length-append all (next ∷ []) in omega (arith, are.count);
-  each = each_next (IsListenerAt net areas) all n next None are.count are.each is;
-}
-
--- the listener of a router, as it is read
-pub listener_of : (net : Network) (areas : List AreaWalks) (all : List (Option ℕ)) (u : ℕ) (here : Option ℕ) → AreListeners net areas (length net) all →
-    u < length net → here ≡ get_or all u here → IsListenerAt net areas u here
-listener_of net areas all u here are within is =
-    subst (IsListenerAt net areas u) (sym (is ∙ get_or_default all u here None (omega (arith, are.count)))) (are.each u within)
+pub member_at : (net : Network) (areas : List AreaWalks) (n u zone : ℕ) (a : AreaWalks) → AreAreas net areas → IsAreaAt areas n zone →
+    a ≡ get_or areas zone a → u < length net → IsMember a.members u ↔ InArea net u n
+member_at net areas n u zone a are at here below =
+    subst (λ (m : ℕ). IsMember a.members u ↔ InArea net u m) (number_at areas n zone a at here)
+    ((subst (λ (x : AreaWalks). AreMembersBelow net x.number (length net) x.members) (sym here) (are.members zone a at.within)).each u below)
 
 -- Other areas
 

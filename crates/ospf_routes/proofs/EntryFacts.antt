@@ -7,6 +7,7 @@ use Rattle.route_core.specs.declared.entry.Entry.TheVariants.{Via}
 use Rattle.walk_core.specs.BestOffers.{AreInRange, NoneTotals}
 use Rattle.walk_core.specs.declared.offers.Offer.{Offer}
 use Rattle.ospf_routes.specs.steps.Areas.{AreAreas, IsReach}
+use Rattle.ospf_routes.specs.steps.Domain.{OspfDomain}
 use Rattle.ospf_routes.specs.steps.Offered.{AreOffers}
 use Rattle.ospf_routes.specs.steps.Summarized.{IsHeard}
 use Rattle.ospf_routes.proofs.CostBounds.{in_range, summary_is_small}
@@ -70,41 +71,40 @@ no_route_no_entry net u p no_intra no_range none e (inter_area _ cost costs _) =
     (record { area = costs.area; listens = costs.listens; best = costs.best })
 
 -- what holds of what is asked holds of the network's own
-pub asked_as : (P : Network → List AreaWalks → ℕ → Block → Type 0) (asked : Asked) (net : Network) (areas : List AreaWalks) (u : ℕ) (p : Block) →
-    asked.net.now ≡ net → asked.areas.now ≡ areas → asked.router ≡ u → asked.destination.now.dest ≡ p →
-    P asked.net.now asked.areas.now asked.router asked.destination.now.dest → P net areas u p
-asked_as P asked net areas u p nets lists routers dests is =
-    subst (λ (q : Block). P net areas u q) dests
-    (subst (λ (v : ℕ). P net areas v asked.destination.now.dest) routers
-    (subst (λ (l : List AreaWalks). P net l asked.router asked.destination.now.dest) lists
-    (subst (λ (n : Network). P n asked.areas.now asked.router asked.destination.now.dest) nets is)))
+pub asked_as : (P : OspfDomain → ℕ → Block → Type 0) (asked : Asked) (domain : OspfDomain) (u : ℕ) (p : Block) →
+    asked.domain.now ≡ domain → asked.router ≡ u → asked.destination.now.dest ≡ p →
+    P asked.domain.now asked.router asked.destination.now.dest → P domain u p
+asked_as P asked domain u p domains routers dests is =
+    subst (λ (q : Block). P domain u q) dests
+    (subst (λ (v : ℕ). P domain v asked.destination.now.dest) routers
+    (subst (λ (d : OspfDomain). P d asked.router asked.destination.now.dest) domains is))
 
 -- Deciding offers
 
 -- a route to the best of deciding offers makes the entry
 pub decided_route : (asked : Asked) (d : Deciding) (n : ℕ) (route : Route) → IsDeciding asked d →
-    (Connected asked.net.now asked.router asked.destination.now.dest → ⊥) → n ≡ length asked.net.now →
+    (Connected asked.domain.now.net asked.router asked.destination.now.dest → ⊥) → n ≡ length asked.domain.now.net →
     IsBestRoute d.walks.now d.offers.now d.zone n route → IsRoute asked route
 decided_route asked d n route decides away count is =
-    let net : Network = asked.net.now in
-    let reach : ℕ → Reach = area_reach asked.areas.now asked.router in
-    route_by_hops reach (length asked.areas.now) (length net) (AreBestHops d.walks.now d.offers.now (length net))
+    let net : Network = asked.domain.now.net in
+    let reach : ℕ → Reach = area_reach asked.domain.now.areas asked.router in
+    route_by_hops reach (length asked.domain.now.areas) (length net) (AreBestHops d.walks.now d.offers.now (length net))
     (OspfEntry net asked.router asked.destination.now.dest) route (decides.entry away)
-    (best_route_makes reach (length asked.areas.now) (length net) d.zone d.walks.now d.offers.now route decides.zone decides.same
+    (best_route_makes reach (length asked.domain.now.areas) (length net) d.zone d.walks.now d.offers.now route decides.zone decides.same
     (subst (λ (m : ℕ). IsBestRoute d.walks.now d.offers.now d.zone m route) count is))
 
 pub decided_found : (asked : Asked) (d : Deciding) (n : ℕ) (found : Option Route) → IsDeciding asked d →
-    (Connected asked.net.now asked.router asked.destination.now.dest → ⊥) → n ≡ length asked.net.now →
+    (Connected asked.domain.now.net asked.router asked.destination.now.dest → ⊥) → n ≡ length asked.domain.now.net →
     MatchOption found (NoneTotals d.walks.now d.offers.now) (IsBestRoute d.walks.now d.offers.now d.zone n) →
     MatchOption found (NoneTotals d.walks.now d.offers.now) (IsRoute asked)
 decided_found asked d n None decides away count none = none
 decided_found asked d n (Some route) decides away count is = decided_route asked d n route decides away count is
 
 pub decided_target : (asked : Asked) (d : Deciding) (found : Option Target) → IsDeciding asked d →
-    (Connected asked.net.now asked.router asked.destination.now.dest → ⊥) →
-    IfSome found (λ t. IsBestRoute d.walks.now d.offers.now d.zone (length asked.net.now) (Towards t)) → IfSome found (IsRouteTowards asked)
+    (Connected asked.domain.now.net asked.router asked.destination.now.dest → ⊥) →
+    IfSome found (λ t. IsBestRoute d.walks.now d.offers.now d.zone (length asked.domain.now.net) (Towards t)) → IfSome found (IsRouteTowards asked)
 decided_target asked d None decides away none = tt
-decided_target asked d (Some t) decides away is = decided_route asked d (length asked.net.now) (Towards t) decides away refl is
+decided_target asked d (Some t) decides away is = decided_route asked d (length asked.domain.now.net) (Towards t) decides away refl is
 
 -- where none of them is reached there is no entry
 pub found_by : (asked : Asked) (none : Type 0) (found : Option Route) → (none → HasNoEntry asked) → MatchOption found none (IsRoute asked) →

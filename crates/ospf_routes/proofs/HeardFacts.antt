@@ -1,5 +1,6 @@
 -- What is announced of each prefix into each area.
-use Rattle.std.proofs.Common.{◌≡◌, ℕ, ◌+◌, ◌*◌, ◌<◌, ◌≤◌, inl, inr, Option, Some, List, [], ◌∷◌, ◌++◌, length, length-append, take, drop, get_or, refl, sym, ap, subst, ◌∙◌}
+use Rattle.std.proofs.Common.{None, ◌≡◌, ℕ, ◌+◌, ◌*◌, ◌<◌, ◌≤◌, inl, inr, Option, Some, List, [], ◌∷◌, ◌++◌}
+use Rattle.std.proofs.Common.{length, length-append, take, drop, get_or, refl, sym, ap, subst, ◌∙◌}
 use Rattle.std.proofs.Common.{append_assoc, arith}
 use Rattle.std.proofs.lemmas.Bool.{cases_lt}
 use Rattle.std.proofs.lemmas.Nat.{row_fits}
@@ -13,17 +14,19 @@ use Rattle.route_tables.specs.Prefixes.{prefix_at}
 use Rattle.route_tables.proofs.DestinationLists.{prefix_is}
 use Rattle.walk_core.specs.declared.offers.Offer.{Offer}
 use Rattle.igp_theory.specs.Ospf.{ListensTo}
-use Rattle.ospf_routes.specs.steps.Areas.{AreListeners, IsListenedPlace}
+use Rattle.ospf_routes.specs.steps.Areas.{AreListeners, IsListenedPlace, IsListenerAt}
 use Rattle.ospf_routes.specs.steps.Heard.{AddsRow, AreHeardAt, AreHeardBelow, AreSummaries}
 use Rattle.ospf_routes.specs.steps.Offered.{AreOffers}
 use Rattle.ospf_routes.specs.steps.OfferLists.{offers_of, offer_lists_of, AreOfferSpans, AreSummariesOf, HeardLists, heard_into}
 use Rattle.ospf_routes.specs.steps.Summarized.{IsHeard}
 use Rattle.ospf_routes.specs.declared.areas.AreaWalks.{AreaWalks}
-use Rattle.ospf_routes.specs.declared.domain.Domain.{Domain}
+use Rattle.ospf_routes.specs.steps.Destinations.{ospf_prefixes}
+use Rattle.ospf_routes.specs.steps.Domain.{OspfDomain}
 use Rattle.ospf_routes.specs.declared.intra_area.Destination.{Destination}
 use Rattle.ospf_routes.specs.declared.summaries.OfferSpan.{OfferSpan}
-use Rattle.ospf_routes.proofs.AreaFacts.{listener_of, number_at}
-use Rattle.ospf_routes.proofs.MemberFacts.{each_next}
+use Rattle.ospf_routes.proofs.AreaFacts.{number_at}
+use Rattle.ospf_routes.proofs.PlaceFacts.{place_read}
+use Rattle.route_tables.proofs.ListFacts.{each_more}
 
 -- more offers behind the others change no span
 span_stays : (offers more : List Offer) (span : OfferSpan) → span.start + span.count ≤ length offers → offers_of (offers ++ more) span ≡ offers_of offers span
@@ -85,7 +88,7 @@ row_more net areas p m old mid new list r is next = record {
       ∙ ap (λ (h : HeardLists). lists_with h.areas (h.lists ++ list ∷ [])) r.behind
       ∙ ap (λ (l : List (List Offer)). lists_with old.areas l) (append_assoc old.lists r.row (list ∷ []));
   count = let long = length-append r.row (list ∷ []) in omega (arith, long, r.count);
-  each = each_next (AreHeardAt net areas p) r.row m list [] r.count r.each next;
+  each = each_more (AreHeardAt net areas p) r.row m list [] r.count r.each next;
 }
 
 pub heard_more : (net : Network) (areas : List AreaWalks) (dests : List Block) (k : ℕ) (old new : HeardLists) → AreHeardBelow net areas dests k old →
@@ -108,24 +111,31 @@ heard_more net areas dests k old new are r =
     })
 
 -- what is announced of one prefix into an area
-pub heard_of : (net : Network) (domain : Domain) (heard : HeardLists) (k : ℕ) (d : Destination) → AreSummaries net domain heard →
-    k < length domain.destinations.items → d ≡ get_or domain.destinations.items k d → (zone : ℕ) → zone < length domain.areas.items →
-    AreHeardAt net domain.areas.items d.dest zone (heard_into heard k zone)
-heard_of net domain heard k d are within at zone inside =
-    let ds : List Destination = domain.destinations.items in
+pub heard_of : (domain : OspfDomain) (ds : List Destination) (heard : HeardLists) (k : ℕ) (d : Destination) → AreSummaries domain ds heard →
+    k < length ds → d ≡ get_or ds k d → (zone : ℕ) → zone < length domain.areas →
+    AreHeardAt domain.net domain.areas d.dest zone (heard_into heard k zone)
+heard_of domain ds heard k d are within at zone inside =
     let long = length-map ds (λ (x : Destination). x.dest) in
-    subst (λ (p : Block). AreHeardAt net domain.areas.items p zone (heard_into heard k zone))
+    subst (λ (p : Block). AreHeardAt domain.net domain.areas p zone (heard_into heard k zone))
     (sym (prefix_is (λ (x : Destination). x.dest) ds k d (omega (arith, long, within)) at))
     (are.each k zone within (subst (λ (n : ℕ). zone < n) (sym are.areas_are) inside))
+
+-- its list is there
+pub announced_within : (domain : OspfDomain) (ds : List Destination) (heard : HeardLists) (place zone : ℕ) → AreSummaries domain ds heard →
+    place < length ds → zone < length domain.areas → place * heard.areas + zone < length heard.lists
+announced_within domain ds heard place zone are within inside =
+    heard_within domain.net domain.areas (ospf_prefixes ds) (length ds) heard are place within zone
+    (subst (λ (n : ℕ). zone < n) (sym are.areas_are) inside)
 
 -- what an area's routers announce into it is that of its place
 pub heard_here : (net : Network) (areas : List AreaWalks) (p : Block) (zone : ℕ) (a : AreaWalks) (offers : List Offer) → a ≡ get_or areas zone a →
     AreOffers (IsHeard net p a.number) offers → AreHeardAt net areas p zone offers
 heard_here net areas p zone a offers here are n at =
-    subst (λ (m : ℕ). AreOffers (IsHeard net p m) offers) (ap (λ (x : AreaWalks). x.number) here ∙ number_at areas n zone a at) are
+    subst (λ (m : ℕ). AreOffers (IsHeard net p m) offers) (number_at areas n zone a at here) are
 
 -- an area that a router listens to is at a place within
 pub listened_inside : (net : Network) (areas : List AreaWalks) (all : List (Option ℕ)) (u zone : ℕ) (here : Option ℕ) →
     AreListeners net areas (length net) all → u < length net → here ≡ get_or all u here → here ≡ Some zone → zone < length areas
 listened_inside net areas all u zone here are below at is =
-    (MatchOption-at_some ((n : ℕ) → ListensTo net u n → ⊥) (IsListenedPlace net areas u) zone is (listener_of net areas all u here are below at)).at.within
+    (MatchOption-at_some ((n : ℕ) → ListensTo net u n →
+    ⊥) (IsListenedPlace net areas u) zone is (place_read (IsListenerAt net areas) None (length net) all u here are below at)).at.within

@@ -1,5 +1,5 @@
 -- What decides the routes of the routers that are in one area alone.
-use Rattle.std.proofs.Common.{◌≡◌, ◌≢◌, ℕ, zero, suc, ◌+◌, ◌^◌, ◌<◌, ◌≤◌, ◌⊎◌, ⊎_elim, List, [], ◌∷◌, ◌++◌, length, length-append, get_or, Option, Some, None}
+use Rattle.std.proofs.Common.{◌≡◌, ◌≢◌, ℕ, zero, suc, ◌+◌, ◌^◌, ◌<◌, ◌≤◌, ◌⊎◌, ⊎_elim, List, [], ◌∷◌, length, get_or, Option, Some, None}
 use Rattle.std.proofs.Common.{refl, sym, ap, subst, ◌∙◌, arith}
 use Rattle.std.specs.List.{All, Any, Contains}
 use Rattle.std.proofs.lemmas.List.{get_or_default, length-map}
@@ -27,11 +27,10 @@ use Rattle.ospf_routes.specs.steps.Destinations.{HasAreaPart, IsDestination, IsD
 use Rattle.ospf_routes.specs.steps.Offered.{AreOffers}
 use Rattle.ospf_routes.specs.steps.Heard.{AreHeardAt}
 use Rattle.ospf_routes.specs.steps.Summarized.{IsHeard}
-use Rattle.ospf_routes.specs.steps.Lanes.{AreLaneDecisions, AreLanes, DecidesLane, IsInner, IsOfFew, LaneOf, LeadsLane}
-use Rattle.ospf_routes.proofs.MemberFacts.{each_next}
-use Rattle.route_tables.specs.Prefixes.{prefix_at}
+use Rattle.ospf_routes.specs.steps.Lanes.{IsInner, IsOfFew, LaneOf, LeadsLane}
+use Rattle.ospf_routes.proofs.PlaceFacts.{place_read}
 use Rattle.ospf_routes.specs.declared.areas.AreaWalks.{AreaWalks}
-use Rattle.ospf_routes.specs.declared.domain.Domain.{Domain}
+use Rattle.ospf_routes.specs.steps.Domain.{OspfDomain}
 use Rattle.ospf_routes.specs.declared.intra_area.AreaOffers.{AreaOffers}
 use Rattle.ospf_routes.specs.declared.intra_area.Destination.{Destination}
 use Rattle.ospf_routes.proofs.AreaFacts.{number_at, reach_is, reach_within}
@@ -47,8 +46,10 @@ pub reach_at : (net : Network) (areas : List AreaWalks) (n u zone : ℕ) → Are
     IsReach net n u (area_reach areas u zone)
 reach_at net areas n u zone are at below =
     let none : AreaWalks = record { number = 0; walks = []; members = []; borders = [] } in
-    reach_is net areas n u zone none (area_reach areas u zone) are at
-    (slice_get-get_or (get_or areas zone none).walks u (record { distances = []; hops = [] }) (reach_within net areas u zone none are at.within below))
+    let a : AreaWalks = get_or areas zone none in
+    let here : a ≡ get_or areas zone a = get_or_default areas zone none a at.within in
+    reach_is net areas n u zone a (area_reach areas u zone) are at here
+    (slice_get-get_or a.walks u (record { distances = []; hops = [] }) (reach_within net areas u zone a are at.within here below))
 
 -- the area that it is in
 pub inner_place : (net : Network) (areas : List AreaWalks) (listens : List (Option ℕ)) (zone u : ℕ) → AreListeners net areas (length net) listens →
@@ -130,25 +131,26 @@ one_alone (x ∷ []) o some few = refl
 one_alone (x ∷ y ∷ rest) o some few = absurd (omega (arith, few))
 
 -- offers of which the best make the entries lead there
-leads_by : (l : LaneOf) (u : ℕ) (p : Block) (offers : List Offer) → l.zone < length l.areas → AreInRange (area_reach l.areas u l.zone) offers →
-    ((hops : List ℕ) → AreBestHops (area_reach l.areas u l.zone) offers (length l.net) hops → OspfEntry l.net u p (Via hops)) → LeadsLane l u p offers
+leads_by : (l : LaneOf) (u : ℕ) (p : Block) (offers : List Offer) → l.zone < length l.domain.areas → AreInRange (area_reach l.domain.areas u l.zone) offers →
+    ((hops : List ℕ) → AreBestHops (area_reach l.domain.areas u l.zone) offers (length l.domain.net) hops → OspfEntry l.domain.net u p (Via hops)) →
+    LeadsLane l u p offers
 leads_by l u p offers within range by =
-    let reach : ℕ → Reach = area_reach l.areas u in
-    let zones : ℕ = length l.areas in
-    let n : ℕ = length l.net in
+    let reach : ℕ → Reach = area_reach l.domain.areas u in
+    let zones : ℕ = length l.domain.areas in
+    let n : ℕ = length l.domain.net in
     record {
       range = range;
-      leads = λ t is. route_by_hops reach zones n (AreBestHops (reach l.zone) offers n) (OspfEntry l.net u p) (Towards t) by
+      leads = λ t is. route_by_hops reach zones n (AreBestHops (reach l.zone) offers n) (OspfEntry l.domain.net u p) (Towards t) by
           (best_route_makes reach zones n l.zone (reach l.zone) offers (Towards t) within refl is);
     }
 
 free_leads : (l : LaneOf) (u : ℕ) (p : Block) (o : Offer) → LeadsLane l u p (o ∷ []) → LeadsLane l u p (free o.at ∷ [])
 free_leads l u p o lead =
-    let reach : Reach = area_reach l.areas u l.zone in
+    let reach : Reach = area_reach l.domain.areas u l.zone in
     record {
       range = all_one (FitsTotal reach) (free o.at) (λ d is. let fits : d + o.asks < 2 ^ 64 = lead.range 0 o (omega arith) d is in omega (arith, fits));
       leads = λ t is. lead.leads t
-          (record { zone_is = is.zone_is; reached = is.reached; best = λ hops are. free_hops reach o (length l.net) hops (is.best hops are) });
+          (record { zone_is = is.zone_is; reached = is.reached; best = λ hops are. free_hops reach o (length l.domain.net) hops (is.best hops are) });
     }
 
 -- none of the offers is the router's, where its number isn't that of their routers
@@ -161,8 +163,8 @@ not_second u one two first second any =
 
 -- one or two offers decide, unless the prefix is connected at a router that makes none
 few_decide : (l : LaneOf) (u : ℕ) (p : Block) (offers : List Offer) (d : Decision) → IsOfFew offers d →
-    (Connected l.net u p → (d ≡ Unknown) ⊎ Any (λ (o : Offer). o.at ≡ u) offers) → ((Connected l.net u p → ⊥) → LeadsLane l u p offers) →
-    DecidesRoute u (OspfEntry l.net u p) (LeadsLane l u p) d
+    (Connected l.domain.net u p → (d ≡ Unknown) ⊎ Any (λ (o : Offer). o.at ≡ u) offers) → ((Connected l.domain.net u p → ⊥) → LeadsLane l u p offers) →
+    DecidesRoute u (OspfEntry l.domain.net u p) (LeadsLane l u p) d
 few_decide l u p offers Nothing few told lead = absurd few
 few_decide l u p offers (One at) (asks, same) told lead = λ other.
     let o : Offer = record { at = at; asks = asks } in
@@ -174,18 +176,19 @@ few_decide l u p offers (Two one two) same told lead = λ first second.
 few_decide l u p offers Unknown few told lead = tt
 
 -- what is offered in the area decides
-pub inside_decides : (l : LaneOf) (u : ℕ) (d : Destination) (part : AreaOffers) (given : List Offer) (decision : Decision) → AreAreas l.net l.areas →
-    IsDestinationIn l.net l.areas d → u < length l.net → ListensTo l.net u part.area → (IsBorderRouter l.net u → ⊥) →
-    Contains d.parts.items part → IsAreaAt l.areas part.area l.zone → given ≡ part.offers.items → IsOfFew given decision →
-    (Connected l.net u d.dest → (decision ≡ Unknown) ⊎ Any (λ (o : Offer). o.at ≡ u) given) →
-    DecidesRoute u (OspfEntry l.net u d.dest) (LeadsLane l u d.dest) decision
+pub inside_decides : (l : LaneOf) (u : ℕ) (d : Destination) (part : AreaOffers) (given : List Offer) (decision : Decision) →
+    AreAreas l.domain.net l.domain.areas →
+    IsDestinationIn l.domain.net l.domain.areas d → u < length l.domain.net → ListensTo l.domain.net u part.area → (IsBorderRouter l.domain.net u → ⊥) →
+    Contains d.parts.items part → IsAreaAt l.domain.areas part.area l.zone → given ≡ part.offers.items → IsOfFew given decision →
+    (Connected l.domain.net u d.dest → (decision ≡ Unknown) ⊎ Any (λ (o : Offer). o.at ≡ u) given) →
+    DecidesRoute u (OspfEntry l.domain.net u d.dest) (LeadsLane l u d.dest) decision
 inside_decides l u d part given decision are is below listens alone among at same few told =
-    let net : Network = l.net in
-    let reach : Reach = area_reach l.areas u l.zone in
-    let walks : IsReach net part.area u reach = reach_at net l.areas part.area u l.zone are at below in
+    let net : Network = l.domain.net in
+    let reach : Reach = area_reach l.domain.areas u l.zone in
+    let walks : IsReach net part.area u reach = reach_at net l.domain.areas part.area u l.zone are at below in
     few_decide l u d.dest given decision few told (λ away.
     leads_by l u d.dest given at.within
-    (subst (AreInRange reach) (sym same) (part_in_range net l.areas d part u reach are.network is among walks))
+    (subst (AreInRange reach) (sym same) (part_in_range net l.domain.areas d part u reach are.network is among walks))
     (λ hops best.
     let route = route_of_area net part.area d.dest u hops (λ h m inside hop. only_inside net u part.area m alone listens inside)
     (area_route_is net part.area d.dest u reach part.offers.items given walks (part_is net d part is.is among) same (length net) refl (Some hops) best) in
@@ -193,59 +196,61 @@ inside_decides l u d part given decision are is below listens alone among at sam
 
 -- the router has no intra-area route, and listens to these offers
 pub record IsOutside (l : LaneOf) (u : ℕ) (p : Block) (offers : List Offer) : Type 0 where
-  pub below : u < length l.net
-  pub place : IsListenedPlace l.net l.areas u l.zone
-  pub no_range : IsActiveRange l.net p u → ⊥
-  pub no_intra : IsIntraArea l.net p u → ⊥
-  pub heard : AreOffers (IsHeard l.net p place.area) offers
+  pub below : u < length l.domain.net
+  pub place : IsListenedPlace l.domain.net l.domain.areas u l.zone
+  pub no_range : IsActiveRange l.domain.net p u → ⊥
+  pub no_intra : IsIntraArea l.domain.net p u → ⊥
+  pub heard : AreOffers (IsHeard l.domain.net p place.area) offers
 
 -- which is so where nothing is offered in its area
-pub outside_where : (l : LaneOf) (d : Destination) (offers : List Offer) (u : ℕ) → AreListeners l.net l.areas (length l.net) l.listens →
-    IsDestination l.net d → ((n : ℕ) → IsAreaAt l.areas n l.zone → HasAreaPart d.parts.items n → ⊥) →
-    AreHeardAt l.net l.areas d.dest l.zone offers → u < length l.net → IsInner l.net l.listens l.zone u →
+pub outside_where : (l : LaneOf) (d : Destination) (offers : List Offer) (u : ℕ) → AreListeners l.domain.net l.domain.areas (length l.domain.net) l.listens →
+    IsDestination l.domain.net d → ((n : ℕ) → IsAreaAt l.domain.areas n l.zone → HasAreaPart d.parts.items n → ⊥) →
+    AreHeardAt l.domain.net l.domain.areas d.dest l.zone offers → u < length l.domain.net → IsInner l.domain.net l.listens l.zone u →
     IsOutside l u d.dest offers
 outside_where l d offers u listeners is no_part heard below inner =
-    let place = inner_place l.net l.areas l.listens l.zone u listeners below inner in
+    let place = inner_place l.domain.net l.domain.areas l.listens l.zone u listeners below inner in
     record {
       below = below;
       place = place;
       no_range = λ active. inner.alone active.active.component.range.border;
-      no_intra = λ intra. no_intra_given l.net d d.parts.items place.area u is refl (no_part place.area place.at) intra.cost
-          (subst (λ (m : ℕ). IntraAreaCost l.net m d.dest u intra.cost)
-          (only_inside l.net u place.area intra.area inner.alone place.listens intra.costs.inside) intra.costs);
+      no_intra = λ intra. no_intra_given l.domain.net d d.parts.items place.area u is refl (no_part place.area place.at) intra.cost
+          (subst (λ (m : ℕ). IntraAreaCost l.domain.net m d.dest u intra.cost)
+          (only_inside l.domain.net u place.area intra.area inner.alone place.listens intra.costs.inside) intra.costs);
       heard = heard place.area place.at;
     }
 
-pub outside_at : (l : LaneOf) (d : Destination) (none : AreaWalks) (given : List AreaOffers) (offers : List Offer) →
-    AreListeners l.net l.areas (length l.net) l.listens → IsDestination l.net d → AreHeardAt l.net l.areas d.dest l.zone offers →
-    given ≡ d.parts.items → (HasAreaPart given (get_or l.areas l.zone none).number → ⊥) →
-    (u : ℕ) → u < length l.net → IsInner l.net l.listens l.zone u → IsOutside l u d.dest offers
-outside_at l d none given offers listeners is heard same no_part u =
+pub outside_at : (l : LaneOf) (d : Destination) (a : AreaWalks) (given : List AreaOffers) (offers : List Offer) →
+    a ≡ get_or l.domain.areas l.zone a → AreListeners l.domain.net l.domain.areas (length l.domain.net) l.listens → IsDestination l.domain.net d →
+    AreHeardAt l.domain.net l.domain.areas d.dest l.zone offers →
+    given ≡ d.parts.items → (HasAreaPart given a.number → ⊥) →
+    (u : ℕ) → u < length l.domain.net → IsInner l.domain.net l.listens l.zone u → IsOutside l u d.dest offers
+outside_at l d a given offers here listeners is heard same no_part u =
     outside_where l d offers u listeners is
-    (λ n at has. no_part (subst (HasAreaPart given) (sym (number_at l.areas n l.zone none at))
+    (λ n at has. no_part (subst (HasAreaPart given) (sym (number_at l.domain.areas n l.zone a at here))
     (subst (λ (parts : List AreaOffers). HasAreaPart parts n) (sym same) has))) heard
 
 -- then what is announced into the area decides
-pub outside_decides : (l : LaneOf) (u : ℕ) (p : Block) (offers given : List Offer) (decision : Decision) → AreAreas l.net l.areas →
+pub outside_decides : (l : LaneOf) (u : ℕ) (p : Block) (offers given : List Offer) (decision : Decision) → AreAreas l.domain.net l.domain.areas →
     IsOutside l u p offers → given ≡ offers → IsOfFew given decision →
-    (Connected l.net u p → (decision ≡ Unknown) ⊎ Any (λ (o : Offer). o.at ≡ u) given) →
-    DecidesRoute u (OspfEntry l.net u p) (LeadsLane l u p) decision
+    (Connected l.domain.net u p → (decision ≡ Unknown) ⊎ Any (λ (o : Offer). o.at ≡ u) given) →
+    DecidesRoute u (OspfEntry l.domain.net u p) (LeadsLane l u p) decision
 outside_decides l u p offers given decision are out same few told =
-    let reach : Reach = area_reach l.areas u l.zone in
+    let reach : Reach = area_reach l.domain.areas u l.zone in
     let n : ℕ = out.place.area in
-    let walks : IsReach l.net n u reach = reach_at l.net l.areas n u l.zone are out.place.at out.below in
+    let walks : IsReach l.domain.net n u reach = reach_at l.domain.net l.domain.areas n u l.zone are out.place.at out.below in
     few_decide l u p given decision few told (λ away.
-    leads_by l u p given out.place.at.within (heard_in_range l.net l.areas n p reach offers given are walks out.heard same)
-    (listened_entry l.net n p u reach offers given out.no_intra out.no_range out.place.listens walks out.heard same away))
+    leads_by l u p given out.place.at.within (heard_in_range l.domain.net l.domain.areas n p reach offers given are walks out.heard same)
+    (listened_entry l.domain.net n p u reach offers given out.no_intra out.no_range out.place.listens walks out.heard same away))
 
 -- also that nothing is
-pub nothing_decides : (l : LaneOf) (u : ℕ) (p : Block) (offers given : List Offer) → AreAreas l.net l.areas → IsOutside l u p offers → given ≡ offers →
-    length given ≡ 0 → (e : Entry) → OspfEntry l.net u p e → ⊥
+pub nothing_decides : (l : LaneOf) (u : ℕ) (p : Block) (offers given : List Offer) → AreAreas l.domain.net l.domain.areas → IsOutside l u p offers →
+    given ≡ offers →
+    length given ≡ 0 → (e : Entry) → OspfEntry l.domain.net u p e → ⊥
 nothing_decides l u p offers given are out same empty =
-    let reach : Reach = area_reach l.areas u l.zone in
-    no_route_no_entry l.net u p out.no_intra out.no_range
-    (listened_route_is l.net out.place.area p u reach offers given out.no_intra out.no_range out.place.listens
-    (reach_at l.net l.areas out.place.area u l.zone are out.place.at out.below) out.heard same (length l.net) refl None
+    let reach : Reach = area_reach l.domain.areas u l.zone in
+    no_route_no_entry l.domain.net u p out.no_intra out.no_range
+    (listened_route_is l.domain.net out.place.area p u reach offers given out.no_intra out.no_range out.place.listens
+    (reach_at l.domain.net l.domain.areas out.place.area u l.zone are out.place.at out.below) out.heard same (length l.domain.net) refl None
     (λ cost has. omega (arith, has.among.1, empty)))
 
 -- Place by place
@@ -255,13 +260,6 @@ homes_within net d is k e below =
     let connected = (is.homes (get_or d.homes.items k e)).0 (Contains-get_or d.homes.items k e below) in
     slice_get_within net (get_or d.homes.items k e) connected.up.config connected.up.router
 
-pub decisions_more : (l : LaneOf) (dests : List Block) (n : ℕ) (all : List Decision) (next : Decision) → AreLaneDecisions l dests n all →
-    DecidesLane l (prefix_at dests n) next → AreLaneDecisions l dests (n + 1) (all ++ next ∷ [])
-decisions_more l dests n all next are is = record {
-  count = let long = length-append all (next ∷ []) in omega (arith, are.count);
-  each = each_next (λ (k : ℕ). DecidesLane l (prefix_at dests k)) all n next Unknown are.count are.each is;
-}
-
 -- a router that listens to the area at a place, and is no border router, is in that area alone
 pub inner_at : (net : Network) (areas : List AreaWalks) (listens : List (Option ℕ)) (u zone : ℕ) (heard : Option ℕ) →
     AreListeners net areas (length net) listens → u < length net → (IsBorderRouter net u → ⊥) → heard ≡ get_or listens u heard → heard ≡ Some zone →
@@ -270,16 +268,3 @@ inner_at net areas listens u zone heard listeners below alone heard_is some =
     let inner : IsInner net listens zone u =
     record { at = get_or_default listens u None heard (omega (arith, below, listeners.count)) ∙ sym heard_is ∙ some; alone = alone } in
     ((inner_place net areas listens zone u listeners below inner).at.within, inner)
-
--- what is read for the lane of an area
-pub lane_for : (net : Network) (domain : Domain) (listens : List (Option ℕ)) (lanes : List (List Decision)) (zone : ℕ) (here given : List Decision) →
-    AreLanes net domain listens lanes → zone < length domain.areas.items → here ≡ get_or lanes zone here → given ≡ here →
-    AreLaneDecisions (record { net = net; areas = domain.areas.items; listens = listens; zone = zone }) (ospf_prefixes domain.destinations.items)
-    (length (ospf_prefixes domain.destinations.items)) given
-lane_for net domain listens lanes zone here given are within here_is same =
-    let read : get_or lanes zone [] ≡ given = get_or_default lanes zone [] here (omega (arith, within, are.count)) ∙ sym here_is ∙ sym same in
-    let l : LaneOf = record { net = net; areas = domain.areas.items; listens = listens; zone = zone } in
-    let dests : List Block = ospf_prefixes domain.destinations.items in
-    let long : length dests ≡ length domain.destinations.items = length-map domain.destinations.items (λ (d : Destination). d.dest) in
-    subst (AreLaneDecisions l dests (length dests)) read
-    (subst (λ (n : ℕ). AreLaneDecisions l dests n (get_or lanes zone [])) (sym long) (are.each zone within))

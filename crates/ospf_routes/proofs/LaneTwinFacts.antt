@@ -1,10 +1,10 @@
 -- Prefixes outside an area that are announced alike into it have the same entries at the routers that are in it alone.
-use Rattle.std.proofs.Common.{◌≡◌, ◌⊎◌, ⊎_elim, ℕ, ◌+◌, ◌*◌, ◌<◌, List, [], length, get_or, ◌∙◌, Option, None, Some, refl, sym, subst, arith}
+use Rattle.std.proofs.Common.{◌≡◌, ◌⊎◌, ⊎_elim, ℕ, ◌+◌, ◌<◌, List, [], length, get_or, Option, None, Some, refl, sym, subst, arith}
 use Rattle.std.specs.Option.{IfSome, option_or}
-use Rattle.std.proofs.lemmas.List.{get_or_default, length-map}
+use Rattle.std.proofs.lemmas.List.{length-map}
 use Rattle.std.proofs.lemmas.Option.{same_Some}
 use Rattle.net_addr.specs.Addresses.{Block}
-use Rattle.net_model.specs.Network.{Network, Connected}
+use Rattle.net_model.specs.Network.{Connected}
 use Rattle.walk_core.specs.declared.offers.Offer.{Offer}
 use Rattle.igp_theory.specs.Ospf.{ListensTo, OspfEntry}
 use Rattle.igp_theory.proofs.TableLaws.{listens_to_one_area}
@@ -13,89 +13,82 @@ use Rattle.route_tables.specs.Entries.{AreAlikeFor}
 use Rattle.route_tables.specs.Prefixes.{prefix_at}
 use Rattle.route_tables.proofs.AlikeRoutes.{alike_lists}
 use Rattle.ospf_routes.specs.steps.Areas.{AreListeners}
-use Rattle.ospf_routes.specs.steps.Destinations.{IsDestination, ospf_prefixes}
-use Rattle.ospf_routes.specs.steps.Domain.{IsOspfDomain}
+use Rattle.ospf_routes.specs.steps.Destinations.{AreOspfDestinations, IsDestination, ospf_prefixes}
 use Rattle.ospf_routes.specs.steps.Lanes.{IsOfOspfLane, LaneOf}
-use Rattle.ospf_routes.specs.steps.LaneTwins.{AreAllLaneTwins, AreLaneAlike, AreOutsideBelow, IsEarlierOutside, IsOutsideLane}
+use Rattle.ospf_routes.specs.steps.LaneTwins.{AreAllLaneTwins, AreTwinsAlone, AreLaneAlike, AreOutsideBelow, IsEarlierOutside, IsOutsideLane}
 use Rattle.ospf_routes.specs.steps.Offered.{AreOffers}
 use Rattle.ospf_routes.specs.steps.Heard.{AreHeardAt, AreSummaries}
 use Rattle.ospf_routes.specs.steps.OfferLists.{HeardLists, heard_into}
 use Rattle.ospf_routes.specs.steps.Summarized.{IsHeard}
 use Rattle.ospf_routes.specs.steps.Twins.{AreEarlierBy, IsEarlierBy}
-use Rattle.ospf_routes.specs.declared.domain.Domain.{Domain}
+use Rattle.ospf_routes.specs.steps.Domain.{OspfDomain}
 use Rattle.ospf_routes.specs.declared.intra_area.Destination.{Destination}
 use Rattle.ospf_routes.proofs.CostBounds.{lists_from}
+use Rattle.ospf_routes.proofs.PlaceFacts.{place_read}
 use Rattle.ospf_routes.proofs.LaneLaws.{IsOutside, outside_where}
-use Rattle.ospf_routes.proofs.HeardFacts.{heard_of, heard_within}
+use Rattle.ospf_routes.proofs.HeardFacts.{heard_of}
 use Rattle.ospf_routes.proofs.TwinFacts.{IsDestinationAt, destination_read}
 use Rattle.ospf_routes.proofs.TwinLaws.{IsTwinFor, alike_offers_back, twin_entries}
 
 -- the prefix of d is outside the area, and this is announced of it there
 pub record IsAnnouncedOutside (l : LaneOf) (d : Destination) (offers : List Offer) : Type 0 where
-  pub is : IsDestination l.net d
+  pub is : IsDestination l.domain.net d
   pub outside : IsOutsideLane l d
-  pub heard : AreHeardAt l.net l.areas d.dest l.zone offers
+  pub heard : AreHeardAt l.domain.net l.domain.areas d.dest l.zone offers
 
 -- prefixes of which alike offers are announced are twins at a router that the second one isn't connected at
 outside_twins : (l : LaneOf) (u : ℕ) (p q : Block) (ones others : List Offer) → IsOutside l u p ones → IsOutside l u q others →
-    (Connected l.net u q → ⊥) → AreAlikeOffers ones others → IsTwinFor l.net u p q
+    (Connected l.domain.net u q → ⊥) → AreAlikeOffers ones others → IsTwinFor l.domain.net u p q
 outside_twins l u p q ones others one other away alike = record {
   homes = λ here. absurd (away here);
   no_range = one.no_range;
   other_no_range = other.no_range;
   offered = λ n cost costs. absurd (one.no_intra (record { area = n; cost = cost; costs = costs }));
   announced = λ n at asks listens is.
-      alike_lists (IsHeard l.net p n) (IsHeard l.net q n) ones others
-      (lists_from (IsHeard l.net p n) ones ones (into p ones one n listens) refl)
-      (lists_from (IsHeard l.net q n) others others (into q others other n listens) refl) alike;
+      alike_lists (IsHeard l.domain.net p n) (IsHeard l.domain.net q n) ones others
+      (lists_from (IsHeard l.domain.net p n) ones ones (into p ones one n listens) refl)
+      (lists_from (IsHeard l.domain.net q n) others others (into q others other n listens) refl) alike;
 }
   where
-    into : (r : Block) (offers : List Offer) → IsOutside l u r offers → (n : ℕ) → ListensTo l.net u n → AreOffers (IsHeard l.net r n) offers
+    into : (r : Block) (offers : List Offer) → IsOutside l u r offers → (n : ℕ) → ListensTo l.domain.net u n → AreOffers (IsHeard l.domain.net r n) offers
     into r offers out n listens =
-        subst (λ (m : ℕ). AreOffers (IsHeard l.net r m) offers) (listens_to_one_area out.place.listens listens) out.heard
+        subst (λ (m : ℕ). AreOffers (IsHeard l.domain.net r m) offers) (listens_to_one_area out.place.listens listens) out.heard
 
 -- so they have the same entries
-lane_alike : (l : LaneOf) (d e : Destination) (ones others : List Offer) → AreListeners l.net l.areas (length l.net) l.listens →
+lane_alike : (l : LaneOf) (d e : Destination) (ones others : List Offer) → AreListeners l.domain.net l.domain.areas (length l.domain.net) l.listens →
     IsAnnouncedOutside l d ones → IsAnnouncedOutside l e others → AreAlikeOffers ones others → AreLaneAlike l d.dest e.dest
 lane_alike l d e ones others listeners one other alike u f lane =
     let near = outside_where l d ones u listeners one.is one.outside.no_part one.heard lane.0 lane.1 in
     let far = outside_where l e others u listeners other.is other.outside.no_part other.heard lane.0 lane.1 in
-    let away_d : Connected l.net u d.dest → ⊥ = λ here. one.outside.away u lane.1 ((one.is.homes u).1 here) in
-    let away_e : Connected l.net u e.dest → ⊥ = λ here. other.outside.away u lane.1 ((other.is.homes u).1 here) in
-    twin_entries l.net d.dest e.dest u f (outside_twins l u d.dest e.dest ones others near far away_e alike)
+    let away_d : Connected l.domain.net u d.dest → ⊥ = λ here. one.outside.away u lane.1 ((one.is.homes u).1 here) in
+    let away_e : Connected l.domain.net u e.dest → ⊥ = λ here. other.outside.away u lane.1 ((other.is.homes u).1 here) in
+    twin_entries l.domain.net d.dest e.dest u f (outside_twins l u d.dest e.dest ones others near far away_e alike)
     (outside_twins l u e.dest d.dest others ones far near away_d (alike_offers_back ones others alike))
 
 -- what is read at a place
-abbrev lane_of_zone : Network → Domain → List (Option ℕ) → ℕ → LaneOf
-lane_of_zone net domain listens zone = record { net = net; areas = domain.areas.items; listens = listens; zone = zone }
+abbrev lane_of_zone : OspfDomain → List (Option ℕ) → ℕ → LaneOf
+lane_of_zone domain listens zone = record { domain = domain; listens = listens; zone = zone }
 
-pub announced_at : (net : Network) (domain : Domain) (listens : List (Option ℕ)) (heard : HeardLists) (zone place : ℕ) (d : Destination)
-    (offers : List Offer) → IsOspfDomain net domain → AreSummaries net domain heard → zone < length domain.areas.items →
-    place < length domain.destinations.items → d ≡ get_or domain.destinations.items place d → IsOutsideLane (lane_of_zone net domain listens zone) d →
-    offers ≡ heard_into heard place zone → IsAnnouncedOutside (lane_of_zone net domain listens zone) d offers
-announced_at net domain listens heard zone place d offers is are inside within at outside read = record {
-  is = (destination_read net domain place d is within at).is.is;
+pub announced_at : (domain : OspfDomain) (ds : List Destination) (listens : List (Option ℕ)) (heard : HeardLists) (zone place : ℕ) (d : Destination)
+    (offers : List Offer) → AreOspfDestinations domain.net domain.areas ds → AreSummaries domain ds heard → zone < length domain.areas →
+    place < length ds → d ≡ get_or ds place d → IsOutsideLane (lane_of_zone domain listens zone) d →
+    offers ≡ heard_into heard place zone → IsAnnouncedOutside (lane_of_zone domain listens zone) d offers
+announced_at domain ds listens heard zone place d offers is are inside within at outside read = record {
+  is = (destination_read domain ds place d is within at).is.is;
   outside = outside;
-  heard = subst (AreHeardAt net domain.areas.items d.dest zone) (sym read) (heard_of net domain heard place d are within at zone inside);
+  heard = subst (AreHeardAt domain.net domain.areas d.dest zone) (sym read) (heard_of domain ds heard place d are within at zone inside);
 }
 
--- its list is there
-pub announced_within : (net : Network) (domain : Domain) (heard : HeardLists) (place zone : ℕ) → AreSummaries net domain heard →
-    place < length domain.destinations.items → zone < length domain.areas.items → place * heard.areas + zone < length heard.lists
-announced_within net domain heard place zone are within inside =
-    heard_within net domain.areas.items (ospf_prefixes domain.destinations.items) (length domain.destinations.items) heard are place within zone
-    (subst (λ (n : ℕ). zone < n) (sym are.areas_are) inside)
-
 -- an earlier prefix that is announced alike
-pub outside_earlier : (net : Network) (domain : Domain) (listens : List (Option ℕ)) (zone place earlier : ℕ) (d e : Destination)
-    (ones others : List Offer) → AreListeners net domain.areas.items (length net) listens → earlier < place →
-    IsDestinationAt net domain earlier d → IsDestinationAt net domain place e →
-    IsAnnouncedOutside (lane_of_zone net domain listens zone) d ones → IsAnnouncedOutside (lane_of_zone net domain listens zone) e others →
-    AreAlikeOffers ones others → IsEarlierBy (AreLaneAlike (lane_of_zone net domain listens zone)) (ospf_prefixes domain.destinations.items) place earlier
-outside_earlier net domain listens zone place earlier d e ones others listeners before near far one other alike = (
+pub outside_earlier : (domain : OspfDomain) (ds : List Destination) (listens : List (Option ℕ)) (zone place earlier : ℕ) (d e : Destination)
+    (ones others : List Offer) → AreListeners domain.net domain.areas (length domain.net) listens → earlier < place →
+    IsDestinationAt domain ds earlier d → IsDestinationAt domain ds place e →
+    IsAnnouncedOutside (lane_of_zone domain listens zone) d ones → IsAnnouncedOutside (lane_of_zone domain listens zone) e others →
+    AreAlikeOffers ones others → IsEarlierBy (AreLaneAlike (lane_of_zone domain listens zone)) (ospf_prefixes ds) place earlier
+outside_earlier domain ds listens zone place earlier d e ones others listeners before near far one other alike = (
   before,
-  let l : LaneOf = lane_of_zone net domain listens zone in
-      let dests : List Block = ospf_prefixes domain.destinations.items in
+  let l : LaneOf = lane_of_zone domain listens zone in
+      let dests : List Block = ospf_prefixes ds in
       subst (λ (p : Block). AreLaneAlike l p (prefix_at dests place)) near.prefix
       (subst (λ (q : Block). AreLaneAlike l d.dest q) far.prefix (lane_alike l d e ones others listeners one other alike)),
 )
@@ -135,16 +128,16 @@ earlier_then one other dests n named follows are = record {
 }
 
 -- what is named for an area is so for the routers of its lane
-pub lane_earlier : (net : Network) (domain : Domain) (listens : List (Option ℕ)) (twins : List (List (Option ℕ))) (lane : ℕ) (here : List (Option ℕ)) →
-    AreAllLaneTwins net domain listens twins → lane < length domain.areas.items → here ≡ get_or twins lane here →
-    AreEarlierBy (AreAlikeFor (IsOfOspfLane (record { net = net; areas = domain.areas.items; listens = listens; zone = lane })) (OspfEntry net))
-    (ospf_prefixes domain.destinations.items) (length (ospf_prefixes domain.destinations.items)) here
-lane_earlier net domain listens twins lane here are within here_is =
-    let l : LaneOf = record { net = net; areas = domain.areas.items; listens = listens; zone = lane } in
-    let dests : List Block = ospf_prefixes domain.destinations.items in
-    let long : length dests ≡ length domain.destinations.items = length-map domain.destinations.items (λ (d : Destination). d.dest) in
-    let read : get_or twins lane [] ≡ here = get_or_default twins lane [] here (omega (arith, within, are.count)) ∙ sym here_is in
-    earlier_then (AreLaneAlike l) (AreAlikeFor (IsOfOspfLane l) (OspfEntry net)) dests (length dests) here
+pub lane_earlier : (domain : OspfDomain) (ds : List Destination) (listens : List (Option ℕ)) (twins : List (List (Option ℕ))) (lane : ℕ) (here : List
+    (Option ℕ)) →
+    AreAllLaneTwins domain ds listens twins → lane < length domain.areas → here ≡ get_or twins lane here →
+    AreEarlierBy (AreAlikeFor (IsOfOspfLane (record { domain = domain; listens = listens; zone = lane })) (OspfEntry domain.net))
+    (ospf_prefixes ds) (length (ospf_prefixes ds)) here
+lane_earlier domain ds listens twins lane here are within here_is =
+    let l : LaneOf = record { domain = domain; listens = listens; zone = lane } in
+    let dests : List Block = ospf_prefixes ds in
+    let long : length dests ≡ length ds = length-map ds (λ (d : Destination). d.dest) in
+    earlier_then (AreLaneAlike l) (AreAlikeFor (IsOfOspfLane l) (OspfEntry domain.net)) dests (length dests) here
     (λ p q same u e is. same u e (is.below, is.inner within))
-    (subst (AreEarlierBy (AreLaneAlike l) dests (length dests)) read
-    (subst (λ (n : ℕ). AreEarlierBy (AreLaneAlike l) dests n (get_or twins lane [])) (sym long) (are.each lane within)))
+    (subst (λ (n : ℕ). AreEarlierBy (AreLaneAlike l) dests n here) (sym long)
+    (place_read (AreTwinsAlone domain ds listens) [] (length domain.areas) twins lane here are within here_is))

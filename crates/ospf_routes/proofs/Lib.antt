@@ -1,4 +1,4 @@
-mod MemberFacts
+mod PlaceFacts
 mod AreaFacts
 mod CandidateLists
 mod CostBounds

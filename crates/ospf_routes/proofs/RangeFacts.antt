@@ -1,11 +1,10 @@
 -- Components and active ranges.
-use Rattle.std.proofs.Common.{◌≡◌, ℕ, ◌+◌, ◌<◌, ◌↔◌, inl, inr, ⊎_elim, List, [], ◌∷◌, ◌++◌, length, get_or, Option, Some, None, MatchOption, true}
-use Rattle.std.proofs.Common.{false, refl, sym, ap, subst, ◌∙◌, arith, length-append}
+use Rattle.std.proofs.Common.{◌≡◌, ℕ, ◌<◌, ◌↔◌, inl, inr, ⊎_elim, List, [], ◌∷◌, ◌++◌, length, get_or, Option, Some, None, MatchOption, true}
+use Rattle.std.proofs.Common.{false, refl, sym, ap, subst, ◌∙◌, arith}
 use Rattle.std.specs.List.{Contains, Any, All}
 use Rattle.std.proofs.lemmas.Bool.{cases_lt, false≢true}
 use Rattle.std.proofs.lemmas.Option.{none-some, same_Some}
 use Rattle.std.proofs.lemmas.List.Elements.{Contains-push_cases, Contains-get_or, All-contains}
-use Rattle.std.proofs.lemmas.List.{get_or_default}
 use Rattle.std.specs.Option.{IsSome}
 use Rattle.net_addr.specs.Addresses.{Block, Covers}
 use Rattle.net_model.proofs.Adjacency.{HasConfiguration-unique}
@@ -18,10 +17,11 @@ use Rattle.igp_theory.specs.Ospf.{IntraAreaCost, HasRange, IsComponent, IsActive
 use Rattle.ospf_routes.specs.steps.Candidates.{IsOspfCandidate, subnet}
 use Rattle.ospf_routes.specs.steps.Destinations.{ospf_prefixes}
 use Rattle.ospf_routes.specs.Lists.{Exactly, Adds}
-use Rattle.ospf_routes.specs.steps.Ranges.{IsLonger, HasComponentCost, IsComponentOfSome, IsPicked, IsActiveAt, HasActive, AreActiveRanges, AreRangesBelow, HoldRanges}
+use Rattle.ospf_routes.specs.steps.Ranges.{IsLonger, HasComponentCost, IsComponentOfSome, IsPicked, IsActiveAt}
+use Rattle.ospf_routes.specs.steps.Ranges.{HasActive, AreActiveRanges, AreRangesBelow, HoldRanges}
 use Rattle.ospf_routes.specs.declared.intra_area.Destination.{Destination}
 use Rattle.ospf_routes.specs.declared.ranges.ActiveRange.{ActiveRange}
-use Rattle.route_tables.proofs.ListFacts.{any_of, any_in, exactly_same, each_more}
+use Rattle.route_tables.proofs.ListFacts.{any_of, any_in, exactly_same}
 
 -- Components
 
@@ -206,22 +206,6 @@ active_range_is net u p actives are = (
 )
 
 -- Router by router
-
-pub ranges_below_none : (net : Network) → AreRangesBelow net 0 []
-ranges_below_none net = record { count = refl; each = λ b below. absurd (omega arith) }
-
-pub ranges_below_more : (net : Network) (n : ℕ) (all : List (List ActiveRange)) (next : List ActiveRange) → AreRangesBelow net n all →
-    AreActiveRanges net n next → AreRangesBelow net (n + 1) (all ++ next ∷ [])
-ranges_below_more net n all next are is = record {
-  count = let long = length-append all (next ∷ []) in omega (arith, are.count);
-  each = each_more (AreActiveRanges net) all n next [] are.count are.each is;
-}
-
--- the ranges of a router, as they are read
-pub ranges_of : (net : Network) (all : List (List ActiveRange)) (b : ℕ) (here : List ActiveRange) → AreRangesBelow net (length net) all → b < length net →
-    here ≡ get_or all b here → AreActiveRanges net b here
-ranges_of net all b here are within is =
-    subst (AreActiveRanges net b) (sym (is ∙ get_or_default all b here [] (omega (arith, are.count)))) (are.each b within)
 
 -- No component
 

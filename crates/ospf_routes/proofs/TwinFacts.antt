@@ -7,68 +7,66 @@ use Rattle.std.proofs.lemmas.List.{get_or_append_left, get_or_push, get_or_past,
 use Rattle.std.specs.List.{Contains}
 use Rattle.std.specs.Option.{IfSome}
 use Rattle.net_addr.specs.Addresses.{Block}
-use Rattle.net_model.specs.Network.{Network}
 use Rattle.igp_theory.specs.Ospf.{OspfEntry}
 use Rattle.route_tables.specs.Entries.{AreAlikePrefixes}
 use Rattle.route_tables.specs.Prefixes.{prefix_at}
 use Rattle.route_tables.proofs.DestinationLists.{prefix_is}
 use Rattle.route_tables.proofs.ListFacts.{all_at}
-use Rattle.ospf_routes.specs.steps.Domain.{IsOspfDomain}
 use Rattle.ospf_routes.specs.steps.Ranges.{HoldRanges}
-use Rattle.ospf_routes.specs.steps.Destinations.{IsDestinationIn, ospf_prefixes}
+use Rattle.ospf_routes.specs.steps.Destinations.{AreOspfDestinations, IsDestinationIn, ospf_prefixes}
 use Rattle.ospf_routes.specs.steps.Heard.{AreSummaries}
 use Rattle.ospf_routes.specs.steps.OfferLists.{HeardLists}
 use Rattle.ospf_routes.specs.steps.Twins.{AreEarlierBy, AreTwinsAt, IsEarlierBy}
-use Rattle.ospf_routes.specs.declared.domain.Domain.{Domain}
+use Rattle.ospf_routes.specs.steps.Areas.{AreAreas}
+use Rattle.ospf_routes.specs.steps.Domain.{OspfDomain}
 use Rattle.ospf_routes.specs.declared.intra_area.Destination.{Destination}
 use Rattle.ospf_routes.proofs.TwinLaws.{is_twin_for, twin_destinations_back, twin_entries, twin_summaries_back}
 
 -- the destination at a place
-pub record IsDestinationAt (net : Network) (domain : Domain) (place : ℕ) (d : Destination) : Type 0 where
-  pub is : IsDestinationIn net domain.areas.items d
-  pub prefix : d.dest ≡ prefix_at (ospf_prefixes domain.destinations.items) place
+pub record IsDestinationAt (domain : OspfDomain) (ds : List Destination) (place : ℕ) (d : Destination) : Type 0 where
+  pub is : IsDestinationIn domain.net domain.areas d
+  pub prefix : d.dest ≡ prefix_at (ospf_prefixes ds) place
 
-pub destination_read : (net : Network) (domain : Domain) (place : ℕ) (d : Destination) → IsOspfDomain net domain →
-    place < length domain.destinations.items → d ≡ get_or domain.destinations.items place d → IsDestinationAt net domain place d
-destination_read net domain place d is within d_at =
-    let ds : List Destination = domain.destinations.items in
+pub destination_read : (domain : OspfDomain) (ds : List Destination) (place : ℕ) (d : Destination) → AreOspfDestinations domain.net domain.areas ds →
+    place < length ds → d ≡ get_or ds place d → IsDestinationAt domain ds place d
+destination_read domain ds place d is within d_at =
     let long = length-map ds (λ (x : Destination). x.dest) in
     record {
-      is = all_at (IsDestinationIn net domain.areas.items) ds place d is.destinations.each within d_at;
+      is = all_at (IsDestinationIn domain.net domain.areas) ds place d is.each within d_at;
       prefix = prefix_is (λ (x : Destination). x.dest) ds place d (omega (arith, long, within)) d_at;
     }
 
 -- twin destinations have the same entries
-pub twin_at : (net : Network) (domain : Domain) (ranged : List Block) (heard : HeardLists) (one other : ℕ) → IsOspfDomain net domain →
-    HoldRanges net ranged → AreSummaries net domain heard → one < length domain.destinations.items →
-    other < length domain.destinations.items → AreTwinsAt domain.destinations.items heard ranged one other →
-    AreAlikePrefixes (length net) (OspfEntry net) (prefix_at (ospf_prefixes domain.destinations.items) one)
-    (prefix_at (ospf_prefixes domain.destinations.items) other)
-twin_at net domain ranged heard one other is hold announced within_one within_other at u f _ =
-    let d = destination_read net domain one at.d is within_one at.d_at in
-    let e = destination_read net domain other at.e is within_other at.e_at in
-    subst (λ (p : Block). OspfEntry net u p f ↔ OspfEntry net u (prefix_at (ospf_prefixes domain.destinations.items) other) f) d.prefix
-    (subst (λ (q : Block). OspfEntry net u at.d.dest f ↔ OspfEntry net u q f) e.prefix
-    (twin_entries net at.d.dest at.e.dest u f
-    (is_twin_for net domain ranged heard one other at.d at.e u is hold announced within_one within_other at.d_at at.e_at at.twins at.announced)
-    (is_twin_for net domain ranged heard other one at.e at.d u is hold announced within_other within_one at.e_at at.d_at
+pub twin_at : (domain : OspfDomain) (ds : List Destination) (ranged : List Block) (heard : HeardLists) (one other : ℕ) → AreAreas domain.net domain.areas →
+    AreOspfDestinations domain.net domain.areas ds →
+    HoldRanges domain.net ranged → AreSummaries domain ds heard → one < length ds →
+    other < length ds → AreTwinsAt ds heard ranged one other →
+    AreAlikePrefixes (length domain.net) (OspfEntry domain.net) (prefix_at (ospf_prefixes ds) one)
+    (prefix_at (ospf_prefixes ds) other)
+twin_at domain ds ranged heard one other known is hold announced within_one within_other at u f _ =
+    let d = destination_read domain ds one at.d is within_one at.d_at in
+    let e = destination_read domain ds other at.e is within_other at.e_at in
+    subst (λ (p : Block). OspfEntry domain.net u p f ↔ OspfEntry domain.net u (prefix_at (ospf_prefixes ds) other) f) d.prefix
+    (subst (λ (q : Block). OspfEntry domain.net u at.d.dest f ↔ OspfEntry domain.net u q f) e.prefix
+    (twin_entries domain.net at.d.dest at.e.dest u f
+    (is_twin_for domain ds ranged heard one other at.d at.e u known is hold announced within_one within_other at.d_at at.e_at at.twins at.announced)
+    (is_twin_for domain ds ranged heard other one at.e at.d u known is hold announced within_other within_one at.e_at at.d_at
     (twin_destinations_back ranged at.d at.e at.twins) (twin_summaries_back heard one other at.announced))))
 
 -- so the one that is found has the same entries
-pub twin_found : (net : Network) (domain : Domain) (ranged : List Block) (heard : HeardLists) (given : List Destination) (place : ℕ)
-    (found : Option ℕ) → IsOspfDomain net domain → HoldRanges net ranged → AreSummaries net domain heard →
-    given ≡ domain.destinations.items → place < length domain.destinations.items → IfSome found (λ one. one < place) →
-    IfSome found (λ one. AreTwinsAt given heard ranged one place) → (earlier : ℕ) → found ≡ Some earlier →
-    IsEarlierBy (AreAlikePrefixes (length net) (OspfEntry net)) (ospf_prefixes domain.destinations.items) place earlier
-twin_found net domain ranged heard given place None is hold announced same within below at earlier wrong = absurd (none-some earlier wrong)
-twin_found net domain ranged heard given place (Some one) is hold announced same within below at earlier found =
-    let ds : List Destination = domain.destinations.items in
+pub twin_found : (domain : OspfDomain) (ds : List Destination) (ranged : List Block) (heard : HeardLists) (place : ℕ)
+    (found : Option ℕ) → AreAreas domain.net domain.areas → AreOspfDestinations domain.net domain.areas ds → HoldRanges domain.net ranged →
+    AreSummaries domain ds heard →
+    place < length ds → IfSome found (λ one. one < place) →
+    IfSome found (λ one. AreTwinsAt ds heard ranged one place) → (earlier : ℕ) → found ≡ Some earlier →
+    IsEarlierBy (AreAlikePrefixes (length domain.net) (OspfEntry domain.net)) (ospf_prefixes ds) place earlier
+twin_found domain ds ranged heard place None known is hold announced within below at earlier wrong = absurd (none-some earlier wrong)
+twin_found domain ds ranged heard place (Some one) known is hold announced within below at earlier found =
     let before : one < place = below in
-    subst (IsEarlierBy (AreAlikePrefixes (length net) (OspfEntry net)) (ospf_prefixes ds) place)
+    subst (IsEarlierBy (AreAlikePrefixes (length domain.net) (OspfEntry domain.net)) (ospf_prefixes ds) place)
     (same_Some one earlier found) (
       before,
-      twin_at net domain ranged heard one place is hold announced (omega arith) within
-          (subst (λ (l : List Destination). AreTwinsAt l heard ranged one place) same at),
+      twin_at domain ds ranged heard one place known is hold announced (omega arith) within at,
     )
 
 -- Place by place

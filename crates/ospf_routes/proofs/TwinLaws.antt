@@ -16,16 +16,15 @@ use Rattle.route_tables.specs.AlikeOffers.{AreAlikeOffers}
 use Rattle.route_tables.proofs.AlikeRoutes.{AskAlike, alike_cost, alike_hop, alike_lists}
 use Rattle.route_tables.proofs.BestRoutes.{hops_same}
 use Rattle.route_tables.proofs.ListFacts.{all_at}
-use Rattle.ospf_routes.specs.steps.Areas.{HasArea, IsAreaAt}
-use Rattle.ospf_routes.specs.steps.Destinations.{HasAreaPart, IsDestination, IsDestinationIn}
-use Rattle.ospf_routes.specs.steps.Domain.{IsOspfDomain}
+use Rattle.ospf_routes.specs.steps.Areas.{AreAreas, HasArea, IsAreaAt}
+use Rattle.ospf_routes.specs.steps.Destinations.{AreOspfDestinations, HasAreaPart, IsDestination, IsDestinationIn}
 use Rattle.ospf_routes.specs.steps.Heard.{AreSummaries}
 use Rattle.ospf_routes.specs.steps.Offered.{AreOffers}
 use Rattle.ospf_routes.specs.steps.Ranges.{HoldRanges}
 use Rattle.ospf_routes.specs.steps.OfferLists.{HeardLists, heard_into}
 use Rattle.ospf_routes.specs.steps.Summarized.{IsHeard}
 use Rattle.ospf_routes.specs.steps.Twins.{IsTwinPart, AreTwinParts, AreTwinDestinations, AreTwinSummaries}
-use Rattle.ospf_routes.specs.declared.domain.Domain.{Domain}
+use Rattle.ospf_routes.specs.steps.Domain.{OspfDomain}
 use Rattle.ospf_routes.specs.declared.intra_area.AreaOffers.{AreaOffers}
 use Rattle.ospf_routes.specs.declared.intra_area.Destination.{Destination}
 use Rattle.ospf_routes.proofs.AreaFacts.{listened_area}
@@ -160,34 +159,36 @@ pub twin_summaries_back : (heard : HeardLists) (one other : ℕ) → AreTwinSumm
 twin_summaries_back heard one other alike zone within = alike_offers_back (heard_into heard one zone) (heard_into heard other zone) (alike zone within)
 
 -- twin destinations are twins at every router, where what is announced of them is alike
-pub is_twin_for : (net : Network) (domain : Domain) (ranged : List Block) (heard : HeardLists) (one other : ℕ) (d e : Destination) (u : ℕ) →
-    IsOspfDomain net domain → HoldRanges net ranged → AreSummaries net domain heard → one < length domain.destinations.items →
-    other < length domain.destinations.items → d ≡ get_or domain.destinations.items one d → e ≡ get_or domain.destinations.items other e →
-    AreTwinDestinations ranged d e → AreTwinSummaries heard one other → IsTwinFor net u d.dest e.dest
-is_twin_for net domain ranged heard one other d e u is hold are within_one within_other d_at e_at twins alike = record {
+pub is_twin_for : (domain : OspfDomain) (ds : List Destination) (ranged : List Block) (heard : HeardLists) (one other : ℕ) (d e : Destination) (u : ℕ) →
+    AreAreas domain.net domain.areas → AreOspfDestinations domain.net domain.areas ds →
+    HoldRanges domain.net ranged → AreSummaries domain ds heard → one < length ds →
+    other < length ds → d ≡ get_or ds one d → e ≡ get_or ds other e →
+    AreTwinDestinations ranged d e → AreTwinSummaries heard one other → IsTwinFor domain.net u d.dest e.dest
+is_twin_for domain ds ranged heard one other d e u known is hold are within_one within_other d_at e_at twins alike = record {
   homes = λ here. (is_d.homes u).0 ((twins.homes u).1 ((is_e.homes u).1 here));
   no_range = λ active. twins.no_range (hold d.dest u active);
   other_no_range = λ active. twins.other_no_range (hold e.dest u active);
   offered = λ n cost costs.
-      alike_parts (λ m. OffersSubnet net m d.dest) (λ m. OffersSubnet net m e.dest) d.parts.items e.parts.items n is_d.exact is_e.exact twins.parts
+      alike_parts (λ m. OffersSubnet domain.net m d.dest) (λ m. OffersSubnet domain.net m e.dest) d.parts.items e.parts.items n is_d.exact is_e.exact
+      twins.parts
       (is_d.every n costs.best.at costs.best.attained.asks costs.best.attained.offered);
-  announced = λ n at asks listens _. announced_alike n (listened_area net domain.areas.items n u is.areas listens);
+  announced = λ n at asks listens _. announced_alike n (listened_area domain.net domain.areas n u known listens);
 }
   where
-    is_d : IsDestination net d
-    is_d = (all_at (IsDestinationIn net domain.areas.items) domain.destinations.items one d is.destinations.each within_one d_at).is
+    is_d : IsDestination domain.net d
+    is_d = (all_at (IsDestinationIn domain.net domain.areas) ds one d is.each within_one d_at).is
 
-    is_e : IsDestination net e
-    is_e = (all_at (IsDestinationIn net domain.areas.items) domain.destinations.items other e is.destinations.each within_other e_at).is
+    is_e : IsDestination domain.net e
+    is_e = (all_at (IsDestinationIn domain.net domain.areas) ds other e is.each within_other e_at).is
 
-    announced_alike : (n : ℕ) → HasArea domain.areas.items n → AskAlike (IsHeard net d.dest n) (IsHeard net e.dest n)
+    announced_alike : (n : ℕ) → HasArea domain.areas n → AskAlike (IsHeard domain.net d.dest n) (IsHeard domain.net e.dest n)
     announced_alike n has =
         let zone : ℕ = has.among.0 in
-        let here : IsAreaAt domain.areas.items n zone =
+        let here : IsAreaAt domain.areas n zone =
         record { within = has.among.1; area = has.area; here = sym has.among.2; number = has.number } in
         let xs : List Offer = heard_into heard one zone in
         let ys : List Offer = heard_into heard other zone in
-        alike_lists (IsHeard net d.dest n) (IsHeard net e.dest n) xs ys
-        (lists_from (IsHeard net d.dest n) xs xs (heard_of net domain heard one d are within_one d_at zone here.within n here) refl)
-        (lists_from (IsHeard net e.dest n) ys ys (heard_of net domain heard other e are within_other e_at zone here.within n here) refl)
+        alike_lists (IsHeard domain.net d.dest n) (IsHeard domain.net e.dest n) xs ys
+        (lists_from (IsHeard domain.net d.dest n) xs xs (heard_of domain ds heard one d are within_one d_at zone here.within n here) refl)
+        (lists_from (IsHeard domain.net e.dest n) ys ys (heard_of domain ds heard other e are within_other e_at zone here.within n here) refl)
         (alike zone (subst (λ (m : ℕ). zone < m) (sym are.areas_are) here.within))

@@ -1,14 +1,12 @@
 ghost use Rattle.std.specs.Prelude.{◌≡◌, ◌<◌, ◌↔◌, length, Some, All, Any, IfOk, IsTrue, OnOk};
 ghost use Rattle.igp_theory.specs.Ospf.{BackboneSummary};
 ghost use Rattle.walk_core.specs.declared.offers.Offer.{Offer as OfferValue};
-ghost use Rattle.ospf_routes.specs.steps.Areas.{AreAreas};
 ghost use Rattle.ospf_routes.specs.steps.Members.{AreMembersBelow, IsBorderIn};
-ghost use Rattle.ospf_routes.specs.steps.Destinations.{IsDestinationIn};
+ghost use Rattle.ospf_routes.specs.steps.Destinations.{AreOspfDestinations, IsDestinationIn};
 ghost use Rattle.net_model.specs.Network.{IsBorderRouter};
 ghost use Rattle.ospf_routes.specs.Lists.{Adds, Exactly};
 ghost use Rattle.ospf_routes.specs.steps.Offered.{AreOffers};
 ghost use Rattle.ospf_routes.specs.steps.Ranges.{AreRangesBelow};
-ghost use Rattle.ospf_routes.specs.steps.Domain.{IsOspfDomain};
 ghost use Rattle.ospf_routes.specs.steps.Heard.{AddsRow, AreSummaries};
 ghost use Rattle.ospf_routes.specs.steps.Summarized.{Announces, AreSummarized, IsHeard, IsOutgoing};
 
@@ -23,7 +21,6 @@ use crate::stub_areas::{is_totally_stubby, push_defaults};
 use crate::summaries::Summaries;
 use crate::summarized_routes::summarized;
 use net_addr::Prefix;
-use net_model::Net;
 use route_tables::push_option;
 use std::alloc::Global;
 use walk_core::Offer;
@@ -32,27 +29,24 @@ use walk_core::Offer;
 /// areas other than the backbone what they reach over the backbone.
 pub fn all_summaries(
     alloc: Global,
-    net: &Net,
-    domain: &Domain,
-    borders: &[u32],
+    domain: &Domain<'_>,
+    destinations: &[Destination],
     ranges: &[ActiveRanges],
 ) -> Result<Summaries, OutOfMemory>
-    requires borders { Exactly (IsBorderRouter net.now) borders.now }
-    requires domain { IsOspfDomain net.now domain.now }
-    requires ranges { AreRangesBelow net.now (length net.now) ranges.now }
-    ensures { IfOk result (AreSummaries net.now domain.now) }
+    requires destinations { AreOspfDestinations domain.now.net domain.now.areas destinations.now }
+    requires ranges { AreRangesBelow domain.now.net (length domain.now.net) ranges.now }
+    ensures { IfOk result (AreSummaries domain.now destinations.now) }
 {
-    let areas = domain.areas.as_slice();
-    let mut summaries = Summaries::none(alloc, areas.len());
+    let borders = domain.borders(alloc)?;
+    let mut summaries = Summaries::none(alloc, domain.zones());
     let mut offers = Vec::new(alloc);
-    for destination in &domain.destinations {
+    for destination in destinations {
         keep_summaries(
             alloc,
             &mut summaries,
             &mut offers,
-            net,
-            areas,
-            borders,
+            domain,
+            borders.as_slice(),
             ranges,
             destination,
         )?;
@@ -65,25 +59,22 @@ fn keep_summaries(
     alloc: Global,
     summaries: &mut Summaries,
     offers: &mut Vec<Offer>,
-    net: &Net,
-    areas: &[AreaWalks],
+    domain: &Domain<'_>,
     borders: &[u32],
     ranges: &[ActiveRanges],
     destination: &Destination,
 ) -> Result<(), OutOfMemory>
-    requires borders { Exactly (IsBorderRouter net.now) borders.now }
-    requires areas { AreAreas net.now areas.now }
-    requires ranges { AreRangesBelow net.now (length net.now) ranges.now }
-    requires destination { IsDestinationIn net.now areas.now destination.now }
-    ensures { OnOk result (AddsRow net.now areas.now destination.now.dest (length areas.now) summaries.old summaries.new) }
+    requires borders { Exactly (IsBorderRouter domain.now.net) borders.now }
+    requires ranges { AreRangesBelow domain.now.net (length domain.now.net) ranges.now }
+    requires destination { IsDestinationIn domain.now.net domain.now.areas destination.now }
+    ensures { OnOk result (AddsRow domain.now.net domain.now.areas destination.now.dest (length domain.now.areas) summaries.old summaries.new) }
 {
-    let routes = summarized(alloc, net, areas, borders, ranges, destination)?;
+    let routes = summarized(alloc, domain, borders, ranges, destination)?;
     let backbone = offers_outside(alloc, routes.as_slice(), 0)?;
     keep_into_areas(
         summaries,
         offers,
-        net,
-        areas,
+        domain,
         ranges,
         destination,
         routes.as_slice(),
@@ -95,26 +86,23 @@ fn keep_summaries(
 fn keep_into_areas(
     summaries: &mut Summaries,
     offers: &mut Vec<Offer>,
-    net: &Net,
-    areas: &[AreaWalks],
+    domain: &Domain<'_>,
     ranges: &[ActiveRanges],
     destination: &Destination,
     routes: &[AreaRoute],
     backbone: &[Offer],
 ) -> Result<(), OutOfMemory>
-    requires areas { AreAreas net.now areas.now }
-    requires ranges { AreRangesBelow net.now (length net.now) ranges.now }
-    requires destination { IsDestinationIn net.now areas.now destination.now }
-    requires routes { AreSummarized net.now destination.now.dest routes.now }
-    requires backbone { AreOffers (BackboneSummary net.now destination.now.dest) backbone.now }
-    ensures { OnOk result (AddsRow net.now areas.now destination.now.dest (length areas.now) summaries.old summaries.new) }
+    requires ranges { AreRangesBelow domain.now.net (length domain.now.net) ranges.now }
+    requires destination { IsDestinationIn domain.now.net domain.now.areas destination.now }
+    requires routes { AreSummarized domain.now.net destination.now.dest routes.now }
+    requires backbone { AreOffers (BackboneSummary domain.now.net destination.now.dest) backbone.now }
+    ensures { OnOk result (AddsRow domain.now.net domain.now.areas destination.now.dest (length domain.now.areas) summaries.old summaries.new) }
 {
-    for area in areas {
+    for zone in 0..domain.zones() {
         put_summaries(
             offers,
-            net,
-            areas,
-            area,
+            domain,
+            domain.area(zone),
             ranges,
             destination,
             routes,
@@ -130,57 +118,55 @@ fn keep_into_areas(
 /// 2328, sections 12.4.3 and 3.6).
 fn put_summaries(
     offers: &mut Vec<Offer>,
-    net: &Net,
-    areas: &[AreaWalks],
+    domain: &Domain<'_>,
     area: &AreaWalks,
     ranges: &[ActiveRanges],
     destination: &Destination,
     routes: &[AreaRoute],
     backbone: &[Offer],
 ) -> Result<(), OutOfMemory>
-    requires members { AreMembersBelow net.now area.now.number (length net.now) area.now.members }
-    requires borders { Exactly (IsBorderIn net.now area.now.number) area.now.borders }
-    requires areas { AreAreas net.now areas.now }
-    requires ranges { AreRangesBelow net.now (length net.now) ranges.now }
-    requires destination { IsDestinationIn net.now areas.now destination.now }
-    requires routes { AreSummarized net.now destination.now.dest routes.now }
-    requires backbone { AreOffers (BackboneSummary net.now destination.now.dest) backbone.now }
-    ensures { OnOk result (AreOffers (IsHeard net.now destination.now.dest area.now.number) offers.new.items) }
+    requires members { AreMembersBelow domain.now.net area.now.number (length domain.now.net) area.now.members }
+    requires borders { Exactly (IsBorderIn domain.now.net area.now.number) area.now.borders }
+    requires ranges { AreRangesBelow domain.now.net (length domain.now.net) ranges.now }
+    requires destination { IsDestinationIn domain.now.net domain.now.areas destination.now }
+    requires routes { AreSummarized domain.now.net destination.now.dest routes.now }
+    requires backbone { AreOffers (BackboneSummary domain.now.net destination.now.dest) backbone.now }
+    ensures { OnOk result (AreOffers (IsHeard domain.now.net destination.now.dest area.now.number) offers.new.items) }
 {
     offers.clear();
-    push_outside(offers, net, area, routes)?;
+    push_outside(offers, domain, area, routes)?;
     let is_backbone = area.number == 0;
     if is_backbone {
         return Ok(());
     }
-    push_reached(offers, net, areas, area, ranges, destination, backbone)?;
-    push_defaults(offers, net, area, destination.dest)
+    push_reached(offers, domain, area, ranges, destination, backbone)?;
+    push_defaults(offers, domain, area, destination.dest)
 }
 
 /// Adds the routes of other areas that their routers announce into this one.
 fn push_outside(
     offers: &mut Vec<Offer>,
-    net: &Net,
+    domain: &Domain<'_>,
     area: &AreaWalks,
     routes: &[AreaRoute],
 ) -> Result<(), OutOfMemory>
-    requires members { AreMembersBelow net.now area.now.number (length net.now) area.now.members }
-    requires routers { All (λ r. r.at < length net.now) routes.now }
-    ensures { OnOk result (Adds offers.old.items offers.new.items (λ o. Any (IsOutgoing net.now area.now.number o) routes.now)) }
+    requires members { AreMembersBelow domain.now.net area.now.number (length domain.now.net) area.now.members }
+    requires routers { All (λ r. r.at < length domain.now.net) routes.now }
+    ensures { OnOk result (Adds offers.old.items offers.new.items (λ o. Any (IsOutgoing domain.now.net area.now.number o) routes.now)) }
 {
     for route in routes {
-        push_option(offers, outgoing(net, area, *route))?;
+        push_option(offers, outgoing(domain, area, *route))?;
     }
     Ok(())
 }
 
 /// The route as an offer, where it is of another area and its router announces it into this one.
-fn outgoing(net: &Net, area: &AreaWalks, route: AreaRoute) -> Option<Offer>
-    requires router { route.at < length net.now }
-    requires members { AreMembersBelow net.now area.now.number (length net.now) area.now.members }
-    ensures { (o : OfferValue) → (result ≡ Some o) ↔ IsOutgoing net.now area.now.number o route }
+fn outgoing(domain: &Domain<'_>, area: &AreaWalks, route: AreaRoute) -> Option<Offer>
+    requires router { route.at < length domain.now.net }
+    requires members { AreMembersBelow domain.now.net area.now.number (length domain.now.net) area.now.members }
+    ensures { (o : OfferValue) → (result ≡ Some o) ↔ IsOutgoing domain.now.net area.now.number o route }
 {
-    if announces(net, area, route.at) {
+    if announces(domain, area, route.at) {
         outside_offer(route, area.number)
     } else {
         None
@@ -189,10 +175,10 @@ fn outgoing(net: &Net, area: &AreaWalks, route: AreaRoute) -> Option<Offer>
 
 /// Whether a router is in the area, and announces more than the default route into it. The backbone is no stub area
 /// (RFC 2328, section 3.6).
-fn announces(net: &Net, area: &AreaWalks, b: u32) -> bool
-    requires router { b < length net.now }
-    requires members { AreMembersBelow net.now area.now.number (length net.now) area.now.members }
-    ensures { IsTrue result ↔ Announces net.now area.now.number b }
+fn announces(domain: &Domain<'_>, area: &AreaWalks, b: u32) -> bool
+    requires router { b < length domain.now.net }
+    requires members { AreMembersBelow domain.now.net area.now.number (length domain.now.net) area.now.members }
+    ensures { IsTrue result ↔ Announces domain.now.net area.now.number b }
 {
     if !area.members.has(b) {
         return false;
@@ -200,5 +186,5 @@ fn announces(net: &Net, area: &AreaWalks, b: u32) -> bool
     if area.number == 0 {
         return true;
     }
-    !is_totally_stubby(net, b, area.number)
+    !is_totally_stubby(domain, b, area.number)
 }

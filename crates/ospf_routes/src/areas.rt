@@ -2,7 +2,6 @@ ghost use Rattle.std.specs.Prelude.{◌≡◌, ◌<◌, ◌↔◌, ℕ, length, 
 ghost use Rattle.net_model.specs.Network.{InArea, IsBorderRouter, RunsArea};
 ghost use Rattle.net_model.specs.Refusals.{IsNetwork};
 ghost use Rattle.ospf_routes.specs.steps.Areas.{AreAreas, AreListeners, AreNumbered, HasArea, IsAreaAt, IsListener, IsListenerAt, IsReach, RunsOther};
-ghost use Rattle.ospf_routes.specs.steps.AreaReach.{IsThisBorder, area_reach};
 ghost use Rattle.ospf_routes.specs.Lists.{Adds, Exactly};
 
 use crate::OutOfMemory;
@@ -10,7 +9,6 @@ use crate::members::{Borders, Members};
 use net_model::{Interface, Net, Zone};
 use route_tables::push_option;
 use std::alloc::Global;
-use walk_core::LeastWalks;
 use zone_graph::ZoneWalks;
 
 /// An area with its least walks, its routers and its border routers.
@@ -141,28 +139,9 @@ pub fn is_border(net: &Net, u: u32) -> bool
     }
 }
 
-/// The border routers (RFC 2328, section 3.3).
-pub fn border_routers(alloc: Global, net: &Net) -> Result<Vec<u32>, OutOfMemory>
-    ensures { IfOk result (λ borders. Exactly (IsBorderRouter net.now) borders.items) }
-{
-    let mut borders = Vec::new(alloc);
-    for u in 0..net.routers() {
-        push_option(&mut borders, border_router(net, u))?;
-    }
-    Ok(borders)
-}
-
-/// The router, where it is a border router.
-fn border_router(net: &Net, u: u32) -> Option<u32>
-    requires { u < length net.now }
-    ensures { (v : ℕ) → (result ≡ Some v) ↔ IsThisBorder net.now u v }
-{
-    if is_border(net, u) { Some(u) } else { None }
-}
-
 /// The area whose announcements the router listens to: the backbone at a border router, else its one
 /// area (RFC 2328, section 16.2).
-fn listens_to(net: &Net, u: u32) -> Option<u32>
+pub fn listens_to(net: &Net, u: u32) -> Option<u32>
     requires { u < length net.now }
     ensures { IsListener net.now u result }
 {
@@ -172,36 +151,8 @@ fn listens_to(net: &Net, u: u32) -> Option<u32>
     first_area(net.config(u).interfaces.as_slice())
 }
 
-/// The place of the area that each router listens to.
-pub fn all_listens(
-    alloc: Global,
-    net: &Net,
-    areas: &[AreaWalks],
-) -> Result<Vec<Option<usize>>, OutOfMemory>
-    requires { AreAreas net.now areas.now }
-    ensures { IfOk result (λ listens. AreListeners net.now areas.now (length net.now) listens.items) }
-{
-    let mut listens = Vec::new(alloc);
-    for u in 0..net.routers() {
-        listens.push(listened_place(net, areas, u))?;
-    }
-    Ok(listens)
-}
-
-/// The place of the area that the router listens to.
-fn listened_place(net: &Net, areas: &[AreaWalks], u: u32) -> Option<usize>
-    requires router { u < length net.now }
-    requires areas { AreAreas net.now areas.now }
-    ensures { IsListenerAt net.now areas.now u result }
-{
-    match listens_to(net, u) {
-        Some(number) => place_of(areas, number),
-        None => None,
-    }
-}
-
 /// The place of the area of this number among all.
-fn place_of(areas: &[AreaWalks], number: u32) -> Option<usize>
+pub fn place_of(areas: &[AreaWalks], number: u32) -> Option<usize>
     ensures none { IfNone result (HasArea areas.now number → ⊥) }
     ensures some { IfSome result (IsAreaAt areas.now number) }
 {
@@ -211,28 +162,4 @@ fn place_of(areas: &[AreaWalks], number: u32) -> Option<usize>
         }
     }
     None
-}
-
-/// The least walks from the router in the area at this place.
-pub fn zone_reach<'a>(net: &Net, areas: &'a [AreaWalks], zone: usize, u: u32) -> &'a LeastWalks
-    requires router { u < length net.now }
-    requires areas { AreAreas net.now areas.now }
-    requires zone { zone < length areas.now }
-    ensures same { area_reach areas.now u zone ≡ result.now }
-    ensures reach { (n : ℕ) → IsAreaAt areas.now n zone → IsReach net.now n u result.now }
-{
-    areas[zone].walks.from_router(u)
-}
-
-/// The least walks from the router in the area of this number.
-pub fn reach<'a>(net: &Net, areas: &'a [AreaWalks], number: u32, u: u32) -> Option<&'a LeastWalks>
-    requires router { u < length net.now }
-    requires areas { AreAreas net.now areas.now }
-    ensures none { IfNone result (HasArea areas.now number → ⊥) }
-    ensures some { IfSome result (λ walks. IsReach net.now number u walks.now) }
-{
-    match place_of(areas, number) {
-        Some(zone) => Some(zone_reach(net, areas, zone, u)),
-        None => None,
-    }
 }

@@ -1,7 +1,6 @@
 ghost use Rattle.std.specs.Prelude.{◌≡◌, ◌<◌, ◌↔◌, ℕ, length, Some, OnOk};
 ghost use Rattle.igp_theory.specs.Ospf.{BackboneSummary, BorderCost};
 ghost use Rattle.walk_core.specs.declared.offers.Offer.{Offer as OfferValue};
-ghost use Rattle.ospf_routes.specs.steps.Areas.{AreAreas};
 ghost use Rattle.ospf_routes.specs.steps.Destinations.{IsDestinationIn};
 ghost use Rattle.net_model.specs.Network.{IsBorderRouter};
 ghost use Rattle.ospf_routes.specs.Lists.{Adds, Exactly};
@@ -11,11 +10,11 @@ ghost use Rattle.ospf_routes.specs.steps.Ranges.{AreActiveRanges, AreRangesBelow
 ghost use Rattle.ospf_routes.specs.steps.Summarized.{IsPassedOn};
 
 use crate::OutOfMemory;
-use crate::areas::{AreaWalks, reach};
+use crate::areas::AreaWalks;
+use crate::domain::Domain;
 use crate::intra_area::{Destination, has_intra};
 use crate::ranges::ActiveRanges;
 use crate::stub_areas::is_totally_stubby;
-use net_model::Net;
 use route_tables::push_option;
 use walk_core::Offer;
 
@@ -23,26 +22,24 @@ use walk_core::Offer;
 /// announces more than the default route into the area. None has one where nothing is announced into the backbone.
 pub fn push_reached(
     offers: &mut Vec<Offer>,
-    net: &Net,
-    areas: &[AreaWalks],
+    domain: &Domain<'_>,
     area: &AreaWalks,
     ranges: &[ActiveRanges],
     destination: &Destination,
     backbone: &[Offer],
 ) -> Result<(), OutOfMemory>
-    requires borders { Exactly (IsBorderIn net.now area.now.number) area.now.borders }
-    requires areas { AreAreas net.now areas.now }
-    requires ranges { AreRangesBelow net.now (length net.now) ranges.now }
-    requires destination { IsDestinationIn net.now areas.now destination.now }
-    requires backbone { AreOffers (BackboneSummary net.now destination.now.dest) backbone.now }
-    ensures { OnOk result (Adds offers.old.items offers.new.items (IsPassedOn net.now area.now.number destination.now.dest)) }
+    requires borders { Exactly (IsBorderIn domain.now.net area.now.number) area.now.borders }
+    requires ranges { AreRangesBelow domain.now.net (length domain.now.net) ranges.now }
+    requires destination { IsDestinationIn domain.now.net domain.now.areas destination.now }
+    requires backbone { AreOffers (BackboneSummary domain.now.net destination.now.dest) backbone.now }
+    ensures { OnOk result (Adds offers.old.items offers.new.items (IsPassedOn domain.now.net area.now.number destination.now.dest)) }
 {
     if backbone.is_empty() {
         return Ok(());
     }
     for b in area.borders.as_slice() {
         let active = &ranges[*b as usize];
-        let offer = reached_offer(net, areas, area.number, active, destination, backbone, *b);
+        let offer = reached_offer(domain, area.number, active, destination, backbone, *b);
         push_option(offers, offer)?;
     }
     Ok(())
@@ -51,26 +48,24 @@ pub fn push_reached(
 /// The prefix with its inter-area cost at border router `b`, where it has one and announces more than the default route into
 /// the area.
 fn reached_offer(
-    net: &Net,
-    areas: &[AreaWalks],
+    domain: &Domain<'_>,
     area: u32,
     ranges: &ActiveRanges,
     destination: &Destination,
     backbone: &[Offer],
     b: u32,
 ) -> Option<Offer>
-    requires border { IsBorderIn net.now area b }
-    requires router { b < length net.now }
-    requires areas { AreAreas net.now areas.now }
-    requires ranges { AreActiveRanges net.now b ranges.now }
-    requires destination { IsDestinationIn net.now areas.now destination.now }
-    requires backbone { AreOffers (BackboneSummary net.now destination.now.dest) backbone.now }
-    ensures { (o : OfferValue) → (result ≡ Some o) ↔ ((o.at ≡ b) × IsPassedOn net.now area destination.now.dest o) }
+    requires border { IsBorderIn domain.now.net area b }
+    requires router { b < length domain.now.net }
+    requires ranges { AreActiveRanges domain.now.net b ranges.now }
+    requires destination { IsDestinationIn domain.now.net domain.now.areas destination.now }
+    requires backbone { AreOffers (BackboneSummary domain.now.net destination.now.dest) backbone.now }
+    ensures { (o : OfferValue) → (result ≡ Some o) ↔ ((o.at ≡ b) × IsPassedOn domain.now.net area destination.now.dest o) }
 {
-    if is_totally_stubby(net, b, area) {
+    if is_totally_stubby(domain, b, area) {
         return None;
     }
-    let asks = border_cost(net, areas, ranges, destination, backbone, b)?;
+    let asks = border_cost(domain, ranges, destination, backbone, b)?;
     Some(Offer { at: b, asks })
 }
 
@@ -78,27 +73,25 @@ fn reached_offer(
 /// There is none where the prefix has an intra-area route or is an active range of `u`, so `u` itself
 /// announces nothing of a prefix that has one.
 fn border_cost(
-    net: &Net,
-    areas: &[AreaWalks],
+    domain: &Domain<'_>,
     ranges: &ActiveRanges,
     destination: &Destination,
     backbone: &[Offer],
     u: u32,
 ) -> Option<u64>
-    requires border { IsBorderRouter net.now u }
-    requires router { u < length net.now }
-    requires areas { AreAreas net.now areas.now }
-    requires ranges { AreActiveRanges net.now u ranges.now }
-    requires destination { IsDestinationIn net.now areas.now destination.now }
-    requires backbone { AreOffers (BackboneSummary net.now destination.now.dest) backbone.now }
-    ensures { (cost : ℕ) → (result ≡ Some cost) ↔ BorderCost net.now destination.now.dest u cost }
+    requires border { IsBorderRouter domain.now.net u }
+    requires router { u < length domain.now.net }
+    requires ranges { AreActiveRanges domain.now.net u ranges.now }
+    requires destination { IsDestinationIn domain.now.net domain.now.areas destination.now }
+    requires backbone { AreOffers (BackboneSummary domain.now.net destination.now.dest) backbone.now }
+    ensures { (cost : ℕ) → (result ≡ Some cost) ↔ BorderCost domain.now.net destination.now.dest u cost }
 {
-    let walks = reach(net, areas, 0, u)?;
+    let walks = domain.reach(0, u)?;
     let cost = walks.best_cost(backbone)?;
     if ranges.contains(destination.dest) {
         return None;
     }
-    if has_intra(net, areas, destination, u) {
+    if has_intra(domain, destination, u) {
         return None;
     }
     Some(cost)

@@ -1,74 +1,164 @@
-ghost use Rattle.std.specs.Prelude.{◌≡◌, All, IfOk};
-ghost use Rattle.net_model.specs.Network.{Network};
+ghost use Rattle.std.specs.Prelude.{◌≡◌, ◌<◌, ◌↔◌, ℕ, length, slice_index_or, Some, IfOk, IfNone, IfSome, IsTrue};
+ghost use Rattle.net_model.specs.Network.{HasConfiguration, IsBorderRouter};
 ghost use Rattle.ospf_routes.specs.Lists.{Exactly};
-ghost use Rattle.ospf_routes.specs.steps.Areas.{AreAreas};
-ghost use Rattle.ospf_routes.specs.steps.Destinations.{AreOspfDestinations, IsDestinationIn, ospf_prefixes};
-ghost use Rattle.ospf_routes.specs.steps.Domain.{IsOspfDomain};
-ghost use Rattle.ospf_routes.specs.steps.Subnets.{IsUpSubnet};
+ghost use Rattle.ospf_routes.specs.steps.AreaReach.{IsThisBorder, area_reach};
+ghost use Rattle.ospf_routes.specs.steps.Areas.{AreAreas, AreListeners, HasArea, IsAreaAt, IsListenerAt, IsReach};
 
 use crate::OutOfMemory;
-use crate::areas::{AreaWalks, all_areas};
-use crate::candidates::candidates_of;
-use crate::intra_area::Destination;
-use crate::subnets::Subnets;
-use net_addr::Prefix;
-use net_model::Net;
+use crate::areas::{AreaWalks, all_areas, is_border, listens_to, place_of};
+use net_model::{Config, Net};
+use route_tables::push_option;
 use std::alloc::Global;
+use std::marker::Model;
+use walk_core::LeastWalks;
 
-/// What the routers of a network know by OSPF before anything is summarized: the least walks of each
-/// area, and what the interfaces of each area offer of each prefix.
+/// A network and its areas, each with its least walks, its routers and its border routers.
 #[derive(Debug, Drop)]
-pub struct Domain {
-    /// The areas with their least walks.
-    pub areas: Vec<AreaWalks>,
-    /// The prefixes that may have entries.
-    pub destinations: Vec<Destination>,
+pub struct Domain<'a> {
+    net: &'a Net,
+    areas: Vec<AreaWalks>,
 }
 
-impl Domain {
-    /// What the routers of the network know.
-    pub fn build(alloc: Global, net: &Net) -> Result<Domain, OutOfMemory>
-        ensures { IfOk result (IsOspfDomain net.now) }
+impl<'a> Model for Domain<'a> {
+    ghost use Rattle.ospf_routes.specs.steps.Areas.{AreAreas};
+    ghost use Rattle.ospf_routes.specs.steps.Domain.{OspfDomain};
+
+    ghost Value = { OspfDomain };
+
+    ghost view = { λ x. record { net = x.net.now; areas = x.areas.items } };
+
+    ghost invariant = { λ x. AreAreas x.net.now x.areas.items };
+}
+
+impl<'a> Domain<'a> {
+    /// The network with its areas.
+    pub fn build(alloc: Global, net: &'a Net) -> Result<Domain<'a>, OutOfMemory>
+        ensures { IfOk result (λ domain. domain.net ≡ net.now) }
     {
         let areas = all_areas(alloc, net)?;
-        let subnets = Subnets::of_network(alloc, net)?;
-        let destinations = destinations(alloc, net, areas.as_slice(), &subnets)?;
-        Ok(Domain {
-            areas,
-            destinations,
-        })
+        Ok(Domain { net, areas })
     }
-}
 
-/// Each prefix that may have an entry, with what the interfaces of each area offer of it.
-fn destinations(
-    alloc: Global,
-    net: &Net,
-    areas: &[AreaWalks],
-    subnets: &Subnets,
-) -> Result<Vec<Destination>, OutOfMemory>
-    requires areas { AreAreas net.now areas.now }
-    requires subnets { Exactly (IsUpSubnet net.now) subnets.now }
-    ensures { IfOk result (λ all. AreOspfDestinations net.now areas.now all.items) }
-{
-    let dests = candidates_of(alloc, net)?;
-    each_destination(alloc, areas, subnets, dests.as_slice())
-}
-
-/// Each of these prefixes, with what the interfaces of each area offer of it. It takes time of the prefixes, and of the
-/// logarithm of the subnets.
-fn each_destination(
-    alloc: Global,
-    areas: &[AreaWalks],
-    subnets: &Subnets,
-    dests: &[Prefix],
-) -> Result<Vec<Destination>, OutOfMemory>
-    ensures dests { IfOk result (λ all. ospf_prefixes all.items ≡ dests.now) }
-    ensures each { IfOk result (λ all. (net : Network) → AreAreas net areas.now → Exactly (IsUpSubnet net) subnets.now → All (IsDestinationIn net areas.now) all.items) }
-{
-    let mut all = Vec::new(alloc);
-    for dest in dests {
-        all.push(Destination::build(alloc, areas, subnets, *dest)?)?;
+    /// The network.
+    pub fn net(&self) -> &Net
+        ensures is { result.now ≡ self.now.net }
+        ensures known { AreAreas self.now.net self.now.areas }
+    {
+        self.net
     }
-    Ok(all)
+
+    /// Its areas.
+    pub fn areas(&self) -> &[AreaWalks]
+        ensures is { result.now ≡ self.now.areas }
+        ensures known { AreAreas self.now.net self.now.areas }
+    {
+        self.areas.as_slice()
+    }
+
+    /// How many routers there are.
+    pub fn routers(&self) -> u32
+        ensures count { result ≡ length self.now.net }
+        ensures known { AreAreas self.now.net self.now.areas }
+    {
+        self.net().routers()
+    }
+
+    /// The configuration of a router.
+    pub fn config(&self, router: u32) -> &Config
+        requires { router < length self.now.net }
+        ensures router { HasConfiguration self.now.net router result.now }
+        ensures known { AreAreas self.now.net self.now.areas }
+    {
+        self.net().config(router)
+    }
+
+    /// Whether a router is a border router.
+    pub fn is_border(&self, router: u32) -> bool
+        requires { router < length self.now.net }
+        ensures { IsTrue result ↔ IsBorderRouter self.now.net router }
+    {
+        is_border(self.net(), router)
+    }
+
+    /// How many areas there are.
+    pub fn zones(&self) -> usize
+        ensures count { result ≡ length self.now.areas }
+        ensures known { AreAreas self.now.net self.now.areas }
+    {
+        self.areas().len()
+    }
+
+    /// The area at this place.
+    pub fn area(&self, zone: usize) -> &AreaWalks
+        requires { zone < length self.now.areas }
+        ensures is { result.now ≡ slice_index_or self.now.areas zone result.now }
+        ensures known { AreAreas self.now.net self.now.areas }
+    {
+        &self.areas()[zone]
+    }
+
+    /// The least walks from a router in the area at this place.
+    pub fn walks(&self, zone: usize, u: u32) -> &LeastWalks
+        requires router { u < length self.now.net }
+        requires zone { zone < length self.now.areas }
+        ensures same { area_reach self.now.areas u zone ≡ result.now }
+        ensures reach { (n : ℕ) → IsAreaAt self.now.areas n zone → IsReach self.now.net n u result.now }
+        ensures known { AreAreas self.now.net self.now.areas }
+    {
+        self.area(zone).walks.from_router(u)
+    }
+
+    /// The least walks from a router in the area of this number.
+    pub fn reach(&self, number: u32, u: u32) -> Option<&LeastWalks>
+        requires router { u < length self.now.net }
+        ensures none { IfNone result (HasArea self.now.areas number → ⊥) }
+        ensures some { IfSome result (λ walks. IsReach self.now.net number u walks.now) }
+        ensures known { AreAreas self.now.net self.now.areas }
+    {
+        match place_of(self.areas(), number) {
+            Some(zone) => Some(self.walks(zone, u)),
+            None => None,
+        }
+    }
+
+    /// The border routers (RFC 2328, section 3.3).
+    pub fn borders(&self, alloc: Global) -> Result<Vec<u32>, OutOfMemory>
+        ensures { IfOk result (λ borders. Exactly (IsBorderRouter self.now.net) borders.items) }
+    {
+        let mut borders = Vec::new(alloc);
+        for u in 0..self.routers() {
+            push_option(&mut borders, self.border(u))?;
+        }
+        Ok(borders)
+    }
+
+    /// The router, where it is a border router.
+    fn border(&self, u: u32) -> Option<u32>
+        requires { u < length self.now.net }
+        ensures { (v : ℕ) → (result ≡ Some v) ↔ IsThisBorder self.now.net u v }
+    {
+        if self.is_border(u) { Some(u) } else { None }
+    }
+
+    /// The place of the area that each router listens to.
+    pub fn listens(&self, alloc: Global) -> Result<Vec<Option<usize>>, OutOfMemory>
+        ensures { IfOk result (λ listens. AreListeners self.now.net self.now.areas (length self.now.net) listens.items) }
+    {
+        let mut listens = Vec::new(alloc);
+        for u in 0..self.routers() {
+            listens.push(self.listened_place(u))?;
+        }
+        Ok(listens)
+    }
+
+    /// The place of the area that a router listens to.
+    fn listened_place(&self, u: u32) -> Option<usize>
+        requires router { u < length self.now.net }
+        ensures { IsListenerAt self.now.net self.now.areas u result }
+    {
+        match listens_to(self.net(), u) {
+            Some(number) => place_of(self.areas(), number),
+            None => None,
+        }
+    }
 }

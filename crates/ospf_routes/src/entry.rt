@@ -4,18 +4,17 @@ ghost use Rattle.igp_theory.specs.Ospf.{IntraAreaCost, IsActiveRange, IsIntraAre
 ghost use Rattle.walk_core.specs.BestOffers.{NoneTotals};
 ghost use Rattle.route_tables.specs.Routings.{ForwardsBy, IsRouteFor};
 ghost use Rattle.ospf_routes.specs.steps.AreaReach.{area_reach};
-ghost use Rattle.ospf_routes.specs.steps.Areas.{AreAreas, IsListenedPlace};
+ghost use Rattle.ospf_routes.specs.steps.Areas.{IsListenedPlace};
 ghost use Rattle.ospf_routes.specs.steps.Asked.{HasNoEntry, IsQuestion, IsDeciding, IsFoundRoute, IsRoute, IsRouteTowards};
 ghost use Rattle.ospf_routes.specs.steps.Destinations.{IsDestinationIn};
 ghost use Rattle.ospf_routes.specs.steps.Heard.{AreHeardAt};
 ghost use Rattle.ospf_routes.specs.steps.Routing.{AreAreaRoutes, IsAreaRoute, IsIntraRoute};
 
 use crate::OutOfMemory;
-use crate::areas::{AreaWalks, zone_reach};
+use crate::domain::Domain;
 use crate::intra_area::{AreaOffers, Destination, part_reach};
 use crate::ranges::ActiveRanges;
 use crate::united::united_some;
-use net_model::Net;
 use route_core::Hops;
 use route_tables::{Route, Target, best_hops, best_route, best_target, push_option};
 use std::alloc::Global;
@@ -24,10 +23,8 @@ use walk_core::{LeastWalks, Offer};
 /// A router and a prefix whose route is asked for, with what is known of both.
 #[derive(Clone, Copy, Debug)]
 pub struct Asked<'a> {
-    /// The network.
-    pub net: &'a Net,
-    /// Its areas.
-    pub areas: &'a [AreaWalks],
+    /// The network and its areas.
+    pub domain: &'a Domain<'a>,
     /// The router.
     pub router: u32,
     /// The place of the area that the router listens to.
@@ -90,13 +87,7 @@ fn decided_in<'a>(asked: Asked<'a>, part: &'a AreaOffers) -> Option<Deciding<'a>
     requires part { Contains asked.destination.now.parts.items part.now }
     ensures { IfSome result (IsDeciding asked.entry) }
 {
-    match part_reach(
-        asked.net,
-        asked.areas,
-        asked.destination,
-        part,
-        asked.router,
-    ) {
+    match part_reach(asked.domain, asked.destination, part, asked.router) {
         Some(walks) => {
             let offers = part.offers.as_slice();
             Some(Deciding {
@@ -112,7 +103,7 @@ fn decided_in<'a>(asked: Asked<'a>, part: &'a AreaOffers) -> Option<Deciding<'a>
 /// The summaries that decide the route of a prefix without an intra-area route, where it is no active range.
 fn listened(asked: Asked<'_>) -> Option<Deciding<'_>>
     requires asked { IsQuestion asked }
-    requires no_intra { IsIntraArea asked.net.now asked.destination.now.dest asked.router → ⊥ }
+    requires no_intra { IsIntraArea asked.domain.now.net asked.destination.now.dest asked.router → ⊥ }
     ensures some { IfSome result (IsDeciding asked.entry) }
     ensures none { IfSome result (λ d. NoneTotals d.walks.now d.offers.now → HasNoEntry asked.entry) }
 {
@@ -128,14 +119,14 @@ fn listened(asked: Asked<'_>) -> Option<Deciding<'_>>
 /// The summaries into the area at this place, to which the router listens.
 fn listened_at(asked: Asked<'_>, zone: usize) -> Deciding<'_>
     requires asked { IsQuestion asked }
-    requires listens { IsListenedPlace asked.net.now asked.areas.now asked.router zone }
-    requires heard { AreHeardAt asked.net.now asked.areas.now asked.destination.now.dest zone asked.heard.now }
-    requires no_intra { IsIntraArea asked.net.now asked.destination.now.dest asked.router → ⊥ }
-    requires no_range { IsActiveRange asked.net.now asked.destination.now.dest asked.router → ⊥ }
+    requires listens { IsListenedPlace asked.domain.now.net asked.domain.now.areas asked.router zone }
+    requires heard { AreHeardAt asked.domain.now.net asked.domain.now.areas asked.destination.now.dest zone asked.heard.now }
+    requires no_intra { IsIntraArea asked.domain.now.net asked.destination.now.dest asked.router → ⊥ }
+    requires no_range { IsActiveRange asked.domain.now.net asked.destination.now.dest asked.router → ⊥ }
     ensures some { IsDeciding asked.entry result }
     ensures none { NoneTotals result.walks.now result.offers.now → HasNoEntry asked.entry }
 {
-    let walks = zone_reach(asked.net, asked.areas, zone, asked.router);
+    let walks = asked.domain.walks(zone, asked.router);
     Deciding {
         walks,
         zone,
@@ -173,13 +164,7 @@ fn is_unheard_outside(asked: Asked, part: &AreaOffers) -> bool
     requires part { Contains asked.destination.now.parts.items part.now }
     ensures { IsTrue result → HasNoEntry asked.entry }
 {
-    match part_reach(
-        asked.net,
-        asked.areas,
-        asked.destination,
-        part,
-        asked.router,
-    ) {
+    match part_reach(asked.domain, asked.destination, part, asked.router) {
         Some(_) => false,
         None => hears_nothing(asked),
     }
@@ -188,7 +173,7 @@ fn is_unheard_outside(asked: Asked, part: &AreaOffers) -> bool
 /// Whether nothing is announced of a prefix without an intra-area route, where it is no active range.
 fn hears_nothing(asked: Asked) -> bool
     requires asked { IsQuestion asked }
-    requires no_intra { IsIntraArea asked.net.now asked.destination.now.dest asked.router → ⊥ }
+    requires no_intra { IsIntraArea asked.domain.now.net asked.destination.now.dest asked.router → ⊥ }
     ensures { IsTrue result → HasNoEntry asked.entry }
 {
     match listened(asked) {
@@ -204,11 +189,11 @@ fn full_route(alloc: Global, asked: Asked) -> Result<Option<Route>, OutOfMemory>
     requires { IsQuestion asked }
     ensures { IfOk result (IsFoundRoute asked.entry) }
 {
-    let (net, areas, destination, u) = (asked.net, asked.areas, asked.destination, asked.router);
+    let (domain, destination, u) = (asked.domain, asked.destination, asked.router);
     if destination.is_home(u) {
         return Ok(None);
     }
-    if let Some(route) = intra_route(alloc, net, areas, destination, u)? {
+    if let Some(route) = intra_route(alloc, domain, destination, u)? {
         return Ok(Some(route));
     }
     if asked.ranges.contains(destination.dest) {
@@ -223,10 +208,10 @@ fn full_route(alloc: Global, asked: Asked) -> Result<Option<Route>, OutOfMemory>
 /// The route to the best of the offers that decide it.
 fn route_by(alloc: Global, asked: Asked, deciding: Deciding) -> Result<Option<Route>, OutOfMemory>
     requires decides { IsDeciding asked deciding }
-    requires away { Connected asked.net.now asked.router asked.destination.now.dest → ⊥ }
+    requires away { Connected asked.domain.now.net asked.router asked.destination.now.dest → ⊥ }
     ensures { IfOk result (λ found. MatchOption found (NoneTotals deciding.entry.walks.now deciding.entry.offers.now) (IsRoute asked.entry)) }
 {
-    let count = asked.net.routers();
+    let count = asked.domain.routers();
     best_route(alloc, deciding.walks, deciding.zone, deciding.offers, count)
 }
 
@@ -234,22 +219,20 @@ fn route_by(alloc: Global, asked: Asked, deciding: Deciding) -> Result<Option<Ro
 /// prefix.
 fn intra_route(
     alloc: Global,
-    net: &Net,
-    areas: &[AreaWalks],
+    domain: &Domain<'_>,
     destination: &Destination,
     u: u32,
 ) -> Result<Option<Route>, OutOfMemory>
-    requires router { u < length net.now }
-    requires areas { AreAreas net.now areas.now }
-    requires destination { IsDestinationIn net.now areas.now destination.now }
+    requires router { u < length domain.now.net }
+    requires destination { IsDestinationIn domain.now.net domain.now.areas destination.now }
     ensures { IfOk result (λ found. MatchOption found
-        (IsIntraArea net.now destination.now.dest u → ⊥)
-        (IsRouteFor (area_reach areas.now u) (length areas.now) (length net.now) (ForwardsBy (IsIntraRoute net.now destination.now.dest u)))) }
+        (IsIntraArea domain.now.net destination.now.dest u → ⊥)
+        (IsRouteFor (area_reach domain.now.areas u) (length domain.now.areas) (length domain.now.net) (ForwardsBy (IsIntraRoute domain.now.net destination.now.dest u)))) }
 {
     if destination.parts.len() == 1 {
-        return area_route(alloc, net, areas, destination, &destination.parts[0], u);
+        return area_route(alloc, domain, destination, &destination.parts[0], u);
     }
-    match intra_hops(alloc, net, areas, destination, u)? {
+    match intra_hops(alloc, domain, destination, u)? {
         Some(hops) => Ok(Some(Route::Through(hops))),
         None => Ok(None),
     }
@@ -258,25 +241,23 @@ fn intra_route(
 /// The intra-area route in the one area that offers the prefix.
 fn area_route(
     alloc: Global,
-    net: &Net,
-    areas: &[AreaWalks],
+    domain: &Domain<'_>,
     destination: &Destination,
     part: &AreaOffers,
     u: u32,
 ) -> Result<Option<Route>, OutOfMemory>
-    requires router { u < length net.now }
-    requires areas { AreAreas net.now areas.now }
-    requires destination { IsDestinationIn net.now areas.now destination.now }
+    requires router { u < length domain.now.net }
+    requires destination { IsDestinationIn domain.now.net domain.now.areas destination.now }
     requires one { length destination.now.parts.items ≡ 1 }
     requires part { Contains destination.now.parts.items part.now }
     ensures { IfOk result (λ found. MatchOption found
-        (IsIntraArea net.now destination.now.dest u → ⊥)
-        (IsRouteFor (area_reach areas.now u) (length areas.now) (length net.now) (ForwardsBy (IsIntraRoute net.now destination.now.dest u)))) }
+        (IsIntraArea domain.now.net destination.now.dest u → ⊥)
+        (IsRouteFor (area_reach domain.now.areas u) (length domain.now.areas) (length domain.now.net) (ForwardsBy (IsIntraRoute domain.now.net destination.now.dest u)))) }
 {
-    match part_reach(net, areas, destination, part, u) {
+    match part_reach(domain, destination, part, u) {
         Some(walks) => {
             let offers = part.offers.as_slice();
-            best_route(alloc, walks, part.zone, offers, net.routers())
+            best_route(alloc, walks, part.zone, offers, domain.routers())
         }
         None => Ok(None),
     }
@@ -285,38 +266,34 @@ fn area_route(
 /// The hops of the intra-area routes, of all areas that the router is in (RFC 2328, section 16.1).
 fn intra_hops(
     alloc: Global,
-    net: &Net,
-    areas: &[AreaWalks],
+    domain: &Domain<'_>,
     destination: &Destination,
     u: u32,
 ) -> Result<Option<Hops>, OutOfMemory>
-    requires router { u < length net.now }
-    requires areas { AreAreas net.now areas.now }
-    requires destination { IsDestinationIn net.now areas.now destination.now }
+    requires router { u < length domain.now.net }
+    requires destination { IsDestinationIn domain.now.net domain.now.areas destination.now }
     ensures { IfOk result (λ found. MatchOption found
-        (IsIntraArea net.now destination.now.dest u → ⊥)
-        (IsIntraRoute net.now destination.now.dest u)) }
+        (IsIntraArea domain.now.net destination.now.dest u → ⊥)
+        (IsIntraRoute domain.now.net destination.now.dest u)) }
 {
-    let lists = area_lists(alloc, net, areas, destination, u)?;
-    united_some(alloc, lists.as_slice(), net.routers())
+    let lists = area_lists(alloc, domain, destination, u)?;
+    united_some(alloc, lists.as_slice(), domain.routers())
 }
 
 /// The hops of the intra-area route in each area that has one.
 fn area_lists(
     alloc: Global,
-    net: &Net,
-    areas: &[AreaWalks],
+    domain: &Domain<'_>,
     destination: &Destination,
     u: u32,
 ) -> Result<Vec<Hops>, OutOfMemory>
-    requires router { u < length net.now }
-    requires areas { AreAreas net.now areas.now }
-    requires destination { IsDestinationIn net.now areas.now destination.now }
-    ensures { IfOk result (λ lists. AreAreaRoutes net.now destination.now.dest u lists.items) }
+    requires router { u < length domain.now.net }
+    requires destination { IsDestinationIn domain.now.net domain.now.areas destination.now }
+    ensures { IfOk result (λ lists. AreAreaRoutes domain.now.net destination.now.dest u lists.items) }
 {
     let mut lists = Vec::new(alloc);
     for part in destination.parts.as_slice() {
-        let hops = area_hops(alloc, net, areas, destination, part, u)?;
+        let hops = area_hops(alloc, domain, destination, part, u)?;
         push_option(&mut lists, hops)?;
     }
     Ok(lists)
@@ -325,22 +302,20 @@ fn area_lists(
 /// The hops of the intra-area route in the area of a part.
 fn area_hops(
     alloc: Global,
-    net: &Net,
-    areas: &[AreaWalks],
+    domain: &Domain<'_>,
     destination: &Destination,
     part: &AreaOffers,
     u: u32,
 ) -> Result<Option<Hops>, OutOfMemory>
-    requires router { u < length net.now }
-    requires areas { AreAreas net.now areas.now }
-    requires destination { IsDestinationIn net.now areas.now destination.now }
+    requires router { u < length domain.now.net }
+    requires destination { IsDestinationIn domain.now.net domain.now.areas destination.now }
     requires part { Contains destination.now.parts.items part.now }
     ensures { IfOk result (λ found. MatchOption found
-        ((cost : ℕ) → IntraAreaCost net.now part.now.area destination.now.dest u cost → ⊥)
-        (IsAreaRoute net.now part.now.area destination.now.dest u)) }
+        ((cost : ℕ) → IntraAreaCost domain.now.net part.now.area destination.now.dest u cost → ⊥)
+        (IsAreaRoute domain.now.net part.now.area destination.now.dest u)) }
 {
-    match part_reach(net, areas, destination, part, u) {
-        Some(walks) => best_hops(alloc, walks, part.offers.as_slice(), net.routers()),
+    match part_reach(domain, destination, part, u) {
+        Some(walks) => best_hops(alloc, walks, part.offers.as_slice(), domain.routers()),
         None => Ok(None),
     }
 }

@@ -1,5 +1,5 @@
 ghost use Rattle.std.specs.Prelude.{◌≡◌, ◌<◌, ◌↔◌, ℕ, length, Some, All, Any, Contains, IfOk, IfNone, IfSome, IsTrue, OnOk};
-ghost use Rattle.net_model.specs.Network.{InArea, Network};
+ghost use Rattle.net_model.specs.Network.{InArea};
 ghost use Rattle.igp_theory.specs.Ospf.{IntraAreaCost, IsIntraArea};
 ghost use Rattle.ospf_routes.specs.steps.AreaReach.{area_reach};
 ghost use Rattle.ospf_routes.specs.steps.Areas.{AreAreas, HasArea, IsReach};
@@ -12,10 +12,9 @@ ghost use Rattle.walk_core.specs.declared.offers.Offer.{Offer as OfferValue};
 
 use crate::OutOfMemory;
 use crate::area_route::{AreaRoute, offers_inside};
-use crate::areas::{AreaWalks, zone_reach};
+use crate::domain::Domain;
 use crate::subnets::{Subnets, homes_among, routes_among};
 use net_addr::Prefix;
-use net_model::Net;
 use std::alloc::Global;
 use walk_core::{LeastWalks, Offer};
 
@@ -45,17 +44,18 @@ impl Destination {
     /// A prefix with what is known of it by the areas and the subnets of a network.
     pub fn build(
         alloc: Global,
-        areas: &[AreaWalks],
+        domain: &Domain<'_>,
         subnets: &Subnets,
         dest: Prefix,
     ) -> Result<Destination, OutOfMemory>
+        requires subnets { Exactly (IsUpSubnet domain.now.net) subnets.now }
         ensures dest { IfOk result (λ d. d.dest ≡ dest) }
-        ensures is { IfOk result (λ d. (net : Network) → AreAreas net areas.now → Exactly (IsUpSubnet net) subnets.now → IsDestinationIn net areas.now d) }
+        ensures is { IfOk result (IsDestinationIn domain.now.net domain.now.areas) }
     {
         let near = subnets.around(dest);
         let homes = homes_among(alloc, near, dest)?;
         let routes = routes_among(alloc, near, dest)?;
-        let parts = area_parts(alloc, areas, routes.as_slice())?;
+        let parts = area_parts(alloc, domain, routes.as_slice())?;
         Ok(Destination { dest, homes, parts })
     }
 
@@ -70,15 +70,16 @@ impl Destination {
 /// The routes of each area that has some, as offers.
 fn area_parts(
     alloc: Global,
-    areas: &[AreaWalks],
+    domain: &Domain<'_>,
     routes: &[AreaRoute],
 ) -> Result<Vec<AreaOffers>, OutOfMemory>
-    ensures each { IfOk result (λ parts. All (IsPartIn areas.now routes.now) parts.items) }
-    ensures every { IfOk result (λ parts. (n : ℕ) (o : OfferValue) → HasArea areas.now n → Any (λ r. InsideOf n r o) routes.now → HasAreaPart parts.items n) }
+    ensures known { AreAreas domain.now.net domain.now.areas }
+    ensures each { IfOk result (λ parts. All (IsPartIn domain.now.areas routes.now) parts.items) }
+    ensures every { IfOk result (λ parts. (n : ℕ) (o : OfferValue) → HasArea domain.now.areas n → Any (λ r. InsideOf n r o) routes.now → HasAreaPart parts.items n) }
 {
     let mut parts = Vec::new(alloc);
-    for (zone, area) in areas.iter().enumerate() {
-        push_part(alloc, &mut parts, routes, area.number, zone)?;
+    for zone in 0..domain.zones() {
+        push_part(alloc, &mut parts, routes, domain.area(zone).number, zone)?;
     }
     Ok(parts)
 }
@@ -123,19 +124,17 @@ pub fn part_of(parts: &[AreaOffers], area: u32) -> Option<&AreaOffers>
 
 /// The intra-area cost of the prefix at router `u` in the area of a part (RFC 2328, section 16.1).
 pub fn part_cost(
-    net: &Net,
-    areas: &[AreaWalks],
+    domain: &Domain<'_>,
     destination: &Destination,
     part: &AreaOffers,
     u: u32,
 ) -> Option<u64>
-    requires router { u < length net.now }
-    requires areas { AreAreas net.now areas.now }
-    requires destination { IsDestinationIn net.now areas.now destination.now }
+    requires router { u < length domain.now.net }
+    requires destination { IsDestinationIn domain.now.net domain.now.areas destination.now }
     requires part { Contains destination.now.parts.items part.now }
-    ensures { (cost : ℕ) → (result ≡ Some cost) ↔ IntraAreaCost net.now part.now.area destination.now.dest u cost }
+    ensures { (cost : ℕ) → (result ≡ Some cost) ↔ IntraAreaCost domain.now.net part.now.area destination.now.dest u cost }
 {
-    match part_reach(net, areas, destination, part, u) {
+    match part_reach(domain, destination, part, u) {
         Some(walks) => walks.best_cost(part.offers.as_slice()),
         None => None,
     }
@@ -143,37 +142,34 @@ pub fn part_cost(
 
 /// The least walks from the router in the area of a part, where the router is in that area.
 pub fn part_reach<'a>(
-    net: &Net,
-    areas: &'a [AreaWalks],
+    domain: &'a Domain<'_>,
     destination: &Destination,
     part: &AreaOffers,
     u: u32,
 ) -> Option<&'a LeastWalks>
-    requires router { u < length net.now }
-    requires areas { AreAreas net.now areas.now }
-    requires destination { IsDestinationIn net.now areas.now destination.now }
+    requires router { u < length domain.now.net }
+    requires destination { IsDestinationIn domain.now.net domain.now.areas destination.now }
     requires part { Contains destination.now.parts.items part.now }
-    ensures none { IfNone result (InArea net.now u part.now.area → ⊥) }
-    ensures same { IfSome result (λ walks. area_reach areas.now u part.now.zone ≡ walks.now) }
-    ensures reach { IfSome result (λ walks. IsReach net.now part.now.area u walks.now) }
+    ensures none { IfNone result (InArea domain.now.net u part.now.area → ⊥) }
+    ensures same { IfSome result (λ walks. area_reach domain.now.areas u part.now.zone ≡ walks.now) }
+    ensures reach { IfSome result (λ walks. IsReach domain.now.net part.now.area u walks.now) }
     ensures range { IfSome result (λ walks. AreInRange walks.now part.now.offers.items) }
 {
-    if areas[part.zone].members.has(u) {
-        Some(zone_reach(net, areas, part.zone, u))
+    if domain.area(part.zone).members.has(u) {
+        Some(domain.walks(part.zone, u))
     } else {
         None
     }
 }
 
 /// Whether the prefix has an intra-area route at router `u`.
-pub fn has_intra(net: &Net, areas: &[AreaWalks], destination: &Destination, u: u32) -> bool
-    requires router { u < length net.now }
-    requires areas { AreAreas net.now areas.now }
-    requires destination { IsDestinationIn net.now areas.now destination.now }
-    ensures { IsTrue result ↔ IsIntraArea net.now destination.now.dest u }
+pub fn has_intra(domain: &Domain<'_>, destination: &Destination, u: u32) -> bool
+    requires router { u < length domain.now.net }
+    requires destination { IsDestinationIn domain.now.net domain.now.areas destination.now }
+    ensures { IsTrue result ↔ IsIntraArea domain.now.net destination.now.dest u }
 {
     for part in destination.parts.as_slice() {
-        if part_cost(net, areas, destination, part, u).is_some() {
+        if part_cost(domain, destination, part, u).is_some() {
             return true;
         }
     }

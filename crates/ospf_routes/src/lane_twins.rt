@@ -1,19 +1,16 @@
 ghost use Rattle.std.specs.Prelude.{◌≡◌, ◌+◌, ◌<◌, length, IfOk, IfSome, IsTrue};
 ghost use Rattle.ospf_routes.specs.steps.Areas.{AreListeners};
-ghost use Rattle.ospf_routes.specs.steps.Destinations.{IsDestination, ospf_prefixes};
-ghost use Rattle.ospf_routes.specs.steps.Domain.{IsOspfDomain};
+ghost use Rattle.ospf_routes.specs.steps.Destinations.{AreOspfDestinations, IsDestination, ospf_prefixes};
 ghost use Rattle.ospf_routes.specs.steps.LaneTwins.{AreAllLaneTwins, AreLaneAlike, AreOutsideBelow, IsOutsideLane};
 ghost use Rattle.ospf_routes.specs.steps.Heard.{AreSummaries};
 ghost use Rattle.ospf_routes.specs.steps.Twins.{AreEarlierBy, AreTwins, IsEarlierBy};
 
 use crate::OutOfMemory;
-use crate::areas::AreaWalks;
 use crate::domain::Domain;
 use crate::intra_area::{Destination, part_of};
 use crate::lanes::are_told;
 use crate::latest::Latest;
 use crate::summaries::Summaries;
-use net_model::Net;
 use route_tables::are_alike;
 use std::alloc::Global;
 use std::marker::Model;
@@ -38,26 +35,34 @@ impl LaneTwins {
     /// entries everywhere. They take time of the prefixes, of their homes, and of what is announced of them into the area.
     fn of_area(
         alloc: Global,
-        net: &Net,
-        domain: &Domain,
+        domain: &Domain<'_>,
+        destinations: &[Destination],
         listens: &[Option<usize>],
         summaries: &Summaries,
         twins: &[Option<usize>],
         zone: usize,
     ) -> Result<LaneTwins, OutOfMemory>
-        requires zone { zone < length domain.now.areas.items }
-        requires domain { IsOspfDomain net.now domain.now }
-        requires listens { AreListeners net.now domain.now.areas.items (length net.now) listens.now }
-        requires summaries { AreSummaries net.now domain.now summaries.now }
-        requires twins { AreTwins net.now (ospf_prefixes domain.now.destinations.items) twins.now }
+        requires zone { zone < length domain.now.areas }
+        requires destinations { AreOspfDestinations domain.now.net domain.now.areas destinations.now }
+        requires listens { AreListeners domain.now.net domain.now.areas (length domain.now.net) listens.now }
+        requires summaries { AreSummaries domain.now destinations.now summaries.now }
+        requires twins { AreTwins domain.now.net (ospf_prefixes destinations.now) twins.now }
         ensures { IfOk result (AreEarlierBy
-            (AreLaneAlike (record { net = net.now; areas = domain.now.areas.items; listens = listens.now; zone = zone }))
-            (ospf_prefixes domain.now.destinations.items) (length domain.now.destinations.items)) }
+            (AreLaneAlike (record { domain = domain.now; listens = listens.now; zone = zone }))
+            (ospf_prefixes destinations.now) (length destinations.now)) }
     {
-        let mut latest = Latest::none(alloc, 1 + net.routers() as usize)?;
-        let mut all = Vec::with_capacity(alloc, domain.destinations.len())?;
-        for place in 0..domain.destinations.len() {
-            let twin = outside_twin(net, domain, listens, summaries, zone, &mut latest, place);
+        let mut latest = Latest::none(alloc, 1 + domain.routers() as usize)?;
+        let mut all = Vec::with_capacity(alloc, destinations.len())?;
+        for place in 0..destinations.len() {
+            let twin = outside_twin(
+                domain,
+                destinations,
+                listens,
+                summaries,
+                zone,
+                &mut latest,
+                place,
+            );
             all.push(twin.or(twins[place]))?;
         }
         Ok(LaneTwins { all })
@@ -75,21 +80,29 @@ impl LaneTwins {
 /// found.
 pub fn all_lane_twins(
     alloc: Global,
-    net: &Net,
-    domain: &Domain,
+    domain: &Domain<'_>,
+    destinations: &[Destination],
     listens: &[Option<usize>],
     summaries: &Summaries,
     twins: &[Option<usize>],
 ) -> Result<Vec<LaneTwins>, OutOfMemory>
-    requires domain { IsOspfDomain net.now domain.now }
-    requires listens { AreListeners net.now domain.now.areas.items (length net.now) listens.now }
-    requires summaries { AreSummaries net.now domain.now summaries.now }
-    requires twins { AreTwins net.now (ospf_prefixes domain.now.destinations.items) twins.now }
-    ensures { IfOk result (λ all. AreAllLaneTwins net.now domain.now listens.now all.items) }
+    requires destinations { AreOspfDestinations domain.now.net domain.now.areas destinations.now }
+    requires listens { AreListeners domain.now.net domain.now.areas (length domain.now.net) listens.now }
+    requires summaries { AreSummaries domain.now destinations.now summaries.now }
+    requires twins { AreTwins domain.now.net (ospf_prefixes destinations.now) twins.now }
+    ensures { IfOk result (λ all. AreAllLaneTwins domain.now destinations.now listens.now all.items) }
 {
-    let mut all = Vec::with_capacity(alloc, domain.areas.len())?;
-    for zone in 0..domain.areas.len() {
-        all.push(LaneTwins::of_area(alloc, net, domain, listens, summaries, twins, zone)?)?;
+    let mut all = Vec::with_capacity(alloc, domain.zones())?;
+    for zone in 0..domain.zones() {
+        all.push(LaneTwins::of_area(
+            alloc,
+            domain,
+            destinations,
+            listens,
+            summaries,
+            twins,
+            zone,
+        )?)?;
     }
     Ok(all)
 }
@@ -98,27 +111,27 @@ pub fn all_lane_twins(
 /// where both are announced alike into the area. What such announcements cost differs by a constant, which decides nothing, as
 /// the routers that are in the area alone have no other routes.
 fn outside_twin(
-    net: &Net,
-    domain: &Domain,
+    domain: &Domain<'_>,
+    destinations: &[Destination],
     listens: &[Option<usize>],
     summaries: &Summaries,
     zone: usize,
     latest: &mut Latest,
     place: usize,
 ) -> Option<usize>
-    requires zone { zone < length domain.now.areas.items }
-    requires domain { IsOspfDomain net.now domain.now }
-    requires listens { AreListeners net.now domain.now.areas.items (length net.now) listens.now }
-    requires summaries { AreSummaries net.now domain.now summaries.now }
-    requires place { place < length domain.now.destinations.items }
-    requires latest { AreOutsideBelow (record { net = net.now; areas = domain.now.areas.items; listens = listens.now; zone = zone }) domain.now.destinations.items place latest.old }
-    ensures latest { AreOutsideBelow (record { net = net.now; areas = domain.now.areas.items; listens = listens.now; zone = zone }) domain.now.destinations.items (place + 1) latest.new }
+    requires zone { zone < length domain.now.areas }
+    requires destinations { AreOspfDestinations domain.now.net domain.now.areas destinations.now }
+    requires listens { AreListeners domain.now.net domain.now.areas (length domain.now.net) listens.now }
+    requires summaries { AreSummaries domain.now destinations.now summaries.now }
+    requires place { place < length destinations.now }
+    requires latest { AreOutsideBelow (record { domain = domain.now; listens = listens.now; zone = zone }) destinations.now place latest.old }
+    ensures latest { AreOutsideBelow (record { domain = domain.now; listens = listens.now; zone = zone }) destinations.now (place + 1) latest.new }
     ensures twin { IfSome result (IsEarlierBy
-        (AreLaneAlike (record { net = net.now; areas = domain.now.areas.items; listens = listens.now; zone = zone }))
-        (ospf_prefixes domain.now.destinations.items) place) }
+        (AreLaneAlike (record { domain = domain.now; listens = listens.now; zone = zone }))
+        (ospf_prefixes destinations.now) place) }
 {
-    let near = &domain.destinations[place];
-    if !is_outside(net, domain.areas.as_slice(), listens, zone, near) {
+    let near = &destinations[place];
+    if !is_outside(domain, listens, zone, near) {
         return None;
     }
     let announced = summaries.into_area(place, zone);
@@ -141,18 +154,17 @@ fn kind_of(announced: &[Offer]) -> usize {
 /// Whether nothing is offered of a prefix within the area at this place, and the prefix is connected at no router that is in
 /// that area alone.
 fn is_outside(
-    net: &Net,
-    areas: &[AreaWalks],
+    domain: &Domain<'_>,
     listens: &[Option<usize>],
     zone: usize,
     destination: &Destination,
 ) -> bool
-    requires zone { zone < length areas.now }
-    requires destination { IsDestination net.now destination.now }
-    ensures { IsTrue result → IsOutsideLane (record { net = net.now; areas = areas.now; listens = listens.now; zone = zone }) destination.now }
+    requires zone { zone < length domain.now.areas }
+    requires destination { IsDestination domain.now.net destination.now }
+    ensures { IsTrue result → IsOutsideLane (record { domain = domain.now; listens = listens.now; zone = zone }) destination.now }
 {
-    match part_of(destination.parts.as_slice(), areas[zone].number) {
+    match part_of(destination.parts.as_slice(), domain.area(zone).number) {
         Some(_) => false,
-        None => are_told(net, listens, zone, destination.homes.as_slice(), &[]),
+        None => are_told(domain, listens, zone, destination.homes.as_slice(), &[]),
     }
 }

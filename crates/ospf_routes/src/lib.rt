@@ -3,10 +3,10 @@
 //! `OspfRoutes::build` (`tables.rt`) makes the tables of `Ospf` (`protocol.rt`). Steps 1 to 3 are `Ospf::build`, which also
 //! finds twins and decisions, step 4 is `Ospf::decisions` where these tell the route, else `Ospf::target`, else `Ospf::route`:
 //!
-//! 1. `domain.rt`: what the routers know before anything is summarized. `areas.rt`, `members.rt`: the areas with their least
-//!    walks (section 16.1) and routers, border routers (3.3), whom a router listens to (16.2); `candidates.rt`,
-//!    `subnets.rt`, `intra_area.rt`: the prefixes, where each is connected, what the interfaces of each area offer of it, and
-//!    what it costs within an area.
+//! 1. `domain.rt`: a network and its areas (`areas.rt`, `members.rt`) with their least walks (section 16.1) and routers, border
+//!    routers (3.3), whom a router listens to (16.2). Its facts are known wherever one has it. `destinations.rt`: what the
+//!    routers know of each prefix before anything is summarized. `candidates.rt`, `subnets.rt`, `intra_area.rt`: the prefixes,
+//!    where each is connected, what the interfaces of each area offer of it, and what it costs within an area.
 //! 2. `ranges.rt`: the active ranges of border routers (12.4.3, 11.1), and what they cost.
 //! 3. `all_summaries` (`announcements.rt`, 12.4.3): what the border routers of each area announce of a prefix into it, for all
 //!    prefixes and areas in one vector (`summaries.rt`). `summarized_routes.rt` has what they summarize out of whichever area,
@@ -21,16 +21,17 @@
 //!    and prefix. All other routers are in a last lane, without decisions.
 //!
 //! `twins.rt` finds prefixes that have the same routes at every router, by what is offered and announced of them, and
-//! `lane_twins.rt` those of which this is so at every router in one area alone; `segments.rt` has the segments that join
-//! neighbors. Step 1 takes the time of the areas' least walks, steps 2 and 3 of prefixes times border routers, their ranges and
-//! areas; step 4 of routers times the kinds of prefixes in their lanes times the offers of a prefix in one area. Lanes and
-//! lane twins keep one value for each area and prefix.
+//! `lane_twins.rt` those of which this is so at every router in one area alone, each by the latest prefix of its kind
+//! (`latest.rt`); `segments.rt` has the segments that join neighbors. Step 1 takes the time of the areas' least walks, steps 2
+//! and 3 of prefixes times border routers, their ranges and areas; step 4 of routers times the kinds of prefixes in their lanes
+//! times the offers of a prefix in one area. Lanes and lane twins keep one value for each area and prefix.
 #![tactic(auto)]
 
 // Within areas
 mod area_route;
 mod areas;
 mod candidates;
+mod destinations;
 mod domain;
 mod intra_area;
 mod members;

@@ -2,38 +2,38 @@ ghost use Rattle.std.specs.Prelude.{◌≡◌, ◌+◌, ◌<◌, length, IfOk};
 ghost use Rattle.route_tables.specs.Prefixes.{prefix_at};
 ghost use Rattle.ospf_routes.specs.steps.Asked.{IsQuestion};
 ghost use Rattle.ospf_routes.specs.steps.Destinations.{ospf_prefixes};
-ghost use Rattle.ospf_routes.specs.steps.Networks.{AreEarlierIn};
+ghost use Rattle.ospf_routes.specs.steps.Lanes.{DecidesLane};
+ghost use Rattle.ospf_routes.specs.steps.Networks.{AreEarlierIn, lane_in};
 
 use crate::OutOfMemory;
 use crate::announcements::all_summaries;
-use crate::areas::{all_listens, border_routers, is_border};
+use crate::destinations::destinations;
 use crate::domain::Domain;
 use crate::entry::{Asked, route_of, target_of};
+use crate::intra_area::Destination;
 use crate::lane_twins::{LaneTwins, all_lane_twins};
-use crate::lanes::{Decisions, all_lanes};
+use crate::lanes::decision;
 use crate::ranges::{ActiveRanges, all_ranges};
 use crate::segments::segments_of_areas;
 use crate::summaries::Summaries;
 use crate::twins::all_twins;
 use net_addr::Prefix;
 use net_model::Net;
-use route_tables::{Lane, Protocol, Route, Target};
+use route_tables::{Decision, Protocol, Route, Target};
 use std::alloc::Global;
 use std::marker::Model;
 use walk_core::{LeastWalks, Segment};
 
 /// OSPF on a network, with what its routers know, the places of the areas that they listen to, the active ranges of border
-/// routers, what these announce of each prefix, which prefixes have the same routes, everywhere and within areas, and what
-/// decides them within areas.
+/// routers, what these announce of each prefix, and which prefixes have the same routes, everywhere and within areas.
 #[derive(Drop)]
 pub struct Ospf<'a> {
-    net: &'a Net,
-    domain: Domain,
+    domain: Domain<'a>,
+    destinations: Vec<Destination>,
     listens: Vec<Option<usize>>,
     ranges: Vec<ActiveRanges>,
     summaries: Summaries,
     twins: Vec<Option<usize>>,
-    lanes: Vec<Decisions>,
     lane_twins: Vec<LaneTwins>,
 }
 
@@ -42,75 +42,82 @@ impl<'a> Model for Ospf<'a> {
 
     ghost Value = { OspfNetwork };
 
-    ghost view = { λ x. record { net = x.net.now; domain = x.domain; listens = x.listens.items; ranges = x.ranges.items; summaries = x.summaries; twins = x.twins.items; lanes = x.lanes.items; lane_twins = x.lane_twins.items } };
+    ghost view = { λ x. record { domain = x.domain; destinations = x.destinations.items; listens = x.listens.items; ranges = x.ranges.items; summaries = x.summaries; twins = x.twins.items; lane_twins = x.lane_twins.items } };
 
-    ghost invariant = { λ x. IsOspf (record { net = x.net.now; domain = x.domain; listens = x.listens.items; ranges = x.ranges.items; summaries = x.summaries; twins = x.twins.items; lanes = x.lanes.items; lane_twins = x.lane_twins.items }) };
+    ghost invariant = { λ x. IsOspf (record { domain = x.domain; destinations = x.destinations.items; listens = x.listens.items; ranges = x.ranges.items; summaries = x.summaries; twins = x.twins.items; lane_twins = x.lane_twins.items }) };
 }
 
 impl<'a> Ospf<'a> {
     /// OSPF on this network (RFC 2328): the areas and what they offer (section 16.1), the active ranges (12.4.3, 11.1), and
     /// what border routers announce (12.4.3, 16.2, 3.6).
     pub fn build(alloc: Global, net: &'a Net) -> Result<Ospf<'a>, OutOfMemory>
-        ensures { IfOk result (λ ospf. ospf.net ≡ net.now) }
+        ensures { IfOk result (λ ospf. ospf.domain.net ≡ net.now) }
     {
         let domain = Domain::build(alloc, net)?;
-        let areas = domain.areas.as_slice();
-        let listens = all_listens(alloc, net, areas)?;
-        let ranges = all_ranges(alloc, net, &domain)?;
-        let borders = border_routers(alloc, net)?;
-        let summaries = all_summaries(alloc, net, &domain, borders.as_slice(), ranges.as_slice())?;
-        let twins = all_twins(alloc, net, &domain, ranges.as_slice(), &summaries)?;
-        let lanes = all_lanes(alloc, net, &domain, listens.as_slice(), &summaries)?;
+        let destinations = destinations(alloc, &domain)?;
+        let known = destinations.as_slice();
+        let listens = domain.listens(alloc)?;
+        let ranges = all_ranges(alloc, &domain, known)?;
+        let summaries = all_summaries(alloc, &domain, known, ranges.as_slice())?;
+        let twins = all_twins(alloc, &domain, known, ranges.as_slice(), &summaries)?;
         let lane_twins = all_lane_twins(
             alloc,
-            net,
             &domain,
+            known,
             listens.as_slice(),
             &summaries,
             twins.as_slice(),
         )?;
         Ok(Ospf {
-            net,
             domain,
+            destinations,
             listens,
             ranges,
             summaries,
             twins,
-            lanes,
             lane_twins,
         })
     }
 
     /// Of each prefix an earlier one with the same entries at every router of a lane, where one is found.
     fn earlier(&self, lane: usize) -> &[Option<usize>]
-        requires { lane < length self.now.domain.areas.items + 1 }
+        requires { lane < length self.now.domain.areas + 1 }
         ensures { AreEarlierIn self.now lane result.now }
     {
-        if lane == self.domain.areas.len() {
+        if lane == self.domain.zones() {
             return self.twins.as_slice();
         }
         self.lane_twins[lane].as_slice()
     }
 
+    /// What decides the routes for the prefix at a place of the routers that are in the area at another place alone.
+    fn decision_in(&self, zone: usize, place: usize) -> Decision
+        requires zone { zone < length self.now.domain.areas }
+        requires place { place < length (ospf_prefixes self.now.destinations) }
+        ensures { DecidesLane (lane_in self.now zone) (prefix_at (ospf_prefixes self.now.destinations) place) result }
+    {
+        let destination = &self.destinations[place];
+        let heard = self.summaries.into_area(place, zone);
+        let listens = self.listens.as_slice();
+        decision(&self.domain, listens, zone, destination, heard)
+    }
+
     /// What is known of a router and of the prefix at a place.
     #[inline(always)]
     fn asked(&self, place: usize, router: u32) -> Asked<'_>
-        requires place { place < length (ospf_prefixes self.now.domain.destinations.items) }
-        requires router { router < length self.now.net }
+        requires place { place < length (ospf_prefixes self.now.destinations) }
+        requires router { router < length self.now.domain.net }
         ensures asked { IsQuestion result }
-        ensures net { result.net.now ≡ self.now.net }
-        ensures areas { result.areas.now ≡ self.now.domain.areas.items }
+        ensures domain { result.domain.now ≡ self.now.domain }
         ensures router { result.router ≡ router }
-        ensures dest { result.destination.now.dest ≡ prefix_at (ospf_prefixes self.now.domain.destinations.items) place }
+        ensures dest { result.destination.now.dest ≡ prefix_at (ospf_prefixes self.now.destinations) place }
     {
-        let areas = self.domain.areas.as_slice();
         let listens = self.listens[router as usize];
         let ranges = &self.ranges[router as usize];
-        let destination = &self.domain.destinations[place];
+        let destination = &self.destinations[place];
         let heard = self.summaries.into_some_area(place, listens);
         Asked {
-            net: self.net,
-            areas,
+            domain: &self.domain,
             router,
             listens,
             ranges,
@@ -129,42 +136,44 @@ impl<'a> Protocol for Ospf<'a> {
     ghost use Rattle.ospf_routes.specs.steps.Lanes.{IsOfOspfLane};
     ghost use Rattle.ospf_routes.specs.steps.Networks.{lane_in};
 
-    ghost routers = { λ ospf. length ospf.net };
+    ghost routers = { λ ospf. length ospf.domain.net };
 
-    ghost entry = { λ ospf. OspfEntry ospf.net };
+    ghost entry = { λ ospf. OspfEntry ospf.domain.net };
 
-    ghost neighbor = { λ ospf. IsOspfNeighbor ospf.net };
+    ghost neighbor = { λ ospf. IsOspfNeighbor ospf.domain.net };
 
-    ghost candidates = { λ ospf. ospf_prefixes ospf.domain.destinations.items };
+    ghost candidates = { λ ospf. ospf_prefixes ospf.destinations };
 
-    ghost zones = { λ ospf. length ospf.domain.areas.items };
+    ghost zones = { λ ospf. length ospf.domain.areas };
 
-    ghost reach = { λ ospf. area_reach ospf.domain.areas.items };
+    ghost reach = { λ ospf. area_reach ospf.domain.areas };
 
-    ghost lanes = { λ ospf. length ospf.domain.areas.items + 1 };
+    ghost lanes = { λ ospf. length ospf.domain.areas + 1 };
 
     ghost in_lane = { λ ospf lane. IsOfOspfLane (lane_in ospf lane) };
 
+    ghost lane_zone = { λ _ lane. lane };
+
     fn routers(&self) -> u32 {
-        self.net.routers()
+        self.domain.routers()
     }
 
     fn candidates(&self) -> usize {
-        self.domain.destinations.len()
+        self.destinations.len()
     }
 
     fn candidate(&self, place: usize) -> Prefix {
-        self.domain.destinations[place].dest
+        self.destinations[place].dest
     }
 
     fn lanes(&self) -> usize {
-        self.domain.areas.len() + 1
+        self.domain.zones() + 1
     }
 
     fn lane(&self, router: u32) -> usize {
         match self.listens[router as usize] {
-            Some(zone) if !is_border(self.net, router) => zone,
-            _ => self.domain.areas.len(),
+            Some(zone) if !self.domain.is_border(router) => zone,
+            _ => self.domain.zones(),
         }
     }
 
@@ -172,15 +181,20 @@ impl<'a> Protocol for Ospf<'a> {
         self.earlier(lane)[place]
     }
 
-    fn decisions(&self, lane: usize) -> Option<Lane<'_>> {
-        if lane == self.domain.areas.len() {
-            return None;
+    fn zone_of_lane(&self, lane: usize) -> Option<usize> {
+        if lane < self.domain.zones() {
+            Some(lane)
+        } else {
+            None
         }
-        let decisions = self.lanes[lane].as_slice();
-        Some(Lane {
-            zone: lane,
-            decisions,
-        })
+    }
+
+    fn decision(&self, lane: usize, place: usize) -> Decision {
+        if lane < self.domain.zones() {
+            self.decision_in(lane, place)
+        } else {
+            Decision::Unknown
+        }
     }
 
     fn target(&self, place: usize, router: u32) -> Option<Target> {
@@ -197,10 +211,10 @@ impl<'a> Protocol for Ospf<'a> {
     }
 
     fn walks(&self, router: u32, zone: usize) -> &LeastWalks {
-        self.domain.areas[zone].walks.from_router(router)
+        self.domain.walks(zone, router)
     }
 
     fn segments(&self, alloc: Global) -> Result<Vec<Segment>, OutOfMemory> {
-        segments_of_areas(alloc, self.net, self.domain.areas.as_slice())
+        segments_of_areas(alloc, &self.domain)
     }
 }

@@ -1,19 +1,16 @@
 ghost use Rattle.std.specs.Prelude.{◌≡◌, ◌<◌, ◌≤◌, ◌↔◌, ℕ, length, Some, All, Any, Contains, IfOk, IfNone, IfSome, IsTrue, OnOk, MatchOption};
 ghost use Rattle.net_model.specs.Network.{IsBorderRouter, Network};
 ghost use Rattle.igp_theory.specs.Ospf.{HasRange, IsActive, IsActiveRange, IsComponent, RangeCost};
-ghost use Rattle.ospf_routes.specs.steps.Areas.{AreAreas};
-ghost use Rattle.ospf_routes.specs.steps.Destinations.{IsDestinationIn};
-ghost use Rattle.ospf_routes.specs.steps.Domain.{IsOspfDomain};
+ghost use Rattle.ospf_routes.specs.steps.Destinations.{AreOspfDestinations, IsDestinationIn};
 ghost use Rattle.ospf_routes.specs.Lists.{Adds, Exactly};
 ghost use Rattle.ospf_routes.specs.steps.Ranges.{AreActiveRanges, AreRangesBelow, HasComponentCost, IsActiveAt, IsComponentOfSome, IsGreatestOf, IsLeastOf};
 ghost use Rattle.ospf_routes.specs.steps.Ranges.{HoldRanges, IsLonger, IsPicked};
 
 use crate::OutOfMemory;
-use crate::areas::{AreaWalks, is_border};
 use crate::domain::Domain;
 use crate::intra_area::{Destination, part_cost, part_of};
 use net_addr::Prefix;
-use net_model::{Net, Range};
+use net_model::Range;
 use route_tables::push_option;
 use std::alloc::Global;
 use std::marker::Model;
@@ -46,16 +43,16 @@ impl ActiveRanges {
     /// The active ranges of router `b`, none where it isn't a border router.
     fn of_router(
         alloc: Global,
-        net: &Net,
-        domain: &Domain,
+        domain: &Domain<'_>,
+        destinations: &[Destination],
         b: u32,
     ) -> Result<ActiveRanges, OutOfMemory>
-        requires router { b < length net.now }
-        requires domain { IsOspfDomain net.now domain.now }
-        ensures { IfOk result (AreActiveRanges net.now b) }
+        requires router { b < length domain.now.net }
+        requires destinations { AreOspfDestinations domain.now.net domain.now.areas destinations.now }
+        ensures { IfOk result (AreActiveRanges domain.now.net b) }
     {
-        if is_border(net, b) {
-            border_ranges(alloc, net, domain, b)
+        if domain.is_border(b) {
+            border_ranges(alloc, domain, destinations, b)
         } else {
             Ok(ActiveRanges {
                 all: Vec::new(alloc),
@@ -81,15 +78,15 @@ impl ActiveRanges {
 /// The active ranges of every router.
 pub fn all_ranges(
     alloc: Global,
-    net: &Net,
-    domain: &Domain,
+    domain: &Domain<'_>,
+    destinations: &[Destination],
 ) -> Result<Vec<ActiveRanges>, OutOfMemory>
-    requires { IsOspfDomain net.now domain.now }
-    ensures { IfOk result (λ ranges. AreRangesBelow net.now (length net.now) ranges.items) }
+    requires { AreOspfDestinations domain.now.net domain.now.areas destinations.now }
+    ensures { IfOk result (λ ranges. AreRangesBelow domain.now.net (length domain.now.net) ranges.items) }
 {
     let mut ranges = Vec::new(alloc);
-    for b in 0..net.routers() {
-        ranges.push(ActiveRanges::of_router(alloc, net, domain, b)?)?;
+    for b in 0..domain.routers() {
+        ranges.push(ActiveRanges::of_router(alloc, domain, destinations, b)?)?;
     }
     Ok(ranges)
 }
@@ -118,19 +115,22 @@ fn push_prefixes(prefixes: &mut Vec<Prefix>, actives: &[ActiveRange]) -> Result<
 /// The active ranges of a border router.
 fn border_ranges(
     alloc: Global,
-    net: &Net,
-    domain: &Domain,
+    domain: &Domain<'_>,
+    destinations: &[Destination],
     b: u32,
 ) -> Result<ActiveRanges, OutOfMemory>
-    requires router { b < length net.now }
-    requires border { IsBorderRouter net.now b }
-    requires domain { IsOspfDomain net.now domain.now }
-    ensures { IfOk result (AreActiveRanges net.now b) }
+    requires router { b < length domain.now.net }
+    requires border { IsBorderRouter domain.now.net b }
+    requires destinations { AreOspfDestinations domain.now.net domain.now.areas destinations.now }
+    ensures { IfOk result (AreActiveRanges domain.now.net b) }
 {
-    let ranges = net.config(b).ranges.as_slice();
+    let ranges = domain.config(b).ranges.as_slice();
     let mut all = Vec::new(alloc);
     for range in ranges {
-        push_option(&mut all, active_range(alloc, net, domain, b, range)?)?;
+        push_option(
+            &mut all,
+            active_range(alloc, domain, destinations, b, range)?,
+        )?;
     }
     Ok(ActiveRanges { all })
 }
@@ -138,18 +138,18 @@ fn border_ranges(
 /// The range with its cost, where it is active.
 fn active_range(
     alloc: Global,
-    net: &Net,
-    domain: &Domain,
+    domain: &Domain<'_>,
+    destinations: &[Destination],
     b: u32,
     range: &Range,
 ) -> Result<Option<ActiveRange>, OutOfMemory>
-    requires router { b < length net.now }
-    requires has { HasRange net.now b range.now }
-    requires domain { IsOspfDomain net.now domain.now }
-    ensures { IfOk result (λ found. MatchOption found (IsActive net.now b range.now → ⊥) (IsActiveAt net.now b range.now)) }
+    requires router { b < length domain.now.net }
+    requires has { HasRange domain.now.net b range.now }
+    requires destinations { AreOspfDestinations domain.now.net domain.now.areas destinations.now }
+    ensures { IfOk result (λ found. MatchOption found (IsActive domain.now.net b range.now → ⊥) (IsActiveAt domain.now.net b range.now)) }
 {
-    let costs = component_costs(alloc, net, domain, b, range)?;
-    match picked(*range, net.config(b).rfc1583, costs.as_slice()) {
+    let costs = component_costs(alloc, domain, destinations, b, range)?;
+    match picked(*range, domain.config(b).rfc1583, costs.as_slice()) {
         Some(cost) => Ok(Some(ActiveRange {
             range: *range,
             cost,
@@ -195,19 +195,19 @@ fn greatest(costs: &[u64]) -> Option<u64>
 /// The costs of the range's components.
 fn component_costs(
     alloc: Global,
-    net: &Net,
-    domain: &Domain,
+    domain: &Domain<'_>,
+    destinations: &[Destination],
     b: u32,
     range: &Range,
 ) -> Result<Vec<u64>, OutOfMemory>
-    requires router { b < length net.now }
-    requires has { HasRange net.now b range.now }
-    requires domain { IsOspfDomain net.now domain.now }
-    ensures { IfOk result (λ costs. Exactly (HasComponentCost net.now b range.now) costs.items) }
+    requires router { b < length domain.now.net }
+    requires has { HasRange domain.now.net b range.now }
+    requires destinations { AreOspfDestinations domain.now.net domain.now.areas destinations.now }
+    ensures { IfOk result (λ costs. Exactly (HasComponentCost domain.now.net b range.now) costs.items) }
 {
     let mut costs = Vec::new(alloc);
-    for destination in &domain.destinations {
-        let cost = component_cost(net, domain.areas.as_slice(), destination, b, range);
+    for destination in destinations {
+        let cost = component_cost(domain, destination, b, range);
         push_option(&mut costs, cost)?;
     }
     Ok(costs)
@@ -215,24 +215,22 @@ fn component_costs(
 
 /// What the prefix costs as a component of the range.
 fn component_cost(
-    net: &Net,
-    areas: &[AreaWalks],
+    domain: &Domain<'_>,
     destination: &Destination,
     b: u32,
     range: &Range,
 ) -> Option<u64>
-    requires router { b < length net.now }
-    requires has { HasRange net.now b range.now }
-    requires areas { AreAreas net.now areas.now }
-    requires destination { IsDestinationIn net.now areas.now destination.now }
-    ensures { (cost : ℕ) → (result ≡ Some cost) ↔ IsComponent net.now b range.now destination.now.dest cost }
+    requires router { b < length domain.now.net }
+    requires has { HasRange domain.now.net b range.now }
+    requires destination { IsDestinationIn domain.now.net domain.now.areas destination.now }
+    ensures { (cost : ℕ) → (result ≡ Some cost) ↔ IsComponent domain.now.net b range.now destination.now.dest cost }
 {
     let part = part_of(destination.parts.as_slice(), range.area)?;
-    let ranges = net.config(b).ranges.as_slice();
+    let ranges = domain.config(b).ranges.as_slice();
     if !range.dest.covers(destination.dest) || has_longer(ranges, *range, destination.dest) {
         return None;
     }
-    part_cost(net, areas, destination, part, b)
+    part_cost(domain, destination, part, b)
 }
 
 /// Whether a longer one of these ranges, of the same area, covers the prefix.
@@ -250,16 +248,15 @@ fn is_longer(other: Range, range: Range, dest: Prefix) -> bool
 }
 
 /// Whether the prefix is a component of a range of the border router.
-pub fn is_component(net: &Net, areas: &[AreaWalks], destination: &Destination, b: u32) -> bool
-    requires router { b < length net.now }
-    requires border { IsBorderRouter net.now b }
-    requires areas { AreAreas net.now areas.now }
-    requires destination { IsDestinationIn net.now areas.now destination.now }
-    ensures { IsTrue result ↔ IsComponentOfSome net.now b destination.now.dest }
+pub fn is_component(domain: &Domain<'_>, destination: &Destination, b: u32) -> bool
+    requires router { b < length domain.now.net }
+    requires border { IsBorderRouter domain.now.net b }
+    requires destination { IsDestinationIn domain.now.net domain.now.areas destination.now }
+    ensures { IsTrue result ↔ IsComponentOfSome domain.now.net b destination.now.dest }
 {
-    let ranges = net.config(b).ranges.as_slice();
+    let ranges = domain.config(b).ranges.as_slice();
     for range in ranges {
-        if component_cost(net, areas, destination, b, range).is_some() {
+        if component_cost(domain, destination, b, range).is_some() {
             return true;
         }
     }

@@ -7,17 +7,18 @@ ghost use Rattle.ospf_routes.specs.steps.Summarized.{HasDefault, IsAlone, IsDefa
 
 use crate::OutOfMemory;
 use crate::areas::AreaWalks;
+use crate::domain::Domain;
 use net_addr::Prefix;
-use net_model::{Net, Stub};
+use net_model::Stub;
 use route_tables::{is_all_addresses, push_option};
 use walk_core::Offer;
 
 /// Whether router `b` announces nothing but a default route into the area.
-pub fn is_totally_stubby(net: &Net, b: u32, area: u32) -> bool
-    requires { b < length net.now }
-    ensures { IsTrue result ↔ IsTotallyStubby net.now b area }
+pub fn is_totally_stubby(domain: &Domain<'_>, b: u32, area: u32) -> bool
+    requires { b < length domain.now.net }
+    ensures { IsTrue result ↔ IsTotallyStubby domain.now.net b area }
 {
-    some_alone(net.config(b).stubs.as_slice(), area)
+    some_alone(domain.config(b).stubs.as_slice(), area)
 }
 
 /// Whether one of the stub areas is this one, with a default route alone.
@@ -37,18 +38,18 @@ fn is_alone(stub: Stub, area: u32) -> bool
 /// Adds the default route of each border router in the area that says of it that it is a stub area.
 pub fn push_defaults(
     offers: &mut Vec<Offer>,
-    net: &Net,
+    domain: &Domain<'_>,
     area: &AreaWalks,
     dest: Prefix,
 ) -> Result<(), OutOfMemory>
-    requires { Exactly (IsBorderIn net.now area.now.number) area.now.borders }
-    ensures { OnOk result (Adds offers.old.items offers.new.items (λ o. HasDefault net.now area.now.number dest o)) }
+    requires { Exactly (IsBorderIn domain.now.net area.now.number) area.now.borders }
+    ensures { OnOk result (Adds offers.old.items offers.new.items (λ o. HasDefault domain.now.net area.now.number dest o)) }
 {
     if !is_all_addresses(dest) {
         return Ok(());
     }
     for b in area.borders.as_slice() {
-        push_router_defaults(offers, net, area.number, *b)?;
+        push_router_defaults(offers, domain, area.number, *b)?;
     }
     Ok(())
 }
@@ -56,15 +57,15 @@ pub fn push_defaults(
 /// Adds the default route of router `b`, a border router in the area.
 fn push_router_defaults(
     offers: &mut Vec<Offer>,
-    net: &Net,
+    domain: &Domain<'_>,
     area: u32,
     b: u32,
 ) -> Result<(), OutOfMemory>
-    requires router { b < length net.now }
-    requires border { IsBorderIn net.now area b }
-    ensures { OnOk result (Adds offers.old.items offers.new.items (λ o. RouterDefault net.now area b o)) }
+    requires router { b < length domain.now.net }
+    requires border { IsBorderIn domain.now.net area b }
+    ensures { OnOk result (Adds offers.old.items offers.new.items (λ o. RouterDefault domain.now.net area b o)) }
 {
-    push_stub_defaults(offers, net.config(b).stubs.as_slice(), area, b)
+    push_stub_defaults(offers, domain.config(b).stubs.as_slice(), area, b)
 }
 
 /// Adds the default route of each of the stub areas that is this one.

@@ -1,5 +1,4 @@
 ghost use Rattle.std.specs.Prelude.{◌≡◌, ◌<◌, ◌↔◌, length, Some, Any, Contains, IfOk, OnOk};
-ghost use Rattle.ospf_routes.specs.steps.Areas.{AreAreas};
 ghost use Rattle.ospf_routes.specs.steps.Destinations.{IsDestinationIn};
 ghost use Rattle.net_model.specs.Network.{IsBorderRouter};
 ghost use Rattle.ospf_routes.specs.Lists.{Adds, Exactly};
@@ -9,48 +8,43 @@ ghost use Rattle.ospf_routes.specs.declared.area_route.AreaRoute.{AreaRoute as R
 
 use crate::OutOfMemory;
 use crate::area_route::AreaRoute;
-use crate::areas::AreaWalks;
+use crate::domain::Domain;
 use crate::intra_area::{AreaOffers, Destination, part_cost};
 use crate::ranges::{ActiveRange, ActiveRanges, is_component};
 use net_addr::Prefix;
-use net_model::Net;
 use route_tables::push_option;
 use std::alloc::Global;
 
 /// The subnets and ranges that border routers summarize of a prefix, each as a route of its own area.
 pub fn summarized(
     alloc: Global,
-    net: &Net,
-    areas: &[AreaWalks],
+    domain: &Domain<'_>,
     borders: &[u32],
     ranges: &[ActiveRanges],
     destination: &Destination,
 ) -> Result<Vec<AreaRoute>, OutOfMemory>
-    requires borders { Exactly (IsBorderRouter net.now) borders.now }
-    requires areas { AreAreas net.now areas.now }
-    requires ranges { AreRangesBelow net.now (length net.now) ranges.now }
-    requires destination { IsDestinationIn net.now areas.now destination.now }
-    ensures { IfOk result (λ routes. AreSummarized net.now destination.now.dest routes.items) }
+    requires borders { Exactly (IsBorderRouter domain.now.net) borders.now }
+    requires ranges { AreRangesBelow domain.now.net (length domain.now.net) ranges.now }
+    requires destination { IsDestinationIn domain.now.net domain.now.areas destination.now }
+    ensures { IfOk result (λ routes. AreSummarized domain.now.net destination.now.dest routes.items) }
 {
     let mut routes = Vec::new(alloc);
-    push_subnets(&mut routes, net, areas, destination)?;
-    push_ranges(&mut routes, net, borders, ranges, destination.dest)?;
+    push_subnets(&mut routes, domain, destination)?;
+    push_ranges(&mut routes, domain, borders, ranges, destination.dest)?;
     Ok(routes)
 }
 
 /// Adds the prefix for each area where a border router has an intra-area cost for it, unless it is a component of a range.
 fn push_subnets(
     routes: &mut Vec<AreaRoute>,
-    net: &Net,
-    areas: &[AreaWalks],
+    domain: &Domain<'_>,
     destination: &Destination,
 ) -> Result<(), OutOfMemory>
-    requires areas { AreAreas net.now areas.now }
-    requires destination { IsDestinationIn net.now areas.now destination.now }
-    ensures { OnOk result (Adds routes.old.items routes.new.items (λ r. SummarizedSubnet net.now destination.now.dest r.at r)) }
+    requires destination { IsDestinationIn domain.now.net domain.now.areas destination.now }
+    ensures { OnOk result (Adds routes.old.items routes.new.items (λ r. SummarizedSubnet domain.now.net destination.now.dest r.at r)) }
 {
     for part in destination.parts.as_slice() {
-        push_area_subnets(routes, net, areas, destination, part)?;
+        push_area_subnets(routes, domain, destination, part)?;
     }
     Ok(())
 }
@@ -58,18 +52,16 @@ fn push_subnets(
 /// Adds the prefix for the area of a part, by each border router of that area.
 fn push_area_subnets(
     routes: &mut Vec<AreaRoute>,
-    net: &Net,
-    areas: &[AreaWalks],
+    domain: &Domain<'_>,
     destination: &Destination,
     part: &AreaOffers,
 ) -> Result<(), OutOfMemory>
-    requires areas { AreAreas net.now areas.now }
-    requires destination { IsDestinationIn net.now areas.now destination.now }
+    requires destination { IsDestinationIn domain.now.net domain.now.areas destination.now }
     requires part { Contains destination.now.parts.items part.now }
-    ensures { OnOk result (Adds routes.old.items routes.new.items (IsAreaSubnet net.now destination.now.dest part.now.area)) }
+    ensures { OnOk result (Adds routes.old.items routes.new.items (IsAreaSubnet domain.now.net destination.now.dest part.now.area)) }
 {
-    for b in areas[part.zone].borders.as_slice() {
-        push_option(routes, subnet_summary(net, areas, destination, part, *b))?;
+    for b in domain.area(part.zone).borders.as_slice() {
+        push_option(routes, subnet_summary(domain, destination, part, *b))?;
     }
     Ok(())
 }
@@ -77,21 +69,19 @@ fn push_area_subnets(
 /// The prefix as a route of the area of a part, where border router `b` has an intra-area cost for it there, unless it is a
 /// component of a range.
 fn subnet_summary(
-    net: &Net,
-    areas: &[AreaWalks],
+    domain: &Domain<'_>,
     destination: &Destination,
     part: &AreaOffers,
     b: u32,
 ) -> Option<AreaRoute>
-    requires border { IsBorderRouter net.now b }
-    requires router { b < length net.now }
-    requires areas { AreAreas net.now areas.now }
-    requires destination { IsDestinationIn net.now areas.now destination.now }
+    requires border { IsBorderRouter domain.now.net b }
+    requires router { b < length domain.now.net }
+    requires destination { IsDestinationIn domain.now.net domain.now.areas destination.now }
     requires part { Contains destination.now.parts.items part.now }
-    ensures { (r : Route) → (result ≡ Some r) ↔ IsSubnetSummary net.now destination.now.dest part.now.area b r }
+    ensures { (r : Route) → (result ≡ Some r) ↔ IsSubnetSummary domain.now.net destination.now.dest part.now.area b r }
 {
-    let asks = part_cost(net, areas, destination, part, b)?;
-    if is_component(net, areas, destination, b) {
+    let asks = part_cost(domain, destination, part, b)?;
+    if is_component(domain, destination, b) {
         return None;
     }
     Some(AreaRoute {
@@ -104,14 +94,14 @@ fn subnet_summary(
 /// Adds the active ranges of this prefix that border routers advertise.
 fn push_ranges(
     routes: &mut Vec<AreaRoute>,
-    net: &Net,
+    domain: &Domain<'_>,
     borders: &[u32],
     ranges: &[ActiveRanges],
     dest: Prefix,
 ) -> Result<(), OutOfMemory>
-    requires borders { Exactly (IsBorderRouter net.now) borders.now }
-    requires ranges { AreRangesBelow net.now (length net.now) ranges.now }
-    ensures { OnOk result (Adds routes.old.items routes.new.items (λ r. SummarizedRange net.now dest r.at r)) }
+    requires borders { Exactly (IsBorderRouter domain.now.net) borders.now }
+    requires ranges { AreRangesBelow domain.now.net (length domain.now.net) ranges.now }
+    ensures { OnOk result (Adds routes.old.items routes.new.items (λ r. SummarizedRange domain.now.net dest r.at r)) }
 {
     for b in borders {
         push_router_ranges(routes, ranges[*b as usize].as_slice(), dest, *b)?;

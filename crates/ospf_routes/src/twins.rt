@@ -1,6 +1,5 @@
 ghost use Rattle.std.specs.Prelude.{◌≡◌, ◌+◌, ◌<◌, ◌↔◌, ℕ, length, Any, Contains, IfOk, IfSome, IsTrue};
-ghost use Rattle.ospf_routes.specs.steps.Destinations.{ospf_prefixes};
-ghost use Rattle.ospf_routes.specs.steps.Domain.{IsOspfDomain};
+ghost use Rattle.ospf_routes.specs.steps.Destinations.{AreOspfDestinations, ospf_prefixes};
 ghost use Rattle.ospf_routes.specs.steps.Ranges.{AreRangesBelow};
 ghost use Rattle.ospf_routes.specs.steps.Heard.{AreSummaries};
 ghost use Rattle.ospf_routes.specs.steps.OfferLists.{AreSummariesOf, IsPlaceIn};
@@ -13,7 +12,6 @@ use crate::latest::Latest;
 use crate::ranges::{ActiveRanges, range_prefixes};
 use crate::summaries::Summaries;
 use net_addr::Prefix;
-use net_model::Net;
 use route_tables::are_alike;
 use std::alloc::Global;
 
@@ -22,19 +20,18 @@ use std::alloc::Global;
 /// never decide between areas or sorts of routes. It takes time of the destinations, their offers and the routers.
 pub fn all_twins(
     alloc: Global,
-    net: &Net,
-    domain: &Domain,
+    domain: &Domain<'_>,
+    destinations: &[Destination],
     ranges: &[ActiveRanges],
     summaries: &Summaries,
 ) -> Result<Vec<Option<usize>>, OutOfMemory>
-    requires domain { IsOspfDomain net.now domain.now }
-    requires ranges { AreRangesBelow net.now (length net.now) ranges.now }
-    requires summaries { AreSummaries net.now domain.now summaries.now }
-    ensures { IfOk result (λ twins. AreTwins net.now (ospf_prefixes domain.now.destinations.items) twins.items) }
+    requires destinations { AreOspfDestinations domain.now.net domain.now.areas destinations.now }
+    requires ranges { AreRangesBelow domain.now.net (length domain.now.net) ranges.now }
+    requires summaries { AreSummaries domain.now destinations.now summaries.now }
+    ensures { IfOk result (λ twins. AreTwins domain.now.net (ospf_prefixes destinations.now) twins.items) }
 {
-    let destinations = domain.destinations.as_slice();
     let ranged = range_prefixes(alloc, ranges)?;
-    let mut latest = Latest::none(alloc, net.routers() as usize)?;
+    let mut latest = Latest::none(alloc, domain.routers() as usize)?;
     let mut twins = Vec::with_capacity(alloc, destinations.len())?;
     for place in 0..destinations.len() {
         twins.push(twin_of(

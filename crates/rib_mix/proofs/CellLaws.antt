@@ -1,6 +1,7 @@
 -- What is found for a router and an address says what the router uses in each phase.
 use Rattle.std.proofs.Common.{◌≡◌, ℕ, ◌+◌, ◌<◌, ◌≤◌, inl, inr, Bool, true, false, ◌==◌, if◌then◌else◌, List, Some, slice_get}
 use Rattle.std.proofs.Common.{◌≢◌, eqb-true, eq-eqb, arith, refl, sym, ap, subst, ◌∙◌}
+use Rattle.std.proofs.lemmas.Bool.{ne_eqb}
 use Rattle.std.proofs.lemmas.Option.{same_Some, slice_get_within}
 use Rattle.net_addr.specs.Addresses.{Block, ContainsAddress}
 use Rattle.net_model.specs.Configuration.{Configuration}
@@ -48,11 +49,8 @@ choice_none : (some : Choice) (size : ℕ) → size ≡ 0 → choice_at some siz
 choice_none some size none = ap (choice_at some) none
 
 choice_some : (some : Choice) (len size : ℕ) → len + 1 ≡ size → choice_at some size ≡ some
-choice_some some len size is = by_size (size == 0) refl
-  where
-    by_size : (none : Bool) → (size == 0) ≡ none → (if none then choice.Nothing else some) ≡ some
-    by_size true at = let zero : size ≡ 0 = eqb-true size 0 at in absurd (omega arith)
-    by_size false at = refl
+choice_some some len size is =
+    ap (λ (none : Bool). if none then choice.Nothing else some) (ne_eqb size 0 (λ zero. omega (arith, zero)))
 
 -- the longest connected prefix is the best of them
 connected_covers : (s : Site) (phase : Phase) (table : ℕ → Used) (found : Found) → AreFound s found
@@ -157,15 +155,10 @@ at_an_end s q d x (connected_counts h) = inl (connected_counts h)
 at_an_end s q d x (old_counts counts c has is set listed) = inl (old_counts tt c has is set listed)
 at_an_end s q d x (new_counts counts listed) = inr (new_counts tt listed)
 
-old_in_middle : (s : Site) → Within (CountsAt s Old) (CountsAt s Middle)
-old_in_middle s q d x (connected_counts h) = connected_counts h
-old_in_middle s q d x (old_counts counts c has is set listed) = old_counts tt c has is set listed
-old_in_middle s q d x (new_counts counts listed) = absurd counts
-
-new_in_middle : (s : Site) → Within (CountsAt s New) (CountsAt s Middle)
-new_in_middle s q d x (connected_counts h) = connected_counts h
-new_in_middle s q d x (old_counts counts c has is set listed) = absurd counts
-new_in_middle s q d x (new_counts counts listed) = new_counts tt listed
+in_middle : (s : Site) (phase : Phase) → Within (CountsAt s phase) (CountsAt s Middle)
+in_middle s phase q d x (connected_counts h) = connected_counts h
+in_middle s phase q d x (old_counts counts c has is set listed) = old_counts tt c has is set listed
+in_middle s phase q d x (new_counts counts listed) = new_counts tt listed
 
 -- The best candidate is the used entry
 
@@ -237,7 +230,7 @@ cell_found s ospf found cell lawful at are is = subst (IsCell s) (sym is.between
     best_middle =
         best_along s (Either (CountsAt s Old) (CountsAt s New)) (CountsAt s Middle) (if is.between.middle_is_new then new else old)
         (if is.between.middle_is_new then is.best_new else is.best_old)
-        (λ q d x either. elim either [ inl one ↦ old_in_middle s q d x one | inr two ↦ new_in_middle s q d x two ]) (at_an_end s)
+        (λ q d x either. elim either [ inl one ↦ in_middle s Old q d x one | inr two ↦ in_middle s New q d x two ]) (at_an_end s)
         (leading_best s (CountsAt s Old) (CountsAt s New) old new is.best_old is.best_new is.between.middle_is_new is.between.middle best_old best_new)
 
     by_phase : (phase : Phase) → IsUse s phase (use_in (record {

@@ -45,19 +45,14 @@ move_of p = listed_migration p.net p.old p.new
 abbrev pub sample : Place → ℕ → Site
 sample p k = record { net = p.net; u = p.u; tables = p.tables; a = get_or p.classes.samples k 0 }
 
-own_counts : (p : Place) (phase : Phase) (k : ℕ) → IsPlace p → Within (Counts (move_of p) p.u phase) (CountsAt (sample p k) phase)
-own_counts p phase k is q d x (connected_counts h) = connected_counts h
-own_counts p phase k is q d x (old_counts {e = e} counts c has at set listed) =
-    old_counts counts c has at set (subst (λ (t : List (Block × Entry)). IsListed t q e) (sym is.olds) listed)
-own_counts p phase k is q d x (new_counts {e = e} counts listed) =
-    new_counts counts (subst (λ (t : List (Block × Entry)). IsListed t q e) (sym is.news) listed)
-
-all_counts : (p : Place) (phase : Phase) (k : ℕ) → IsPlace p → Within (CountsAt (sample p k) phase) (Counts (move_of p) p.u phase)
-all_counts p phase k is q d x (connected_counts h) = connected_counts h
-all_counts p phase k is q d x (old_counts {e = e} counts c has at set listed) =
-    old_counts counts c has at set (subst (λ (t : List (Block × Entry)). IsListed t q e) is.olds listed)
-all_counts p phase k is q d x (new_counts {e = e} counts listed) =
-    new_counts counts (subst (λ (t : List (Block × Entry)). IsListed t q e) is.news listed)
+-- what counts over a router's tables counts over the same ones
+counts_over : (net : Network) (old new olds news : ℕ → List (Block × Entry)) (u : ℕ) (phase : Phase) → old u ≡ olds u → new u ≡ news u
+    → Within (Counts (listed_migration net old new) u phase) (Counts (listed_migration net olds news) u phase)
+counts_over net old new olds news u phase is_old is_new q d x (connected_counts h) = connected_counts h
+counts_over net old new olds news u phase is_old is_new q d x (old_counts {e = e} counts c has at set listed) =
+    old_counts counts c has at set (subst (λ (t : List (Block × Entry)). IsListed t q e) is_old listed)
+counts_over net old new olds news u phase is_old is_new q d x (new_counts {e = e} counts listed) =
+    new_counts counts (subst (λ (t : List (Block × Entry)). IsListed t q e) is_new listed)
 
 -- the prefix of an entry that counts is one of the classes'
 counting_prefix : (p : Place) (phase : Phase) (q : Block) (d : ℕ) (x : Usable) → IsPlace p → Counts (move_of p) p.u phase q d x
@@ -88,11 +83,17 @@ class_uses p phase k a x is inside = (
   },
 )
   where
+    olds : ℕ → List (Block × Entry)
+    olds _ = table_of p.tables.old
+
+    news : ℕ → List (Block × Entry)
+    news _ = table_of p.tables.new
+
     own : Within (Counts (move_of p) p.u phase) (CountsAt (sample p k) phase)
-    own = own_counts p phase k is
+    own = counts_over p.net p.old p.new olds news p.u phase (sym is.olds) (sym is.news)
 
     all : Within (CountsAt (sample p k) phase) (Counts (move_of p) p.u phase)
-    all = all_counts p phase k is
+    all = counts_over p.net olds news p.old p.new p.u phase is.olds is.news
 
     alike : (q : Block) (d : ℕ) (y : Usable) → Counts (move_of p) p.u phase q d y
         → ContainsAddress q (get_or p.classes.samples k 0) ↔ ContainsAddress q a

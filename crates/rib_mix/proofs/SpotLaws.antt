@@ -2,7 +2,7 @@
 use Rattle.std.proofs.Common.{◌≡◌, ◌≢◌, ℕ, ◌+◌, ◌<◌, ◌≤◌, List, length, get_or, set, Option, Some, None, Contains, IfNone, IfSome, slice_get}
 use Rattle.std.proofs.Common.{⊎_elim, arith, refl, sym, ap, subst, ◌∙◌, get_or-set_other, get_or-set_same}
 use Rattle.std.specs.Option.{option_map}
-use Rattle.std.proofs.lemmas.Bool.{cases_lt}
+use Rattle.std.proofs.lemmas.Bool.{cases_eq, cases_lt}
 use Rattle.std.proofs.lemmas.List.{length-set}
 use Rattle.std.proofs.lemmas.Option.{none-some, same_Some, slice_get_within, slice_get-get_or, slice_get-map, get_or_from_slice_get}
 use Rattle.net_addr.specs.Addresses.{Block, default_prefix}
@@ -60,13 +60,7 @@ spot_next prefixes list n p place old new up at found missed is are = subst (Are
             (are.each i q at_q))
 
         each : (i : ℕ) (q : Block) → slice_get prefixes i ≡ Some q → IsSpot list (n + 1) q (get_or (set old j (Some n)) i None)
-        each i q at_q = ⊎_elim
-            (λ (l : i < j). there i q (omega arith) at_q)
-            (λ (l : j ≤ i). ⊎_elim
-            (λ (m : j < i). there i q (omega arith) at_q)
-            (λ (m : i ≤ j). here i q (omega arith) at_q)
-            (cases_lt j i))
-            (cases_lt i j)
+        each i q at_q = ⊎_elim (λ same. here i q (sym same) at_q) (λ apart. there i q apart at_q) (cases_eq i j)
 
 -- spots are places in the list
 pub spot_within : (list : List Block) (n : ℕ) (p : Block) (spot : Option ℕ) → IsSpot list n p spot → IfSome spot (λ k. k < length list)

@@ -1,7 +1,7 @@
 -- Tables in the making: entries that all tables share, and the numbers of those that a table knows.
 use Rattle.std.proofs.Common.{◌≡◌, ℕ, ◌+◌, ◌<◌, ◌↔◌, List, [], ◌∷◌, ◌++◌, length, Some, None, Option, get_or, set, inl, inr, sym, ap, subst, ◌∙◌, arith, Result, Ok, Err, IfOk, OnOk, length-append, append_assoc}
 use Rattle.std.proofs.lemmas.Bool.{cases_eq, cases_lt}
-use Rattle.std.proofs.lemmas.List.{append-nil, get_or_append_left, length_push, get_or-set_same, get_or-set_other, set_past}
+use Rattle.std.proofs.lemmas.List.{get_or_append_left, length_push, get_or-set_same, get_or-set_other, set_past}
 use Rattle.std.proofs.lemmas.Option.{same_Some}
 use Rattle.walk_core.specs.Reach.{Reach}
 use Rattle.route_core.specs.declared.entry.Entry.{Entry}
@@ -94,14 +94,6 @@ pub shared_where_more : {E : Type 0} (reach : ℕ → Reach) (n : ℕ) (old new 
     OnOk r (new.known.items ≡ old.known.items) → AreShared reach n old → OnOk r (AreShared reach n new)
 shared_where_more reach n old new (Ok number) kept known are = shared_kept reach n old new kept.more kept.entries known are
 shared_where_more reach n old new (Err e) kept known are = kept
-
-pub more_where_kept : {E : Type 0} (old new : Pool) (entry : Entry) (r : Result ℕ E) → IfOk r (Keeps old new entry) → OnOk r (KeepsMore old new)
-more_where_kept old new entry (Ok number) keeps = record { more = entry ∷ []; entries = keeps.entries }
-more_where_kept old new entry (Err e) keeps = keeps
-
--- where nothing is kept, nothing changes
-pub nothing_kept : (old : Pool) → KeepsMore old old
-nothing_kept old = record { more = []; entries = sym (append-nil old.entries.items) }
 
 -- more and more entries
 pub more_kept : (old mid new : Pool) → KeepsMore old mid → KeepsMore mid new → KeepsMore old new

@@ -1,19 +1,23 @@
-ghost use Rattle.std.specs.Prelude.{◌+◌, ◌<◌, ◌++◌, ◌∷◌, [], length, IfOk};
+ghost use Rattle.std.specs.Prelude.{◌+◌, ◌<◌, ◌++◌, ◌∷◌, [], ℕ, All, length, IfOk};
 ghost use Rattle.route_tables.specs.Entries.{AreAlikeFor};
-ghost use Rattle.route_tables.specs.steps.Kinds.{AreKinds, AreLaneKinds, AreLanesKinds};
+ghost use Rattle.route_tables.specs.steps.Kinds.{AreDecided, AreKinds, AreLanesBelow, IsLane};
 
 use crate::OutOfMemory;
+use crate::lane::Decision;
 use crate::protocol::Protocol;
 use std::alloc::Global;
 use std::rc::Rc;
 
-/// The kinds of the prefixes in a lane: each of its routers has the same entries for all prefixes of one kind.
+/// The kinds of the prefixes in a lane, and what decides for each: its routers have the same entries for all prefixes of one
+/// kind.
 #[derive(Debug, Drop)]
 pub(crate) struct LaneKinds {
     /// The kind of each prefix, which the tables of the lane share.
     pub(crate) kinds: Rc<Vec<u32>>,
     /// The place of the first prefix of each kind.
     pub(crate) firsts: Vec<u32>,
+    /// What decides for each kind.
+    pub(crate) decisions: Vec<Decision>,
 }
 
 /// The kinds of the prefixes in each lane.
@@ -21,7 +25,15 @@ pub(crate) fn all_kinds<P: Protocol>(
     alloc: Global,
     protocol: &P,
 ) -> Result<Vec<LaneKinds>, OutOfMemory>
-    ensures { IfOk result (λ all. AreLanesKinds (λ lane. AreAlikeFor (P.in_lane protocol.now lane) (P.entry protocol.now))
+    ensures { IfOk result (λ all. AreLanesBelow (λ lane. AreAlikeFor (P.in_lane protocol.now lane) (P.entry protocol.now))
+        (λ lane. record {
+          routers = P.routers protocol.now;
+          zones = P.zones protocol.now;
+          entry = P.entry protocol.now;
+          reach = P.reach protocol.now;
+          in_lane = P.in_lane protocol.now lane;
+          zone = P.lane_zone protocol.now lane;
+        })
         (P.candidates protocol.now) (P.lanes protocol.now) all.items) }
 {
     let mut all = Vec::with_capacity(alloc, protocol.lanes())?;
@@ -34,7 +46,15 @@ pub(crate) fn all_kinds<P: Protocol>(
 /// The kinds of the prefixes in a lane.
 fn kinds_in<P: Protocol>(alloc: Global, protocol: &P, lane: usize) -> Result<LaneKinds, OutOfMemory>
     requires { lane < P.lanes protocol.now }
-    ensures { IfOk result (AreLaneKinds (AreAlikeFor (P.in_lane protocol.now lane) (P.entry protocol.now)) (P.candidates protocol.now)) }
+    ensures { IfOk result (IsLane (AreAlikeFor (P.in_lane protocol.now lane) (P.entry protocol.now))
+        (record {
+          routers = P.routers protocol.now;
+          zones = P.zones protocol.now;
+          entry = P.entry protocol.now;
+          reach = P.reach protocol.now;
+          in_lane = P.in_lane protocol.now lane;
+          zone = P.lane_zone protocol.now lane;
+        }) (P.candidates protocol.now)) }
 {
     let Ok(count) = u32::try_from(protocol.candidates()) else {
         return Err(OutOfMemory);
@@ -46,7 +66,38 @@ fn kinds_in<P: Protocol>(alloc: Global, protocol: &P, lane: usize) -> Result<Lan
         kinds.push(kind)?;
     }
     let kinds = Rc::new(alloc, kinds)?;
-    Ok(LaneKinds { kinds, firsts })
+    let decisions = decisions_at(alloc, protocol, lane, firsts.as_slice())?;
+    Ok(LaneKinds {
+        kinds,
+        firsts,
+        decisions,
+    })
+}
+
+/// What decides in a lane for the prefixes at these places.
+fn decisions_at<P: Protocol>(
+    alloc: Global,
+    protocol: &P,
+    lane: usize,
+    places: &[u32],
+) -> Result<Vec<Decision>, OutOfMemory>
+    requires lane { lane < P.lanes protocol.now }
+    requires places { All (λ place. place < length (P.candidates protocol.now)) places.now }
+    ensures { IfOk result (λ decisions. AreDecided (record {
+      routers = P.routers protocol.now;
+      zones = P.zones protocol.now;
+      entry = P.entry protocol.now;
+      reach = P.reach protocol.now;
+      in_lane = P.in_lane protocol.now lane;
+      zone = P.lane_zone protocol.now lane;
+    })
+        (P.candidates protocol.now) places.now (length places.now) decisions.items) }
+{
+    let mut decisions = Vec::with_capacity(alloc, places.len())?;
+    for place in places {
+        decisions.push(protocol.decision(lane, *place as usize))?;
+    }
+    Ok(decisions)
 }
 
 /// The kind of the prefix at a place: that of an earlier one with the same entries, where one is known, else a new kind.

@@ -12,12 +12,3 @@ pub enum Decision {
     /// It isn't known at once.
     Unknown,
 }
-
-/// What routers that know the same offers read their routes from.
-#[derive(Clone, Copy, Debug)]
-pub struct Lane<'a> {
-    /// The zone that the offers are reached over.
-    pub zone: usize,
-    /// Of each candidate what decides.
-    pub decisions: &'a [Decision],
-}

@@ -40,7 +40,7 @@ mod table;
 pub use alike::are_alike;
 pub use best::{best_hops, best_route, best_target};
 pub use candidates::{Candidates, DistinctPrefixes, is_all_addresses};
-pub use lane::{Decision, Lane};
+pub use lane::Decision;
 pub use lists::push_option;
 pub use protocol::Protocol;
 pub use route::{Route, Target};

@@ -1,16 +1,15 @@
-ghost use Rattle.std.specs.Prelude.{◌≡◌, ◌<◌, ℕ, List, length, slice_index_or, Contains, IfOk, IfSome, MatchOption};
-ghost use Rattle.route_tables.specs.declared.lane.Decision.TheVariants.{Unknown};
+ghost use Rattle.std.specs.Prelude.{◌≡◌, ◌<◌, ℕ, List, length, Contains, IfOk, IfSome, MatchOption};
 ghost use Rattle.net_addr.specs.Addresses.{Block};
 ghost use Rattle.walk_core.specs.Reach.{Reach};
 ghost use Rattle.route_core.specs.declared.entry.Entry.{Entry};
 ghost use Rattle.route_tables.specs.Entries.{AreAlikeFor, AreJoinedBy, IsLawful};
-ghost use Rattle.route_tables.specs.Lanes.{DecidesRoute, LeadToBest};
+ghost use Rattle.route_tables.specs.Lanes.{DecidesFor};
 ghost use Rattle.route_tables.specs.Routings.{IsRouteFor};
 ghost use Rattle.route_tables.specs.Prefixes.{AreDistinctPrefixes, prefix_at};
 ghost use Rattle.route_tables.specs.declared.route.Route.TheVariants.{Towards};
 
 use crate::OutOfMemory;
-use crate::lane::Lane;
+use crate::lane::Decision;
 use crate::route::{Route, Target};
 use net_addr::Prefix;
 use std::alloc::Global;
@@ -43,6 +42,9 @@ pub trait Protocol {
 
     /// Whether the lane of this number has a router.
     ghost in_lane: { Self → ℕ → ℕ → Type 0 };
+
+    /// The zone over which the offers are reached that decide in the lane of this number.
+    ghost lane_zone: { Self → ℕ → ℕ };
 
     /// How many routers there are. They are numbered from 0.
     fn routers(&self) -> u32
@@ -78,17 +80,24 @@ pub trait Protocol {
         ensures alike { IfSome result (λ earlier. AreAlikeFor (in_lane self.now lane) (entry self.now)
             (prefix_at (candidates self.now) earlier) (prefix_at (candidates self.now) place)) };
 
-    /// What decides the routes of the routers of a lane, where that is known.
-    fn decisions(&self, lane: usize) -> Option<Lane<'_>>
+    /// The zone over which the offers are reached that decide in a lane, where what decides is known there.
+    fn zone_of_lane(&self, lane: usize) -> Option<usize>
         requires { lane < lanes self.now }
-        ensures zone { IfSome result (λ known. known.zone < zones self.now) }
-        ensures count { IfSome result (λ known. length known.decisions.now ≡ length (candidates self.now)) }
-        ensures decides { IfSome result (λ known. (u place : ℕ) → in_lane self.now lane u → place < length (candidates self.now) →
-            DecidesRoute u (entry self.now u (prefix_at (candidates self.now) place))
-            (LeadToBest (reach self.now u known.zone) known.zone (routers self.now)
-            (IsRouteFor (reach self.now u) (zones self.now) (routers self.now)
-            (entry self.now u (prefix_at (candidates self.now) place))))
-            (slice_index_or known.decisions.now place Unknown)) };
+        ensures is { IfSome result (λ zone. zone ≡ lane_zone self.now lane) }
+        ensures below { IfSome result (λ zone. zone < zones self.now) };
+
+    /// What decides the routes of the routers of a lane for the prefix of this number.
+    fn decision(&self, lane: usize, place: usize) -> Decision
+        requires lane { lane < lanes self.now }
+        requires place { place < length (candidates self.now) }
+        ensures { DecidesFor (record {
+          routers = routers self.now;
+          zones = zones self.now;
+          entry = entry self.now;
+          reach = reach self.now;
+          in_lane = in_lane self.now lane;
+          zone = lane_zone self.now lane;
+        }) (prefix_at (candidates self.now) place) result };
 
     /// Where its route for the prefix of this number leads, where that is known at once, without hops of its own.
     fn target(&self, place: usize, router: u32) -> Option<Target>

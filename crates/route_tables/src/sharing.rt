@@ -1,11 +1,13 @@
 ghost use Rattle.std.specs.Prelude.{◌≡◌, ◌<◌, IfOk, IfSome, OnOk, length};
 ghost use Rattle.route_tables.specs.Prefixes.{prefix_at};
 ghost use Rattle.route_tables.specs.Routings.{AreHopsTo, HasZoneTarget, IsEntryTo, IsReached, IsZoneTarget, Makes};
+ghost use Rattle.route_tables.specs.steps.Kinds.{IsToldLane, first_prefix_of};
 ghost use Rattle.route_tables.specs.steps.Sharing.{AreOverOne, AreShared, HasNumber, IsNumberOf, IsRouterLane, KeepsMore};
 ghost use Rattle.route_tables.specs.steps.Sure.{IsSure};
 ghost use Rattle.route_core.specs.declared.entry.Entry.TheVariants.{Via};
 
 use crate::OutOfMemory;
+use crate::kinds::LaneKinds;
 use crate::lane::Decision;
 use crate::pool::Pool;
 use crate::protocol::Protocol;
@@ -15,42 +17,70 @@ use route_core::{Entry, Hops, Number};
 use std::alloc::Global;
 use walk_core::{LeastWalks, Offer};
 
-/// What decides the routes of a router, as its lane says, and its least walks of the lane's zone.
+/// A router's lane: what decides for each kind and the place of its first prefix, and where it is known what decides, the
+/// router's least walks of the lane's zone.
 #[derive(Clone, Copy, Debug)]
 pub(crate) struct RouterLane<'a> {
-    walks: &'a LeastWalks,
+    walks: Option<&'a LeastWalks>,
     decisions: &'a [Decision],
+    pub(crate) firsts: &'a [u32],
 }
 
-/// What decides the routes of a router, where its lane says so.
-pub(crate) fn router_lane<P: Protocol>(protocol: &P, router: u32) -> Option<RouterLane<'_>>
-    requires { router < P.routers protocol.now }
-    ensures { IfSome result (IsRouterLane (P.routers protocol.now) router (P.entry protocol.now router) (P.candidates protocol.now)) }
+/// A router's lane, which has this number and these kinds.
+pub(crate) fn router_lane<'a, P: Protocol>(
+    protocol: &'a P,
+    router: u32,
+    lane: usize,
+    own: &'a LaneKinds,
+) -> RouterLane<'a>
+    requires router { router < P.routers protocol.now }
+    requires lane { lane < P.lanes protocol.now }
+    requires in_lane { P.in_lane protocol.now lane router }
+    requires told { IsToldLane (record {
+      routers = P.routers protocol.now;
+      zones = P.zones protocol.now;
+      entry = P.entry protocol.now;
+      reach = P.reach protocol.now;
+      in_lane = P.in_lane protocol.now lane;
+      zone = P.lane_zone protocol.now lane;
+    }) (P.candidates protocol.now) own.now }
+    ensures lane { IsRouterLane (P.routers protocol.now) router (P.entry protocol.now router) (P.candidates protocol.now) result }
+    ensures firsts { result.firsts.now ≡ own.now.firsts.items }
 {
-    let lane = protocol.decisions(protocol.lane(router))?;
-    Some(RouterLane {
-        walks: protocol.walks(router, lane.zone),
-        decisions: lane.decisions,
-    })
+    RouterLane {
+        walks: lane_walks(protocol, router, lane),
+        decisions: own.decisions.as_slice(),
+        firsts: own.firsts.as_slice(),
+    }
 }
 
-/// What a router's lane tells at once of its entry for the prefix at a place.
+/// The least walks of a router in the zone of its lane, where what decides is known there.
+fn lane_walks<P: Protocol>(protocol: &P, router: u32, lane: usize) -> Option<&LeastWalks>
+    requires router { router < P.routers protocol.now }
+    requires lane { lane < P.lanes protocol.now }
+    ensures { IfSome result (λ walks. walks.now ≡ P.reach protocol.now router (P.lane_zone protocol.now lane)) }
+{
+    let zone = protocol.zone_of_lane(lane)?;
+    Some(protocol.walks(router, zone))
+}
+
+/// What a router's lane tells at once of its entry for the prefixes of a kind.
 #[inline(always)]
 pub(crate) fn sure_at<P: Protocol>(
     protocol: &P,
     router: u32,
-    lane: Option<RouterLane<'_>>,
-    place: usize,
+    lane: RouterLane<'_>,
+    kind: usize,
 ) -> Sure
-    requires place { place < length (P.candidates protocol.now) }
-    requires lane { IfSome lane (IsRouterLane (P.routers protocol.now) router (P.entry protocol.now router) (P.candidates protocol.now)) }
-    ensures { IsSure (P.routers protocol.now) (P.entry protocol.now router (prefix_at (P.candidates protocol.now) place)) result }
+    requires kind { kind < length lane.firsts.now }
+    requires lane { IsRouterLane (P.routers protocol.now) router (P.entry protocol.now router) (P.candidates protocol.now) lane }
+    ensures { IsSure (P.routers protocol.now) (P.entry protocol.now router (first_prefix_of (P.candidates protocol.now) lane.entry.firsts.now kind)) result }
 {
-    let Some(lane) = lane else {
+    let Some(walks) = lane.walks else {
         return Sure::Unknown;
     };
-    match lane.decisions.get(place).copied() {
-        Some(decision) => sure_of(lane.walks, protocol.routers(), router, decision),
+    match lane.decisions.get(kind).copied() {
+        Some(decision) => sure_of(walks, protocol.routers(), router, decision),
         None => Sure::Unknown,
     }
 }

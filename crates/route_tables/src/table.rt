@@ -3,8 +3,8 @@ ghost use Rattle.net_addr.specs.Addresses.{Block};
 ghost use Rattle.route_core.specs.declared.entry.Entry.{Entry as EntryValue};
 ghost use Rattle.route_core.specs.Rows.{IsTable, listed};
 ghost use Rattle.route_tables.specs.Entries.{AreSameEntries, AreTablesBelow, IsLawful};
-ghost use Rattle.route_tables.specs.Prefixes.{AreDistinctPrefixes, prefix_at};
-ghost use Rattle.route_tables.specs.steps.Kinds.{AreLaneKinds, first_prefix_of};
+ghost use Rattle.route_tables.specs.Prefixes.{AreDistinctPrefixes};
+ghost use Rattle.route_tables.specs.steps.Kinds.{AreLaneKinds, IsToldLane, first_prefix_of};
 ghost use Rattle.route_tables.specs.steps.Sharing.{AreNumbers, AreOverOne, AreRouterNumbers, AreShared, IsNumberOf, IsRouterLane, KeepsMore, kept_with};
 
 use crate::OutOfMemory;
@@ -38,8 +38,9 @@ pub fn all_tables<P: Protocol>(alloc: Global, protocol: &P) -> Result<Vec<Table>
     let mut pool = Pool::over_each(alloc, routers)?;
     let mut all = Vec::with_capacity(alloc, routers as usize)?;
     for router in 0..routers {
-        let lane = &lanes[protocol.lane(router)];
-        all.push(router_numbers(alloc, protocol, router, lane, &mut pool)?)?;
+        let lane = protocol.lane(router);
+        let numbers = router_numbers(alloc, protocol, router, lane, &lanes[lane], &mut pool)?;
+        all.push(numbers)?;
     }
     tables_over(alloc, prefixes, pool.entries, all)
 }
@@ -84,69 +85,85 @@ fn router_numbers<P: Protocol>(
     alloc: Global,
     protocol: &P,
     router: u32,
-    lane: &LaneKinds,
+    lane: usize,
+    own: &LaneKinds,
     pool: &mut Pool,
 ) -> Result<RouterNumbers, OutOfMemory>
     requires router { router < P.routers protocol.now }
-    requires lane { AreLaneKinds (AreSameEntries (P.entry protocol.now router)) (P.candidates protocol.now) lane.now }
+    requires lane { lane < P.lanes protocol.now }
+    requires in_lane { P.in_lane protocol.now lane router }
+    requires kinds { AreLaneKinds (AreSameEntries (P.entry protocol.now router)) (P.candidates protocol.now) own.now }
+    requires told { IsToldLane (record {
+      routers = P.routers protocol.now;
+      zones = P.zones protocol.now;
+      entry = P.entry protocol.now;
+      reach = P.reach protocol.now;
+      in_lane = P.in_lane protocol.now lane;
+      zone = P.lane_zone protocol.now lane;
+    }) (P.candidates protocol.now) own.now }
     requires single { AreOverOne (P.routers protocol.now) pool.old.entries.items }
     ensures kept { OnOk result (KeepsMore pool.old pool.new) }
     ensures numbers { IfOk result (AreRouterNumbers (P.entry protocol.now router) (P.candidates protocol.now) pool.new.entries.items) }
 {
-    let kinds = lane.kinds.clone()?;
-    let numbers = numbers_at(alloc, protocol, router, lane.firsts.as_slice(), pool)?;
+    let kinds = own.kinds.clone()?;
+    let lane = router_lane(protocol, router, lane, own);
+    let numbers = numbers_at(alloc, protocol, router, lane, pool)?;
     Ok(RouterNumbers { kinds, numbers })
 }
 
-/// The numbers of a router's entries for the prefixes at these places, in time of these, and of the routes that its lane
-/// doesn't tell.
+/// The numbers of a router's entries for the kinds of its lane, in time of these, and of the routes that the lane doesn't
+/// tell.
 #[inline(never)]
 fn numbers_at<P: Protocol>(
     alloc: Global,
     protocol: &P,
     router: u32,
-    places: &[u32],
+    lane: RouterLane<'_>,
     pool: &mut Pool,
 ) -> Result<Vec<Number>, OutOfMemory>
     requires router { router < P.routers protocol.now }
-    requires places { All (λ place. place < length (P.candidates protocol.now)) places.now }
+    requires places { All (λ place. place < length (P.candidates protocol.now)) lane.firsts.now }
+    requires lane { IsRouterLane (P.routers protocol.now) router (P.entry protocol.now router) (P.candidates protocol.now) lane }
     requires single { AreOverOne (P.routers protocol.now) pool.old.entries.items }
     ensures kept { OnOk result (KeepsMore pool.old pool.new) }
-    ensures numbers { IfOk result (λ numbers. AreNumbers (λ kind. P.entry protocol.now router (first_prefix_of (P.candidates protocol.now) places.now kind))
-        (length places.now) pool.new.entries.items numbers.items) }
+    ensures numbers { IfOk result (λ numbers. AreNumbers (λ kind. P.entry protocol.now router (first_prefix_of (P.candidates protocol.now) lane.entry.firsts.now kind))
+        (length lane.entry.firsts.now) pool.new.entries.items numbers.items) }
 {
     pool.begin_table(alloc, protocol.routers())?;
-    let lane = router_lane(protocol, router);
-    let mut numbers = Vec::with_capacity(alloc, places.len())?;
-    for place in places {
-        let number = number_at(alloc, protocol, router, lane, pool, *place as usize)?;
+    let mut numbers = Vec::with_capacity(alloc, lane.firsts.len())?;
+    for kind in 0..lane.firsts.len() {
+        let number = number_at(alloc, protocol, router, lane, pool, kind)?;
         numbers.push_reserved(number);
     }
     Ok(numbers)
 }
 
-/// The number of the entry for the prefix at a place, where it has one: that which the router's lane tells, else that
+/// The number of the entry for the prefixes of a kind, where there is one: that which the router's lane tells, else that
 /// which the protocol is asked for.
 #[inline(always)]
 fn number_at<P: Protocol>(
     alloc: Global,
     protocol: &P,
     router: u32,
-    lane: Option<RouterLane<'_>>,
+    lane: RouterLane<'_>,
     pool: &mut Pool,
-    place: usize,
+    kind: usize,
 ) -> Result<Number, OutOfMemory>
     requires router { router < P.routers protocol.now }
-    requires place { place < length (P.candidates protocol.now) }
-    requires lane { IfSome lane (IsRouterLane (P.routers protocol.now) router (P.entry protocol.now router) (P.candidates protocol.now)) }
+    requires kind { kind < length lane.firsts.now }
+    requires places { All (λ place. place < length (P.candidates protocol.now)) lane.firsts.now }
+    requires lane { IsRouterLane (P.routers protocol.now) router (P.entry protocol.now router) (P.candidates protocol.now) lane }
     requires known { AreShared (P.reach protocol.now router) (P.routers protocol.now) pool.old }
     ensures known { OnOk result (AreShared (P.reach protocol.now router) (P.routers protocol.now) pool.new) }
     ensures kept { OnOk result (KeepsMore pool.old pool.new) }
-    ensures number { IfOk result (IsNumberOf (P.entry protocol.now router (prefix_at (P.candidates protocol.now) place)) pool.new.entries.items) }
+    ensures number { IfOk result (IsNumberOf (P.entry protocol.now router (first_prefix_of (P.candidates protocol.now) lane.entry.firsts.now kind)) pool.new.entries.items) }
 {
-    match sure_at(protocol, router, lane, place) {
+    match sure_at(protocol, router, lane, kind) {
         Sure::Nothing => Ok(Number::none()),
         Sure::Over(hop) => Number::of(hop),
-        Sure::Unknown => number_asked(alloc, protocol, router, pool, place),
+        Sure::Unknown => {
+            let place = lane.firsts[kind] as usize;
+            number_asked(alloc, protocol, router, pool, place)
+        }
     }
 }

@@ -53,8 +53,3 @@ pub data IsDecisionOf (level : Level) (d : Destination) (decision : Decision) : 
   of_down : level ≡ One → length d.one.offers.items ≡ 0 → IsDecisionBy d.one.homes.items d.down.items decision → IsDecisionOf level d decision
   of_two : level ≡ Two → length d.one.offers.items ≡ 0 → IsDecisionBy d.one.homes.items d.two.items decision → IsDecisionOf level d decision
   of_none : decision ≡ Unknown → IsDecisionOf level d decision
-
--- each destination has its decision
-pub record AreDecisions (level : Level) (destinations : List Destination) (decisions : List Decision) : Type 0 where
-  pub count : length decisions ≡ length destinations
-  pub each : (place : ℕ) (d : Destination) → slice_get destinations place ≡ Some d → IsDecisionOf level d (slice_index_or decisions place Unknown)

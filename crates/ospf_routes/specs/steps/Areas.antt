@@ -9,6 +9,7 @@ use Rattle.igp_theory.specs.Ospf.{ListensTo}
 use Rattle.walk_core.specs.Reach.{Reach, AreLeastWalks, AreNear}
 use Rattle.zone_graph.specs.Walks.{AreZoneWalks}
 use Rattle.ospf_routes.specs.Lists.{Exactly}
+use Rattle.ospf_routes.specs.steps.Places.{AreEach}
 use Rattle.ospf_routes.specs.steps.Members.{AreMembersBelow, IsBorderIn}
 use Rattle.ospf_routes.specs.declared.areas.AreaWalks.{AreaWalks}
 
@@ -80,6 +81,5 @@ abbrev pub IsListenerAt : Network → List AreaWalks → ℕ → Option ℕ → 
 IsListenerAt net areas u listens = MatchOption listens ((n : ℕ) → ListensTo net u n → ⊥) (IsListenedPlace net areas u)
 
 -- these are the places of the areas that the routers below n listen to
-pub record AreListeners (net : Network) (areas : List AreaWalks) (n : ℕ) (listens : List (Option ℕ)) : Type 0 where
-  pub count : length listens ≡ n
-  pub each : (u : ℕ) → u < n → IsListenerAt net areas u (slice_index_or listens u None)
+abbrev pub AreListeners : Network → List AreaWalks → ℕ → List (Option ℕ) → Type 0
+AreListeners net areas = AreEach (IsListenerAt net areas) None

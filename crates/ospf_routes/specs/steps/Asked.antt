@@ -11,7 +11,7 @@ use Rattle.route_tables.specs.declared.route.Route.TheVariants.{Towards}
 use Rattle.route_tables.specs.declared.route.Target.{Target}
 use Rattle.igp_theory.specs.Ospf.{OspfEntry}
 use Rattle.ospf_routes.specs.steps.AreaReach.{area_reach}
-use Rattle.ospf_routes.specs.steps.Areas.{AreAreas, IsListenerAt}
+use Rattle.ospf_routes.specs.steps.Areas.{IsListenerAt}
 use Rattle.ospf_routes.specs.steps.Destinations.{IsDestinationIn}
 use Rattle.ospf_routes.specs.steps.Ranges.{AreActiveRanges}
 use Rattle.ospf_routes.specs.steps.Heard.{AreHeardAt}
@@ -20,21 +20,20 @@ use Rattle.ospf_routes.specs.declared.entry.Deciding.{Deciding}
 
 -- what is known of a router and a prefix is that of the network
 pub record IsQuestion (asked : Asked) : Type 0 where
-  pub router : asked.router < length asked.net.now
-  pub areas : AreAreas asked.net.now asked.areas.now
-  pub listens : IsListenerAt asked.net.now asked.areas.now asked.router asked.listens
-  pub ranges : AreActiveRanges asked.net.now asked.router asked.ranges.now
-  pub destination : IsDestinationIn asked.net.now asked.areas.now asked.destination.now
-  pub heard : (zone : ℕ) → asked.listens ≡ Some zone → AreHeardAt asked.net.now asked.areas.now asked.destination.now.dest zone asked.heard.now
+  pub router : asked.router < length asked.domain.now.net
+  pub listens : IsListenerAt asked.domain.now.net asked.domain.now.areas asked.router asked.listens
+  pub ranges : AreActiveRanges asked.domain.now.net asked.router asked.ranges.now
+  pub destination : IsDestinationIn asked.domain.now.net asked.domain.now.areas asked.destination.now
+  pub heard : (zone : ℕ) → asked.listens ≡ Some zone → AreHeardAt asked.domain.now.net asked.domain.now.areas asked.destination.now.dest zone asked.heard.now
 
 -- the router has no entry for the prefix
 abbrev pub HasNoEntry : Asked → Type 0
-HasNoEntry asked = (e : Entry) → OspfEntry asked.net.now asked.router asked.destination.now.dest e → ⊥
+HasNoEntry asked = (e : Entry) → OspfEntry asked.domain.now.net asked.router asked.destination.now.dest e → ⊥
 
 -- the route makes the router's entry for the prefix
 abbrev pub IsRoute : Asked → Route → Type 0
-IsRoute asked = IsRouteFor (area_reach asked.areas.now asked.router) (length asked.areas.now) (length asked.net.now)
-    (OspfEntry asked.net.now asked.router asked.destination.now.dest)
+IsRoute asked = IsRouteFor (area_reach asked.domain.now.areas asked.router) (length asked.domain.now.areas) (length asked.domain.now.net)
+    (OspfEntry asked.domain.now.net asked.router asked.destination.now.dest)
 
 -- this is the route, and there is no entry where there is none
 abbrev pub IsFoundRoute : Asked → Option Route → Type 0
@@ -46,8 +45,9 @@ IsRouteTowards asked target = IsRoute asked (Towards target)
 
 -- the hops towards the best of these offers make the router's entry for the prefix, unless that is connected there
 pub record IsDeciding (asked : Asked) (d : Deciding) : Type 0 where
-  pub zone : d.zone < length asked.areas.now
-  pub same : area_reach asked.areas.now asked.router d.zone ≡ d.walks.now
+  pub zone : d.zone < length asked.domain.now.areas
+  pub same : area_reach asked.domain.now.areas asked.router d.zone ≡ d.walks.now
   pub range : AreInRange d.walks.now d.offers.now
-  pub entry : (Connected asked.net.now asked.router asked.destination.now.dest → ⊥) → (hops : List ℕ) →
-      AreBestHops d.walks.now d.offers.now (length asked.net.now) hops → OspfEntry asked.net.now asked.router asked.destination.now.dest (Via hops)
+  pub entry : (Connected asked.domain.now.net asked.router asked.destination.now.dest → ⊥) → (hops : List ℕ) →
+      AreBestHops d.walks.now d.offers.now (length asked.domain.now.net) hops →
+      OspfEntry asked.domain.now.net asked.router asked.destination.now.dest (Via hops)

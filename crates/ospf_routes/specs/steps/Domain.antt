@@ -1,10 +1,9 @@
--- What is known of an OSPF domain before anything is summarized.
+-- A network with its areas.
+use Rattle.std.specs.Prelude.{List}
 use Rattle.net_model.specs.Network.{Network}
-use Rattle.ospf_routes.specs.steps.Areas.{AreAreas}
-use Rattle.ospf_routes.specs.steps.Destinations.{AreOspfDestinations}
-use Rattle.ospf_routes.specs.declared.domain.Domain.{Domain}
+use Rattle.ospf_routes.specs.declared.areas.AreaWalks.{AreaWalks}
 
--- what is known is that of the network
-pub record IsOspfDomain (net : Network) (domain : Domain) : Type 0 where
-  pub areas : AreAreas net domain.areas.items
-  pub destinations : AreOspfDestinations net domain.areas.items domain.destinations.items
+-- a network and its areas
+pub record OspfDomain : Type 0 where
+  pub net : Network
+  pub areas : List AreaWalks

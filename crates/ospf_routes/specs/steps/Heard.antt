@@ -6,11 +6,12 @@ use Rattle.route_tables.specs.Prefixes.{prefix_at}
 use Rattle.walk_core.specs.declared.offers.Offer.{Offer}
 use Rattle.ospf_routes.specs.steps.Areas.{IsAreaAt}
 use Rattle.ospf_routes.specs.steps.Destinations.{ospf_prefixes}
+use Rattle.ospf_routes.specs.steps.Domain.{OspfDomain}
 use Rattle.ospf_routes.specs.steps.Offered.{AreOffers}
 use Rattle.ospf_routes.specs.steps.OfferLists.{HeardLists, heard_into}
 use Rattle.ospf_routes.specs.steps.Summarized.{IsHeard}
 use Rattle.ospf_routes.specs.declared.areas.AreaWalks.{AreaWalks}
-use Rattle.ospf_routes.specs.declared.domain.Domain.{Domain}
+use Rattle.ospf_routes.specs.declared.intra_area.Destination.{Destination}
 
 -- the offers are what is announced of p into the area at this place
 abbrev pub AreHeardAt : Network → List AreaWalks → Block → ℕ → List Offer → Type 0
@@ -30,6 +31,5 @@ pub record AreHeardBelow (net : Network) (areas : List AreaWalks) (dests : List 
   pub each : (place zone : ℕ) → place < k → zone < heard.areas → AreHeardAt net areas (prefix_at dests place) zone (heard_into heard place zone)
 
 -- and of all prefixes
-abbrev pub AreSummaries : Network → Domain → HeardLists → Type 0
-AreSummaries net domain =
-    AreHeardBelow net domain.areas.items (ospf_prefixes domain.destinations.items) (length domain.destinations.items)
+abbrev pub AreSummaries : OspfDomain → List Destination → HeardLists → Type 0
+AreSummaries domain ds = AreHeardBelow domain.net domain.areas (ospf_prefixes ds) (length ds)

@@ -1,35 +1,37 @@
 -- Prefixes that have the same entries at every router that is in one area alone.
 use Rattle.std.specs.Prelude.{◌≡◌, ◌<◌, [], ℕ, List, Option, None, Some, length, slice_index_or, Contains}
 use Rattle.net_addr.specs.Addresses.{Block}
-use Rattle.net_model.specs.Network.{Network}
 use Rattle.igp_theory.specs.Ospf.{OspfEntry}
 use Rattle.route_tables.specs.Entries.{AreAlikeFor}
 use Rattle.ospf_routes.specs.steps.Areas.{IsAreaAt}
+use Rattle.ospf_routes.specs.steps.Places.{AreEach}
 use Rattle.ospf_routes.specs.steps.Destinations.{HasAreaPart, ospf_prefixes}
+use Rattle.ospf_routes.specs.steps.Domain.{OspfDomain}
 use Rattle.ospf_routes.specs.steps.Lanes.{IsInner, LaneOf}
 use Rattle.ospf_routes.specs.steps.Twins.{AreEarlierBy}
-use Rattle.ospf_routes.specs.declared.domain.Domain.{Domain}
 use Rattle.ospf_routes.specs.declared.intra_area.Destination.{Destination}
 
 -- router u is in the area at this place alone
 abbrev pub IsLaneRouter : LaneOf → ℕ → Type 0
-IsLaneRouter l u = (u < length l.net) × IsInner l.net l.listens l.zone u
+IsLaneRouter l u = (u < length l.domain.net) × IsInner l.domain.net l.listens l.zone u
 
 -- the routers that are in an area alone have the same entries for both prefixes
 abbrev pub AreLaneAlike : LaneOf → Block → Block → Type 0
-AreLaneAlike l = AreAlikeFor (IsLaneRouter l) (OspfEntry l.net)
+AreLaneAlike l = AreAlikeFor (IsLaneRouter l) (OspfEntry l.domain.net)
 
 -- nothing is offered of the prefix within the area, and it is connected at no router that is in the area alone
 pub record IsOutsideLane (l : LaneOf) (d : Destination) : Type 0 where
-  pub no_part : (n : ℕ) → IsAreaAt l.areas n l.zone → HasAreaPart d.parts.items n → ⊥
-  pub away : (u : ℕ) → IsInner l.net l.listens l.zone u → Contains d.homes.items u → ⊥
+  pub no_part : (n : ℕ) → IsAreaAt l.domain.areas n l.zone → HasAreaPart d.parts.items n → ⊥
+  pub away : (u : ℕ) → IsInner l.domain.net l.listens l.zone u → Contains d.homes.items u → ⊥
 
--- where an earlier prefix is named for an area and a prefix, the routers that are in the area alone have the same entries for both
-pub record AreAllLaneTwins (net : Network) (domain : Domain) (listens : List (Option ℕ)) (twins : List (List (Option ℕ))) : Type 0 where
-  pub count : length twins ≡ length domain.areas.items
-  pub each : (zone : ℕ) → zone < length domain.areas.items →
-      AreEarlierBy (AreLaneAlike (record { net = net; areas = domain.areas.items; listens = listens; zone = zone }))
-      (ospf_prefixes domain.destinations.items) (length domain.destinations.items) (slice_index_or twins zone [])
+-- where an earlier prefix is named for a prefix, the routers that are in one area alone have the same entries for both
+abbrev pub AreTwinsAlone : OspfDomain → List Destination → List (Option ℕ) → ℕ → List (Option ℕ) → Type 0
+AreTwinsAlone domain ds listens zone =
+    AreEarlierBy (AreLaneAlike (record { domain = domain; listens = listens; zone = zone })) (ospf_prefixes ds) (length ds)
+
+-- and so for each area
+abbrev pub AreAllLaneTwins : OspfDomain → List Destination → List (Option ℕ) → List (List (Option ℕ)) → Type 0
+AreAllLaneTwins domain ds listens = AreEach (AreTwinsAlone domain ds listens) [] (length domain.areas)
 
 -- the destination at a place is earlier than n, and outside the lane
 pub record IsEarlierOutside (l : LaneOf) (ds : List Destination) (n place : ℕ) : Type 0 where

@@ -10,35 +10,36 @@ use Rattle.route_tables.specs.Routings.{IsRouteFor}
 use Rattle.route_tables.specs.declared.lane.Decision.{Decision}
 use Rattle.route_tables.specs.declared.lane.Decision.TheVariants.{Nothing, One, Two, Unknown}
 use Rattle.ospf_routes.specs.steps.AreaReach.{area_reach}
+use Rattle.ospf_routes.specs.steps.Places.{AreEach}
 use Rattle.ospf_routes.specs.steps.Destinations.{ospf_prefixes}
-use Rattle.ospf_routes.specs.declared.areas.AreaWalks.{AreaWalks}
-use Rattle.ospf_routes.specs.declared.domain.Domain.{Domain}
+use Rattle.ospf_routes.specs.steps.Domain.{OspfDomain}
+use Rattle.ospf_routes.specs.declared.intra_area.Destination.{Destination}
 
 -- router u listens to the area at this place, and is no border router
 pub record IsInner (net : Network) (listens : List (Option ℕ)) (zone u : ℕ) : Type 0 where
   pub at : slice_index_or listens u None ≡ Some zone
   pub alone : IsBorderRouter net u → ⊥
 
--- a network, its areas, whom its routers listen to, and the place of one area
+-- a network with its areas, whom its routers listen to, and the place of one area
 pub record LaneOf : Type 0 where
-  pub net : Network
-  pub areas : List AreaWalks
+  pub domain : OspfDomain
   pub listens : List (Option ℕ)
   pub zone : ℕ
 
 -- the lane has router u: that of an area has the routers that are in this area alone, the last one has any
 pub record IsOfOspfLane (l : LaneOf) (u : ℕ) : Type 0 where
-  pub below : u < length l.net
-  pub inner : l.zone < length l.areas → IsInner l.net l.listens l.zone u
+  pub below : u < length l.domain.net
+  pub inner : l.zone < length l.domain.areas → IsInner l.domain.net l.listens l.zone u
 
 -- offers of which this holds decide router u's route for p
 abbrev pub LeadsLane : LaneOf → ℕ → Block → List Offer → Type 0
-LeadsLane l u p = LeadToBest (area_reach l.areas u l.zone) l.zone (length l.net)
-    (IsRouteFor (area_reach l.areas u) (length l.areas) (length l.net) (OspfEntry l.net u p))
+LeadsLane l u p = LeadToBest (area_reach l.domain.areas u l.zone) l.zone (length l.domain.net)
+    (IsRouteFor (area_reach l.domain.areas u) (length l.domain.areas) (length l.domain.net) (OspfEntry l.domain.net u p))
 
 -- what decides the route for p of each router that is in this area alone
 abbrev pub DecidesLane : LaneOf → Block → Decision → Type 0
-DecidesLane l p d = (u : ℕ) → u < length l.net → IsInner l.net l.listens l.zone u → DecidesRoute u (OspfEntry l.net u p) (LeadsLane l u p) d
+DecidesLane l p d = (u : ℕ) → u < length l.domain.net → IsInner l.domain.net l.listens l.zone u →
+    DecidesRoute u (OspfEntry l.domain.net u p) (LeadsLane l u p) d
 
 -- the decision is one or two offers, which are all of these
 abbrev pub IsOfFew : List Offer → Decision → Type 0
@@ -46,15 +47,3 @@ IsOfFew offers Nothing = ⊥
 IsOfFew offers (One at) = (asks : ℕ) × (offers ≡ record { at = at; asks = asks } ∷ [])
 IsOfFew offers (Two one other) = offers ≡ one ∷ other ∷ []
 IsOfFew offers Unknown = Unit {0}
-
--- of each of the first n prefixes what decides
-pub record AreLaneDecisions (l : LaneOf) (dests : List Block) (n : ℕ) (decisions : List Decision) : Type 0 where
-  pub count : length decisions ≡ n
-  pub each : (place : ℕ) → place < n → DecidesLane l (prefix_at dests place) (slice_index_or decisions place Unknown)
-
--- of each area and prefix what decides
-pub record AreLanes (net : Network) (domain : Domain) (listens : List (Option ℕ)) (lanes : List (List Decision)) : Type 0 where
-  pub count : length lanes ≡ length domain.areas.items
-  pub each : (zone : ℕ) → zone < length domain.areas.items →
-      AreLaneDecisions (record { net = net; areas = domain.areas.items; listens = listens; zone = zone }) (ospf_prefixes domain.destinations.items)
-      (length domain.destinations.items) (slice_index_or lanes zone [])

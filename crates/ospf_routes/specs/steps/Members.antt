@@ -1,15 +1,15 @@
 -- The routers of an area.
-use Rattle.std.specs.Prelude.{◌≡◌, ◌<◌, ◌↔◌, ℕ, Bool, false, List, length, IsTrue, slice_index_or}
+use Rattle.std.specs.Prelude.{◌≡◌, ◌↔◌, ℕ, Bool, false, List, IsTrue, slice_index_or}
 use Rattle.net_model.specs.Network.{Network, InArea, IsBorderRouter}
+use Rattle.ospf_routes.specs.steps.Places.{AreEach}
 
 -- router u is flagged
 abbrev pub IsMember : List Bool → ℕ → Type 0
 IsMember members u = IsTrue (slice_index_or members u false)
 
 -- the routers below m that are in area n are flagged, and no others
-pub record AreMembersBelow (net : Network) (n m : ℕ) (members : List Bool) : Type 0 where
-  pub count : length members ≡ m
-  pub exact : (u : ℕ) → u < m → IsMember members u ↔ InArea net u n
+abbrev pub AreMembersBelow : Network → ℕ → ℕ → List Bool → Type 0
+AreMembersBelow net n = AreEach (λ (u : ℕ) (b : Bool). IsTrue b ↔ InArea net u n) false
 
 -- router u is a border router in area n
 pub record IsBorderIn (net : Network) (n u : ℕ) : Type 0 where

@@ -1,50 +1,46 @@
 -- A network with all that OSPF entries are computed from.
 use Rattle.std.specs.Prelude.{ℕ, List, Option, length}
-use Rattle.net_model.specs.Network.{Network}
 use Rattle.igp_theory.specs.Ospf.{OspfEntry}
 use Rattle.route_tables.specs.Entries.{AreAlikeFor}
 use Rattle.ospf_routes.specs.steps.Areas.{AreListeners}
-use Rattle.ospf_routes.specs.steps.Destinations.{ospf_prefixes}
-use Rattle.ospf_routes.specs.steps.Domain.{IsOspfDomain}
-use Rattle.ospf_routes.specs.steps.Lanes.{AreLanes, IsOfOspfLane, LaneOf}
+use Rattle.ospf_routes.specs.steps.Destinations.{AreOspfDestinations, ospf_prefixes}
+use Rattle.ospf_routes.specs.steps.Domain.{OspfDomain}
+use Rattle.ospf_routes.specs.steps.Lanes.{IsOfOspfLane, LaneOf}
 use Rattle.ospf_routes.specs.steps.LaneTwins.{AreAllLaneTwins}
 use Rattle.ospf_routes.specs.steps.Ranges.{AreRangesBelow}
 use Rattle.ospf_routes.specs.steps.Heard.{AreSummaries}
 use Rattle.ospf_routes.specs.steps.OfferLists.{HeardLists}
 use Rattle.ospf_routes.specs.steps.Twins.{AreEarlierBy, AreTwins}
-use Rattle.route_tables.specs.declared.lane.Decision.{Decision}
-use Rattle.ospf_routes.specs.declared.domain.Domain.{Domain}
+use Rattle.ospf_routes.specs.declared.intra_area.Destination.{Destination}
 use Rattle.ospf_routes.specs.declared.ranges.ActiveRange.{ActiveRange}
 
--- a network, what its routers know, the places of the areas that they listen to, their active ranges, what they announce of
--- each prefix, for each prefix an earlier one with the same entries, also within areas, where one is found, and what decides
--- within areas
+-- a network with its areas, what these offer of each prefix, the places of the areas that its routers listen to, their active
+-- ranges, what they announce of each prefix, and for each prefix an earlier one with the same entries, also within areas, where
+-- one is found
 pub record OspfNetwork : Type 0 where
-  pub net : Network
-  pub domain : Domain
+  pub domain : OspfDomain
+  pub destinations : List Destination
   pub listens : List (Option ℕ)
   pub ranges : List (List ActiveRange)
   pub summaries : HeardLists
   pub twins : List (Option ℕ)
   pub lane_twins : List (List (Option ℕ))
-  pub lanes : List (List Decision)
 
 -- the lane of this number
 abbrev pub lane_in : OspfNetwork → ℕ → LaneOf
-lane_in ospf lane = record { net = ospf.net; areas = ospf.domain.areas.items; listens = ospf.listens; zone = lane }
+lane_in ospf lane = record { domain = ospf.domain; listens = ospf.listens; zone = lane }
 
 -- where an earlier prefix is named for one, the routers of the lane have the same entries for both
 abbrev pub AreEarlierIn : OspfNetwork → ℕ → List (Option ℕ) → Type 0
 AreEarlierIn ospf lane =
-    let dests = ospf_prefixes ospf.domain.destinations.items in
-    AreEarlierBy (AreAlikeFor (IsOfOspfLane (lane_in ospf lane)) (OspfEntry ospf.net)) dests (length dests)
+    let dests = ospf_prefixes ospf.destinations in
+    AreEarlierBy (AreAlikeFor (IsOfOspfLane (lane_in ospf lane)) (OspfEntry ospf.domain.net)) dests (length dests)
 
 -- all of it is that of the network
 pub record IsOspf (ospf : OspfNetwork) : Type 0 where
-  pub domain : IsOspfDomain ospf.net ospf.domain
-  pub listeners : AreListeners ospf.net ospf.domain.areas.items (length ospf.net) ospf.listens
-  pub ranges : AreRangesBelow ospf.net (length ospf.net) ospf.ranges
-  pub announced : AreSummaries ospf.net ospf.domain ospf.summaries
-  pub twins : AreTwins ospf.net (ospf_prefixes ospf.domain.destinations.items) ospf.twins
-  pub lane_twins : AreAllLaneTwins ospf.net ospf.domain ospf.listens ospf.lane_twins
-  pub lanes : AreLanes ospf.net ospf.domain ospf.listens ospf.lanes
+  pub destinations : AreOspfDestinations ospf.domain.net ospf.domain.areas ospf.destinations
+  pub listeners : AreListeners ospf.domain.net ospf.domain.areas (length ospf.domain.net) ospf.listens
+  pub ranges : AreRangesBelow ospf.domain.net (length ospf.domain.net) ospf.ranges
+  pub announced : AreSummaries ospf.domain ospf.destinations ospf.summaries
+  pub twins : AreTwins ospf.domain.net (ospf_prefixes ospf.destinations) ospf.twins
+  pub lane_twins : AreAllLaneTwins ospf.domain ospf.destinations ospf.listens ospf.lane_twins

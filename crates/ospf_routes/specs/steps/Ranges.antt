@@ -1,9 +1,10 @@
 -- Components and active ranges.
-use Rattle.std.specs.Prelude.{◌≡◌, ◌<◌, ◌≤◌, ℕ, Bool, true, false, List, [], length, Some, None, slice_index_or, Contains}
+use Rattle.std.specs.Prelude.{◌≡◌, ◌<◌, ◌≤◌, ℕ, Bool, true, false, List, [], length, Some, None, Contains}
 use Rattle.net_addr.specs.Addresses.{Block, Covers}
 use Rattle.net_model.specs.Network.{Network}
 use Rattle.net_model.specs.declared.area.Range.{Range}
 use Rattle.igp_theory.specs.Ospf.{IsComponent, IsActive, IsActiveRange, RangeCost}
+use Rattle.ospf_routes.specs.steps.Places.{AreEach}
 use Rattle.ospf_routes.specs.Lists.{Exactly}
 use Rattle.ospf_routes.specs.declared.ranges.ActiveRange.{ActiveRange}
 
@@ -61,6 +62,5 @@ abbrev pub HoldRanges : Network → List Block → Type 0
 HoldRanges net prefixes = (p : Block) (u : ℕ) → IsActiveRange net p u → Contains prefixes p
 
 -- these are the active ranges of the routers below n
-pub record AreRangesBelow (net : Network) (n : ℕ) (ranges : List (List ActiveRange)) : Type 0 where
-  pub count : length ranges ≡ n
-  pub each : (b : ℕ) → b < n → AreActiveRanges net b (slice_index_or ranges b [])
+abbrev pub AreRangesBelow : Network → ℕ → List (List ActiveRange) → Type 0
+AreRangesBelow net = AreEach (AreActiveRanges net) []

@@ -5,7 +5,8 @@ use Rattle.net_model.specs.Network.{Network, InArea, IsBorderRouter}
 use Rattle.net_model.specs.declared.area.Range.{Range}
 use Rattle.net_model.specs.declared.area.Stub.{Stub}
 use Rattle.walk_core.specs.declared.offers.Offer.{Offer}
-use Rattle.igp_theory.specs.Ospf.{IntraAreaCost, BorderCost, HasRange, IsComponent, RangeCost, SummarizesSubnet, SummarizesRange, HasStub, IsTotallyStubby, Summary}
+use Rattle.igp_theory.specs.Ospf.{IntraAreaCost, BorderCost, HasRange, IsComponent, RangeCost, SummarizesSubnet}
+use Rattle.igp_theory.specs.Ospf.{SummarizesRange, HasStub, IsTotallyStubby, Summary}
 use Rattle.ospf_routes.specs.Lists.{Exactly}
 use Rattle.ospf_routes.specs.steps.Offered.{OutsideOf}
 use Rattle.ospf_routes.specs.steps.Ranges.{IsComponentOfSome}

@@ -1,12 +1,11 @@
 -- Tables in the making: entries that all tables share, of which a table knows the numbers of some.
-use Rattle.std.specs.Prelude.{◌≡◌, ◌<◌, ℕ, List, [], ◌∷◌, ◌++◌, length, Some, None, Option, MatchOption, slice_index_or}
+use Rattle.std.specs.Prelude.{◌≡◌, ◌<◌, ℕ, List, [], ◌∷◌, ◌++◌, length, Some, None, Option, MatchOption, IfSome, slice_index_or}
 use Rattle.net_addr.specs.Addresses.{Block}
 use Rattle.walk_core.specs.Reach.{Reach}
 use Rattle.route_core.specs.Rows.{KeptTable}
 use Rattle.route_core.specs.declared.entry.Entry.{Entry}
 use Rattle.route_core.specs.declared.entry.Entry.TheVariants.{Via, Discard}
 use Rattle.route_tables.specs.Entries.{AreSameEntries}
-use Rattle.route_tables.specs.Prefixes.{prefix_at}
 use Rattle.route_tables.specs.Routings.{IsEntryTo}
 use Rattle.route_tables.specs.declared.lane.Decision.TheVariants.{Unknown}
 use Rattle.route_tables.specs.declared.pool.Known.{Known}
@@ -56,10 +55,10 @@ pub record Keeps (old new : Pool) (entry : Entry) (number : ℕ) : Type 0 where
   pub entries : new.entries.items ≡ old.entries.items ++ entry ∷ []
   pub known : new.known.items ≡ old.known.items
 
--- what the lane tells of router u, with hops below n, is so of the router's entries
+-- what the lane tells of router u, with hops below n, is so of the router's entries for the first prefix of each kind
 abbrev pub IsRouterLane : ℕ → ℕ → (Block → Entry → Type 0) → List Block → RouterLane → Type 0
-IsRouterLane n u entry dests lane = (place : ℕ) (sure : Sure) → place < length dests →
-    Tells lane.walks.now n u (slice_index_or lane.decisions.now place Unknown) sure → IsSure n (entry (prefix_at dests place)) sure
+IsRouterLane n u entry dests lane = IfSome lane.walks (λ walks. (kind : ℕ) (sure : Sure) → kind < length lane.firsts.now →
+    Tells walks.now n u (slice_index_or lane.decisions.now kind Unknown) sure → IsSure n (entry (first_prefix_of dests lane.firsts.now kind)) sure)
 
 -- these are the numbers of a router's entries, for kinds of prefixes that are alike for it
 pub record AreRouterNumbers (entry : Block → Entry → Type 0) (dests : List Block) (entries : List Entry) (own : RouterNumbers) : Type 0 where

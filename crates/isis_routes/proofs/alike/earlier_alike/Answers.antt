@@ -16,6 +16,3 @@ loop-place-preserved c = record {
   alike = named_more c.args.destinations.now c.loop-place.all.items c.push.new.self.items c.loop-place.place c.alike_before.result
       c.loop-place.invariant.count c.in_ok-push.ensures.items c.loop-place.invariant.alike c.alike_before.ensures;
 }
-
-pub returns : goal.returns
-returns c = c.loop-place.invariant.alike

@@ -1,7 +1,8 @@
 use Rattle.route_tables.proofs.ListFacts.{exactly_added}
 use Rattle.isis_routes.specs.steps.Offered.{IsOfferOf, OwnAnnouncement}
-use Rattle.isis_routes.proofs.HomeFacts.{home_is_router, two_is_connected}
+use Rattle.isis_routes.proofs.HomeFacts.{home_is_router, offered_is_connected}
 use Rattle.isis_routes.proofs.OfferLists.{given_start, given_more, given_end}
+use Rattle.isis_routes.specs.declared.level.Level.TheVariants.{Two}
 use Rattle.isis_routes.proofs.announcements.own_subnets.Goals as goal
 
 pub push_own_subnets-requires : goal.push_own_subnets-requires
@@ -21,4 +22,4 @@ returns c =
     let owned = OwnAnnouncement c.args.net.now c.args.dest in
     exactly_added c.new-offers.result.items c.loop-router.offers.items (IsOfferOf owned) c.new-offers.ensures.items
     (given_end owned c.new-offers.result.items c.loop-router.offers.items c.args.homes.now c.loop-router.router-index c.loop-router-test.false
-    (λ b k is. (c.requires b).1 (two_is_connected c.args.net.now c.args.dest b k is.offers)) c.loop-router.invariant)
+    (λ b k is. (c.requires b).1 (offered_is_connected c.args.net.now Two c.args.dest b k is.offers)) c.loop-router.invariant)

@@ -1,13 +1,7 @@
 use Rattle.std.proofs.Common.{◌≡◌, ℕ, Some, get_or}
-use Rattle.std.proofs.lemmas.List.Elements.{Contains-get_or}
 use Rattle.igp_theory.specs.Isis.{DownAnnouncement}
 use Rattle.isis_routes.proofs.OfferLists.{given_start, given_more, holds_given, offers_same}
 use Rattle.isis_routes.proofs.leaked.down_announcements.Goals as goal
-
-pub leaked_cost-requires-clause-leaks : goal.leaked_cost-requires-clause-leaks
-leaked_cost-requires-clause-leaks c =
-    (c.requires.leaking (get_or c.args.leaking.now c.loop-router.router-index 0)).0
-    (Contains-get_or c.args.leaking.now c.loop-router.router-index 0 c.loop-router-test.true)
 
 pub loop-router-init : goal.loop-router-init
 loop-router-init c = given_start (DownAnnouncement c.args.domain.now.net c.args.one.now.dest) c.new-offers.result.items c.args.leaking.now

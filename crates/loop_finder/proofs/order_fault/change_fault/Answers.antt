@@ -1,5 +1,5 @@
 use Rattle.std.proofs.Common.{ℕ, ◌+◌, ◌/◌, ◌<◌, List, [], length, arith, sym, ◌∙◌, subst}
-use Rattle.std.proofs.lemmas.List.{get_or_default, get_or_read}
+use Rattle.std.proofs.lemmas.List.{get_or_default}
 use Rattle.igp_theory.specs.States.{State, state_of}
 use Rattle.loop_finder.specs.Faults.{state_in}
 use Rattle.loop_finder.specs.Orders.{IsStateOf}
@@ -14,7 +14,7 @@ pub advance-was-requires : goal.advance-was-requires
 advance-was-requires g c =
     let below : c.in-Some.router.now < length c.args.mixed.now.net =
     changed_inside c.args.order.now (length c.args.mixed.now.net) (c.args.k / 2) c.in-Some.router.now c.requires.routers c.in-Some.ensures.lookup.3.0
-    (get_or_read c.args.order.now (c.args.k / 2) c.in-Some.router.now c.in-Some.ensures.lookup.3.0 c.in-Some.ensures.lookup.1 0) in
+    c.in-Some.ensures.lookup.1 in
     omega (arith, below, c.requires.many)
 
 pub returns-in_default-clause-state : goal.returns-in_default-clause-state
@@ -22,15 +22,14 @@ returns-in_default-clause-state g c = state_stays c.args.order.now c.args.phases
 
 pub returns-clause-state : goal.returns-clause-state
 returns-clause-state g c =
-    let within : c.args.k / 2 < length c.args.order.now = c.in-Some.ensures.lookup.3.0 in
-    state_advanced c.args.order.now c.args.phases.now c.advance-was.new.phases c.args.k c.in-Some.router.now within
-    (get_or_read c.args.order.now (c.args.k / 2) c.in-Some.router.now within c.in-Some.ensures.lookup.1 0) c.advance-was.ensures.state c.requires.state
+    state_advanced c.args.order.now c.args.phases.now c.advance-was.new.phases c.args.k c.in-Some.router.now c.in-Some.ensures.lookup.3.0
+    c.in-Some.ensures.lookup.1 c.advance-was.ensures.state c.requires.state
 
 pub turned_fault-requires-clause-places : goal.turned_fault-requires-clause-places
 turned_fault-requires-clause-places g c =
     let inside : c.in-Some.router.now < length c.args.mixed.now.net =
     changed_inside c.args.order.now (length c.args.mixed.now.net) (c.args.k / 2) c.in-Some.router.now c.requires.routers c.in-Some.ensures.lookup.3.0
-    (get_or_read c.args.order.now (c.args.k / 2) c.in-Some.router.now c.in-Some.ensures.lookup.3.0 c.in-Some.ensures.lookup.1 0) in
+    c.in-Some.ensures.lookup.1 in
     let within : c.in-Some.router.now < length c.args.watch.now = omega (arith, c.requires.watch.many, inside) in
     subst (λ (xs : List ℕ). ArePlacesOf c.args.parts.now c.in-Some.router.now xs)
     (sym (c.as_slice-places.ensures ∙ c.index-watch-router.is ∙ get_or_default c.args.watch.now c.in-Some.router.now c.index-watch-router.result [] within))
@@ -39,7 +38,7 @@ turned_fault-requires-clause-places g c =
 pub turned_fault-requires-clause-router : goal.turned_fault-requires-clause-router
 turned_fault-requires-clause-router g c =
     changed_inside c.args.order.now (length c.args.mixed.now.net) (c.args.k / 2) c.in-Some.router.now c.requires.routers c.in-Some.ensures.lookup.3.0
-    (get_or_read c.args.order.now (c.args.k / 2) c.in-Some.router.now c.in-Some.ensures.lookup.3.0 c.in-Some.ensures.lookup.1 0)
+    c.in-Some.ensures.lookup.1
 
 pub returns-clause-sound : goal.returns-clause-sound
 returns-clause-sound g c =
@@ -55,16 +54,14 @@ returns-clause-fault g c =
 
 pub returns-then-is_known-clause-state : goal.returns-then-is_known-clause-state
 returns-then-is_known-clause-state g c =
-    let within : c.args.k / 2 < length c.args.order.now = c.in-Some.ensures.lookup.3.0 in
-    state_advanced c.args.order.now c.args.phases.now c.advance-was.new.phases c.args.k c.in-Some.router.now within
-    (get_or_read c.args.order.now (c.args.k / 2) c.in-Some.router.now within c.in-Some.ensures.lookup.1 0) c.advance-was.ensures.state c.requires.state
+    state_advanced c.args.order.now c.args.phases.now c.advance-was.new.phases c.args.k c.in-Some.router.now c.in-Some.ensures.lookup.3.0
+    c.in-Some.ensures.lookup.1 c.advance-was.ensures.state c.requires.state
 
 pub returns-then-is_known-clause-sound : goal.returns-then-is_known-clause-sound
 returns-then-is_known-clause-sound g c =
-    let within : c.args.k / 2 < length c.args.order.now = c.in-Some.ensures.lookup.3.0 in
     let state : IsStateOf c.advance-was.new.phases c.args.order.now (c.args.k + 1) =
-    state_advanced c.args.order.now c.args.phases.now c.advance-was.new.phases c.args.k c.in-Some.router.now within
-    (get_or_read c.args.order.now (c.args.k / 2) c.in-Some.router.now within c.in-Some.ensures.lookup.1 0) c.advance-was.ensures.state c.requires.state in
+    state_advanced c.args.order.now c.args.phases.now c.advance-was.new.phases c.args.k c.in-Some.router.now c.in-Some.ensures.lookup.3.0
+    c.in-Some.ensures.lookup.1 c.advance-was.ensures.state c.requires.state in
     subst (λ (s : State). Sound (mix_of g.O.RouteSource.table g.N.RouteSource.table c.args.mixed.now) s)
     (same_state (state_of c.args.order.now (c.args.k + 1)) (state_in c.advance-was.new.phases) (λ u. sym (state u)))
     (c.requires.known (c.args.k + 1) c.if-is_known.ensures)

@@ -1,46 +1,41 @@
-use Rattle.std.proofs.Common.{Bool, length, arith, subst}
-use Rattle.std.specs.Bool.{OnTrue}
-use Rattle.loop_finder.specs.steps.WaveStarts.{BeginsSound}
+use Rattle.std.proofs.Common.{arith}
 use Rattle.loop_finder.proofs.CalmLaws.{clear_parts}
-use Rattle.loop_finder.proofs.ToldOfWaves.{AreEnds, sound_of_told, fault_of_told}
+use Rattle.loop_finder.proofs.ToldOfWaves.{sound_of_told, fault_of_told}
 use Rattle.loop_finder.specs.ClassSteps.{mix_of}
 use Rattle.loop_finder.proofs.waves_fault.wave_fault.Goals as goal
 
 pub stirred_fault-requires-clause-calm : goal.stirred_fault-requires-clause-calm
 stirred_fault-requires-clause-calm g c =
-    let ends : AreEnds (length c.args.mixed.now.net) c.args.ranks.now c.args.wave c.switch_before.new.phases c.switch_before-2.new.phases =
-    record { each = c.requires.ranks; begins = c.switch_before.ensures; ends = c.switch_before-2.ensures } in
-    let begins : BeginsSound (mix_of g.O.RouteSource.table g.N.RouteSource.table c.args.mixed.now) c.args.ranks.now c.args.wave =
-    subst (λ (b : Bool). OnTrue b (BeginsSound (mix_of g.O.RouteSource.table g.N.RouteSource.table c.args.mixed.now) c.args.ranks.now c.args.wave))
-    c.if-begun.true c.requires.begun in
+    let begins = rw c.if-begun.true at c.requires.begun in
     clear_parts (mix_of g.O.RouteSource.table g.N.RouteSource.table c.args.mixed.now) c.args.parts.now c.args.ranks.now c.args.calm.now c.args.wave
-    c.switch_before.new.phases c.switch_before-2.new.phases c.requires.parts ends c.requires.calm
+    c.switch_before.new.phases c.switch_before-2.new.phases c.requires.parts
+    (record { each = c.requires.ranks; begins = c.switch_before.ensures; ends = c.switch_before-2.ensures }) c.requires.calm
     (begins c.switch_before.new.phases (omega (arith, c.switch_before.auto.phases, c.requires.first, c.requires.ranks)) c.switch_before.ensures)
 
 pub returns-then-begun-clause-sound : goal.returns-then-begun-clause-sound
 returns-then-begun-clause-sound g c =
-    let ends : AreEnds (length c.args.mixed.now.net) c.args.ranks.now c.args.wave c.switch_before.new.phases c.switch_before-2.new.phases =
-    record { each = c.requires.ranks; begins = c.switch_before.ensures; ends = c.switch_before-2.ensures } in
     sound_of_told (mix_of g.O.RouteSource.table g.N.RouteSource.table c.args.mixed.now) c.args.ranks.now c.args.wave c.switch_before.new.phases
-    c.switch_before-2.new.phases c.stirred_fault.result c.stirred_fault.new.room.ring.items ends c.requires.parts.classes c.stirred_fault.ensures.told
+    c.switch_before-2.new.phases c.stirred_fault.result c.stirred_fault.new.room.ring.items
+    (record { each = c.requires.ranks; begins = c.switch_before.ensures; ends = c.switch_before-2.ensures })
+    c.requires.parts.classes c.stirred_fault.ensures.told
 
 pub returns-then-begun-clause-fault : goal.returns-then-begun-clause-fault
 returns-then-begun-clause-fault g c =
-    let ends : AreEnds (length c.args.mixed.now.net) c.args.ranks.now c.args.wave c.switch_before.new.phases c.switch_before-2.new.phases =
-    record { each = c.requires.ranks; begins = c.switch_before.ensures; ends = c.switch_before-2.ensures } in
     fault_of_told (mix_of g.O.RouteSource.table g.N.RouteSource.table c.args.mixed.now) c.args.ranks.now c.args.wave c.switch_before.new.phases
-    c.switch_before-2.new.phases c.stirred_fault.result c.stirred_fault.new.room.ring.items ends c.requires.parts.classes c.stirred_fault.ensures.told
+    c.switch_before-2.new.phases c.stirred_fault.result c.stirred_fault.new.room.ring.items
+    (record { each = c.requires.ranks; begins = c.switch_before.ensures; ends = c.switch_before-2.ensures })
+    c.requires.parts.classes c.stirred_fault.ensures.told
 
 pub returns-else-begun-clause-sound : goal.returns-else-begun-clause-sound
 returns-else-begun-clause-sound g c =
-    let ends : AreEnds (length c.args.mixed.now.net) c.args.ranks.now c.args.wave c.switch_before.new.phases c.switch_before-2.new.phases =
-    record { each = c.requires.ranks; begins = c.switch_before.ensures; ends = c.switch_before-2.ensures } in
     sound_of_told (mix_of g.O.RouteSource.table g.N.RouteSource.table c.args.mixed.now) c.args.ranks.now c.args.wave c.switch_before.new.phases
-    c.switch_before-2.new.phases c.classes_fault.result c.classes_fault.new.room.ring.items ends c.requires.parts.classes c.classes_fault.ensures.told
+    c.switch_before-2.new.phases c.classes_fault.result c.classes_fault.new.room.ring.items
+    (record { each = c.requires.ranks; begins = c.switch_before.ensures; ends = c.switch_before-2.ensures })
+    c.requires.parts.classes c.classes_fault.ensures.told
 
 pub returns-else-begun-clause-fault : goal.returns-else-begun-clause-fault
 returns-else-begun-clause-fault g c =
-    let ends : AreEnds (length c.args.mixed.now.net) c.args.ranks.now c.args.wave c.switch_before.new.phases c.switch_before-2.new.phases =
-    record { each = c.requires.ranks; begins = c.switch_before.ensures; ends = c.switch_before-2.ensures } in
     fault_of_told (mix_of g.O.RouteSource.table g.N.RouteSource.table c.args.mixed.now) c.args.ranks.now c.args.wave c.switch_before.new.phases
-    c.switch_before-2.new.phases c.classes_fault.result c.classes_fault.new.room.ring.items ends c.requires.parts.classes c.classes_fault.ensures.told
+    c.switch_before-2.new.phases c.classes_fault.result c.classes_fault.new.room.ring.items
+    (record { each = c.requires.ranks; begins = c.switch_before.ensures; ends = c.switch_before-2.ensures })
+    c.requires.parts.classes c.classes_fault.ensures.told

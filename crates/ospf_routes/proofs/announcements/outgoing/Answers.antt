@@ -8,12 +8,12 @@ pub returns-then-announces : goal.returns-then-announces
 returns-then-announces c o = (
   λ e.
       let is = (c.outside_offer.ensures o).0 e in
-      record { outside = is; announces = subst (Announces c.args.net.now c.args.area.now.number) (sym is.at) (c.if-announces.ensures.0 refl) },
+      record { outside = is; announces = subst (Announces c.args.domain.now.net c.args.area.now.number) (sym is.at) (c.if-announces.ensures.0 refl) },
   λ is. (c.outside_offer.ensures o).1 is.outside,
 )
 
 pub returns-else-announces : goal.returns-else-announces
 returns-else-announces c o = (
   λ no. absurd (none-some o no),
-  λ is. absurd (false≢true (c.if-announces.ensures.1 (subst (Announces c.args.net.now c.args.area.now.number) is.outside.at is.announces))),
+  λ is. absurd (false≢true (c.if-announces.ensures.1 (subst (Announces c.args.domain.now.net c.args.area.now.number) is.outside.at is.announces))),
 )

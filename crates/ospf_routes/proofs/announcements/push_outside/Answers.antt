@@ -6,15 +6,15 @@ use Rattle.ospf_routes.proofs.announcements.push_outside.Goals as goal
 
 pub loop-route-init : goal.loop-route-init
 loop-route-init c =
-    adds_start (λ (o : Offer) (x : AreaRoute). IsOutgoing c.args.net.now c.args.area.now.number o x) c.args.offers.now.items c.args.routes.now
+    adds_start (λ (o : Offer) (x : AreaRoute). IsOutgoing c.args.domain.now.net c.args.area.now.number o x) c.args.offers.now.items c.args.routes.now
 
 pub loop-route-preserved : goal.loop-route-preserved
 loop-route-preserved c =
-    adds_at (λ (o : Offer) (x : AreaRoute). IsOutgoing c.args.net.now c.args.area.now.number o x)
+    adds_at (λ (o : Offer) (x : AreaRoute). IsOutgoing c.args.domain.now.net c.args.area.now.number o x)
     c.args.offers.now.items c.loop-route.offers.items c.push_option.new.all.items c.args.routes.now c.loop-route.route-index _ c.outgoing.result
     c.loop-route-test.true c.loop-route.invariant c.in_ok-push_option.ensures.ok c.outgoing.ensures
 
 pub returns : goal.returns
 returns c =
-    adds_end (λ (o : Offer) (x : AreaRoute). IsOutgoing c.args.net.now c.args.area.now.number o x)
+    adds_end (λ (o : Offer) (x : AreaRoute). IsOutgoing c.args.domain.now.net c.args.area.now.number o x)
     c.args.offers.now.items c.loop-route.offers.items c.args.routes.now c.loop-route.route-index c.loop-route-test.false c.loop-route.invariant

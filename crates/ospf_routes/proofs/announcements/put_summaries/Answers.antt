@@ -6,18 +6,19 @@ use Rattle.ospf_routes.proofs.announcements.put_summaries.Goals as goal
 
 pub push_outside-requires-clause-routers : goal.push_outside-requires-clause-routers
 push_outside-requires-clause-routers c =
-    routes_of_routers c.args.net.now (λ (r : AreaRoute). SummarizedFrom c.args.net.now c.args.destination.now.dest r.at r) c.args.routes.now c.requires.routes
-    (λ r from. (summarized_at c.args.net.now c.args.destination.now.dest r.at r from).1)
+    routes_of_routers c.args.domain.now.net (λ (r : AreaRoute). SummarizedFrom c.args.domain.now.net c.args.destination.now.dest r.at r) c.args.routes.now
+    c.requires.routes
+    (λ r from. (summarized_at c.args.domain.now.net c.args.destination.now.dest r.at r from).1)
 
 pub returns-then-is_backbone : goal.returns-then-is_backbone
 returns-then-is_backbone c =
-    heard_in_backbone c.args.net.now c.args.area.now.number c.args.destination.now.dest c.args.routes.now c.clear.new.self.items
+    heard_in_backbone c.args.domain.now.net c.args.area.now.number c.args.destination.now.dest c.args.routes.now c.clear.new.self.items
     c.push_outside.new.offers.items c.if-is_backbone.true c.requires.routes c.clear.ensures.items c.in_ok-push_outside.ensures
 
 pub returns : goal.returns
 returns c =
     on_ok_weaker c.push_defaults.result
-    (λ adds. heard_in_area c.args.net.now c.args.area.now.number c.args.destination.now.dest c.args.routes.now c.clear.new.self.items
+    (λ adds. heard_in_area c.args.domain.now.net c.args.area.now.number c.args.destination.now.dest c.args.routes.now c.clear.new.self.items
     c.push_outside.new.offers.items c.push_reached.new.offers.items c.push_defaults.new.offers.items c.if-is_backbone.false c.requires.routes
     c.clear.ensures.items c.in_ok-push_outside.ensures c.in_ok-push_reached.ensures adds)
     c.push_defaults.ensures

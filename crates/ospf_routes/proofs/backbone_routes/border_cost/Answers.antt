@@ -8,18 +8,18 @@ use Rattle.ospf_routes.proofs.SummaryFacts.{no_border_cost, border_cost_is}
 use Rattle.ospf_routes.proofs.backbone_routes.border_cost.Goals as goal
 
 pub returns-in_err-walks : goal.returns-in_err-walks
-returns-in_err-walks c = absurd (c.in_err-walks.ensures.none c.requires.areas.backbone)
+returns-in_err-walks c = absurd (c.in_err-walks.ensures.none c.reach.ensures.known.backbone)
 
 pub best_cost-requires : goal.best_cost-requires
 best_cost-requires c =
-    in_range c.in_ok-walks.walks.now (BackboneSummary c.args.net.now c.args.destination.now.dest) c.args.backbone.now c.args.backbone.now
+    in_range c.in_ok-walks.walks.now (BackboneSummary c.args.domain.now.net c.args.destination.now.dest) c.args.backbone.now c.args.backbone.now
     c.in_ok-walks.ensures.some.near c.requires.backbone refl
-    (λ at asks s. let small : asks < 2 ^ 41 = backbone_is_small c.args.net.now c.args.areas.now c.args.destination.now.dest at asks
-    c.requires.areas s in omega arith)
+    (λ at asks s. let small : asks < 2 ^ 41 = backbone_is_small c.args.domain.now.net c.args.domain.now.areas c.args.destination.now.dest at asks
+    c.reach.ensures.known s in omega arith)
 
 pub returns-in_err-cost : goal.returns-in_err-cost
 returns-in_err-cost c =
-    let net = c.args.net.now in
+    let net = c.args.domain.now.net in
     let p = c.args.destination.now.dest in
     subst (λ (found : Option ℕ). (cost : ℕ) → (found ≡ Some cost) ↔ BorderCost net p c.args.u cost) (sym c.from_residual-in_err-cost.ensures)
     (no_border_cost net p c.args.u (λ cost costs. none-some cost
@@ -28,17 +28,17 @@ returns-in_err-cost c =
 
 pub returns-then-contains : goal.returns-then-contains
 returns-then-contains c =
-    no_border_cost c.args.net.now c.args.destination.now.dest c.args.u
-    (λ _ costs. costs.no_range ((active_range_is c.args.net.now c.args.u c.args.destination.now.dest c.args.ranges.now c.requires.ranges).0
+    no_border_cost c.args.domain.now.net c.args.destination.now.dest c.args.u
+    (λ _ costs. costs.no_range ((active_range_is c.args.domain.now.net c.args.u c.args.destination.now.dest c.args.ranges.now c.requires.ranges).0
     (c.if-contains.ensures.0 refl)))
 
 pub returns-then-has_intra : goal.returns-then-has_intra
 returns-then-has_intra c =
-    no_border_cost c.args.net.now c.args.destination.now.dest c.args.u (λ _ costs. costs.no_intra (c.if-has_intra.ensures.0 refl))
+    no_border_cost c.args.domain.now.net c.args.destination.now.dest c.args.u (λ _ costs. costs.no_intra (c.if-has_intra.ensures.0 refl))
 
 pub returns : goal.returns
 returns c = λ cost.
-    let net = c.args.net.now in
+    let net = c.args.domain.now.net in
     let p = c.args.destination.now.dest in
     let is = border_cost_is net p c.args.u c.in_ok-walks.walks.now c.args.backbone.now c.requires.border c.in_ok-walks.ensures.some c.requires.backbone
     (Some c.in_ok-cost.cost) c.in_ok-cost.ensures cost in (

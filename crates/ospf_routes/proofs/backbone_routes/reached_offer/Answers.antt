@@ -8,7 +8,7 @@ use Rattle.ospf_routes.proofs.backbone_routes.reached_offer.Goals as goal
 
 pub returns : goal.returns
 returns c o =
-    let net = c.args.net.now in
+    let net = c.args.domain.now.net in
     let p = c.args.destination.now.dest in
     let one : Offer = record { at = c.args.b; asks = c.in_ok-asks.asks } in (
       λ same. subst (λ (x : Offer). (x.at ≡ c.args.b) × IsPassedOn net c.args.area p x) (same_Some one o same) (

@@ -14,7 +14,7 @@ best_hops-requires c = subst (λ (l : List Offer). AreInRange c.in-Some.walks.no
 
 pub returns-in-Some : goal.returns-in-Some
 returns-in-Some c =
-    let net = c.args.net.now in
+    let net = c.args.domain.now.net in
     let d = c.args.destination.now in
     let part = c.args.part.now in
     let reach = c.in-Some.walks.now in

@@ -13,14 +13,14 @@ best_route-requires c = subst (λ (l : List Offer). AreInRange c.in-Some.walks.n
 
 pub returns-in-Some : goal.returns-in-Some
 returns-in-Some c =
-    let net = c.args.net.now in
+    let net = c.args.domain.now.net in
     let u = c.args.u in
     let d = c.args.destination.now in
     let part = c.args.part.now in
     let reach = c.in-Some.walks.now in
     let given : List Offer = c.as_slice-offers.result.now in
-    zone_route net c.args.areas.now u part.zone c.routers.result reach given (IsIntraArea net d.dest u → ⊥) (IsIntraRoute net d.dest u)
-    c.best_route.result (part_place net c.args.areas.now d part c.requires.destination c.requires.part).within c.in-Some.ensures.same
+    zone_route net c.args.domain.now.areas u part.zone c.routers.result reach given (IsIntraArea net d.dest u → ⊥) (IsIntraRoute net d.dest u)
+    c.best_route.result (part_place net c.args.domain.now.areas d part c.requires.destination c.requires.part).within c.in-Some.ensures.same
     c.routers.ensures.count
     (λ hops best. only_follows net d part u hops c.requires.destination.is c.requires.one c.requires.part
     (area_route_is net part.area d.dest u reach part.offers.items given c.in-Some.ensures.reach
@@ -29,5 +29,5 @@ returns-in-Some c =
 
 pub returns-in-None : goal.returns-in-None
 returns-in-None c =
-    only_none c.args.net.now c.args.destination.now c.args.part.now c.args.u c.requires.destination.is c.requires.one c.requires.part
+    only_none c.args.domain.now.net c.args.destination.now c.args.part.now c.args.u c.requires.destination.is c.requires.one c.requires.part
     (λ cost costs. c.in-None.ensures.none costs.inside)

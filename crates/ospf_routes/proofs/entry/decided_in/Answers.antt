@@ -11,14 +11,14 @@ use Rattle.ospf_routes.proofs.entry.decided_in.Goals as goal
 pub returns-in-Some : goal.returns-in-Some
 returns-in-Some c =
     let asked = c.args.asked in
-    let net = asked.net.now in
+    let net = asked.domain.now.net in
     let u = asked.router in
     let d = asked.destination.now in
     let part = c.args.part.now in
     let reach = c.in-Some.walks.now in
     let given : List Offer = c.as_slice-offers.result.now in
     record {
-      zone = (part_place net asked.areas.now d part c.requires.asked.destination c.requires.part).within;
+      zone = (part_place net asked.domain.now.areas d part c.requires.asked.destination c.requires.part).within;
       same = c.in-Some.ensures.same;
       range = subst (λ (l : List Offer). AreInRange reach l) (sym c.as_slice-offers.ensures.value) c.in-Some.ensures.range;
       entry = λ away hops best.
@@ -31,5 +31,5 @@ returns-in-Some c =
 
 pub listened-requires-clause-no_intra : goal.listened-requires-clause-no_intra
 listened-requires-clause-no_intra c =
-    only_none c.args.asked.net.now c.args.asked.destination.now c.args.part.now c.args.asked.router c.requires.asked.destination.is c.requires.one
+    only_none c.args.asked.domain.now.net c.args.asked.destination.now c.args.part.now c.args.asked.router c.requires.asked.destination.is c.requires.one
     c.requires.part (λ cost costs. c.in-None.ensures.none costs.inside)

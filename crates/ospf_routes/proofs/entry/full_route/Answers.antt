@@ -18,16 +18,16 @@ use Rattle.ospf_routes.proofs.entry.full_route.Goals as goal
 
 pub returns-then-is_home : goal.returns-then-is_home
 returns-then-is_home c =
-    connected_has_none c.args.asked.net.now c.args.asked.router c.args.asked.destination.now.dest
+    connected_has_none c.args.asked.domain.now.net c.args.asked.router c.args.asked.destination.now.dest
     ((c.requires.destination.is.homes c.args.asked.router).0 (c.if-is_home.ensures.0 refl))
 
 pub returns-in-Some : goal.returns-in-Some
 returns-in-Some c =
-    let net = c.args.asked.net.now in
+    let net = c.args.asked.domain.now.net in
     let u = c.args.asked.router in
     let p : Block = c.args.asked.destination.now.dest in
-    let reach : ℕ → Reach = area_reach c.args.asked.areas.now u in
-    let zones : ℕ = length c.args.asked.areas.now in
+    let reach : ℕ → Reach = area_reach c.args.asked.domain.now.areas u in
+    let zones : ℕ = length c.args.asked.domain.now.areas in
     route_by_hops reach zones (length net) (IsIntraRoute net p u) (OspfEntry net u p) c.in-Some.route
     (λ hops route. intra_area (λ is. false≢true (c.if-is_home.ensures.1 ((c.requires.destination.is.homes c.args.asked.router).1 is))) route.is route.hops_are)
     (MatchOption-at_some (IsIntraArea net p u → ⊥) (IsRouteFor reach zones (length net) (ForwardsBy (IsIntraRoute net p u)))
@@ -35,11 +35,11 @@ returns-in-Some c =
 
 pub returns-then-contains : goal.returns-then-contains
 returns-then-contains c =
-    let net = c.args.asked.net.now in
+    let net = c.args.asked.domain.now.net in
     let u = c.args.asked.router in
     let p : Block = c.args.asked.destination.now.dest in
-    let reach : ℕ → Reach = area_reach c.args.asked.areas.now u in
-    let zones : ℕ = length c.args.asked.areas.now in
+    let reach : ℕ → Reach = area_reach c.args.asked.domain.now.areas u in
+    let zones : ℕ = length c.args.asked.domain.now.areas in
     route_by_discard reach zones (length net) (OspfEntry net u p)
     (discard (λ is. false≢true (c.if-is_home.ensures.1 ((c.requires.destination.is.homes c.args.asked.router).1 is)))
     (MatchOption-at_none (IsIntraArea net p u → ⊥) (IsRouteFor reach zones (length net) (ForwardsBy (IsIntraRoute net p u)))
@@ -49,16 +49,17 @@ returns-then-contains c =
 pub listened_at-requires-clause-listens : goal.listened_at-requires-clause-listens
 listened_at-requires-clause-listens c =
     let asked = c.args.asked in
-    MatchOption-at_some ((n : ℕ) → ListensTo asked.net.now asked.router n → ⊥) (IsListenedPlace asked.net.now asked.areas.now asked.router)
+    MatchOption-at_some ((n : ℕ) → ListensTo asked.domain.now.net asked.router n → ⊥) (IsListenedPlace asked.domain.now.net asked.domain.now.areas asked.router)
     c.in-Some-listens.zone c.in-Some-listens.is c.requires.listens
 
 pub listened_at-requires-clause-no_intra : goal.listened_at-requires-clause-no_intra
 listened_at-requires-clause-no_intra c =
-    let net = c.args.asked.net.now in
+    let net = c.args.asked.domain.now.net in
     let u = c.args.asked.router in
     let p : Block = c.args.asked.destination.now.dest in
     MatchOption-at_none (IsIntraArea net p u → ⊥)
-    (IsRouteFor (area_reach c.args.asked.areas.now u) (length c.args.asked.areas.now) (length net) (ForwardsBy (IsIntraRoute net p u))) c.in_default.is
+    (IsRouteFor (area_reach c.args.asked.domain.now.areas u) (length c.args.asked.domain.now.areas) (length net) (ForwardsBy
+    (IsIntraRoute net p u))) c.in_default.is
     c.in_ok-route.ensures
 
 pub listened_at-requires-clause-heard : goal.listened_at-requires-clause-heard
@@ -66,7 +67,8 @@ listened_at-requires-clause-heard c = c.requires.heard c.in-Some-listens.zone c.
 
 pub listened_at-requires-clause-no_range : goal.listened_at-requires-clause-no_range
 listened_at-requires-clause-no_range c = λ is.
-    false≢true (c.if-contains.ensures.1 ((active_range_is c.args.asked.net.now c.args.asked.router c.args.asked.destination.now.dest c.args.asked.ranges.now
+    false≢true (c.if-contains.ensures.1 ((active_range_is c.args.asked.domain.now.net c.args.asked.router c.args.asked.destination.now.dest
+    c.args.asked.ranges.now
     c.requires.ranges).1 is))
 
 pub route_by-requires-clause-away : goal.route_by-requires-clause-away
@@ -82,12 +84,14 @@ returns-in-Some-listens c =
 pub returns-in-None : goal.returns-in-None
 returns-in-None c =
     let asked = c.args.asked in
-    let net = asked.net.now in
+    let net = asked.domain.now.net in
     let u = asked.router in
     let p : Block = asked.destination.now.dest in
     no_route_no_entry net u p
     (MatchOption-at_none (IsIntraArea net p u → ⊥)
-    (IsRouteFor (area_reach asked.areas.now u) (length asked.areas.now) (length net) (ForwardsBy (IsIntraRoute net p u))) c.in_default.is c.in_ok-route.ensures)
+    (IsRouteFor (area_reach asked.domain.now.areas u) (length asked.domain.now.areas) (length net) (ForwardsBy
+    (IsIntraRoute net p u))) c.in_default.is c.in_ok-route.ensures)
     (λ is. false≢true (c.if-contains.ensures.1 ((active_range_is net u p asked.ranges.now c.requires.ranges).1 is)))
-    (λ cost costs. MatchOption-at_none ((n : ℕ) → ListensTo net u n → ⊥) (IsListenedPlace net asked.areas.now u) c.in-None.is c.requires.listens costs.area
+    (λ cost costs. MatchOption-at_none ((n : ℕ) → ListensTo net u n →
+    ⊥) (IsListenedPlace net asked.domain.now.areas u) c.in-None.is c.requires.listens costs.area
     costs.listens)

@@ -3,34 +3,34 @@ use Rattle.ospf_routes.proofs.EntryFacts.{heard_in_range, listened_entry, no_rou
 use Rattle.ospf_routes.proofs.RouteFacts.{listened_route_is}
 use Rattle.ospf_routes.proofs.entry.listened_at.Goals as goal
 
-pub zone_reach-walks-requires-clause-zone : goal.zone_reach-walks-requires-clause-zone
-zone_reach-walks-requires-clause-zone c = c.requires.listens.at.within
+pub walks-walks-requires-clause-zone : goal.walks-walks-requires-clause-zone
+walks-walks-requires-clause-zone c = c.requires.listens.at.within
 
 pub returns-clause-some : goal.returns-clause-some
 returns-clause-some c =
     let asked = c.args.asked in
-    let net = asked.net.now in
+    let net = asked.domain.now.net in
     let p = asked.destination.now.dest in
     let l = c.requires.listens in
-    let reach = c.zone_reach-walks.result.now in
+    let reach = c.walks-walks.result.now in
     let offers = asked.heard.now in
-    let walks = c.zone_reach-walks.ensures.reach l.area l.at in
+    let walks = c.walks-walks.ensures.reach l.area l.at in
     let heard = c.requires.heard l.area l.at in
     record {
       zone = l.at.within;
-      same = c.zone_reach-walks.ensures.same;
-      range = heard_in_range net asked.areas.now l.area p reach offers offers c.requires.asked.areas walks heard refl;
+      same = c.walks-walks.ensures.same;
+      range = heard_in_range net asked.domain.now.areas l.area p reach offers offers c.walks-walks.ensures.known walks heard refl;
       entry = listened_entry net l.area p asked.router reach offers offers c.requires.no_intra c.requires.no_range l.listens walks heard refl;
     }
 
 pub returns-clause-none : goal.returns-clause-none
 returns-clause-none c = λ none.
     let asked = c.args.asked in
-    let net = asked.net.now in
+    let net = asked.domain.now.net in
     let u = asked.router in
     let p = asked.destination.now.dest in
     let l = c.requires.listens in
     let offers = asked.heard.now in
     no_route_no_entry net u p c.requires.no_intra c.requires.no_range
-    (listened_route_is net l.area p u c.zone_reach-walks.result.now offers offers c.requires.no_intra c.requires.no_range
-    l.listens (c.zone_reach-walks.ensures.reach l.area l.at) (c.requires.heard l.area l.at) refl (length net) refl None none)
+    (listened_route_is net l.area p u c.walks-walks.result.now offers offers c.requires.no_intra c.requires.no_range
+    l.listens (c.walks-walks.ensures.reach l.area l.at) (c.requires.heard l.area l.at) refl (length net) refl None none)

@@ -19,15 +19,15 @@ returns-then-is_some c =
 
 pub loop-part-preserved : goal.loop-part-preserved
 loop-part-preserved c =
-    within_more (λ (a : AreaOffers). (k : ℕ) → IntraAreaCost c.args.net.now a.area c.args.destination.now.dest c.args.u k → ⊥)
+    within_more (λ (a : AreaOffers). (k : ℕ) → IntraAreaCost c.args.domain.now.net a.area c.args.destination.now.dest c.args.u k → ⊥)
     c.as_slice-part-items.result.now c.loop-part.part-index c.part-item.result c.loop-part-test.true c.part-item.is c.loop-part.invariant
     (λ k costs. none_of c.part_cost.result (sym c.is_some.ensures ∙ c.if-is_some.false) k ((c.part_cost.ensures k).1 costs))
 
 pub returns : goal.returns
 returns c = (
   λ e. absurd (false≢true e),
-  λ is. absurd (no_intra_anywhere c.args.net.now c.args.destination.now c.as_slice-part-items.result.now c.args.u
+  λ is. absurd (no_intra_anywhere c.args.domain.now.net c.args.destination.now c.as_slice-part-items.result.now c.args.u
       c.requires.destination.is c.as_slice-part-items.ensures.value
-      (all_passed (λ (a : AreaOffers). (k : ℕ) → IntraAreaCost c.args.net.now a.area c.args.destination.now.dest c.args.u k → ⊥)
+      (all_passed (λ (a : AreaOffers). (k : ℕ) → IntraAreaCost c.args.domain.now.net a.area c.args.destination.now.dest c.args.u k → ⊥)
       c.as_slice-part-items.result.now c.loop-part.part-index c.loop-part-test.false c.loop-part.invariant) is),
 )

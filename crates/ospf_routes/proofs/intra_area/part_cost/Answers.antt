@@ -12,8 +12,8 @@ pub returns-in-Some : goal.returns-in-Some
 returns-in-Some c =
     let d = c.args.destination.now in
     let part = c.args.part.now in
-    intra_cost_is c.args.net.now part.area d.dest c.args.u c.in-Some.walks.now part.offers.items c.as_slice.result.now c.in-Some.ensures.reach
-    (part_is c.args.net.now d part c.requires.destination.is c.requires.part) c.as_slice.ensures.value c.best_cost.result c.best_cost.ensures
+    intra_cost_is c.args.domain.now.net part.area d.dest c.args.u c.in-Some.walks.now part.offers.items c.as_slice.result.now c.in-Some.ensures.reach
+    (part_is c.args.domain.now.net d part c.requires.destination.is c.requires.part) c.as_slice.ensures.value c.best_cost.result c.best_cost.ensures
 
 pub returns-in-None : goal.returns-in-None
 returns-in-None c cost = (λ no. absurd (none-some cost no), λ costs. absurd (c.in-None.ensures.none costs.inside))

@@ -1,13 +1,7 @@
-use Rattle.std.proofs.Common.{◌≡◌, ◌<◌, ℕ, [], length, get_or}
-use Rattle.ospf_routes.specs.steps.Destinations.{ospf_prefixes}
-use Rattle.ospf_routes.specs.steps.LaneTwins.{AreLaneAlike}
-use Rattle.ospf_routes.specs.steps.Twins.{AreEarlierBy}
+use Rattle.std.proofs.Common.{[]}
+use Rattle.ospf_routes.specs.steps.Places.{AreEach}
+use Rattle.ospf_routes.specs.steps.LaneTwins.{AreTwinsAlone}
 use Rattle.ospf_routes.proofs.lane_twins.all_lane_twins.Given as goal
 
 abbrev pub invariant-loop-zone : goal.invariant-loop-zone
-invariant-loop-zone l = record {
-  count : length l.all.items ≡ l.zone;
-  each : (zone : ℕ) → zone < l.zone →
-      AreEarlierBy (AreLaneAlike (record { net = l.net; areas = l.domain.areas.items; listens = l.listens; zone = zone }))
-      (ospf_prefixes l.domain.destinations.items) (length l.domain.destinations.items) (get_or l.all.items zone []);
-}
+invariant-loop-zone l = AreEach (AreTwinsAlone l.domain l.destinations l.listens) [] l.zone l.all.items

@@ -6,4 +6,4 @@ use Rattle.ospf_routes.proofs.lanes.are_told.Given as goal
 
 abbrev pub invariant-loop-home : goal.invariant-loop-home
 invariant-loop-home l =
-    AllWithin (λ (u : ℕ). IsInner l.net l.listens l.zone u → Any (λ (o : Offer). o.at ≡ u) l.offers) l.homes 0 l.home-index
+    AllWithin (λ (u : ℕ). IsInner l.domain.net l.listens l.zone u → Any (λ (o : Offer). o.at ≡ u) l.offers) l.homes 0 l.home-index

@@ -1,14 +1,16 @@
-use Rattle.std.proofs.Common.{◌+◌, subst, List, sym}
-use Rattle.ospf_routes.proofs.RangeFacts.{ranges_below_none, ranges_below_more}
-use Rattle.ospf_routes.specs.steps.Ranges.{AreRangesBelow}
+use Rattle.std.proofs.Common.{◌+◌, [], subst, List, sym}
+use Rattle.ospf_routes.proofs.PlaceFacts.{places_none, places_more}
+use Rattle.ospf_routes.specs.steps.Ranges.{AreActiveRanges, AreRangesBelow}
 use Rattle.ospf_routes.specs.declared.ranges.ActiveRange.{ActiveRange}
 use Rattle.ospf_routes.proofs.ranges.all_ranges.Goals as goal
 
 pub loop-b-init : goal.loop-b-init
 loop-b-init c =
-    subst (λ (l : List (List ActiveRange)). AreRangesBelow c.args.net.now 0 l) (sym c.new-ranges.ensures.items) (ranges_below_none c.args.net.now)
+    subst (λ (l : List (List ActiveRange)). AreRangesBelow c.args.domain.now.net 0 l) (sym c.new-ranges.ensures.items)
+    (places_none (AreActiveRanges c.args.domain.now.net) [])
 
 pub loop-b-preserved : goal.loop-b-preserved
 loop-b-preserved c =
-    subst (λ (l : List (List ActiveRange)). AreRangesBelow c.args.net.now (c.loop-b.b + 1) l) (sym c.in_ok-push.ensures.items)
-    (ranges_below_more c.args.net.now c.loop-b.b c.loop-b.ranges.items c.in_ok-of_router.field-0 c.loop-b.invariant c.in_ok-of_router.ensures)
+    subst (λ (l : List (List ActiveRange)). AreRangesBelow c.args.domain.now.net (c.loop-b.b + 1) l) (sym c.in_ok-push.ensures.items)
+    (places_more (AreActiveRanges c.args.domain.now.net) [] c.loop-b.b c.loop-b.ranges.items c.in_ok-of_router.field-0 c.loop-b.invariant
+    c.in_ok-of_router.ensures)

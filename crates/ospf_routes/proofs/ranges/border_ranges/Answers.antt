@@ -9,15 +9,15 @@ use Rattle.ospf_routes.proofs.ranges.border_ranges.Goals as goal
 pub loop-range-preserved : goal.loop-range-preserved
 loop-range-preserved c =
     let r : Range = c.range-item.result in
-    subst (λ (l : List Range). ActivesSoFar c.args.net.now c.args.b l c.push_option.new.all.items)
+    subst (λ (l : List Range). ActivesSoFar c.args.domain.now.net c.args.b l c.push_option.new.all.items)
     (one_more c.as_slice-ranges.result.now c.loop-range.range-index r c.loop-range-test.true c.range-item.is)
-    (actives_more c.args.net.now c.args.b (take c.loop-range.range-index c.as_slice-ranges.result.now)
+    (actives_more c.args.domain.now.net c.args.b (take c.loop-range.range-index c.as_slice-ranges.result.now)
     r c.loop-range.all.items c.push_option.new.all.items c.in_ok-active_range.field-0 c.loop-range.invariant c.in_ok-active_range.ensures
     c.in_ok-push_option.ensures.ok)
 
 pub returns : goal.returns
 returns c =
-    actives_all c.args.net.now c.args.b c.config.result.now c.as_slice-ranges.result.now c.loop-range.all.items c.config.ensures.router
-    (c.as_slice-ranges.ensures ∙ ap (λ (d : Configuration). d.ranges) c.behind-net.view_is)
-    (subst (λ (l : List Range). ActivesSoFar c.args.net.now c.args.b l c.loop-range.all.items)
+    actives_all c.args.domain.now.net c.args.b c.config.result.now c.as_slice-ranges.result.now c.loop-range.all.items c.config.ensures.router
+    (c.as_slice-ranges.ensures ∙ ap (λ (d : Configuration). d.ranges) c.behind-domain.view_is)
+    (subst (λ (l : List Range). ActivesSoFar c.args.domain.now.net c.args.b l c.loop-range.all.items)
     (take_all c.loop-range.range-index c.as_slice-ranges.result.now c.loop-range-test.false) c.loop-range.invariant)

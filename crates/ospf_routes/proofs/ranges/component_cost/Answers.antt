@@ -12,11 +12,11 @@ use Rattle.ospf_routes.proofs.ranges.component_cost.Goals as goal
 pub returns-in_err-part : goal.returns-in_err-part
 returns-in_err-part c =
     let d = c.args.destination.now in
-    subst (λ (found : Option ℕ). (cost : ℕ) → (found ≡ Some cost) ↔ IsComponent c.args.net.now c.args.b c.args.range.now d.dest cost)
+    subst (λ (found : Option ℕ). (cost : ℕ) → (found ≡ Some cost) ↔ IsComponent c.args.domain.now.net c.args.b c.args.range.now d.dest cost)
     (sym c.from_residual.ensures)
     (λ cost. (
       λ no. absurd (none-some cost no),
-      λ component. absurd (no_intra_given c.args.net.now d c.as_slice.result.now c.args.range.now.area c.args.b
+      λ component. absurd (no_intra_given c.args.domain.now.net d c.as_slice.result.now c.args.range.now.area c.args.b
           c.requires.destination.is c.as_slice.ensures.value c.in_err-part.ensures.none cost component.reached),
     ))
 
@@ -26,8 +26,8 @@ part_cost-requires-clause-part c =
 
 pub returns : goal.returns
 returns c =
-    component_at c.args.net.now c.args.b c.config.result.now c.as_slice-ranges.result.now c.args.range.now c.args.destination.now.dest c.part_cost.result
-    c.requires.has c.config.ensures.router (c.as_slice-ranges.ensures ∙ ap (λ (d : Configuration). d.ranges) c.behind-net.view_is)
+    component_at c.args.domain.now.net c.args.b c.config.result.now c.as_slice-ranges.result.now c.args.range.now c.args.destination.now.dest c.part_cost.result
+    c.requires.has c.config.ensures.router (c.as_slice-ranges.ensures ∙ ap (λ (d : Configuration). d.ranges) c.behind-domain.view_is)
     (c.if-not-covers.ensures.0 refl) (λ any. false≢true (c.if-has_longer.ensures.1 any))
-    (subst (λ (n : ℕ). (cost : ℕ) → (c.part_cost.result ≡ Some cost) ↔ IntraAreaCost c.args.net.now n c.args.destination.now.dest c.args.b cost)
+    (subst (λ (n : ℕ). (cost : ℕ) → (c.part_cost.result ≡ Some cost) ↔ IntraAreaCost c.args.domain.now.net n c.args.destination.now.dest c.args.b cost)
     c.in_ok-part.ensures.area c.part_cost.ensures)

@@ -14,15 +14,15 @@ returns-then-is_some c =
 
 pub loop-range-preserved : goal.loop-range-preserved
 loop-range-preserved c =
-    within_more (λ (r : Range). (k : ℕ) → IsComponent c.args.net.now c.args.b r c.args.destination.now.dest k → ⊥)
+    within_more (λ (r : Range). (k : ℕ) → IsComponent c.args.domain.now.net c.args.b r c.args.destination.now.dest k → ⊥)
     c.as_slice-ranges.result.now c.loop-range.range-index c.range-item.result c.loop-range-test.true c.range-item.is c.loop-range.invariant
     (λ k is. none_of c.component_cost.result (sym c.is_some.ensures ∙ c.if-is_some.false) k ((c.component_cost.ensures k).1 is))
 
 pub returns : goal.returns
 returns c = (
   λ e. absurd (false≢true e),
-  λ is. absurd (component_of_some c.args.net.now c.args.b c.config.result.now c.as_slice-ranges.result.now
-      c.args.destination.now.dest c.config.ensures.router (c.as_slice-ranges.ensures ∙ ap (λ (d : Configuration). d.ranges) c.behind-net.view_is)
-      (all_passed (λ (r : Range). (k : ℕ) → IsComponent c.args.net.now c.args.b r c.args.destination.now.dest k → ⊥)
+  λ is. absurd (component_of_some c.args.domain.now.net c.args.b c.config.result.now c.as_slice-ranges.result.now
+      c.args.destination.now.dest c.config.ensures.router (c.as_slice-ranges.ensures ∙ ap (λ (d : Configuration). d.ranges) c.behind-domain.view_is)
+      (all_passed (λ (r : Range). (k : ℕ) → IsComponent c.args.domain.now.net c.args.b r c.args.destination.now.dest k → ⊥)
       c.as_slice-ranges.result.now c.loop-range.range-index c.loop-range-test.false c.loop-range.invariant) is),
 )

@@ -2,5 +2,5 @@ use Rattle.std.proofs.Common.{take}
 use Rattle.ospf_routes.proofs.SegmentFacts.{JoinAreas}
 use Rattle.ospf_routes.proofs.segments.segments_of_areas.Given as goal
 
-abbrev pub invariant-loop-area : goal.invariant-loop-area
-invariant-loop-area l = JoinAreas l.net (take l.area-index l.areas) l.all.items
+abbrev pub invariant-loop-zone : goal.invariant-loop-zone
+invariant-loop-zone l = JoinAreas l.domain.net (take l.zone l.domain.areas) l.all.items

@@ -6,5 +6,6 @@ use Rattle.ospf_routes.proofs.stub_areas.is_totally_stubby.Goals as goal
 
 pub returns : goal.returns
 returns c =
-    iff_then c.some_alone.ensures (totally_stubby_is c.args.net.now c.args.b c.args.area c.config.result.now c.as_slice.result.now c.config.ensures.router
-    (c.as_slice.ensures ∙ ap (λ (d : Configuration). d.stubs) c.behind-net.view_is))
+    iff_then c.some_alone.ensures (totally_stubby_is c.args.domain.now.net c.args.b c.args.area c.config.result.now c.as_slice.result.now
+    c.config.ensures.router
+    (c.as_slice.ensures ∙ ap (λ (d : Configuration). d.stubs) c.behind-domain.view_is))

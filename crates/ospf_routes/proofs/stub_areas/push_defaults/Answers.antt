@@ -10,35 +10,35 @@ use Rattle.ospf_routes.proofs.stub_areas.push_defaults.Goals as goal
 
 pub returns-then-not-is_all_addresses : goal.returns-then-not-is_all_addresses
 returns-then-not-is_all_addresses c =
-    adds_nothing c.args.offers.now.items (HasDefault c.args.net.now c.args.area.now.number c.args.dest)
+    adds_nothing c.args.offers.now.items (HasDefault c.args.domain.now.net c.args.area.now.number c.args.dest)
     (λ o is. false≢true (c.if-not-is_all_addresses.ensures.1 is.all))
 
 pub push_router_defaults-requires-clause-border : goal.push_router_defaults-requires-clause-border
 push_router_defaults-requires-clause-border c =
-    inner_at c.args.net.now c.args.area.now.number c.args.area.now.borders c.as_slice-b-items.result.now c.loop-b.b-index 0 c.requires
+    inner_at c.args.domain.now.net c.args.area.now.number c.args.area.now.borders c.as_slice-b-items.result.now c.loop-b.b-index 0 c.requires
     c.as_slice-b-items.ensures c.loop-b-test.true
 
 pub push_router_defaults-requires-clause-router : goal.push_router_defaults-requires-clause-router
 push_router_defaults-requires-clause-router c =
-    inner_is_router c.args.net.now c.args.area.now.number c.args.area.now.borders c.as_slice-b-items.result.now c.loop-b.b-index 0 c.requires
+    inner_is_router c.args.domain.now.net c.args.area.now.number c.args.area.now.borders c.as_slice-b-items.result.now c.loop-b.b-index 0 c.requires
     c.as_slice-b-items.ensures c.loop-b-test.true
 
 pub loop-b-init : goal.loop-b-init
 loop-b-init c =
-    adds_start (λ (o : Offer) (b : ℕ). RouterDefault c.args.net.now c.args.area.now.number b o) c.args.offers.now.items c.as_slice-b-items.result.now
+    adds_start (λ (o : Offer) (b : ℕ). RouterDefault c.args.domain.now.net c.args.area.now.number b o) c.args.offers.now.items c.as_slice-b-items.result.now
 
 pub loop-b-preserved : goal.loop-b-preserved
 loop-b-preserved c =
     let borders = c.as_slice-b-items.result.now in
     let i : ℕ = c.loop-b.b-index in
     let b : ℕ = get_or borders i 0 in
-    adds_more (λ (o : Offer) (b : ℕ). RouterDefault c.args.net.now c.args.area.now.number b o) c.args.offers.now.items c.loop-b.offers.items
+    adds_more (λ (o : Offer) (b : ℕ). RouterDefault c.args.domain.now.net c.args.area.now.number b o) c.args.offers.now.items c.loop-b.offers.items
     c.push_router_defaults.new.offers.items borders i b c.loop-b-test.true (get_or_default borders i 0 b c.loop-b-test.true) c.loop-b.invariant
     c.in_ok-push_router_defaults.ensures
 
 pub returns : goal.returns
 returns c =
-    defaults_are c.args.net.now c.args.area.now.number c.args.dest c.args.area.now.borders c.as_slice-b-items.result.now c.args.offers.now.items
+    defaults_are c.args.domain.now.net c.args.area.now.number c.args.dest c.args.area.now.borders c.as_slice-b-items.result.now c.args.offers.now.items
     c.loop-b.offers.items c.requires c.as_slice-b-items.ensures (c.if-not-is_all_addresses.ensures.0 refl)
-    (adds_end (λ (o : Offer) (b : ℕ). RouterDefault c.args.net.now c.args.area.now.number b o)
+    (adds_end (λ (o : Offer) (b : ℕ). RouterDefault c.args.domain.now.net c.args.area.now.number b o)
     c.args.offers.now.items c.loop-b.offers.items c.as_slice-b-items.result.now c.loop-b.b-index c.loop-b-test.false c.loop-b.invariant)

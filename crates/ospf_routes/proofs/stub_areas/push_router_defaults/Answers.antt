@@ -12,8 +12,8 @@ pub returns : goal.returns
 returns c =
     on_ok_weaker c.push_stub_defaults.result
     (λ adds. adds_same c.args.offers.now.items c.push_stub_defaults.new.offers.items
-    (λ (o : Offer). Any (IsDefault c.args.area c.args.b o) c.as_slice.result.now) (RouterDefault c.args.net.now c.args.area c.args.b) adds
-    (router_default_is c.args.net.now c.args.area c.args.b c.config.result.now c.as_slice.result.now
+    (λ (o : Offer). Any (IsDefault c.args.area c.args.b o) c.as_slice.result.now) (RouterDefault c.args.domain.now.net c.args.area c.args.b) adds
+    (router_default_is c.args.domain.now.net c.args.area c.args.b c.config.result.now c.as_slice.result.now
     c.requires.border.inside c.requires.border.border
-    c.config.ensures.router (c.as_slice.ensures ∙ ap (λ (d : Configuration). d.stubs) c.behind-net.view_is)))
+    c.config.ensures.router (c.as_slice.ensures ∙ ap (λ (d : Configuration). d.stubs) c.behind-domain.view_is)))
     c.push_stub_defaults.ensures

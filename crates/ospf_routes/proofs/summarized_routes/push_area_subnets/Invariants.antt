@@ -7,4 +7,4 @@ use Rattle.ospf_routes.proofs.summarized_routes.push_area_subnets.Given as goal
 
 abbrev pub invariant-loop-b : goal.invariant-loop-b
 invariant-loop-b l = Adds l.initial.routes.items l.routes.items
-    (λ (r : AreaRoute). Any (λ (b : ℕ). IsSubnetSummary l.net l.destination.dest l.part.area b r) (take l.b-index l.b-items))
+    (λ (r : AreaRoute). Any (λ (b : ℕ). IsSubnetSummary l.domain.net l.destination.dest l.part.area b r) (take l.b-index l.b-items))

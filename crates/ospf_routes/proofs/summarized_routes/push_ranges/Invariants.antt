@@ -7,4 +7,4 @@ use Rattle.ospf_routes.proofs.summarized_routes.push_ranges.Given as goal
 
 abbrev pub invariant-loop-b : goal.invariant-loop-b
 invariant-loop-b l = Adds l.initial.routes.items l.routes.items
-    (λ (r : AreaRoute). Any (λ (b : ℕ). SummarizedRange l.net l.dest b r) (take l.b-index l.borders))
+    (λ (r : AreaRoute). Any (λ (b : ℕ). SummarizedRange l.domain.net l.dest b r) (take l.b-index l.borders))

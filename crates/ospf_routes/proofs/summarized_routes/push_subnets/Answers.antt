@@ -14,18 +14,18 @@ push_area_subnets-requires-clause-part c =
 
 pub loop-part-init : goal.loop-part-init
 loop-part-init c =
-    adds_start (λ (r : AreaRoute) (part : AreaOffers). IsAreaSubnet c.args.net.now c.args.destination.now.dest part.area r)
+    adds_start (λ (r : AreaRoute) (part : AreaOffers). IsAreaSubnet c.args.domain.now.net c.args.destination.now.dest part.area r)
     c.args.routes.now.items c.as_slice-part-items.result.now
 
 pub loop-part-preserved : goal.loop-part-preserved
 loop-part-preserved c =
-    adds_more (λ (r : AreaRoute) (part : AreaOffers). IsAreaSubnet c.args.net.now c.args.destination.now.dest part.area r)
+    adds_more (λ (r : AreaRoute) (part : AreaOffers). IsAreaSubnet c.args.domain.now.net c.args.destination.now.dest part.area r)
     c.args.routes.now.items c.loop-part.routes.items c.push_area_subnets.new.routes.items c.as_slice-part-items.result.now c.loop-part.part-index
     c.part-item.result c.loop-part-test.true c.part-item.is c.loop-part.invariant c.in_ok-push_area_subnets.ensures
 
 pub returns : goal.returns
 returns c =
-    let net = c.args.net.now in
+    let net = c.args.domain.now.net in
     let d = c.args.destination.now in
     let given = c.as_slice-part-items.result.now in
     adds_same c.args.routes.now.items c.loop-part.routes.items (λ (r : AreaRoute). Any (λ (part : AreaOffers). IsAreaSubnet net d.dest part.area r) given)

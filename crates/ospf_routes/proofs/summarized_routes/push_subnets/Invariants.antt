@@ -8,4 +8,4 @@ use Rattle.ospf_routes.proofs.summarized_routes.push_subnets.Given as goal
 
 abbrev pub invariant-loop-part : goal.invariant-loop-part
 invariant-loop-part l = Adds l.initial.routes.items l.routes.items
-    (λ (r : AreaRoute). Any (λ (part : AreaOffers). IsAreaSubnet l.net l.destination.dest part.area r) (take l.part-index l.part-items))
+    (λ (r : AreaRoute). Any (λ (part : AreaOffers). IsAreaSubnet l.domain.net l.destination.dest part.area r) (take l.part-index l.part-items))

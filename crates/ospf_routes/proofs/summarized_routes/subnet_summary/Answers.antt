@@ -9,7 +9,7 @@ use Rattle.ospf_routes.proofs.summarized_routes.subnet_summary.Goals as goal
 pub returns-in_err-asks : goal.returns-in_err-asks
 returns-in_err-asks c =
     subst (λ (found : Option AreaRoute). (r : AreaRoute) → (found ≡ Some r) ↔
-    IsSubnetSummary c.args.net.now c.args.destination.now.dest c.args.part.now.area c.args.b r) (sym c.from_residual.ensures)
+    IsSubnetSummary c.args.domain.now.net c.args.destination.now.dest c.args.part.now.area c.args.b r) (sym c.from_residual.ensures)
     (λ r. (λ no. absurd (none-some r no), λ is. absurd (none-some r.asks ((c.in_err-asks.ensures r.asks).1 is.costs))))
 
 pub returns-then-is_component : goal.returns-then-is_component
@@ -17,5 +17,5 @@ returns-then-is_component c r = (λ no. absurd (none-some r no), λ is. absurd (
 
 pub returns : goal.returns
 returns c =
-    subnet_summary_some c.args.net.now c.args.destination.now.dest c.args.part.now.area c.args.b c.in_ok-asks.asks
+    subnet_summary_some c.args.domain.now.net c.args.destination.now.dest c.args.part.now.area c.args.b c.in_ok-asks.asks
     ((c.in_ok-asks.ensures c.in_ok-asks.asks).0 refl) (λ is. false≢true (c.if-is_component.ensures.1 is))

@@ -6,7 +6,7 @@ use Rattle.ospf_routes.proofs.summarized_routes.summarized.Goals as goal
 
 pub returns : goal.returns
 returns c =
-    let net = c.args.net.now in
+    let net = c.args.domain.now.net in
     let p = c.args.destination.now.dest in
     let From : AreaRoute → Type 0 = λ r. SummarizedFrom net p r.at r in
     exactly_added c.new-routes.result.items c.push_ranges.new.routes.items From c.new-routes.ensures.items

@@ -1,9 +1,8 @@
-use Rattle.std.proofs.Common.{◌≡◌, ◌+◌, ◌<◌, ℕ, List, Option, length, subst, sym}
+use Rattle.std.proofs.Common.{◌+◌, ℕ, List, Option, length, subst, sym}
 use Rattle.net_addr.specs.Addresses.{Block}
 use Rattle.igp_theory.specs.Ospf.{OspfEntry}
 use Rattle.route_tables.specs.Entries.{AreAlikePrefixes}
 use Rattle.ospf_routes.specs.steps.Destinations.{ospf_prefixes}
-use Rattle.ospf_routes.specs.steps.OfferLists.{AreSummariesOf}
 use Rattle.ospf_routes.specs.steps.Ranges.{HoldRanges}
 use Rattle.ospf_routes.specs.steps.Twins.{AreEarlierBy}
 use Rattle.ospf_routes.specs.declared.intra_area.Destination.{Destination}
@@ -13,26 +12,21 @@ use Rattle.ospf_routes.proofs.twins.all_twins.Goals as goal
 
 pub twin_of-requires-clause-summaries : goal.twin_of-requires-clause-summaries
 twin_of-requires-clause-summaries c =
-    let domain = c.args.domain.now in
-    subst (λ (l : List Destination). AreSummariesOf (length l) c.args.summaries.now) (sym c.as_slice-destinations.ensures.value)
-    (heard_within c.args.net.now domain.areas.items (ospf_prefixes domain.destinations.items) (length domain.destinations.items) c.args.summaries.now
-    c.requires.summaries)
+    heard_within c.args.domain.now.net c.args.domain.now.areas (ospf_prefixes c.args.destinations.now) (length c.args.destinations.now) c.args.summaries.now
+    c.requires.summaries
 
 pub loop-place-preserved : goal.loop-place-preserved
 loop-place-preserved c =
-    let net = c.args.net.now in
-    let ds : List Destination = c.args.domain.now.destinations.items in
-    let given : List Destination = c.as_slice-destinations.result.now in
-    let same : given ≡ ds = c.as_slice-destinations.ensures.value in
+    let net = c.args.domain.now.net in
+    let ds : List Destination = c.args.destinations.now in
     let place : ℕ = c.loop-place.place in
     let alike : Block → Block → Type 0 = AreAlikePrefixes (length net) (OspfEntry net) in
     let hold : HoldRanges net c.as_slice.result.now = subst (HoldRanges net) (sym c.as_slice.ensures.value)
     (c.in_ok-ranged.ensures net c.requires.ranges) in
-    let within : place < length ds = subst (λ (l : List Destination). place < length l) same c.loop-place-test.true in
     record {
       twins = subst (λ (l : List (Option ℕ)). AreEarlierBy alike (ospf_prefixes ds) (place + 1) l) (sym {A = List (Option ℕ)} c.in_ok-push.ensures.items)
           (earlier_more alike (ospf_prefixes ds) place c.loop-place.twins.items c.twin_of.result c.loop-place.invariant.twins
-          (twin_found net c.args.domain.now c.as_slice.result.now c.args.summaries.now given place c.twin_of.result c.requires.domain hold
-          c.requires.summaries same within c.twin_of.ensures.below c.twin_of.ensures.twins));
+          (twin_found c.args.domain.now ds c.as_slice.result.now c.args.summaries.now place c.twin_of.result c.routers.ensures.known c.requires.destinations
+          hold c.requires.summaries c.loop-place-test.true c.twin_of.ensures.below c.twin_of.ensures.twins));
       latest = c.twin_of.ensures.latest;
     }

@@ -7,6 +7,6 @@ use Rattle.ospf_routes.proofs.twins.all_twins.Given as goal
 
 abbrev pub invariant-loop-place : goal.invariant-loop-place
 invariant-loop-place l = record {
-  twins : AreEarlierBy (AreAlikePrefixes (length l.net) (OspfEntry l.net)) (ospf_prefixes l.domain.destinations.items) l.place l.twins.items;
+  twins : AreEarlierBy (AreAlikePrefixes (length l.domain.net) (OspfEntry l.domain.net)) (ospf_prefixes l.destinations) l.place l.twins.items;
   latest : AreKnownBelow l.place l.latest;
 }

@@ -1,4 +1,4 @@
-use Rattle.std.proofs.Common.{ℕ, List, arith}
+use Rattle.std.proofs.Common.{ℕ, List}
 use Rattle.net_addr.specs.Addresses.{Block}
 use Rattle.rib_mix.specs.Rows.{AreSubnets}
 use Rattle.prefix_atoms.proofs.Pushed.{count_more, each_more}
@@ -11,10 +11,4 @@ loop-router-preserved c = record {
   each = each_more (λ (u : ℕ) (ps : List Block). AreSubnets c.args.net.now u ps) c.loop-router.all.items c.push.new.self.items
       c.in_ok-subnets.subnets c.loop-router.router c.loop-router.invariant.count c.loop-router.invariant.each c.in_ok-push.ensures.items
       c.in_ok-subnets.ensures;
-}
-
-pub returns : goal.returns
-returns c = record {
-  count = omega (arith, c.loop-router.invariant.count, c.loop-router-test.false, c.loop-router.auto.router-end, c.routers-router-end.ensures.count);
-  each = c.loop-router.invariant.each;
 }

@@ -2,7 +2,7 @@ use Rattle.std.proofs.Common.{◌≡◌, ◌<◌, ℕ, List, Option, None, IfSom
 use Rattle.rib_mix.specs.Cells.{IsCellOf}
 use Rattle.rib_mix.specs.declared.cell.Cell.{Cell}
 use Rattle.rib_mix.specs.declared.found.Found.{Found}
-use Rattle.rib_mix.specs.steps.WayUp.{IsFoundRow, found_at}
+use Rattle.rib_mix.specs.steps.WayUp.{found_at}
 use Rattle.prefix_atoms.proofs.Pushed.{count_more, each_more}
 use Rattle.rib_mix.proofs.UpLaws.{top_within}
 use Rattle.rib_mix.proofs.row.row_of.Goals as goal
@@ -26,11 +26,3 @@ loop-top-preserved c =
           c.loop-top.row.items c.push_reserved.new.self.items c.cell_of.result c.loop-top.top-index c.loop-top.invariant.count c.loop-top.invariant.each
           c.push_reserved.ensures.items (subst (λ (f : Found). IsCellOf f c.args.ospf c.cell_of.result) found c.cell_of.ensures);
     }
-
-pub returns : goal.returns
-returns c =
-    let long : length c.tops-tops.result.now ≡ length c.args.atoms.now.tops = ap length c.tops-tops.ensures.tops in
-    subst (IsFoundRow c.args.atoms.now.tops c.args.found.now c.args.ospf) (sym c.from_vec.ensures) (record {
-      count = omega (arith, c.loop-top.invariant.count, c.loop-top-test.false, c.loop-top.auto.top-index-end);
-      each = c.loop-top.invariant.each;
-    })

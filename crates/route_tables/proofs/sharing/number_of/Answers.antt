@@ -1,9 +1,6 @@
 use Rattle.route_core.specs.declared.entry.Entry.TheVariants.{Discard}
-use Rattle.route_tables.proofs.SharingLaws.{more_where_kept, shared_where_kept, shared_where_more}
+use Rattle.route_tables.proofs.SharingLaws.{shared_where_kept, shared_where_more}
 use Rattle.route_tables.proofs.sharing.number_of.Goals as goal
-
-pub returns-in-Drops-clause-kept : goal.returns-in-Drops-clause-kept
-returns-in-Drops-clause-kept g c = more_where_kept c.args.pool.now _ Discard c.keep.result c.keep.ensures
 
 pub returns-in-Drops-clause-known : goal.returns-in-Drops-clause-known
 returns-in-Drops-clause-known g c =

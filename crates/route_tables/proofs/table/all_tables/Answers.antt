@@ -7,22 +7,39 @@ use Rattle.route_core.specs.declared.entry.Entry.{Entry}
 use Rattle.route_tables.specs.Entries.{AreAlikeFor, AreTablesBelow}
 use Rattle.route_tables.specs.declared.kinds.LaneKinds.{LaneKinds}
 use Rattle.route_tables.specs.declared.table.RouterNumbers.{RouterNumbers}
-use Rattle.route_tables.specs.steps.Kinds.{AreLaneKinds}
+use Rattle.route_tables.specs.Lanes.{LaneRoutes}
+use Rattle.route_tables.specs.steps.Kinds.{AreLaneKinds, IsToldLane}
 use Rattle.route_tables.specs.steps.Sharing.{AreOverOne, AreRouterNumbers, AreRouterNumbersBelow, kept_with}
 use Rattle.route_tables.proofs.SharingLaws.{over_one_kept}
 use Rattle.route_tables.proofs.KeptTables.{all_are_tables, are_tables, kinds_for, numbers_below_more}
 use Rattle.route_tables.proofs.table.all_tables.Goals as goal
 
-pub router_numbers-requires-clause-lane : goal.router_numbers-requires-clause-lane
-router_numbers-requires-clause-lane g c =
+pub router_numbers-requires-clause-kinds : goal.router_numbers-requires-clause-kinds
+router_numbers-requires-clause-kinds g c =
     let protocol = c.args.protocol.now in
     let entry : ℕ → Block → Entry → Type 0 = g.P.Protocol.entry protocol in
     let dests : List Block = g.P.Protocol.candidates protocol in
-    let lane : ℕ = c.lane.result in
-    let own : LaneKinds = c.index-lane.result.now in
-    let are = c.in_ok-lanes.ensures.each lane own c.lane.ensures.below in
-    kinds_for (g.P.Protocol.in_lane protocol lane) entry dests (length dests) own.kinds.value.items own.firsts.items c.loop-router.router c.lane.ensures.is
-    (subst (AreLaneKinds (AreAlikeFor (g.P.Protocol.in_lane protocol lane) entry) dests) (sym c.index-lane.ensures) are)
+    let lane : ℕ = c.lane-lane.result in
+    let own : LaneKinds = c.index.result.now in
+    let are = (c.in_ok-lanes.ensures.each lane own c.lane-lane.ensures.below).kinds in
+    kinds_for (g.P.Protocol.in_lane protocol lane) entry dests (length dests) own.kinds.value.items own.firsts.items c.loop-router.router c.lane-lane.ensures.is
+    (subst (AreLaneKinds (AreAlikeFor (g.P.Protocol.in_lane protocol lane) entry) dests) (sym c.index.ensures) are)
+
+pub router_numbers-requires-clause-told : goal.router_numbers-requires-clause-told
+router_numbers-requires-clause-told g c =
+    let protocol = c.args.protocol.now in
+    let lane : ℕ = c.lane-lane.result in
+    let own : LaneKinds = c.index.result.now in
+    let told : LaneRoutes = record {
+      routers = g.P.Protocol.routers protocol;
+      zones = g.P.Protocol.zones protocol;
+      entry = g.P.Protocol.entry protocol;
+      reach = g.P.Protocol.reach protocol;
+      in_lane = g.P.Protocol.in_lane protocol lane;
+      zone = g.P.Protocol.lane_zone protocol lane;
+    } in
+    subst (IsToldLane told (g.P.Protocol.candidates protocol)) (sym c.index.ensures)
+    (c.in_ok-lanes.ensures.each lane own c.lane-lane.ensures.below).decided
 
 pub loop-router-init : goal.loop-router-init
 loop-router-init g c = record {
@@ -38,14 +55,14 @@ loop-router-preserved g c =
     let before = c.loop-router in
     let router : ℕ = before.router in
     let n : ℕ = g.P.Protocol.routers protocol in
-    let own : RouterNumbers = c.in_ok-router_numbers.field-0 in
-    let kept = c.in_ok-router_numbers.ensures.kept in
+    let own : RouterNumbers = c.in_ok-numbers.numbers in
+    let kept = c.in_ok-numbers.ensures.kept in
     let old : List Entry = before.pool.entries.items in
     record {
       numbers = subst (AreRouterNumbersBelow entry (router + 1) dests c.router_numbers.new.pool.entries.items) (sym c.in_ok-push.ensures.items)
           (subst (λ (l : List Entry). AreRouterNumbersBelow entry (router + 1) dests l (before.all.items ++ own ∷ [])) (sym kept.entries)
           (numbers_below_more entry router dests old kept.more before.all.items own before.invariant.numbers
-          (subst (λ (l : List Entry). AreRouterNumbers (entry router) dests l own) kept.entries c.in_ok-router_numbers.ensures.numbers)));
+          (subst (λ (l : List Entry). AreRouterNumbers (entry router) dests l own) kept.entries c.in_ok-numbers.ensures.numbers)));
       single = subst (AreOverOne n) (sym kept.entries) (over_one_kept n old kept.more before.invariant.single);
     }
 

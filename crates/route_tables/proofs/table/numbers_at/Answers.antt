@@ -5,13 +5,13 @@ use Rattle.route_tables.specs.steps.Sharing.{AreNumbers, IsNumberOf}
 use Rattle.route_tables.proofs.SharingLaws.{more_kept, numbers_more}
 use Rattle.route_tables.proofs.table.numbers_at.Goals as goal
 
-pub loop-place-preserved : goal.loop-place-preserved
-loop-place-preserved g c =
+pub loop-kind-preserved : goal.loop-kind-preserved
+loop-kind-preserved g c =
     let protocol = c.args.protocol.now in
     let wanted : ℕ → Entry → Type 0 =
-    λ kind. g.P.Protocol.entry protocol c.args.router (first_prefix_of (g.P.Protocol.candidates protocol) c.args.places.now kind) in
-    let before = c.loop-place in
-    let i : ℕ = before.place-index in
+    λ kind. g.P.Protocol.entry protocol c.args.router (first_prefix_of (g.P.Protocol.candidates protocol) c.args.lane.firsts.now kind) in
+    let before = c.loop-kind in
+    let i : ℕ = before.kind in
     let number : Option ℕ = c.in_ok-number.number in
     let pool = c.number_at.new.pool in
     let kept = c.in_ok-number.ensures.kept in

@@ -1,30 +1,12 @@
-use Rattle.std.proofs.Common.{◌≡◌, ◌∙◌, List, All, Vec, Global, map, [], ◌∷◌, ◌++◌, ap, sym, subst}
+use Rattle.std.proofs.Common.{◌≡◌, List, All, map, [], ◌∷◌, ◌++◌, subst}
 use Rattle.std.proofs.lemmas.List.{map-append}
-use Rattle.std.proofs.lemmas.List.Elements.{All-head, All-tail}
+use Rattle.std.proofs.lemmas.List.Elements.{All-tail}
 use Rattle.net_addr.specs.Addresses.{Block}
 use Rattle.route_core.specs.Rows.{IsTable}
 use Rattle.route_core.specs.declared.entry.Entry.{Entry}
 use Rattle.route_tables.specs.declared.table.RouterNumbers.{RouterNumbers}
 use Rattle.route_tables.specs.steps.Sharing.{kept_with}
 use Rattle.route_tables.proofs.table.tables_over.Goals as goal
-
-pub loop-own-init : goal.loop-own-init
-loop-own-init c =
-    let entries = ap (λ (v : Vec Entry Global). v.items) c.in_ok-entries.ensures.ok ∙ c.shrink_to_fit.ensures.items in
-    let prefixes = ap (λ (v : Vec Block Global). v.items) c.in_ok-prefixes.ensures.ok in
-    let rest : c.into_iter-own-iterator.result.rest.items ≡ c.args.all.items = cc in
-    let Tables : List Block → List Entry → List RouterNumbers → Type 0 = λ ps es. All (λ (own : RouterNumbers). IsTable (kept_with ps es own)) in
-    record {
-      tables = c.in_ok-tables.ensures.items;
-      rest = subst (λ (l : List Block). Tables l c.in_ok-entries.entries.value.items c.into_iter-own-iterator.result.rest.items) (sym prefixes)
-          (subst (λ (l : List Entry). Tables c.args.prefixes.items l c.into_iter-own-iterator.result.rest.items) (sym entries)
-          (subst (Tables c.args.prefixes.items c.args.entries.items) (sym rest) c.requires));
-    }
-
-pub of_kinds-requires : goal.of_kinds-requires
-of_kinds-requires c =
-    let is : RouterNumbers → Type 0 = λ own. IsTable (kept_with c.in_ok-prefixes.prefixes.value.items c.in_ok-entries.entries.value.items own) in
-    All-head is c.in-Some.own c.next.new.self.rest.items (subst (All is) c.in-Some.ensures.steps.0 c.loop-own.invariant.rest)
 
 one_more : {X Y : Type 0} (kept : X → Y) (yielded : List X) (own : X) (tables new : List Y) (table : Y) → tables ≡ map kept yielded →
     table ≡ kept own → new ≡ tables ++ table ∷ [] → new ≡ map kept (yielded ++ own ∷ [])

@@ -16,3 +16,6 @@ returns-clause-dest c =
     let d : Destination = c.index-known-place.result in
     prefix_is (λ (x : Destination). x.one.dest) c.args.self.now.destinations c.args.place d c.requires
     (subst (λ (l : List Destination). d ≡ get_or l c.args.place d) c.known.ensures.is c.index-known-place.is)
+
+pub returns-clause-domain : goal.returns-clause-domain
+returns-clause-domain c = c.known.ensures.domain

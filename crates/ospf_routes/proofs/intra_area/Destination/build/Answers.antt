@@ -4,12 +4,13 @@ use Rattle.ospf_routes.specs.declared.intra_area.Destination.{Destination}
 use Rattle.ospf_routes.proofs.intra_area.Destination.build.Goals as goal
 
 pub returns-clause-is : goal.returns-clause-is
-returns-clause-is c net are subnets =
+returns-clause-is c =
+    let net = c.args.domain.now.net in
     let p = c.args.dest in
     let all = c.args.subnets.now in
     let near = c.around-near.result.now in
     let d : Destination = record { dest = p; homes = c.in_ok-homes.homes; parts = c.in_ok-parts.parts } in
-    destination_is net c.args.areas.now c.in_ok-routes.routes.items c.as_slice.result.now d are
-    (homes_are net p all near d.homes.items subnets c.around-near.ensures c.in_ok-homes.ensures)
-    (subnet_routes_are net p all near c.in_ok-routes.routes.items subnets c.around-near.ensures c.in_ok-routes.ensures)
+    destination_is net c.args.domain.now.areas c.in_ok-routes.routes.items c.as_slice.result.now d c.area_parts.ensures.known
+    (homes_are net p all near d.homes.items c.requires.subnets c.around-near.ensures c.in_ok-homes.ensures)
+    (subnet_routes_are net p all near c.in_ok-routes.routes.items c.requires.subnets c.around-near.ensures c.in_ok-routes.ensures)
     c.as_slice.ensures.value c.in_ok-parts.ensures.each c.in_ok-parts.ensures.every

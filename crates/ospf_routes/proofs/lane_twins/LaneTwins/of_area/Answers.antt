@@ -11,9 +11,9 @@ use Rattle.ospf_routes.proofs.lane_twins.LaneTwins.of_area.Goals as goal
 -- what has the same entries at every router has them at those of the area
 pub loop-place-preserved : goal.loop-place-preserved
 loop-place-preserved c =
-    let dests : List Block = ospf_prefixes c.args.domain.now.destinations.items in
+    let dests : List Block = ospf_prefixes c.args.destinations.now in
     let place : ℕ = c.loop-place.place in
-    let l : LaneOf = record { net = c.args.net.now; areas = c.args.domain.now.areas.items; listens = c.args.listens.now; zone = c.args.zone } in
+    let l : LaneOf = record { domain = c.args.domain.now; listens = c.args.listens.now; zone = c.args.zone } in
     record {
       twins = subst (AreEarlierBy (AreLaneAlike l) dests (place + 1)) (sym {A = List (Option ℕ)} c.in_ok-push.ensures.items)
           (earlier_more (AreLaneAlike l) dests place c.loop-place.all.items c.or.result c.loop-place.invariant.twins

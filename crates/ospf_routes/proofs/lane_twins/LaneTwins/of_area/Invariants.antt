@@ -6,8 +6,8 @@ use Rattle.ospf_routes.proofs.lane_twins.LaneTwins.of_area.Given as goal
 
 abbrev pub invariant-loop-place : goal.invariant-loop-place
 invariant-loop-place l =
-    let lane : LaneOf = record { net = l.net; areas = l.domain.areas.items; listens = l.listens; zone = l.zone } in
+    let lane : LaneOf = record { domain = l.domain; listens = l.listens; zone = l.zone } in
     record {
-      twins : AreEarlierBy (AreLaneAlike lane) (ospf_prefixes l.domain.destinations.items) l.place l.all.items;
-      latest : AreOutsideBelow lane l.domain.destinations.items l.place l.latest;
+      twins : AreEarlierBy (AreLaneAlike lane) (ospf_prefixes l.destinations) l.place l.all.items;
+      latest : AreOutsideBelow lane l.destinations l.place l.latest;
     }

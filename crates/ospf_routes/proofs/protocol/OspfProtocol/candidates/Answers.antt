@@ -9,6 +9,6 @@ use Rattle.ospf_routes.proofs.protocol.OspfProtocol.candidates.Goals as goal
 
 pub returns-clause-every : goal.returns-clause-every
 returns-clause-every c =
-    subst (λ (ospf : OspfNetwork). (u : ℕ) (p : Block) (e : Entry) → u < length ospf.net → OspfEntry ospf.net u p e →
-    Contains (ospf_prefixes ospf.domain.destinations.items) p) c.self.view_is
-    (λ u p e below is. c.self.invariant.domain.destinations.every p (entry_is_candidate c.self.inside.net.now u p e is))
+    subst (λ (ospf : OspfNetwork). (u : ℕ) (p : Block) (e : Entry) → u < length ospf.domain.net → OspfEntry ospf.domain.net u p e →
+    Contains (ospf_prefixes ospf.destinations) p) c.self.view_is
+    (λ u p e below is. c.self.invariant.destinations.every p (entry_is_candidate c.self.inside.domain.net u p e is))

@@ -8,6 +8,6 @@ use Rattle.ospf_routes.proofs.protocol.OspfProtocol.route.Goals as goal
 
 pub returns : goal.returns
 returns c =
-    asked_as (λ net areas u p. IfOk c.route_of.result (λ found. MatchOption found ((e : Entry) → OspfEntry net u p e → ⊥)
-    (IsRouteFor (area_reach areas u) (length areas) (length net) (OspfEntry net u p))))
-    c.asked.result _ _ _ _ c.asked.ensures.net c.asked.ensures.areas c.asked.ensures.router c.asked.ensures.dest c.route_of.ensures
+    asked_as (λ domain u p. IfOk c.route_of.result (λ found. MatchOption found ((e : Entry) → OspfEntry domain.net u p e → ⊥)
+    (IsRouteFor (area_reach domain.areas u) (length domain.areas) (length domain.net) (OspfEntry domain.net u p))))
+    c.asked.result _ _ _ c.asked.ensures.domain c.asked.ensures.router c.asked.ensures.dest c.route_of.ensures

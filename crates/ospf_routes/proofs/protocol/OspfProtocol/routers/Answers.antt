@@ -8,5 +8,5 @@ use Rattle.ospf_routes.proofs.protocol.OspfProtocol.routers.Goals as goal
 
 pub returns-clause-lawful : goal.returns-clause-lawful
 returns-clause-lawful c =
-    subst (λ (ospf : OspfNetwork). IsLawful (length ospf.net) (OspfEntry ospf.net) (IsOspfNeighbor ospf.net)) c.self.view_is
-    (ospf_is_lawful c.self.inside.net.now c.routers.ensures.network.limits.routers)
+    subst (λ (ospf : OspfNetwork). IsLawful (length ospf.domain.net) (OspfEntry ospf.domain.net) (IsOspfNeighbor ospf.domain.net)) c.self.view_is
+    (ospf_is_lawful c.self.inside.domain.net c.routers.ensures.known.network.limits.routers)

@@ -9,5 +9,6 @@ use Rattle.ospf_routes.proofs.protocol.OspfProtocol.target.Goals as goal
 
 pub returns : goal.returns
 returns c =
-    asked_as (λ net areas u p. IfSome c.target_of.result (λ t. IsRouteFor (area_reach areas u) (length areas) (length net) (OspfEntry net u p) (Towards t)))
-    c.asked.result _ _ _ _ c.asked.ensures.net c.asked.ensures.areas c.asked.ensures.router c.asked.ensures.dest c.target_of.ensures
+    asked_as (λ domain u p. IfSome c.target_of.result (λ t. IsRouteFor (area_reach domain.areas u) (length domain.areas) (length domain.net)
+    (OspfEntry domain.net u p) (Towards t)))
+    c.asked.result _ _ _ c.asked.ensures.domain c.asked.ensures.router c.asked.ensures.dest c.target_of.ensures

@@ -1,14 +1,8 @@
-use Rattle.std.proofs.Common.{ℕ, ◌∙◌, List, length, subst, sym}
+use Rattle.std.proofs.Common.{◌∙◌, List, subst, sym}
 use Rattle.rib_mix.specs.Rows.{AllOccur, AreRows}
-use Rattle.rib_mix.specs.Sites.{AreTablesInParts}
 use Rattle.rib_mix.specs.declared.both_tables.BothTables.{BothTables}
 use Rattle.rib_mix.proofs.MixedLaws.{all_occur, mixed_made}
 use Rattle.rib_mix.proofs.mixed.Mixed.build.Goals as goal
-
-pub rows_of-requires-clause-tables : goal.rows_of-requires-clause-tables
-rows_of-requires-clause-tables g c =
-    subst (AreTablesInParts (length c.args.net.now)) (sym c.as_slice-2.ensures.value)
-    (subst (λ (n : ℕ). AreTablesInParts n c.in_ok-tables.tables.items) c.requires.old_routers c.in_ok-tables.ensures.parts)
 
 pub rows_of-requires-clause-occur : goal.rows_of-requires-clause-occur
 rows_of-requires-clause-occur g c =

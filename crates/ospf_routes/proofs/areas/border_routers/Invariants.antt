@@ -1,7 +1,0 @@
-use Rattle.ospf_routes.specs.steps.AreaReach.{IsThisBorder}
-use Rattle.ospf_routes.specs.Lists.{Adds}
-use Rattle.route_tables.proofs.ListFacts.{AnyBelow}
-use Rattle.ospf_routes.proofs.areas.border_routers.Given as goal
-
-abbrev pub invariant-loop-u : goal.invariant-loop-u
-invariant-loop-u l = Adds l.initial.borders.items l.borders.items (AnyBelow (IsThisBorder l.net) l.u)

@@ -1,8 +1,0 @@
-use Rattle.ospf_routes.specs.steps.Destinations.{ospf_prefixes}
-use Rattle.ospf_routes.specs.steps.Lanes.{AreLaneDecisions}
-use Rattle.ospf_routes.proofs.lanes.Decisions.of_area.Given as goal
-
-abbrev pub invariant-loop-place : goal.invariant-loop-place
-invariant-loop-place l =
-    AreLaneDecisions (record { net = l.net; areas = l.domain.areas.items; listens = l.listens; zone = l.zone }) (ospf_prefixes l.domain.destinations.items)
-    l.place l.all.items
