@@ -1,21 +1,18 @@
 -- What decides the routes of the routers of a lane.
-use Rattle.std.proofs.Common.{◌≡◌, ℕ, ◌+◌, ◌<◌, ◌≤◌, inl, inr, ⊎_elim, List, [], ◌∷◌, ◌++◌, length, get_or, Some, refl, sym, ap, subst, ◌∙◌, arith}
-use Rattle.std.specs.List.{All}
-use Rattle.std.proofs.lemmas.List.{length-map, take_all, take_more}
+use Rattle.std.proofs.Common.{◌≡◌, ℕ, ◌+◌, ◌<◌, ◌≤◌, inl, ⊎_elim, List, [], ◌∷◌, ◌++◌, length, get_or, Some, refl, sym, ap, subst, ◌∙◌, arith}
+use Rattle.std.proofs.lemmas.List.{take_all, take_more}
 use Rattle.std.proofs.lemmas.List.Elements.{All-contains}
-use Rattle.std.proofs.lemmas.Option.{slice_get_cases}
 use Rattle.net_addr.specs.Addresses.{Block}
 use Rattle.net_model.specs.Network.{Connected}
 use Rattle.walk_core.specs.declared.offers.Offer.{Offer}
 use Rattle.route_core.specs.declared.entry.Entry.{Entry}
 use Rattle.igp_theory.specs.Isis.{HasDownRoute, HasLevelOneRoute, HasLevelTwoRoute, IsisEntry}
 use Rattle.route_tables.specs.Lanes.{DecidesRoute, LeadToBest}
-use Rattle.route_tables.specs.Prefixes.{prefix_at}
 use Rattle.route_tables.specs.declared.lane.Decision.{Decision}
 use Rattle.route_tables.specs.declared.lane.Decision.TheVariants.{Nothing, One as OneOffer, Two as TwoOffers, Unknown}
 use Rattle.route_tables.specs.declared.route.Route.TheVariants.{Towards}
 use Rattle.route_tables.proofs.ListFacts.{any_in_one, any_in_two, the_one}
-use Rattle.isis_routes.specs.steps.Destinations.{HasAnnouncements, isis_prefixes}
+use Rattle.isis_routes.specs.steps.Destinations.{HasAnnouncements}
 use Rattle.isis_routes.specs.steps.Domain.{IsisDomain, IsKnown}
 use Rattle.isis_routes.specs.steps.Homes.{AreRoutersAt}
 use Rattle.isis_routes.specs.steps.Lanes.{DecidesIn, IsDecisionAmong, IsDecisionBy, IsDecisionOf, IsInLane, MakesOne, made_at_homes, left_open, of_one, of_down, of_two, of_none}
@@ -26,7 +23,6 @@ use Rattle.isis_routes.specs.steps.Routes.{IsIsisRoute, LeadIn}
 use Rattle.isis_routes.specs.declared.destinations.Destination.{Destination}
 use Rattle.isis_routes.specs.declared.level.Level.{Level}
 use Rattle.isis_routes.specs.declared.level.Level.TheVariants.{One, Two}
-use Rattle.isis_routes.proofs.DestinationFacts.{at_place}
 use Rattle.isis_routes.proofs.EntryFacts.{unoffered}
 use Rattle.isis_routes.proofs.LeadFacts.{AreAsGood, as_good, down_leads, one_leads, two_leads}
 

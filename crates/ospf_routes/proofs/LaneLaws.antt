@@ -2,7 +2,7 @@
 use Rattle.std.proofs.Common.{◌≡◌, ◌≢◌, ℕ, zero, suc, ◌+◌, ◌^◌, ◌<◌, ◌≤◌, ◌⊎◌, ⊎_elim, List, [], ◌∷◌, length, get_or, Option, Some, None}
 use Rattle.std.proofs.Common.{refl, sym, ap, subst, ◌∙◌, arith}
 use Rattle.std.specs.List.{All, Any, Contains}
-use Rattle.std.proofs.lemmas.List.{get_or_default, length-map}
+use Rattle.std.proofs.lemmas.List.{get_or_default}
 use Rattle.std.proofs.lemmas.Option.{none-some, same_Some, slice_get-get_or, slice_get_within}
 use Rattle.std.proofs.lemmas.List.Elements.{Contains-get_or, Contains-push, Contains-push_cases}
 use Rattle.net_addr.specs.Addresses.{Block}
@@ -23,14 +23,12 @@ use Rattle.route_tables.proofs.BestRoutes.{best_route_makes, route_by_hops}
 use Rattle.route_tables.proofs.ListFacts.{any_cases}
 use Rattle.ospf_routes.specs.steps.AreaReach.{area_reach}
 use Rattle.ospf_routes.specs.steps.Areas.{AreAreas, AreListeners, IsAreaAt, IsListenedPlace, IsListenerAt, IsReach}
-use Rattle.ospf_routes.specs.steps.Destinations.{HasAreaPart, IsDestination, IsDestinationIn, ospf_prefixes}
+use Rattle.ospf_routes.specs.steps.Destinations.{HasAreaPart, IsDestination, IsDestinationIn}
 use Rattle.ospf_routes.specs.steps.Offered.{AreOffers}
 use Rattle.ospf_routes.specs.steps.Heard.{AreHeardAt}
 use Rattle.ospf_routes.specs.steps.Summarized.{IsHeard}
 use Rattle.ospf_routes.specs.steps.Lanes.{IsInner, IsOfFew, LaneOf, LeadsLane}
-use Rattle.ospf_routes.proofs.PlaceFacts.{place_read}
 use Rattle.ospf_routes.specs.declared.areas.AreaWalks.{AreaWalks}
-use Rattle.ospf_routes.specs.steps.Domain.{OspfDomain}
 use Rattle.ospf_routes.specs.declared.intra_area.AreaOffers.{AreaOffers}
 use Rattle.ospf_routes.specs.declared.intra_area.Destination.{Destination}
 use Rattle.ospf_routes.proofs.AreaFacts.{number_at, reach_is, reach_within}

@@ -5,15 +5,11 @@ use Rattle.net_model.specs.Network.{Network, IsBorderRouter}
 use Rattle.igp_theory.specs.Ospf.{OspfEntry}
 use Rattle.walk_core.specs.declared.offers.Offer.{Offer}
 use Rattle.route_tables.specs.Lanes.{DecidesRoute, LeadToBest}
-use Rattle.route_tables.specs.Prefixes.{prefix_at}
 use Rattle.route_tables.specs.Routings.{IsRouteFor}
 use Rattle.route_tables.specs.declared.lane.Decision.{Decision}
 use Rattle.route_tables.specs.declared.lane.Decision.TheVariants.{Nothing, One, Two, Unknown}
 use Rattle.ospf_routes.specs.steps.AreaReach.{area_reach}
-use Rattle.ospf_routes.specs.steps.Places.{AreEach}
-use Rattle.ospf_routes.specs.steps.Destinations.{ospf_prefixes}
 use Rattle.ospf_routes.specs.steps.Domain.{OspfDomain}
-use Rattle.ospf_routes.specs.declared.intra_area.Destination.{Destination}
 
 -- router u listens to the area at this place, and is no border router
 pub record IsInner (net : Network) (listens : List (Option ℕ)) (zone u : ℕ) : Type 0 where

@@ -1,6 +1,5 @@
 use Rattle.std.proofs.Common.{ℕ, ◌<◌, List, length, get_or, refl, subst, sym}
 use Rattle.std.proofs.lemmas.Option.{IfSome_then}
-use Rattle.net_addr.specs.Addresses.{Block}
 use Rattle.walk_core.specs.Reach.{Reach}
 use Rattle.route_core.specs.declared.entry.Entry.{Entry}
 use Rattle.route_tables.specs.declared.lane.Decision.{Decision}

@@ -1,4 +1,4 @@
-use Rattle.std.proofs.Common.{◌≡◌, ◌<◌, ℕ, List, Option, length, arith, sym, subst}
+use Rattle.std.proofs.Common.{◌<◌, ℕ, List, Option, length, arith, sym, subst}
 use Rattle.std.proofs.lemmas.List.{length-map}
 use Rattle.net_addr.specs.Addresses.{Block}
 use Rattle.route_tables.specs.Prefixes.{prefix_at}
