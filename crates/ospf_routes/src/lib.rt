@@ -1,7 +1,7 @@
 //! The route tables of OSPF: intra-area routes, ranges and summaries, inter-area routes (RFC 2328).
 //!
 //! `OspfRoutes::build` (`tables.rt`) makes the tables of `Ospf` (`protocol.rt`). Steps 1 to 3 are `Ospf::build`, which also
-//! finds twins and decisions, step 4 is `Ospf::decisions` where these tell the route, else `Ospf::target`, else `Ospf::route`:
+//! finds twins, step 4 is `Ospf::decision` where this tells the route, else `Ospf::target`, else `Ospf::route`:
 //!
 //! 1. `domain.rt`: a network and its areas (`areas.rt`, `members.rt`) with their least walks (section 16.1) and routers, border
 //!    routers (3.3), whom a router listens to (16.2). Its facts are known wherever one has it. `destinations.rt`: what the
@@ -18,13 +18,13 @@
 //!    that the router listens to, which `Ospf::asked` reads; `united.rt`: several areas' hops together. Where one area offers a
 //!    prefix, or none does, and one or two offers decide, `target_of` tells at once where the route leads.
 //!    `lanes.rt`: for routers in one area alone the deciding offers are the same, so one or two are found once for each area
-//!    and prefix. All other routers are in a last lane, without decisions.
+//!    and kind of prefixes. All other routers are in a last lane, without decisions.
 //!
 //! `twins.rt` finds prefixes that have the same routes at every router, by what is offered and announced of them, and
 //! `lane_twins.rt` those of which this is so at every router in one area alone, each by the latest prefix of its kind
 //! (`latest.rt`); `segments.rt` has the segments that join neighbors. Step 1 takes the time of the areas' least walks, steps 2
 //! and 3 of prefixes times border routers, their ranges and areas; step 4 of routers times the kinds of prefixes in their lanes
-//! times the offers of a prefix in one area. Lanes and lane twins keep one value for each area and prefix.
+//! times the offers of a prefix in one area. Lane twins keep one value for each area and prefix.
 #![tactic(auto)]
 
 // Within areas

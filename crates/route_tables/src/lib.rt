@@ -6,12 +6,12 @@
 //! - `route.rt`, `best.rt`: a route before it is an entry, and the route to the best of some offers. One pass finds the best;
 //!   where several are as good, another tells whether one router has the first hops of all: then the route says that router
 //!   and takes no memory.
-//! - `lane.rt`, `sure.rt`: what decides the routes of all routers that know the same offers, prefix by prefix, and what
+//! - `lane.rt`, `sure.rt`: what decides the routes of all routers that know the same offers for a prefix, and what
 //!   that tells at once of a router's entry.
 //! - `alike.rt`: whether offers differ by a constant alone, by which prefixes have the same routes.
 //! - `pool.rt`: the entries that the tables of all routers share: those over one hop alone, which are made once and need no
 //!   search, and those that each table adds, among which it looks for a list of several hops, in time of these.
-//! - `kinds.rt`: the prefixes of a lane by kinds, which its routers have the same entries for.
+//! - `kinds.rt`: the prefixes of a lane by kinds, which its routers have the same entries for, and what decides for each kind.
 //! - `sharing.rt`, `table.rt`: of each router the number of its entry for each kind of its lane, and the tables; no route is
 //!   asked for where the lane tells the entry, or where it leads is known.
 //! - `candidates.rt`, `distinct.rt`, `lists.rt`: prefixes, in order and each once, and lists that grow.
