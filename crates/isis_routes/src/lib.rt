@@ -1,7 +1,8 @@
 //! The route tables of IS-IS: level 1, level 2 (RFC 1195), what is leaked into level 1 (RFC 5302), and the default
 //! towards attached routers (RFC 1195).
 //!
-//! `Isis::build` goes by these steps, and `entry.rt` puts their routes in order:
+//! `IsisRoutes::build` (`routes.rt`) makes the tables of `Isis` (`protocol.rt`). Steps 1 to 6 are `Isis::build`, of which 2 to 5
+//! are `destinations.rt`; step 7 is `Isis::decision` where this tells the route, else step 9 `Isis::target`, else `Isis::route`:
 //!
 //! 1. `domain.rt`: what is known before any prefix: the least walks of both levels (`level_walks.rt`), the routers that
 //!    run both levels and those that leak (`runs.rt`), and the attached routers (`attached.rt`; RFC 1195, section 3.2).

@@ -26,7 +26,7 @@ use std::alloc::Global;
 use walk_core::Offer;
 
 /// What border routers announce of each prefix into each of their areas: the subnets and the ranges of other areas, and into
-/// areas other than the backbone what they reach over the backbone.
+/// areas other than the backbone what they reach over the backbone, and the defaults of stub areas.
 pub fn all_summaries(
     alloc: Global,
     domain: &Domain<'_>,

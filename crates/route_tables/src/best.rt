@@ -25,7 +25,7 @@ pub fn best_target(walks: &LeastWalks, zone: usize, offers: &[Offer]) -> Option<
 
 /// The route to the best of some offers, over the least walks of a zone, and `None` where no offer is reached. The hops
 /// are routers below `count`; where one vertex has the first hops of all best offers, they are those towards it. It takes
-/// time of the offers, and memory only where best offers have different first hops.
+/// time of the offers, and memory only where several vertices make the best offers and not all offers have the same first hops.
 pub fn best_route(
     alloc: Global,
     walks: &LeastWalks,
@@ -159,7 +159,8 @@ fn target_towards(walks: &LeastWalks, zone: usize, offers: &[Offer], best: BestA
     None
 }
 
-/// Whether the first hops towards all best offers are those towards the vertex of the best one.
+/// Whether it is known at once that the first hops towards all best offers are those towards the vertex of the best one:
+/// where it alone makes the best offers, or all offers have its first hops.
 fn lead_alike(walks: &LeastWalks, offers: &[Offer], best: BestAt) -> bool
     requires { IsBestAt walks.now offers.now best }
     ensures { IsTrue result → LeadAlike walks.now offers.now best }

@@ -4,8 +4,8 @@
 //!   for each candidate, where it is known at once, lanes of routers, which candidates have the same routes in a lane, and what
 //!   decides them there, neighbors.
 //! - `route.rt`, `best.rt`: a route before it is an entry, and the route to the best of some offers. One pass finds the best;
-//!   where several are as good, another tells whether one router has the first hops of all: then the route says that router
-//!   and takes no memory.
+//!   where several are as good, another tells whether all offers have the first hops towards one router: then the route says
+//!   that router and takes no memory.
 //! - `lane.rt`, `sure.rt`: what decides the routes of all routers that know the same offers for a prefix, and what
 //!   that tells at once of a router's entry.
 //! - `alike.rt`: whether offers differ by a constant alone, by which prefixes have the same routes.

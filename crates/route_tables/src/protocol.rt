@@ -40,7 +40,7 @@ pub trait Protocol {
     /// How many lanes its routers fall into.
     ghost lanes: { Self → ℕ };
 
-    /// Whether the lane of this number has a router.
+    /// Whether the lane of the first number has the router of the second one.
     ghost in_lane: { Self → ℕ → ℕ → Type 0 };
 
     /// The zone over which the offers are reached that decide in the lane of this number.

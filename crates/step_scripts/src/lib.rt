@@ -5,11 +5,11 @@
 //!
 //! | Notion | Definition | Call |
 //! |---|---|---|
-//! | the lines of an order file | `specs/WaveLines.antt` | `names.rt` |
+//! | the lines of an order file | `specs/WaveLines.antt` | `wave_on`, `chain_on` (`names.rt`), `version_of` (`waves_reading.rt`) |
 //! | the wave list that a text names | `specs/WaveFiles.antt` | `read_waves` (`waves_reading.rt`, with the waves read so far in `seats.rt`) |
 //! | the faulty lines of a text, the least of which is told | `specs/FaultyLines.antt` | `read_waves`, with the kinds of `kind.rt` |
 //! | the text of a wave list and a chain | `specs/WavesTexts.antt` | `waves_text` |
-//! | the lines that make a change, by which a router prefers the other protocol | `specs/Scripts.antt` | `with_isis_lines`, `with_ospf_lines` |
+//! | the lines that make a change: IS-IS gets the distance 115, OSPF gets 255 | `specs/Scripts.antt` | `with_isis_lines`, `with_ospf_lines` |
 //! | the script of a migration | `specs/Scripts.antt` | `script_text` |
 //!
 //! That a text names one wave list at most, or is refused in one way, is `waves_laws`; that a script's lines make its changes is
