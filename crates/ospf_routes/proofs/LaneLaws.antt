@@ -1,10 +1,10 @@
 -- What decides the routes of the routers that are in one area alone.
-use Rattle.std.proofs.Common.{◌≡◌, ◌≢◌, ℕ, zero, suc, ◌+◌, ◌^◌, ◌<◌, ◌≤◌, ◌⊎◌, ⊎_elim, List, [], ◌∷◌, length, get_or, Option, Some, None}
+use Rattle.std.proofs.Common.{◌≡◌, ℕ, zero, suc, ◌+◌, ◌^◌, ◌<◌, ◌≤◌, ◌⊎◌, ⊎_elim, List, [], ◌∷◌, length, get_or, Option, Some, None}
 use Rattle.std.proofs.Common.{refl, sym, ap, subst, ◌∙◌, arith}
 use Rattle.std.specs.List.{All, Any, Contains}
 use Rattle.std.proofs.lemmas.List.{get_or_default}
 use Rattle.std.proofs.lemmas.Option.{none-some, same_Some, slice_get-get_or, slice_get_within}
-use Rattle.std.proofs.lemmas.List.Elements.{Contains-get_or, Contains-push, Contains-push_cases}
+use Rattle.std.proofs.lemmas.List.Elements.{Contains-get_or, Contains-push}
 use Rattle.net_addr.specs.Addresses.{Block}
 use Rattle.net_model.specs.Network.{Network, Connected, InArea, IsBorderRouter}
 use Rattle.walk_core.specs.Reach.{Reach, HasHop, distance_of}
@@ -20,7 +20,7 @@ use Rattle.route_tables.specs.declared.lane.Decision.{Decision}
 use Rattle.route_tables.specs.declared.lane.Decision.TheVariants.{Nothing, One, Two, Unknown}
 use Rattle.route_tables.specs.declared.route.Route.TheVariants.{Towards}
 use Rattle.route_tables.proofs.BestRoutes.{best_route_makes, route_by_hops}
-use Rattle.route_tables.proofs.ListFacts.{any_cases}
+use Rattle.route_tables.proofs.ListFacts.{any_in_one, any_in_two, the_one}
 use Rattle.ospf_routes.specs.steps.AreaReach.{area_reach}
 use Rattle.ospf_routes.specs.steps.Areas.{AreAreas, AreListeners, IsAreaAt, IsListenedPlace, IsListenerAt, IsReach}
 use Rattle.ospf_routes.specs.steps.Destinations.{HasAreaPart, IsDestination, IsDestinationIn}
@@ -60,9 +60,6 @@ only_inside net u n m alone listens inside = listens_to_one_area (one_area alone
 
 -- A single offer leads to the same vertex whatever it asks
 
-in_one : {X : Type 0} (x y : X) → Contains (x ∷ []) y → x ≡ y
-in_one x y has = ⊎_elim (λ none. absurd (omega (arith, none.1))) (λ same. same) (Contains-push_cases [] x y has)
-
 all_one : {X : Type 0} (P : X → Type 0) (x : X) → P x → All P (x ∷ [])
 all_one P x is zero d below = is
 all_one P x is (suc k) d below = absurd (omega (arith, below))
@@ -89,7 +86,7 @@ free_hops reach o n hops best =
         attained = record { offer = o; among = Contains-push [] o; total = dearer_total (distance_of reach o.at) o.asks best.cost here };
         least = λ other has.
             let same : other ≡ best.cost + o.asks = freer_total (distance_of reach o.at) o.asks best.cost other here
-            (subst (λ (x : Offer). total_with (distance_of reach x.at) x.asks ≡ Some other) (sym (in_one o has.offer has.among)) has.total) in
+            (subst (λ (x : Offer). total_with (distance_of reach x.at) x.asks ≡ Some other) (the_one o has.offer has.among) has.total) in
             omega (arith, same);
       };
       towards = record {
@@ -101,7 +98,7 @@ free_hops reach o n hops best =
               offer = o;
               among = Contains-push [] o;
               total = dearer_total (distance_of reach o.at) o.asks best.cost here;
-              hop = subst (λ (x : Offer). HasHop reach x.at h) (sym (in_one (free o.at) is.1.offer is.1.among)) is.1.hop;
+              hop = subst (λ (x : Offer). HasHop reach x.at h) (the_one (free o.at) is.1.offer is.1.among) is.1.hop;
             },
           ),
           λ is. (best.towards.exact h).1 (
@@ -110,7 +107,7 @@ free_hops reach o n hops best =
               offer = free o.at;
               among = Contains-push [] (free o.at);
               total = here;
-              hop = subst (λ (x : Offer). HasHop reach x.at h) (sym (in_one o is.1.offer is.1.among)) is.1.hop;
+              hop = subst (λ (x : Offer). HasHop reach x.at h) (the_one o is.1.offer is.1.among) is.1.hop;
             },
           ),
         );
@@ -119,7 +116,7 @@ free_hops reach o n hops best =
   where
     here : total_with (distance_of reach o.at) 0 ≡ Some best.cost
     here = subst (λ (x : Offer). total_with (distance_of reach x.at) x.asks ≡ Some best.cost)
-        (sym (in_one (free o.at) best.best.attained.offer best.best.attained.among)) best.best.attained.total
+        (the_one (free o.at) best.best.attained.offer best.best.attained.among) best.best.attained.total
 
 -- Decisions
 
@@ -151,14 +148,6 @@ free_leads l u p o lead =
           (record { zone_is = is.zone_is; reached = is.reached; best = λ hops are. free_hops reach o (length l.domain.net) hops (is.best hops are) });
     }
 
--- none of the offers is the router's, where its number isn't that of their routers
-not_first : (u : ℕ) (o : Offer) → u ≢ o.at → Any (λ (x : Offer). x.at ≡ u) (o ∷ []) → ⊥
-not_first u o other any = ⊎_elim (λ none. omega (arith, none.2)) (λ same. other (sym same)) (any_cases (λ (x : Offer). x.at ≡ u) [] o any)
-
-not_second : (u : ℕ) (one two : Offer) → u ≢ one.at → u ≢ two.at → Any (λ (x : Offer). x.at ≡ u) (one ∷ two ∷ []) → ⊥
-not_second u one two first second any =
-    ⊎_elim (λ earlier. not_first u one first earlier) (λ same. second (sym same)) (any_cases (λ (x : Offer). x.at ≡ u) (one ∷ []) two any)
-
 -- one or two offers decide, unless the prefix is connected at a router that makes none
 few_decide : (l : LaneOf) (u : ℕ) (p : Block) (offers : List Offer) (d : Decision) → IsOfFew offers d →
     (Connected l.domain.net u p → (d ≡ Unknown) ⊎ Any (λ (o : Offer). o.at ≡ u) offers) → ((Connected l.domain.net u p → ⊥) → LeadsLane l u p offers) →
@@ -167,10 +156,11 @@ few_decide l u p offers Nothing few told lead = absurd few
 few_decide l u p offers (One at) (asks, same) told lead = λ other.
     let o : Offer = record { at = at; asks = asks } in
     free_leads l u p o (subst (LeadsLane l u p) same (lead (λ is.
-    ⊎_elim (λ (wrong : One at ≡ Unknown). cc) (λ any. not_first u o other (subst (Any (λ (x : Offer). x.at ≡ u)) same any)) (told is))))
+    ⊎_elim (λ (wrong : One at ≡ Unknown). cc) (λ any. other (sym (any_in_one (λ (x : Offer). x.at ≡ u) o (subst (Any (λ (x : Offer). x.at ≡ u)) same any)))) (told is))))
 few_decide l u p offers (Two one two) same told lead = λ first second.
     subst (LeadsLane l u p) same (lead (λ is.
-    ⊎_elim (λ (wrong : Two one two ≡ Unknown). cc) (λ any. not_second u one two first second (subst (Any (λ (x : Offer). x.at ≡ u)) same any)) (told is)))
+    ⊎_elim (λ (wrong : Two one two ≡ Unknown). cc) (λ any. ⊎_elim (λ is. first (sym is)) (λ is. second (sym is))
+    (any_in_two (λ (x : Offer). x.at ≡ u) one two (subst (Any (λ (x : Offer). x.at ≡ u)) same any))) (told is)))
 few_decide l u p offers Unknown few told lead = tt
 
 -- what is offered in the area decides

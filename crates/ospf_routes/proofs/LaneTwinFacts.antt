@@ -1,5 +1,5 @@
 -- Prefixes outside an area that are announced alike into it have the same entries at the routers that are in it alone.
-use Rattle.std.proofs.Common.{◌≡◌, ◌⊎◌, ⊎_elim, ℕ, ◌+◌, ◌<◌, List, [], length, get_or, Option, None, Some, refl, sym, subst, arith}
+use Rattle.std.proofs.Common.{◌≡◌, ⊎_elim, ℕ, ◌+◌, ◌<◌, List, [], length, get_or, set, Option, None, Some, refl, sym, subst, arith}
 use Rattle.std.specs.Option.{IfSome, option_or}
 use Rattle.std.proofs.lemmas.List.{length-map}
 use Rattle.std.proofs.lemmas.Option.{same_Some}
@@ -24,7 +24,7 @@ use Rattle.ospf_routes.specs.steps.Twins.{AreEarlierBy, IsEarlierBy}
 use Rattle.ospf_routes.specs.steps.Domain.{OspfDomain}
 use Rattle.ospf_routes.specs.declared.intra_area.Destination.{Destination}
 use Rattle.ospf_routes.proofs.CostBounds.{lists_from}
-use Rattle.ospf_routes.proofs.PlaceFacts.{place_read}
+use Rattle.ospf_routes.proofs.PlaceFacts.{noted_or_before, place_read}
 use Rattle.ospf_routes.proofs.LaneLaws.{IsOutside, outside_where}
 use Rattle.ospf_routes.proofs.HeardFacts.{heard_of}
 use Rattle.ospf_routes.proofs.TwinFacts.{IsDestinationAt, destination_read}
@@ -103,12 +103,12 @@ outside_later l ds n known are u place is =
     record { earlier = omega arith; d = before.d; at = before.at; outside = before.outside }
 
 -- a destination outside the lane is noted
-pub outside_noted : (l : LaneOf) (ds : List Destination) (n : ℕ) (d : Destination) (old new : List (Option ℕ)) → AreOutsideBelow l ds n old →
-    d ≡ get_or ds n d → IsOutsideLane l d → ((u k : ℕ) → get_or new u None ≡ Some k → (k ≡ n) ⊎ (get_or old u None ≡ Some k)) →
-    AreOutsideBelow l ds (n + 1) new
-outside_noted l ds n d old new are at outside noted u k is = ⊎_elim
+pub outside_noted : (l : LaneOf) (ds : List Destination) (n : ℕ) (d : Destination) (old new : List (Option ℕ)) (number : ℕ) → AreOutsideBelow l ds n old →
+    d ≡ get_or ds n d → IsOutsideLane l d → new ≡ set old number (Some n) → AreOutsideBelow l ds (n + 1) new
+outside_noted l ds n d old new number are at outside noted u k is = ⊎_elim
     (λ same. subst (IsEarlierOutside l ds (n + 1)) (sym same) (record { earlier = omega arith; d = d; at = at; outside = outside }))
-    (λ before. outside_later l ds n old are u k before) (noted u k is)
+    (λ before. outside_later l ds n old are u k before)
+    (noted_or_before old number n u k (subst (λ (known : List (Option ℕ)). get_or known u None ≡ Some k) noted is))
 
 -- what holds of each number that one of two options names
 pub or_each : (P : ℕ → Type 0) (one other : Option ℕ) → IfSome one P → ((k : ℕ) → other ≡ Some k → P k) → (k : ℕ) → option_or one other ≡ Some k → P k

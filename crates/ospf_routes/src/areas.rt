@@ -1,8 +1,8 @@
 ghost use Rattle.std.specs.Prelude.{◌≡◌, ◌<◌, ◌↔◌, ℕ, length, Some, Any, Contains, IfOk, IfNone, IfSome, IsTrue, OnOk, MatchOption};
 ghost use Rattle.net_model.specs.Network.{InArea, IsBorderRouter, RunsArea};
 ghost use Rattle.net_model.specs.Refusals.{IsNetwork};
-ghost use Rattle.ospf_routes.specs.steps.Areas.{AreAreas, AreListeners, AreNumbered, HasArea, IsAreaAt, IsListener, IsListenerAt, IsReach, RunsOther};
-ghost use Rattle.ospf_routes.specs.Lists.{Adds, Exactly};
+ghost use Rattle.ospf_routes.specs.steps.Areas.{AreAreas, AreNumbered, HasArea, IsAreaAt, IsListener, RunsOther};
+ghost use Rattle.ospf_routes.specs.Lists.{Adds};
 
 use crate::OutOfMemory;
 use crate::members::{Borders, Members};

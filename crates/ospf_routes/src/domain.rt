@@ -48,7 +48,7 @@ impl<'a> Domain<'a> {
     }
 
     /// Its areas.
-    pub fn areas(&self) -> &[AreaWalks]
+    fn areas(&self) -> &[AreaWalks]
         ensures is { result.now ≡ self.now.areas }
         ensures known { AreAreas self.now.net self.now.areas }
     {

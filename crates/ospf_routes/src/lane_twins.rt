@@ -135,7 +135,7 @@ fn outside_twin(
         return None;
     }
     let announced = summaries.into_area(place, zone);
-    let earlier = latest.replace(kind_of(announced), place)?;
+    let earlier = latest.replace(number_of_announcer(announced), place)?;
     if are_alike(summaries.into_area(earlier, zone), announced) {
         Some(earlier)
     } else {
@@ -144,7 +144,7 @@ fn outside_twin(
 }
 
 /// The number of the router that makes the first announcement and one, or 0 where there is none.
-fn kind_of(announced: &[Offer]) -> usize {
+fn number_of_announcer(announced: &[Offer]) -> usize {
     match announced.first() {
         Some(first) => 1 + first.at as usize,
         None => 0,

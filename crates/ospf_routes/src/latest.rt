@@ -17,20 +17,21 @@ impl Model for Latest {
 }
 
 impl Latest {
-    ghost use Rattle.std.specs.Prelude.{◌≡◌, ◌⊎◌, ℕ, slice_index_or, None, Some, IfOk, IfSome};
+    ghost use Rattle.std.specs.Prelude.{◌≡◌, ℕ, length, slice_index_or, slice_set, None, Some, IfOk};
 
     /// None yet for any of so many numbers.
     pub fn none(alloc: Global, count: usize) -> Result<Latest, OutOfMemory>
-        ensures { IfOk result (λ latest. (n : ℕ) → slice_index_or latest n None ≡ None) }
+        ensures none { IfOk result (λ latest. (n : ℕ) → slice_index_or latest n None ≡ None) }
+        ensures count { IfOk result (λ latest. length latest ≡ count) }
     {
         let places = vec![in alloc; None; count]?;
         Ok(Latest { places })
     }
 
-    /// The place that was noted for a number, where one was. From now on it is this one.
+    /// The place that was noted for a number below the count, where one was. From now on it is this one.
     pub fn replace(&mut self, number: usize, place: usize) -> Option<usize>
-        ensures earlier { IfSome result (λ earlier. slice_index_or self.old number None ≡ Some earlier) }
-        ensures noted { (n k : ℕ) → slice_index_or self.new n None ≡ Some k → (k ≡ place) ⊎ (slice_index_or self.old n None ≡ Some k) }
+        ensures earlier { result ≡ slice_index_or self.old number None }
+        ensures noted { self.new ≡ slice_set self.old number (Some place) }
     {
         if number >= self.places.len() {
             return None;

@@ -22,10 +22,10 @@
 //!    without decisions.
 //!
 //! `twins.rt` finds prefixes that have the same routes at every router, by what is offered and announced of them, and
-//! `lane_twins.rt` those of which this is so at every router in one area alone, each by the latest prefix of its kind
-//! (`latest.rt`); `segments.rt` has the segments that join neighbors. Step 1 takes the time of the areas' least walks, steps 2
-//! and 3 of prefixes times border routers, their ranges and areas; step 4 of routers times the kinds of prefixes in their lanes
-//! times the offers of a prefix in one area. Lane twins keep one value for each area and prefix.
+//! `lane_twins.rt` those of which this is so at every router in one area alone, each by the latest prefix that the same router
+//! announces first (`latest.rt`); `segments.rt` has the segments that join neighbors. Step 1 takes the time of the areas' least
+//! walks, steps 2 and 3 of prefixes times border routers, their ranges and areas; step 4 of routers times the kinds of prefixes
+//! in their lanes times the offers of a prefix in one area. Lane twins keep one value for each area and prefix.
 #![tactic(auto)]
 
 // Within areas

@@ -213,10 +213,6 @@ within_more P ys i y within is before here k d low below = elim (at_most k i bel
 pub all_passed : {Y : Type 0} (P : Y → Type 0) (ys : List Y) (i : ℕ) → length ys ≤ i → AllWithin P ys 0 i → All P ys
 all_passed P ys i past within k d inside = within k d (omega arith) (omega arith)
 
--- an element of the list that is read under another name
-pub all_in_at : {Y : Type 0} (P : Y → Type 0) (ys given : List Y) (i : ℕ) (y : Y) → given ≡ ys → All P ys → i < length given → y ≡ get_or given i y → P y
-all_in_at {Y} P ys given i y same all within is = all_at P given i y (subst (λ (l : List Y). All P l) (sym same) all) within is
-
 -- an option that is something, and one that is nothing
 pub some_of : {X : Type 0} (o : Option X) → is_some o ≡ true → (x : X) × (o ≡ Some x)
 some_of None is = cc

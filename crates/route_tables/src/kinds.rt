@@ -1,4 +1,4 @@
-ghost use Rattle.std.specs.Prelude.{◌+◌, ◌<◌, ◌++◌, ◌∷◌, [], ℕ, All, length, IfOk};
+ghost use Rattle.std.specs.Prelude.{◌+◌, ◌<◌, ◌++◌, ◌∷◌, [], All, length, IfOk};
 ghost use Rattle.route_tables.specs.Entries.{AreAlikeFor};
 ghost use Rattle.route_tables.specs.steps.Kinds.{AreDecided, AreKinds, AreLanesBelow, IsLane};
 

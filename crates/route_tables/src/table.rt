@@ -1,4 +1,4 @@
-ghost use Rattle.std.specs.Prelude.{◌≡◌, ◌<◌, ℕ, length, All, Contains, IfOk, IfSome, OnOk, map};
+ghost use Rattle.std.specs.Prelude.{◌≡◌, ◌<◌, ℕ, length, All, Contains, IfOk, OnOk, map};
 ghost use Rattle.net_addr.specs.Addresses.{Block};
 ghost use Rattle.route_core.specs.declared.entry.Entry.{Entry as EntryValue};
 ghost use Rattle.route_core.specs.Rows.{IsTable, listed};

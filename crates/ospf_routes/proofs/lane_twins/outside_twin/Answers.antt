@@ -1,4 +1,4 @@
-use Rattle.std.proofs.Common.{◌<◌, ℕ, List, length, arith, refl}
+use Rattle.std.proofs.Common.{◌<◌, ℕ, List, length, arith, refl, sym}
 use Rattle.route_tables.proofs.ListFacts.{all_at}
 use Rattle.ospf_routes.specs.steps.Destinations.{IsDestinationIn}
 use Rattle.ospf_routes.specs.declared.intra_area.Destination.{Destination}
@@ -19,7 +19,7 @@ into_area-announced-requires c =
 
 pub into_area-requires : goal.into_area-requires
 into_area-requires c =
-    let far = c.requires.latest c.kind_of.result c.in_ok-earlier.earlier c.in_ok-earlier.ensures.earlier in
+    let far = c.requires.latest c.number_of_announcer.result c.in_ok-earlier.earlier (sym c.in_ok-earlier.ensures.earlier) in
     announced_within c.args.domain.now c.args.destinations.now c.args.summaries.now c.in_ok-earlier.earlier c.args.zone c.requires.summaries
     (omega (arith, far.earlier, c.requires.place)) c.requires.zone
 
@@ -31,19 +31,19 @@ returns-then-not-is_outside-clause-latest c =
 pub returns-in_err-earlier-clause-latest : goal.returns-in_err-earlier-clause-latest
 returns-in_err-earlier-clause-latest c =
     outside_noted (record { domain = c.args.domain.now; listens = c.args.listens.now; zone = c.args.zone }) c.args.destinations.now c.args.place
-    c.index-destinations-place.result c.args.latest.now c.replace.new.self c.requires.latest c.index-destinations-place.is (c.if-not-is_outside.ensures refl)
+    c.index-destinations-place.result c.args.latest.now c.replace.new.self c.number_of_announcer.result c.requires.latest c.index-destinations-place.is (c.if-not-is_outside.ensures refl)
     c.replace.ensures.noted
 
 pub returns-else-are_alike-clause-latest : goal.returns-else-are_alike-clause-latest
 returns-else-are_alike-clause-latest c =
     outside_noted (record { domain = c.args.domain.now; listens = c.args.listens.now; zone = c.args.zone }) c.args.destinations.now c.args.place
-    c.index-destinations-place.result c.args.latest.now c.replace.new.self c.requires.latest c.index-destinations-place.is (c.if-not-is_outside.ensures refl)
+    c.index-destinations-place.result c.args.latest.now c.replace.new.self c.number_of_announcer.result c.requires.latest c.index-destinations-place.is (c.if-not-is_outside.ensures refl)
     c.replace.ensures.noted
 
 pub returns-then-are_alike-clause-latest : goal.returns-then-are_alike-clause-latest
 returns-then-are_alike-clause-latest c =
     outside_noted (record { domain = c.args.domain.now; listens = c.args.listens.now; zone = c.args.zone }) c.args.destinations.now c.args.place
-    c.index-destinations-place.result c.args.latest.now c.replace.new.self c.requires.latest c.index-destinations-place.is (c.if-not-is_outside.ensures refl)
+    c.index-destinations-place.result c.args.latest.now c.replace.new.self c.number_of_announcer.result c.requires.latest c.index-destinations-place.is (c.if-not-is_outside.ensures refl)
     c.replace.ensures.noted
 
 pub returns-then-are_alike-clause-twin : goal.returns-then-are_alike-clause-twin
@@ -55,7 +55,7 @@ returns-then-are_alike-clause-twin c =
     let heard = c.args.summaries.now in
     let place : ℕ = c.args.place in
     let earlier : ℕ = c.in_ok-earlier.earlier in
-    let far = c.requires.latest c.kind_of.result earlier c.in_ok-earlier.ensures.earlier in
+    let far = c.requires.latest c.number_of_announcer.result earlier (sym c.in_ok-earlier.ensures.earlier) in
     let within : earlier < length ds = omega (arith, far.earlier, c.requires.place) in
     let e = c.index-destinations-place.result in
     outside_earlier domain ds listens zone place earlier far.d e c.into_area.result.now c.into_area-announced.result.now c.requires.listens far.earlier
