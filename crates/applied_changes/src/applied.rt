@@ -1,4 +1,4 @@
-ghost use Rattle.std.specs.Prelude.{◌≡◌, ◌<◌, ◌^◌, ◌++◌, [], List, ℕ, IfOk, OnOk, length, map, unwrap_or};
+ghost use Rattle.std.specs.Prelude.{◌≡◌, ◌<◌, ◌^◌, ◌++◌, [], List, IfOk, OnOk, length, map, unwrap_or};
 ghost use Rattle.net_addr.specs.Lines.{text_lines};
 ghost use Rattle.net_model.specs.Configuration.{Configuration};
 ghost use Rattle.igp_theory.specs.States.{state_of};

@@ -1,4 +1,4 @@
-ghost use Rattle.std.specs.Prelude.{◌≡◌, [], IfErr, IfOk, codes};
+ghost use Rattle.std.specs.Prelude.{◌≡◌, [], IfErr, IfOk};
 ghost use Rattle.toml.specs.View.{table_view};
 ghost use Rattle.design_file.specs.Answers.{RefusesText, SaysDesign};
 ghost use Rattle.design_file.specs.Designs.{AreInOrder, IsDesign, IsSoundDesign};

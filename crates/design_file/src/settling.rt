@@ -1,5 +1,4 @@
 ghost use Rattle.std.specs.Prelude.{◌≡◌, [], IfErr, IfOk, option_copied};
-ghost use Rattle.net_model.specs.Network.{HasConfiguration};
 ghost use Rattle.design_file.specs.Answers.{RefusesDesign, Settles};
 ghost use Rattle.design_file.specs.Designs.{IsSoundDesign};
 ghost use Rattle.design_file.specs.Settling.{FitsNetwork, area_for, leak_for, levels_for, metric_for, named_for, router_named};

@@ -1,8 +1,8 @@
-ghost use Rattle.std.specs.Prelude.{◌≡◌, ◌++◌, [], IfOk, OnOk, codes};
+ghost use Rattle.std.specs.Prelude.{◌≡◌, ◌++◌, IfOk, OnOk, codes};
 ghost use Rattle.toml.specs.Data.{get_member};
 ghost use Rattle.toml.specs.View.{table_view, view};
 ghost use Rattle.design_file.specs.steps.FaultLists.{area_faults, document_faults, inner_faults, own_or, table_faults};
-ghost use Rattle.design_file.specs.Keys.{below, key_in};
+ghost use Rattle.design_file.specs.Keys.{below};
 ghost use Rattle.design_file.specs.Values.{entry_fault};
 
 use crate::DesignKind;

@@ -1,4 +1,4 @@
-ghost use Rattle.std.specs.Prelude.{◌≡◌, ◌≤◌, IfSome, is_some, option_map};
+ghost use Rattle.std.specs.Prelude.{◌≡◌, is_some, option_map};
 ghost use Rattle.toml.specs.View.{view};
 ghost use Rattle.design_file.specs.Values.{as_area, entry_fault, as_flag, is_area, as_levels, levels_named, as_metric, metric_within, unless, value_fault};
 

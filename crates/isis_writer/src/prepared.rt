@@ -1,6 +1,5 @@
 ghost use Rattle.std.specs.Prelude.{◌≡◌, ◌+◌, ◌<◌, ◌^◌, ◌++◌, [], IfOk, IfSome, OnOk, length, unwrap_or};
 ghost use Rattle.net_addr.specs.Lines.{text_lines};
-ghost use Rattle.net_model.specs.Refusals.{IsNetwork};
 ghost use Rattle.printed_lines.specs.Texts.{text_of};
 ghost use Rattle.ios_sections.specs.Sections.{section_of};
 ghost use Rattle.ios_sections.specs.TextLines.{parts_after, sections_of};

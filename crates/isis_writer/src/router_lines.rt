@@ -5,7 +5,7 @@ ghost use Rattle.isis_writer.specs.RouterLines.{both_level_lines, circuit_line, 
 ghost use Rattle.isis_writer.specs.RouterLines.{has_old_line, interface_head, interface_lines, is_old_line, leak_line};
 ghost use Rattle.isis_writer.specs.RouterLines.{leak_lines, level_lines, level_metric_lines, level_word, isis_metric_line};
 ghost use Rattle.isis_writer.specs.RouterLines.{passive_line, passive_lines, process_head, process_lines, router_lines};
-ghost use Rattle.isis_writer.specs.RouterLines.{run_lines, style_line, title, title_line, type_line};
+ghost use Rattle.isis_writer.specs.RouterLines.{run_lines, style_line, title_line, type_line};
 
 use design_file::{SettledInterface, SettledRouter};
 use ios_lines::interface_line::{InterfaceLine, InterfaceStatement};

@@ -136,9 +136,10 @@ stays_sound_at_all m parts places change i are placed whole stays before leads s
     omega (arith, there, whole)) leads sound) k below)
 
 -- where a fault is told of the part at the next place
-pub turns_faulty_at : (m : Mix) (parts : List ClassPart) (places : List ℕ) (change : PhaseChange) (i : ℕ) (part : ClassPart) (fault : Fault) (turns : List Turn)
-    → AreParts m parts (length m.classes.samples) → ArePlacesOf parts change.router places → i < length places → part ≡ get_or parts (get_or places i 0) part
-    → StayFirst m parts places change i → IsClassVerdict m change.phases change.phases part.atom (Some fault) turns → TurnsFaulty m change fault turns
+pub turns_faulty_at : (m : Mix) (parts : List ClassPart) (places : List ℕ) (change : PhaseChange) (i : ℕ) (part : ClassPart)
+    (fault : Fault) (turns : List Turn) → AreParts m parts (length m.classes.samples) → ArePlacesOf parts change.router places → i < length places
+    → part ≡ get_or parts (get_or places i 0) part → StayFirst m parts places change i
+    → IsClassVerdict m change.phases change.phases part.atom (Some fault) turns → TurnsFaulty m change fault turns
 turns_faulty_at m parts places change i part fault turns are placed within at stays told before leads sound =
     let there : get_or places i 0 < length parts = placed.below i 0 within in
     let is : IsPart m part = subst (λ (x : ClassPart). IsPart m x) (sym at) (are.each (get_or places i 0) part there) in

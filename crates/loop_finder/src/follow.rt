@@ -1,6 +1,5 @@
 ghost use Rattle.std.specs.Prelude.{◌≡◌, ◌<◌, length, true};
 ghost use Rattle.std.specs.Bool.{OnTrue};
-ghost use Rattle.std.specs.Vec.{vec_capacity};
 ghost use Rattle.loop_finder.specs.Parts.{PartStep};
 ghost use Rattle.loop_finder.specs.Returns.{NeverReturnsTo};
 ghost use Rattle.loop_finder.specs.Rooms.{HasRoom};

@@ -1,5 +1,4 @@
-ghost use Rattle.std.specs.Prelude.{◌≡◌, ◌<◌, ◌^◌, All, length};
-ghost use Rattle.order_core.specs.Rankings.{IsRanking};
+ghost use Rattle.std.specs.Prelude.{◌≡◌, ◌<◌, All, length};
 
 use crate::configurations::{FILE_MOST, Reading, read_all};
 use crate::exchanges::exchanged_lists;

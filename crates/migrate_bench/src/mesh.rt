@@ -1,5 +1,5 @@
 ghost use Rattle.std.specs.Prelude.{◌≡◌, ◌<◌, ◌≤◌, ℕ, [], Contains, slice_index, slice_index_or, length, vec_len};
-ghost use Rattle.std.proofs.Common.{subst, arith, sym};
+ghost use Rattle.std.proofs.Common.{subst, arith};
 ghost use Rattle.std.proofs.lemmas.List.Elements.{Contains-get_or};
 ghost use Rattle.std.proofs.lemmas.List.{get_or_default};
 ghost use Rattle.migrate_bench.specs.Rows.{ListsRouters};

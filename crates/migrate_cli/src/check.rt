@@ -1,9 +1,6 @@
-ghost use Rattle.std.specs.Prelude.{◌≡◌, ◌<◌, ◌≤◌, ◌*◌, ℕ, IfOk, length};
-ghost use Rattle.igp_theory.specs.Loops.{IsFault};
+ghost use Rattle.std.specs.Prelude.{◌≡◌, ◌<◌, ◌≤◌, ◌*◌, IfOk, length};
 ghost use Rattle.igp_theory.specs.Migrations.{listed_migration, ospf_to_isis};
-ghost use Rattle.igp_theory.specs.Routes.{Tables};
 ghost use Rattle.order_core.specs.Orders.{IsOrder};
-ghost use Rattle.igp_theory.specs.States.{State};
 ghost use Rattle.loop_finder.specs.Faults.{told_fault};
 ghost use Rattle.migration_report.specs.Texts.{safe_text, unsafe_text, waves_safe_text, waves_unsafe_text};
 ghost use Rattle.net_model.specs.RouterNames.{names_of};

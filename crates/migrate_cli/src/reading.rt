@@ -1,11 +1,11 @@
-ghost use Rattle.std.specs.Prelude.{◌≡◌, ◌+◌, ◌≤◌, ℕ, All, List, [], length, map, IfOk, IfErr, OnOk};
+ghost use Rattle.std.specs.Prelude.{◌≡◌, ◌+◌, ◌≤◌, ℕ, All, List, [], map, IfOk, IfErr, OnOk};
 ghost use Rattle.migrate_cli.specs.steps.FilesRead.{file_of};
 ghost use Rattle.migrate_cli.specs.Reading.{IsReadOf, IsShort, counted, to_read};
 ghost use Rattle.migrate_cli.specs.steps.Stops.{CountsFaults, HasAsked, HasRead, IsNextText, StopsAlone, StopsAt};
 
 use crate::files::{FILE_MOST, Wanted};
 use net_addr::Bytes;
-use std::alloc::{AllocError, Global};
+use std::alloc::Global;
 use std::marker::Model;
 use store_edge::{FileAnswer, Files};
 

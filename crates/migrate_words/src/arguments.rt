@@ -1,4 +1,4 @@
-ghost use Rattle.std.specs.Prelude.{◌≡◌, codes, map};
+ghost use Rattle.std.specs.Prelude.{codes};
 ghost use Rattle.clap.specs.Words.{first_of, found_of, rows_of};
 ghost use Rattle.migrate_words.specs.Asked.{HasConfigs, HasRouters, HasText, IsBudget, IsNumberIn};
 ghost use Rattle.migrate_words.specs.Refusals.{ReadsAs};

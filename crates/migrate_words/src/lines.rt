@@ -1,5 +1,5 @@
-ghost use Rattle.std.specs.Prelude.{◌≡◌, IfOk, codes, false};
-ghost use Rattle.clap.specs.Words.{App, Shape, rule_of};
+ghost use Rattle.std.specs.Prelude.{IfOk};
+ghost use Rattle.clap.specs.Words.{App, Shape};
 ghost use Rattle.clap.specs.Simple.{new_shape};
 ghost use Rattle.migrate_words.specs.CommandLine.{budget_option, command_line, config_files, one_text};
 ghost use Rattle.migrate_words.specs.CommandLine.{check_line, plan_line, prepare_line, refute_line};

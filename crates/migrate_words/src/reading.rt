@@ -1,4 +1,4 @@
-ghost use Rattle.std.specs.Prelude.{◌≡◌, List, codes, map, string_bytes};
+ghost use Rattle.std.specs.Prelude.{codes, map, string_bytes};
 ghost use Rattle.clap.specs.Words.{found_of, rows_of};
 ghost use Rattle.migrate_words.specs.Refusals.{AnswersWords, IsEntered, NamesRequest, ReadsAs};
 ghost use Rattle.migrate_words.specs.Requests.{request_of};

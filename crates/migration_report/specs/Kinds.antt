@@ -1,7 +1,8 @@
 -- The names of the kinds of refusals, as they are printed.
 use Rattle.std.specs.Prelude.{ℕ, List, codes}
 use Rattle.ios_lines.specs.declared.kind.ReadKind.{ReadKind}
-use Rattle.ios_lines.specs.declared.kind.ReadKind.TheVariants.{NoHostname, NoEnd, BadAddress, BadMask, BadCost, BadArea, SecondProcess, Unsupported, LoopbackMask, BadNet, BadLevel, BadMetric, BadDistance, DistanceClash, NoBandwidth}
+use Rattle.ios_lines.specs.declared.kind.ReadKind.TheVariants.{NoHostname, NoEnd, BadAddress, BadMask, BadCost, BadArea, SecondProcess, Unsupported}
+use Rattle.ios_lines.specs.declared.kind.ReadKind.TheVariants.{LoopbackMask, BadNet, BadLevel, BadMetric, BadDistance, DistanceClash, NoBandwidth}
 use Rattle.net_model.specs.declared.refusal.LimitWhat.{LimitWhat}
 use Rattle.net_model.specs.declared.refusal.LimitWhat.TheVariants.{Routers, Interfaces, Dests}
 use Rattle.refutation_check.specs.declared.verdict.WrongKind.{WrongKind}

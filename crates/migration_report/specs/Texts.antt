@@ -1,7 +1,8 @@
 -- The texts that are printed, each one line.
 use Rattle.std.specs.Prelude.{◌≢◌, ℕ, ◌<◌, List, [], ◌∷◌, ◌++◌, map, All, codes, decimal}
 use Rattle.net_model.specs.declared.refusal.NetRefusal.{NetRefusal}
-use Rattle.net_model.specs.declared.refusal.NetRefusal.TheVariants.{Limit, TwoNames, AddressTwice, PrefixInTwoAreas, BorderWithoutBackbone, OspfCostSum, IsisMetricSum, SystemIdTwice, StubMismatch, OutOfMemory}
+use Rattle.net_model.specs.declared.refusal.NetRefusal.TheVariants.{Limit, TwoNames, AddressTwice, PrefixInTwoAreas, BorderWithoutBackbone}
+use Rattle.net_model.specs.declared.refusal.NetRefusal.TheVariants.{OspfCostSum, IsisMetricSum, SystemIdTwice, StubMismatch, OutOfMemory}
 use Rattle.igp_theory.specs.Loops.{Fault as WholeFault, missing, loop}
 use Rattle.loop_finder.specs.Faults.{told_fault}
 use Rattle.loop_finder.specs.declared.fault.Fault.{Fault}

@@ -1,4 +1,5 @@
 pub mod Blocks
+pub mod BlockOrder
 pub mod BoundaryFacts
 pub mod NumeralFacts
 pub mod AddressWordFacts

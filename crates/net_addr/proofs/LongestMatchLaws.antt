@@ -1,9 +1,8 @@
 -- Laws of the longest match: one more prefix, other prefixes and addresses, and that there is one.
 use Rattle.std.proofs.Common.{◌≡◌, ℕ, zero, suc, ◌<◌, ◌≤◌, ◌↔◌, List, [], ◌∷◌, ◌++◌, length, slice_get, Option, Some, None, Contains}
-use Rattle.std.proofs.Common.{IfSome, refl, sym, arith, subst, ⊎_elim}
+use Rattle.std.proofs.Common.{refl, sym, arith, subst, ⊎_elim}
 use Rattle.std.proofs.lemmas.Bool.{cases_lt}
 use Rattle.std.proofs.lemmas.List.Elements.{Contains-push, Contains-append_left, Contains-push_cases}
-use Rattle.std.proofs.lemmas.Option.{slice_get_within}
 use Rattle.net_addr.specs.Addresses.{Block, ContainsAddress, IsBlock}
 use Rattle.net_addr.specs.LongestMatches.{IsLongestMatch, HasNoMatch, MatchAt, IsMatch, TakesLonger}
 use Rattle.net_addr.specs.declared.matches.Match.{Match}
@@ -120,17 +119,3 @@ IsMatch-in xs a next (Some old) r h inside takes = ⊎_elim
     omega arith)))
     (λ (l : next.len ≤ old.len). subst (MatchAt (xs ++ next ∷ []) a) (sym (takes.1 l)) (kept xs a next old h (λ _. l)))
     (cases_lt old.len next.len)
-
--- the place of a match is one of the list's
-pub IsMatch-within : (xs : List Block) (a : ℕ) (found : Option Match) → IsMatch xs a found → IfSome found (λ m. m.place < length xs)
-IsMatch-within xs a None h = tt
-IsMatch-within xs a (Some m) h = slice_get_within xs m.place h.at.prefix h.at.stands
-
--- addresses that the same prefixes of a list contain have one match
-pub IsMatch-alike : (xs : List Block) (a b : ℕ) (found : Option Match) → ((q : Block) → Contains xs q → ContainsAddress q a ↔ ContainsAddress q b)
-    → IsMatch xs a found → IsMatch xs b found
-IsMatch-alike xs a b None alike h = HasNoMatch-alike (Contains xs) a b alike h
-IsMatch-alike xs a b (Some m) alike h = record {
-  at = record { prefix = h.at.prefix; stands = h.at.stands; match = IsLongestMatch-alike (Contains xs) a b h.at.prefix alike h.at.match };
-  len_is = h.len_is;
-}

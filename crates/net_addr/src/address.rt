@@ -1,4 +1,4 @@
-ghost use Rattle.std.specs.Prelude.{◌≡◌, ◌≢◌, ℕ, ◌<◌, ◌∷◌, ◌++◌, List, length, slice_index, All, IfNone, IfSome, MatchOption, SomeIff};
+ghost use Rattle.std.specs.Prelude.{◌≡◌, ◌≢◌, ℕ, ◌<◌, ◌∷◌, ◌++◌, List, length, slice_index, All, IfNone, IfSome, SomeIff};
 ghost use Rattle.net_addr.specs.AddressWords.{CutsOctet, IsAddressWord, IsOctet};
 ghost use Rattle.net_addr.specs.Numerals.{decimal_value};
 ghost use Rattle.net_addr.specs.Readers.{Reads};

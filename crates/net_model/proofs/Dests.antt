@@ -1,48 +1,18 @@
 -- The sorted list of prefixes without repeats is what the limit counts.
-use Rattle.std.proofs.Common.{◌≡◌, ◌≢◌, ℕ, Bool, true, false, ◌&&◌, ◌==◌, if◌then◌else◌, List, length, map, get_or, Option, Some, None, IsTrue, Ordering}
-use Rattle.std.proofs.Common.{Contains, AllPairs, IsPermutation, eqb-true, refl, sym, subst, ⊎_elim, arith}
-use Rattle.std.specs.Cmp.{IsTotalOrder, IsEquivalence, and_equiv, on_equiv, on_total, then_total, both_tied, tied_itself, nat_cmp_total, nat_eq_equiv}
-use Rattle.std.specs.Cmp.{unsigned_ties}
-use Rattle.std.specs.Ordering.{nat_cmp, ordering_then, eq_by_cmp}
-use Rattle.std.specs.declared.cmp.Ordering.TheVariants.{Less}
+use Rattle.std.proofs.Common.{◌≡◌, ℕ, Bool, true, false, if◌then◌else◌, List, length, map, Option, Some, None, IsTrue}
+use Rattle.std.proofs.Common.{Contains, IsPermutation, refl, subst, ⊎_elim, arith}
 use Rattle.std.specs.List.{dedup}
-use Rattle.std.specs.List.Sorted.{IsSorted, IsStrictlySortedBy}
-use Rattle.std.proofs.lemmas.Bool.{and_parts}
+use Rattle.std.specs.List.Sorted.{IsSorted}
 use Rattle.std.proofs.lemmas.List.Sorted.{Contains-permutation, IsPermutation-sym, length_permutation, sum_by-IsPermutation}
-use Rattle.std.proofs.lemmas.List.Kept.{Contains-dedup, Contains-from_dedup, IsStrictlySortedBy-dedup}
 use Rattle.std.proofs.lemmas.List.Elements.{Contains-append_left, Contains-append_right, Contains-append_cases}
-use Rattle.std.proofs.lemmas.Map.Keys.{Less-from_sorted}
 use Rattle.net_addr.specs.Addresses.{Block}
+use Rattle.net_addr.proofs.BlockOrder.{apart_once, block_cmp, block_eq, same_prefixes}
 use Rattle.net_model.specs.Configuration.{Configuration}
 use Rattle.net_model.specs.Limits.{up_interfaces, NamesDest, IsDest, CountsDests, IsWithinLimits}
 use Rattle.net_model.specs.Limits.NamesDest.{by_interface, by_range}
 use Rattle.net_model.specs.DestLists.{subnet_if_up, own_dests, all_dests}
 use Rattle.net_model.specs.declared.area.Range.{Range}
 use Rattle.net_model.proofs.Members.{Contains-flat_map, Contains-in_flat_map, Contains-map, Contains-in_map, Contains-filter_map, Contains-in_filter_map}
-
--- the order of prefixes, and their equality, as they are derived
-abbrev pub block_cmp : Block → Block → Ordering
-block_cmp x y = ordering_then (nat_cmp x.base y.base) (nat_cmp x.len y.len)
-
-abbrev pub block_eq : Block → Block → Bool
-block_eq x y = (x.base == y.base) && (x.len == y.len)
-
-block_total : IsTotalOrder block_cmp
-block_total = then_total (on_total (λ (b : Block). b.base) nat_cmp_total) (on_total (λ (b : Block). b.len) nat_cmp_total)
-
-block_equiv : IsEquivalence block_eq
-block_equiv = and_equiv (on_equiv (λ (b : Block). b.base) nat_eq_equiv) (on_equiv (λ (b : Block). b.len) nat_eq_equiv)
-
-block_ties : (x y : Block) → block_eq x y ≡ eq_by_cmp block_cmp x y
-block_ties x y = both_tied (x.base == y.base) (x.len == y.len) (nat_cmp x.base y.base) (nat_cmp x.len y.len) (unsigned_ties x.base y.base)
-    (unsigned_ties x.len y.len)
-
-pub block_same : (x y : Block) → block_eq x y ≡ true → x ≡ y
-block_same x y e =
-    let parts = and_parts (x.base == y.base) (x.len == y.len) e in
-    let base = eqb-true x.base y.base parts.0 in
-    let len = eqb-true x.len y.len parts.1 in
-    λ i. record { base = base i; len = len i }
 
 if_up : (up : Bool) (subnet : Option Block) (p : Block) → (if up then subnet else None) ≡ Some p → IsTrue up × (subnet ≡ Some p)
 if_up true subnet p e = (refl, e)
@@ -78,25 +48,13 @@ IsDest-from_list configs p h =
 list-from_IsDest : (configs : List Configuration) (p : Block) → IsDest configs p → Contains (all_dests configs) p
 list-from_IsDest configs p d = Contains-in_flat_map own_dests configs d.config p d.among (list_from_own d.config p d.names)
 
-apart_from_sorted : (zs : List Block) → IsStrictlySortedBy block_cmp zs → AllPairs (λ (p q : Block). p ≢ q) zs
-apart_from_sorted zs up i j d l h e =
-    let less = Less-from_sorted block_cmp zs i j d up l h in
-    let tied = tied_itself block_total (get_or zs i d) in
-    let P : Block → Type 0 = λ z. block_cmp (get_or zs i d) z ≡ Less in
-    let itself = subst P (sym e) less in
-    cc
-
 pub CountsDests-sorted : (configs : List Configuration) (ys zs : List Block) → IsPermutation (all_dests configs) ys → IsSorted block_cmp ys →
     zs ≡ dedup block_eq ys → CountsDests configs (length zs)
 CountsDests-sorted configs ys zs moved up is = record {
   dests = zs;
-  once =
-      λ i j d l h e. apart_from_sorted zs (subst (IsStrictlySortedBy block_cmp) (sym is) (IsStrictlySortedBy-dedup block_total block_ties ys up)) i j d l h e;
-  exact = λ p. (
-    λ c. IsDest-from_list configs p (Contains-permutation ys _ p (IsPermutation-sym _ ys moved)
-        (Contains-from_dedup block_eq ys p (subst (λ l. Contains l p) is c))),
-    λ d. subst (λ l. Contains l p) (sym is) (Contains-dedup block_equiv block_same ys p (Contains-permutation _ ys p moved (list-from_IsDest configs p d))),
-  );
+  once = apart_once ys zs up is;
+  exact = λ p. let same = same_prefixes (all_dests configs) ys zs p moved is in
+      (λ c. IsDest-from_list configs p (same.0 c), λ d. same.1 (list-from_IsDest configs p d));
   count_is = refl;
 }
 

@@ -8,7 +8,7 @@ pub mod ClassFacts
 pub mod LongestSteps
 pub mod NumberSteps
 mod CutSteps
-mod Occurrences
+pub mod Occurrences
 mod PickSteps
 pub mod NestedLaws
 pub mod Pushed

@@ -49,12 +49,8 @@ some_of_three None false true e = inr (inr refl)
 some_of_three None false false e = cc
 
 three_of_some : (o : Option ℕ) (b c : Bool) → IsSome o ⊎ IsTrue b ⊎ IsTrue c → (is_some o || b || c) ≡ true
-three_of_some (Some n) true true h = refl
-three_of_some (Some n) true false h = refl
-three_of_some (Some n) false true h = refl
-three_of_some (Some n) false false h = refl
-three_of_some None true true h = refl
-three_of_some None true false h = refl
+three_of_some (Some n) b c h = refl
+three_of_some None true c h = refl
 three_of_some None false true h = refl
 three_of_some None false false (inl h) = cc
 three_of_some None false false (inr (inl h)) = h
@@ -144,7 +140,8 @@ collected_occur net o n old new p = (
 
 -- Targets
 
-originated_from_list : (net : Network) (p : Block) → Contains (all_originated net) p → IsOriginated net p
+-- the list has exactly the prefixes that are originated
+pub originated_from_list : (net : Network) (p : Block) → Contains (all_originated net) p → IsOriginated net p
 originated_from_list net p h =
     let one = Contains-flat_map (λ (c : Configuration). filter_map originated_subnet c.interfaces) net p h in
     let at = place_from_Contains net one.item one.among in
@@ -159,7 +156,7 @@ originated_from_list net p h =
       runs = some_of_three i.item.area i.item.level1 i.item.level2 parts.1;
     }
 
-list_from_originated : (net : Network) (p : Block) → IsOriginated net p → Contains (all_originated net) p
+pub list_from_originated : (net : Network) (p : Block) → IsOriginated net p → Contains (all_originated net) p
 list_from_originated net p o =
     Contains-in_flat_map (λ (c : Configuration). filter_map originated_subnet c.interfaces) net o.up.config p
     (Contains-from_place net o.router o.up.config o.up.router)

@@ -1,5 +1,6 @@
 -- What a list has after a sort and the removal of repeats.
-use Rattle.std.proofs.Common.{◌≡◌, ℕ, ◌+◌, ◌<◌, ◌≤◌, inl, inr, ⊎_elim, arith, Bool, true, ◌&&◌, ◌==◌, false, List, get_or, Ordering, Contains, IsPermutation, eqb, eqb-true, refl, sym}
+use Rattle.std.proofs.Common.{◌≡◌, ℕ, ◌+◌, ◌<◌, ◌≤◌, inl, inr, ⊎_elim, arith}
+use Rattle.std.proofs.Common.{false, List, get_or, Ordering, Contains, IsPermutation, eqb, refl, sym}
 use Rattle.std.proofs.Common.{subst, ◌↔◌, ◌∙◌, ap, length, Result, Ok, Err, IfOk, IfNone, IfSome, Some, slice_get}
 use Rattle.std.specs.List.{HoldsAt}
 use Rattle.std.specs.List.Sorted.{IsBinarySearchResult, IsSearchInRange}
@@ -7,46 +8,18 @@ use Rattle.std.proofs.lemmas.Bool.{cases_lt}
 use Rattle.std.specs.Result.{result_ok}
 use Rattle.std.specs.Ordering.{is_eq, is_lt}
 use Rattle.std.proofs.lemmas.Option.{slice_get-get_or}
-use Rattle.std.specs.Cmp.{IsTotalOrder, IsEquivalence, and_equiv, on_equiv, on_total, then_total, both_tied, tied_itself, nat_cmp_total, nat_eq_equiv}
-use Rattle.std.specs.Cmp.{unsigned_ties}
+use Rattle.std.specs.Cmp.{tied_itself}
 use Rattle.std.specs.Cmp.{ranked}
-use Rattle.std.specs.Ordering.{nat_cmp, ordering_then, eq_by_cmp}
+use Rattle.std.specs.Ordering.{nat_cmp, ordering_then}
 use Rattle.std.specs.declared.cmp.Ordering.TheVariants.{Less, Equal, Greater}
 use Rattle.std.specs.List.{dedup}
-use Rattle.std.specs.List.Sorted.{IsSorted, IsStrictlySortedBy, IsStrictlyIncreasing}
+use Rattle.std.specs.List.Sorted.{IsSorted, IsStrictlyIncreasing}
 use Rattle.std.proofs.lemmas.List.Sorted.{Contains-permutation, IsPermutation-sym, searchable_from_sorted}
-use Rattle.std.proofs.lemmas.List.Kept.{Contains-dedup, Contains-dedup_nat, Contains-from_dedup, IsStrictlySortedBy-dedup}
+use Rattle.std.proofs.lemmas.List.Kept.{Contains-dedup_nat, Contains-from_dedup}
 use Rattle.std.proofs.lemmas.Map.Keys.{Less-from_sorted, IsStrictlyIncreasing-dedup}
 use Rattle.net_addr.specs.Addresses.{Block}
+use Rattle.net_addr.proofs.BlockOrder.{block_cmp, block_eq, block_same, block_ties, block_total, sorted_once}
 use Rattle.prefix_atoms.specs.Nested.{StandsBefore, AreAscendingPrefixes}
-
--- the order of prefixes, and their equality, as they are derived
-abbrev block_cmp : Block → Block → Ordering
-block_cmp x y = ordering_then (nat_cmp x.base y.base) (nat_cmp x.len y.len)
-
-abbrev block_eq : Block → Block → Bool
-block_eq x y = (x.base == y.base) && (x.len == y.len)
-
-block_total : IsTotalOrder block_cmp
-block_total = then_total (on_total (λ (b : Block). b.base) nat_cmp_total) (on_total (λ (b : Block). b.len) nat_cmp_total)
-
-block_equiv : IsEquivalence block_eq
-block_equiv = and_equiv (on_equiv (λ (b : Block). b.base) nat_eq_equiv) (on_equiv (λ (b : Block). b.len) nat_eq_equiv)
-
-block_ties : (x y : Block) → block_eq x y ≡ eq_by_cmp block_cmp x y
-block_ties x y = both_tied (x.base == y.base) (x.len == y.len) (nat_cmp x.base y.base) (nat_cmp x.len y.len) (unsigned_ties x.base y.base)
-    (unsigned_ties x.len y.len)
-
-both_true : (a b : Bool) → (a && b) ≡ true → (a ≡ true) × (b ≡ true)
-both_true true b e = (refl, e)
-both_true false b e = cc
-
-block_same : (x y : Block) → block_eq x y ≡ true → x ≡ y
-block_same x y e =
-    let parts = both_true (x.base == y.base) (x.len == y.len) e in
-    let base = eqb-true x.base y.base parts.0 in
-    let len = eqb-true x.len y.len parts.1 in
-    λ i. record { base = base i; len = len i }
 
 -- where a search in a list found a prefix, it stands
 pub prefix_found : (xs : List Block) (p : Block) (r : Result ℕ ℕ) → IsSearchInRange r (length xs)
@@ -55,13 +28,6 @@ prefix_found xs p (Ok place) within tied =
     let same : get_or xs place p ≡ p = block_same (get_or xs place p) p (block_ties (get_or xs place p) p ∙ ap is_eq (tied p)) in
     slice_get-get_or xs place p within ∙ ap Some same
 prefix_found xs p (Err place) within tied = tt
-
--- the same prefixes stand in the list afterwards
-pub same_prefixes : (xs ys zs : List Block) (p : Block) → IsPermutation xs ys → zs ≡ dedup block_eq ys → Contains zs p ↔ Contains xs p
-same_prefixes xs ys zs p moved is = (
-  λ c. Contains-permutation ys xs p (IsPermutation-sym xs ys moved) (Contains-from_dedup block_eq ys p (subst (λ l. Contains l p) is c)),
-  λ c. subst (λ l. Contains l p) (sym is) (Contains-dedup block_equiv block_same ys p (Contains-permutation xs ys p moved c)),
-)
 
 -- what the order says of two prefixes
 less_stands : (x y : Block) → block_cmp x y ≡ Less → StandsBefore x y
@@ -75,8 +41,7 @@ less_stands x y less = by_base (nat_cmp x.base y.base) refl less
 -- and they ascend
 pub prefixes_ascend : (ys zs : List Block) → IsSorted block_cmp ys → zs ≡ dedup block_eq ys → AreAscendingPrefixes zs
 prefixes_ascend ys zs up is i j d l h =
-    less_stands (get_or zs i d) (get_or zs j d) (Less-from_sorted block_cmp zs i j d
-    (subst (IsStrictlySortedBy block_cmp) (sym is) (IsStrictlySortedBy-dedup block_total block_ties ys up)) l h)
+    less_stands (get_or zs i d) (get_or zs j d) (Less-from_sorted block_cmp zs i j d (sorted_once ys zs up is) l h)
 
 -- of two prefixes one stands before the other
 one_way : (p q : Block) → StandsBefore p q → StandsBefore q p → ⊥

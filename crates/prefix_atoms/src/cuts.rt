@@ -1,4 +1,4 @@
-ghost use Rattle.std.specs.Prelude.{◌≡◌, IfOk, OnOk, All};
+ghost use Rattle.std.specs.Prelude.{IfOk, OnOk, All};
 ghost use Rattle.net_addr.specs.Addresses.{IsBlock};
 ghost use Rattle.prefix_atoms.specs.Lists.{AreCuts, GainsBoundaries};
 

@@ -1,4 +1,4 @@
-ghost use Rattle.std.specs.Prelude.{◌≡◌, ◌<◌, ◌↔◌, All, IfOk, IsTrue, OnOk, length, Some, slice_get};
+ghost use Rattle.std.specs.Prelude.{◌≡◌, ◌<◌, ◌↔◌, All, IfOk, IsTrue, length, Some, slice_get};
 ghost use Rattle.net_addr.specs.Addresses.{Block, ContainsAddress, IsBlock};
 ghost use Rattle.prefix_atoms.specs.Nested.{AreAscendingPrefixes, AreNested, AreParents, IsParent};
 

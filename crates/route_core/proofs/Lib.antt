@@ -1,4 +1,3 @@
 mod MatchSteps
 pub mod TableLaws
 pub mod RowLaws
-pub mod HopLaws

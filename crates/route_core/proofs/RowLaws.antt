@@ -1,6 +1,8 @@
 -- Laws of kept tables: their rows, what these stand for, and their prefixes.
-use Rattle.std.proofs.Common.{◌≡◌, ℕ, zero, suc, ◌+◌, ◌-◌, ◌<◌, ◌≤◌, ◌⊎◌, inl, inr, ⊎_elim, List, [], ◌∷◌, ◌++◌, length, map, take, get_or, slice_get, Contains}
-use Rattle.std.proofs.Common.{true, false, is_some, Option, None, Some, IfNone, refl, sym, ap, subst, ◌∙◌, arith, append_assoc, length-append, add-one, zero-add, suc-add}
+use Rattle.std.proofs.Common.{◌≡◌, ℕ, zero, suc, ◌+◌, ◌-◌, ◌<◌, ◌≤◌, ◌⊎◌, inl, inr}
+use Rattle.std.proofs.Common.{⊎_elim, List, [], ◌∷◌, ◌++◌, length, map, take, get_or, slice_get, Contains}
+use Rattle.std.proofs.Common.{true, false, is_some, Option, None, Some, IfNone, refl, sym}
+use Rattle.std.proofs.Common.{ap, subst, ◌∙◌, arith, append_assoc, length-append, add-one, zero-add, suc-add}
 use Rattle.std.proofs.Math.Seq.{take-suc}
 use Rattle.std.proofs.lemmas.Bool.{cases_lt}
 use Rattle.std.proofs.lemmas.List.{append-nil, get_or_append_left, get_or_default, get_or_past, get_or-map, length-map, map-append, take_all}

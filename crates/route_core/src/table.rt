@@ -1,4 +1,4 @@
-ghost use Rattle.std.specs.Prelude.{◌≡◌, ◌<◌, ℕ, length, slice_get, Contains, Some, IfOk, IfSome, IfNone};
+ghost use Rattle.std.specs.Prelude.{◌≡◌, ◌<◌, length, slice_get, Contains, Some, IfOk, IfSome, IfNone};
 ghost use Rattle.net_addr.specs.Addresses.{Block};
 ghost use Rattle.route_core.specs.declared.entry.Entry.{Entry};
 ghost use Rattle.net_addr.specs.LongestMatches.{HasNoMatch, LongestAt};

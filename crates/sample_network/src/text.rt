@@ -1,4 +1,4 @@
-ghost use Rattle.std.specs.Prelude.{◌≡◌, ◌+◌, ◌%◌, ◌/◌, ◌<◌, ◌≤◌, ◌++◌, ◌∷◌, [], IfOk, codes};
+ghost use Rattle.std.specs.Prelude.{◌≡◌, ◌+◌, ◌%◌, ◌/◌, ◌<◌, ◌≤◌, ◌++◌, IfOk};
 ghost use Rattle.printed_lines.specs.Texts.{text_of};
 ghost use Rattle.sample_network.specs.SampleTexts.{sample_address_line, before_lines, sample_cost_line, sample_hostname_line};
 ghost use Rattle.sample_network.specs.SampleTexts.{sample_interface_line, sample_isis_lines, link_lines, loopback_lines};

@@ -1,4 +1,4 @@
-ghost use Rattle.std.specs.Prelude.{◌≢◌, ◌≤◌, All, AllPairs, IfOk};
+ghost use Rattle.std.specs.Prelude.{◌≢◌, ◌≤◌, All, AllPairs};
 ghost use Rattle.net_model.specs.Configuration.{IsInterface};
 
 use crate::interface::{one_interface, ospf_interface};

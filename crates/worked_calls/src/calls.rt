@@ -4,7 +4,6 @@ ghost use Rattle.store_edge.specs.Files.{file_bytes};
 use migrate_cli::{Status, run};
 use net_addr::{Bytes, Name};
 use std::alloc::{AllocError, Global};
-use std::process::Abort;
 use std::test::Fail;
 use store_edge::{Calls, Failed, FileAnswer, FileList, Files, MemoryFiles, Sink};
 

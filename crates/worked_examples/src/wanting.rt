@@ -1,4 +1,4 @@
-ghost use Rattle.std.specs.Prelude.{◌≡◌, ◌↔◌, ◌<◌, ◌≤◌, length, All, Contains, IsTrue, IfSome, IfNone};
+ghost use Rattle.std.specs.Prelude.{◌≡◌, ◌↔◌, ◌<◌, ◌≤◌, length, Contains, IsTrue, IfSome, IfNone};
 ghost use Rattle.order_core.specs.Rankings.{rank_of, KeepsPairs};
 ghost use Rattle.order_search.specs.TwoTurns.{two_turns};
 ghost use Rattle.worked_examples.specs.Wanting.{AreRising, AreApart};

@@ -1,6 +1,4 @@
-use design_file::{
-    Design, DesignKind, DesignRefusal, Settled, SettledInterface, design_laws, read_design, settle,
-};
+use design_file::{DesignKind, DesignRefusal, Settled, design_laws, read_design, settle};
 use ios_reader::read_configs;
 use net_model::{Levels, Net};
 use std::alloc::Global;

@@ -12,7 +12,8 @@ found bytes None none =
     sym (position_or_len_is is_line_feed bytes (length bytes) 0 (omega arith) (λ k below. false_from_ne_true _ (none k (omega arith) below))
     (λ h. absurd (omega arith)))
 found bytes (Some k) is =
-    sym (position_or_len_is is_line_feed bytes k 0 (omega (arith, is.0.high)) (λ j below. false_from_ne_true _ (is.0.before j (omega arith) below)) (λ h. is.1))
+    sym (position_or_len_is is_line_feed bytes k 0 (omega (arith, is.0.high)) (λ j below. false_from_ne_true _ (is.0.before j (omega arith) below))
+    (λ h. is.1))
 
 pub returns-clause-value : goal.returns-clause-value
 returns-clause-value c = c.unwrap_or.ensures ∙ found c.args.bytes.now c.memchr.result c.memchr.ensures

@@ -1,5 +1,6 @@
 use Rattle.std.proofs.lemmas.List.Filters.{dedup_is}
-use Rattle.prefix_atoms.proofs.Repeats.{same_prefixes, prefixes_ascend}
+use Rattle.net_addr.proofs.BlockOrder.{same_prefixes}
+use Rattle.prefix_atoms.proofs.Repeats.{prefixes_ascend}
 use Rattle.prefix_atoms.proofs.distinct.keep_distinct_prefixes.Goals as goal
 
 pub returns-clause-same : goal.returns-clause-same
