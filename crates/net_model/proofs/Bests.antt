@@ -1,20 +1,14 @@
 -- The least item that a list offers, element by element, and of things that say the same.
-use Rattle.std.proofs.Common.{◌≡◌, ℕ, ◌+◌, ◌<◌, ◌≤◌, Bool, ◌||◌, ◌&&◌, nat_lt, nat_eq, if◌then◌else◌, List, [], ◌∷◌, ◌++◌, length, get_or, take, Option}
+use Rattle.std.proofs.Common.{◌≡◌, ℕ, ◌+◌, ◌<◌, ◌≤◌, Bool, true, false, ◌||◌, ◌&&◌, nat_lt, nat_eq, if◌then◌else◌, List, [], ◌∷◌, ◌++◌, length, get_or, take, Option}
 use Rattle.std.proofs.Common.{Some, None, Any, Contains, min, refl, sym, ap, ◌∙◌, subst, ◌⊎◌, inl, inr, ⊎_elim, arith}
 use Rattle.std.proofs.lemmas.Bool.{cases_lt, cond_both}
 use Rattle.std.proofs.lemmas.Bool.Decides.{nat_tests}
 use Rattle.std.proofs.lemmas.List.{take_more}
 use Rattle.std.proofs.lemmas.List.Elements.{Contains-append_left, Contains-push, Contains-push_cases}
 use Rattle.net_addr.specs.Addresses.{Block}
-use Rattle.net_model.specs.Least.{IsBest, IsBlockAtMost}
-use Rattle.net_model.specs.Links.{lower_of}
-use Rattle.net_model.specs.steps.Scans.{first_block}
-
--- the better of two optional items, by a choice of the better of two
-abbrev pub better_by : {A : Type 0} → (A → A → A) → Option A → Option A → Option A
-better_by pick None other = other
-better_by pick (Some a) None = Some a
-better_by pick (Some a) (Some b) = Some (pick a b)
+use Rattle.net_model.specs.Least.{IsBest, IsBlockAtMost, better_by}
+use Rattle.net_model.specs.steps.Scans.{pick_block}
+use Rattle.net_model.specs.steps.Subnets.{pick_longer}
 
 -- a choice of the lesser of two items
 pub record Picks {A : Type 0} (AtMost : A → A → Type 0) (pick : A → A → A) : Type 0 where
@@ -28,7 +22,7 @@ module _ {A : Type 0} (AtMost : A → A → Type 0) where
   IsBest-same P Q None to back h = λ a q. h a (back a q)
   IsBest-same P Q (Some b) to back h = record { holds = to b h.holds; least = λ a q. h.least a (back a q) }
 
-  pub IsBest-or : (pick : A → A → A) → Picks AtMost pick → (P Q R : A → Type 0) (a b : Option A) → ((x : A) → P x → R x) → ((x : A) → Q x → R x) →
+  IsBest-or : (pick : A → A → A) → Picks AtMost pick → (P Q R : A → Type 0) (a b : Option A) → ((x : A) → P x → R x) → ((x : A) → Q x → R x) →
       ((x : A) → R x → P x ⊎ Q x) → IsBest AtMost P a → IsBest AtMost Q b → IsBest AtMost R (better_by pick a b)
   IsBest-or pick picks P Q R None None p q r h k = λ x c. ⊎_elim (h x) (k x) (r x c)
   IsBest-or pick picks P Q R None (Some b) p q r h k = record {
@@ -45,9 +39,6 @@ module _ {A : Type 0} (AtMost : A → A → Type 0) where
   }
 
 module _ {X : Type 0} (P : X → Type 0) where
-  pub Any-none : Any P [] → ⊥
-  Any-none h = omega (arith, h.2)
-
   pub Any-from : (xs : List X) (x : X) → Contains xs x → P x → Any P xs
   Any-from xs x c p = (c.0, x, c.1, c.2, p)
 
@@ -64,16 +55,13 @@ module _ {X : Type 0} (P : X → Type 0) where
 
 -- the best that the elements of a list offer
 module _ {X A : Type 0} (AtMost : A → A → Type 0) (pick : A → A → A) (picks : Picks AtMost pick) (Offer : A → X → Type 0) where
-  pub IsBest-none : IsBest AtMost (λ a. Any (Offer a) []) None
-  IsBest-none a h = Any-none (Offer a) h
-
-  pub IsBest-more : (xs : List X) (i : ℕ) (x : X) (a b : Option A) → i < length xs → x ≡ get_or xs i x → IsBest AtMost (λ z. Any (Offer z) (take i xs)) a →
-      IsBest AtMost (λ z. Offer z x) b → IsBest AtMost (λ z. Any (Offer z) (take (i + 1) xs)) (better_by pick a b)
-  IsBest-more xs i x a b l e h k =
-      let P : List X → Type 0 = λ ys. IsBest AtMost (λ z. Any (Offer z) ys) (better_by pick a b) in
-      subst P (ap (λ y. take i xs ++ y ∷ []) e ∙ sym (take_more xs i x l))
+  pub IsBest-more : (xs : List X) (i : ℕ) (x : X) (a b new : Option A) → i < length xs → x ≡ get_or xs i x → new ≡ better_by pick a b →
+      IsBest AtMost (λ z. Any (Offer z) (take i xs)) a → IsBest AtMost (λ z. Offer z x) b → IsBest AtMost (λ z. Any (Offer z) (take (i + 1) xs)) new
+  IsBest-more xs i x a b new l e is h k =
+      let P : List X → Type 0 = λ ys. IsBest AtMost (λ z. Any (Offer z) ys) new in
+      subst P (ap (λ y. take i xs ++ y ∷ []) e ∙ sym (take_more xs i x l)) (subst (IsBest AtMost (λ z. Any (Offer z) (take i xs ++ x ∷ []))) (sym is)
       (IsBest-or AtMost pick picks (λ z. Any (Offer z) (take i xs)) (λ z. Offer z x) (λ z. Any (Offer z) (take i xs ++ x ∷ [])) a b
-      (λ z c. Any-left (Offer z) (take i xs) (x ∷ []) c) (λ z c. Any-last (Offer z) (take i xs) x c) (λ z c. Any-cases (Offer z) (take i xs) x c) h k)
+      (λ z c. Any-left (Offer z) (take i xs) (x ∷ []) c) (λ z c. Any-last (Offer z) (take i xs) x c) (λ z c. Any-cases (Offer z) (take i xs) x c) h k))
 
 -- the lower of two numbers
 pub picks_lower : Picks (λ (a b : ℕ). a ≤ b) min
@@ -83,26 +71,19 @@ picks_lower = record {
   right = λ a b c h. omega arith;
 }
 
-pub lower_is : (a b : Option ℕ) → better_by min a b ≡ lower_of a b
-lower_is None b = refl
-lower_is (Some a) None = refl
-lower_is (Some a) (Some b) = refl
-
--- the first of two prefixes
-abbrev is_before : Block → Block → Bool
-is_before q p = nat_lt q.base p.base || (nat_eq q.base p.base && nat_lt q.len p.len)
-
-abbrev pub pick_block : Block → Block → Block
-pick_block p q = if is_before q p then q else p
-
-pub first_is : (a b : Option Block) → better_by pick_block a b ≡ first_block a b
-first_is None b = refl
-first_is (Some a) None = refl
-first_is (Some a) (Some b) = refl
+-- of two prefixes the second where a test passes, which it does where the second is the lesser
+picks_tested : (AtMost : Block → Block → Type 0) (second : Block → Block → Bool) →
+    ((p q r : Block) → second p q ≡ true → AtMost p r → AtMost q r) → ((p q r : Block) → second p q ≡ false → AtMost q r → AtMost p r) →
+    Picks AtMost (λ p q. if second p q then q else p)
+picks_tested AtMost second passes fails = record {
+  one_of = λ p q. cond_both (second p q) q p (λ b. (b ≡ p) ⊎ (b ≡ q)) (λ e. inr refl) (λ e. inl refl);
+  left = λ p q r h. cond_both (second p q) q p (λ b. AtMost b r) (λ e. passes p q r e h) (λ e. h);
+  right = λ p q r h. cond_both (second p q) q p (λ b. AtMost b r) (λ e. h) (λ e. fails p q r e h);
+}
 
 pub picks_block : Picks IsBlockAtMost pick_block
-picks_block = record {
-  one_of = λ p q. cond_both (is_before q p) q p (λ b. (b ≡ p) ⊎ (b ≡ q)) (λ e. inr refl) (λ e. inl refl);
-  left = λ p q r h. cond_both (is_before q p) q p (λ b. IsBlockAtMost b r) (λ e. grind (arith, nat_tests)) (λ e. h);
-  right = λ p q r h. cond_both (is_before q p) q p (λ b. IsBlockAtMost b r) (λ e. h) (λ e. grind (arith, nat_tests));
-}
+picks_block = picks_tested IsBlockAtMost (λ p q. nat_lt q.base p.base || (nat_eq q.base p.base && nat_lt q.len p.len))
+    (λ p q r e h. grind (arith, nat_tests)) (λ p q r e h. grind (arith, nat_tests))
+
+pub picks_longer : Picks (λ (p q : Block). q.len ≤ p.len) pick_longer
+picks_longer = picks_tested (λ p q. q.len ≤ p.len) (λ p q. nat_lt p.len q.len) (λ p q r e h. grind (arith, nat_tests)) (λ p q r e h. grind (arith, nat_tests))

@@ -1,7 +1,6 @@
 pub mod Members
 mod Dests
 pub mod Names
-mod BestLinks
 pub mod Adjacency
 mod BestSubnets
 pub mod NetworkFacts

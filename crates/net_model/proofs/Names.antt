@@ -1,5 +1,5 @@
 -- Configurations in byte order of their names: when they ascend, and which name is the least that two have.
-use Rattle.std.proofs.Common.{◌≡◌, ◌≢◌, ℕ, ◌+◌, ◌-◌, ◌<◌, ◌≤◌, false, List, length, get_or, Ordering, IsPermutation, refl, sym, ap, subst, ◌∙◌, ◌⊎◌}
+use Rattle.std.proofs.Common.{◌≡◌, ◌≢◌, ℕ, ◌+◌, ◌<◌, ◌≤◌, false, List, length, get_or, Ordering, IsPermutation, refl, sym, ap, subst, ◌∙◌, ◌⊎◌}
 use Rattle.std.proofs.Common.{⊎_elim, inl, inr, arith}
 use Rattle.std.specs.Cmp.Lexicographic.{slice_cmp, nat_list_cmp_total}
 use Rattle.std.specs.FinMap.{nat_cmp-IsAntisymmetric, slice_cmp-IsAntisymmetric}
@@ -21,7 +21,7 @@ use Rattle.net_model.specs.Refusals.{IsBelow, NamesAscend, TwoHaveName, IsLeastD
 abbrev name_at : List Configuration → ℕ → Configuration → List ℕ
 name_at configs k d = (get_or configs k d).name
 
-same_name : (a b : List ℕ) → slice_cmp nat_cmp a b ≡ Equal → a ≡ b
+pub same_name : (a b : List ℕ) → slice_cmp nat_cmp a b ≡ Equal → a ≡ b
 same_name = slice_cmp-IsAntisymmetric nat_cmp-IsAntisymmetric
 
 less_by : (a b : List ℕ) (r : Ordering) → slice_cmp nat_cmp a b ≡ r → is_lt (slice_cmp nat_cmp b a) ≡ false → (IsBelow a b) ⊎ (a ≡ b)

@@ -1,9 +1,8 @@
 -- What follows of routers, their interfaces and their adjacencies, over networks as plain data.
-use Rattle.std.proofs.Common.{◌≡◌, ℕ, ◌<◌, List, length, get_or, Some, subst, ⊎_elim, arith}
+use Rattle.std.proofs.Common.{◌≡◌, ℕ, ◌<◌, List, length, get_or, subst, ⊎_elim, arith}
 use Rattle.std.proofs.lemmas.Bool.{cases_lt, cases_eq}
 use Rattle.std.proofs.lemmas.List.Elements.{All-contains}
 use Rattle.std.proofs.lemmas.Option.{slice_get_within, get_or_from_slice_get}
-use Rattle.net_addr.specs.Addresses.{Block}
 use Rattle.net_model.specs.Configuration.{Configuration, IsConfiguration, IsInterface}
 use Rattle.net_model.specs.Lookups.{IsNamed}
 use Rattle.net_model.specs.Network.{Network, HasConfiguration, UpInterface, InArea, Adjacent}
@@ -56,23 +55,3 @@ IsNamed-unique net name u v up h k =
     ⊎_elim (λ e. e)
     (λ apart. absurd (⊎_elim (λ l. named_apart net name u v up h k l) (λ g. named_apart net name v u up k h (omega arith)) (cases_lt u v)))
     (cases_eq u v)
-
--- up interfaces of one subnet that run OSPF run it in one area
-pub IsNetwork-one_area : (net : Network) → IsNetwork net → (u v : ℕ) (i j : Interface) (p : Block) (m n : ℕ) → UpInterface net u i → UpInterface net v j →
-    i.subnet ≡ Some p → j.subnet ≡ Some p → i.area ≡ Some m → j.area ≡ Some n → m ≡ n
-IsNetwork-one_area net k u v i j p m n i_up j_up i_subnet j_subnet i_runs j_runs =
-    ⊎_elim (λ e. e)
-    (λ apart. absurd (k.consistent.areas u v p (record {
-      one = i;
-      two = j;
-      one_up = i_up;
-      two_up = j_up;
-      one_subnet = i_subnet;
-      two_subnet = j_subnet;
-      one_area = m;
-      two_area = n;
-      one_runs = i_runs;
-      two_runs = j_runs;
-      apart = apart;
-    })))
-    (cases_eq m n)

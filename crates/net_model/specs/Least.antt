@@ -1,11 +1,17 @@
 -- The least of what is found: an item, or a pair of routers with an item.
-use Rattle.std.specs.Prelude.{◌≡◌, ℕ, ◌<◌, ◌≤◌, ◌⊎◌}
+use Rattle.std.specs.Prelude.{◌≡◌, ℕ, ◌<◌, ◌≤◌, ◌⊎◌, Option, None, Some}
 use Rattle.net_addr.specs.Addresses.{Block}
 pub use Rattle.order_core.specs.Least.{IsLeast, IsLowest, IsBest}
 
 -- prefixes are ordered by base, then by length
 abbrev pub IsBlockAtMost : Block → Block → Type 0
 IsBlockAtMost p q = (p.base < q.base) ⊎ ((p.base ≡ q.base) × (p.len ≤ q.len))
+
+-- the better of two optional items, by a choice of the better of two
+abbrev pub better_by : {A : Type 0} → (A → A → A) → Option A → Option A → Option A
+better_by pick None other = other
+better_by pick (Some one) None = Some one
+better_by pick (Some one) (Some other) = Some (pick one other)
 
 -- routers u and v with a come no later than routers w and x with b: by the first router, then the second, then the item
 pub data ComesNoLater {A : Type 0} (AtMost : A → A → Type 0) (u v : ℕ) (a : A) (w x : ℕ) (b : A) : Type 0 where

@@ -1,6 +1,7 @@
 -- Two routers' interfaces that make them adjacent.
-use Rattle.std.specs.Prelude.{◌≡◌, ℕ, ◌≤◌, false, List, Option, Some, None, IsTrue, Contains, MatchOption, min}
+use Rattle.std.specs.Prelude.{◌≡◌, ℕ, ◌≤◌, false, List, Option, Some, IsTrue, Any, min}
 use Rattle.net_addr.specs.Addresses.{Block}
+use Rattle.net_model.specs.Least.{IsBest, better_by}
 use Rattle.net_model.specs.Network.{RunsIn, cost_in}
 use Rattle.net_model.specs.declared.interface.Interface.{Interface}
 use Rattle.net_model.specs.declared.zone.Zone.{Zone}
@@ -23,27 +24,14 @@ pub record Joins (zone : Zone) (i j : Interface) : Type 0 where
   pub far : IsLink zone j
   pub share : ShareSubnet i j
 
--- an interface of the first list, which costs this, joins one of the second
-pub record LinkCosts (zone : Zone) (nears fars : List Interface) (cost : ℕ) : Type 0 where
-  pub near : Interface
-  pub far : Interface
-  pub near_among : Contains nears near
-  pub far_among : Contains fars far
-  pub joins : Joins zone near far
-  pub costs : cost_in zone near ≡ cost
+-- the interface costs this, and joins one of the others
+abbrev pub OffersCost : Zone → List Interface → ℕ → Interface → Type 0
+OffersCost zone fars cost i = (cost_in zone i ≡ cost) × Any (Joins zone i) fars
 
--- the least such cost
-pub record LeastLink (zone : Zone) (nears fars : List Interface) (cost : ℕ) : Type 0 where
-  pub attained : LinkCosts zone nears fars cost
-  pub least : (other : ℕ) → LinkCosts zone nears fars other → cost ≤ other
-
--- the least such cost, if there is one
+-- the least cost of an interface of the first list that joins one of the second, if there is one
 abbrev pub BestLink : Zone → List Interface → List Interface → Option ℕ → Type 0
-BestLink zone nears fars best =
-    MatchOption best ((cost : ℕ) → LinkCosts zone nears fars cost → ⊥) (LeastLink zone nears fars)
+BestLink zone nears fars = IsBest (λ a b. a ≤ b) (λ cost. Any (OffersCost zone fars cost) nears)
 
 -- the lower of two numbers, or the one that there is
 abbrev pub lower_of : Option ℕ → Option ℕ → Option ℕ
-lower_of None other = other
-lower_of (Some one) None = Some one
-lower_of (Some one) (Some other) = Some (min one other)
+lower_of = better_by min

@@ -1,6 +1,7 @@
-ghost use Rattle.std.specs.Prelude.{◌≡◌, ◌↔◌, [], ◌∷◌, Any, IsTrue};
+ghost use Rattle.std.specs.Prelude.{◌≡◌, ◌↔◌, ◌≤◌, Any, IsTrue};
+ghost use Rattle.net_model.specs.Least.{IsBest};
 ghost use Rattle.net_model.specs.Network.{MayJoin, RunsIn, cost_in};
-ghost use Rattle.net_model.specs.Links.{BestLink, IsLink, Joins, ShareSubnet, lower_of};
+ghost use Rattle.net_model.specs.Links.{BestLink, IsLink, Joins, OffersCost, ShareSubnet, lower_of};
 
 use crate::{Config, Interface, Zone};
 
@@ -28,7 +29,7 @@ pub fn lower(one: Option<u32>, other: Option<u32>) -> Option<u32>
 
 /// What the interface costs in the zone, if it makes its router adjacent to that of the others.
 fn link_cost(zone: Zone, near: &Interface, fars: &[Interface]) -> Option<u32>
-    ensures { BestLink zone (near.now ∷ []) fars.now result }
+    ensures { IsBest (λ a b. a ≤ b) (λ cost. OffersCost zone fars.now cost near.now) result }
 {
     if joins_some(zone, near, fars) {
         Some(cost_in(zone, near))

@@ -66,22 +66,16 @@ fn have_one_name(one: &Config, two: &Config) -> bool
     one.name.as_slice() == two.name.as_slice()
 }
 
-/// The place of the configuration of this name.
+/// The place of the configuration of this name. The names ascend, so it takes time of the logarithm of their count.
 pub fn place_of(configs: &[Config], name: &[u8]) -> Option<usize>
+    requires { NamesAscend configs.now }
     ensures named { MatchOption result ((u : ℕ) → IsNamed configs.now name.now u → ⊥) (IsNamed configs.now name.now) }
     ensures within { IfSome result (λ place. place < length configs.now) }
 {
-    for (place, config) in configs.iter().enumerate() {
-        if has_name(config, name) {
-            return Some(place);
-        }
-    }
-    None
-}
-
-/// Whether a configuration has this name.
-fn has_name(config: &Config, name: &[u8]) -> bool
-    ensures { IsTrue result ↔ (config.now.name ≡ name.now) }
-{
-    config.name.as_slice() == name
+    let found = configs.binary_search_by(
+        |config: &Config| -> Ordering
+            ensures { result ≡ slice_cmp nat_cmp config.now.name name.entry.now }
+        { config.name.as_slice().cmp(name) },
+    );
+    found.ok()
 }

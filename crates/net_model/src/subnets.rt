@@ -1,5 +1,6 @@
-ghost use Rattle.std.specs.Prelude.{◌≡◌, ◌↔◌, [], ◌∷◌, Any, IsTrue};
-ghost use Rattle.net_model.specs.steps.Subnets.{BestSubnet, HasSubnet, longer_of};
+ghost use Rattle.std.specs.Prelude.{◌≡◌, ◌↔◌, ◌≤◌, Any, IsTrue};
+ghost use Rattle.net_model.specs.Least.{IsBest};
+ghost use Rattle.net_model.specs.steps.Subnets.{BestSubnet, HasSubnet, HasSubnetAround, longer_of};
 
 use crate::Interface;
 use net_addr::Prefix;
@@ -28,7 +29,7 @@ fn longer(one: Option<Prefix>, other: Option<Prefix>) -> Option<Prefix>
 
 /// The subnet of the interface, if it is up and contains the address.
 fn subnet_around(interface: &Interface, a: u32) -> Option<Prefix>
-    ensures { BestSubnet a (interface.now ∷ []) result }
+    ensures { IsBest (λ p q. q.len ≤ p.len) (λ p. HasSubnetAround a p interface.now) result }
 {
     match interface.subnet {
         Some(subnet) if interface.up && subnet.contains(a) => Some(subnet),

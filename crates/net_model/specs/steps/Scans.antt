@@ -1,7 +1,8 @@
 -- What the code looks for in the lists of routers' interfaces and stub lines.
-use Rattle.std.specs.Prelude.{◌≡◌, ◌≢◌, ℕ, ◌<◌, ◌≤◌, nat_lt, nat_eq, Bool, false, List, ◌||◌, ◌&&◌, if◌then◌else◌, ◌⊎◌, Option, None, Some, IsTrue, Any}
+use Rattle.std.specs.Prelude.{◌≡◌, ◌≢◌, ℕ, ◌<◌, ◌≤◌, nat_lt, nat_eq, Bool, false, List, ◌||◌, ◌&&◌, if◌then◌else◌, ◌⊎◌, Option, Some, IsTrue, Any}
 use Rattle.net_addr.specs.Addresses.{Block}
 use Rattle.net_model.specs.Configuration.{Configuration}
+use Rattle.net_model.specs.Least.{better_by}
 use Rattle.net_model.specs.Links.{ShareSubnet}
 use Rattle.net_model.specs.Network.{RunsArea}
 use Rattle.net_model.specs.declared.area.Stub.{Stub}
@@ -77,9 +78,10 @@ pub record ClashOnStub (area : ℕ) (one two : Configuration) : Type 0 where
 abbrev pub OffersArea : Configuration → Configuration → ℕ → Interface → Type 0
 OffersArea one two area i = RunsArea area i × ClashOnStub area one two
 
+-- the first of two prefixes, by base and then by length
+abbrev pub pick_block : Block → Block → Block
+pick_block p q = if nat_lt q.base p.base || (nat_eq q.base p.base && nat_lt q.len p.len) then q else p
+
 -- the first of two prefixes, or the one that there is
 abbrev pub first_block : Option Block → Option Block → Option Block
-first_block None other = other
-first_block (Some p) None = Some p
-first_block (Some p) (Some q) =
-    Some (if nat_lt q.base p.base || (nat_eq q.base p.base && nat_lt q.len p.len) then q else p)
+first_block = better_by pick_block

@@ -1,21 +1,17 @@
-use Rattle.std.proofs.Common.{◌+◌, ◌≤◌, List, Any, take, min, ap, sym, subst, ◌∙◌}
+use Rattle.std.proofs.Common.{◌≤◌, List, Any, min, ap, subst, ◌∙◌}
 use Rattle.std.proofs.lemmas.List.{take_all}
 use Rattle.net_model.specs.Configuration.{Configuration}
 use Rattle.net_model.specs.Least.{IsBest}
 use Rattle.net_model.specs.steps.Scans.{OffersArea}
 use Rattle.net_model.specs.declared.interface.Interface.{Interface}
-use Rattle.net_model.proofs.Bests.{IsBest-more, picks_lower, lower_is}
+use Rattle.net_model.proofs.Bests.{IsBest-more, picks_lower}
 use Rattle.net_model.proofs.stubs.least_area.Goals as goal
 
 pub loop-interface-preserved : goal.loop-interface-preserved
 loop-interface-preserved c =
-    let items = c.as_slice-interface-items.result.now in
-    let i = c.loop-interface.interface-index in
-    subst (IsBest (λ a b. a ≤ b) (λ a. Any (OffersArea c.args.one.now c.args.two.now a) (take (i + 1) items)))
-    (lower_is c.loop-interface.least c.clashing_area.result ∙ sym c.lower-least.ensures)
-    (IsBest-more (λ a b. a ≤ b) min picks_lower (OffersArea c.args.one.now c.args.two.now) items i c.interface-item.result
-    c.loop-interface.least c.clashing_area.result
-    c.loop-interface-test.true c.interface-item.is c.loop-interface.invariant c.clashing_area.ensures)
+    IsBest-more (λ a b. a ≤ b) min picks_lower (OffersArea c.args.one.now c.args.two.now) c.as_slice-interface-items.result.now
+    c.loop-interface.interface-index c.interface-item.result c.loop-interface.least c.clashing_area.result c.lower-least.result
+    c.loop-interface-test.true c.interface-item.is c.lower-least.ensures c.loop-interface.invariant c.clashing_area.ensures
 
 pub returns : goal.returns
 returns c =
