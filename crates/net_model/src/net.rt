@@ -75,7 +75,8 @@ impl Net {
 
     /// The number of the router of this name.
     pub fn number_of(&self, name: &[u8]) -> Option<u32>
-        ensures { MatchOption result ((u : ℕ) → IsNamed self.now name.now u → ⊥) (IsNamed self.now name.now) }
+        ensures number { MatchOption result ((u : ℕ) → IsNamed self.now name.now u → ⊥) (IsNamed self.now name.now) }
+        ensures network { IsNetwork self.now }
     {
         match place_of(self.configs.as_slice(), name) {
             Some(place) => Some(place as u32),
