@@ -9,8 +9,11 @@
 //! `specs/Lists` says what each call does to the lists, `Moves` what moves make of them, `Chains` how the fields show them.
 #![tactic(auto)]
 
-mod chain;
+// lists as callers see them
 mod links;
+
+// nodes and moves
+mod chain;
 mod moves;
 
 pub use links::Links;

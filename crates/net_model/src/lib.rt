@@ -17,8 +17,8 @@
 //!
 //! `Net::build` takes the time of sorting names, prefixes and addresses, of comparing the interfaces of each router with
 //! each other, and system ids and stub lines by pairs of routers; where an address or a subnet's area is refused, of
-//! comparing all pairs of interfaces. `Net::arc` compares the interfaces of two routers; other questions go over one
-//! router's interfaces, or over the routers.
+//! comparing all pairs of interfaces. `Net::number_of` halves over the names, `Net::arc` compares the interfaces of two
+//! routers; other questions go over one router's interfaces.
 #![tactic(auto)]
 
 // What configurations say.
@@ -58,7 +58,7 @@ pub use bounds::{
 pub use config::{Config, Configs, Distances, Levels};
 pub use interface::{Interface, Interfaces};
 pub use laws::build_laws;
-pub use links::{cost_in, may_join};
+pub use links::{cost_in, is_link, may_join};
 pub use net::Net;
 pub use refusal::{LimitWhat, NetRefusal};
 pub use zone::Zone;

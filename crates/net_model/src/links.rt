@@ -63,7 +63,7 @@ pub fn share_subnet(near: &Interface, far: &Interface) -> bool
 }
 
 /// Whether an interface may take part in an adjacency of the zone.
-fn is_link(zone: Zone, interface: &Interface) -> bool
+pub fn is_link(zone: Zone, interface: &Interface) -> bool
     ensures { IsTrue result ↔ IsLink zone interface.now }
 {
     interface.up && !interface.loopback && runs_in(zone, interface)

@@ -84,7 +84,8 @@ impl Net {
         }
     }
 
-    /// The least cost at which two routers are adjacent in the zone.
+    /// The least cost at which two routers are adjacent in the zone. For users of a network as a library: the routes are found
+    /// over the segments of `zone_graph`.
     pub fn arc(&self, zone: Zone, u: u32, v: u32) -> Option<u32>
         requires from { u < length self.now }
         requires to { v < length self.now }
@@ -100,7 +101,8 @@ impl Net {
         best_link(zone, near.interfaces.as_slice(), far.interfaces.as_slice())
     }
 
-    /// The longest prefix that is connected at the router and contains the address.
+    /// The longest prefix that is connected at the router and contains the address. For users of a network as a library: mixed
+    /// forwarding looks all of them up at once.
     pub fn connected(&self, router: u32, a: u32) -> Option<Prefix>
         requires { router < length self.now }
         ensures { MatchOption result

@@ -8,12 +8,17 @@
 //! - `source.rt`: what every source of tables promises.
 #![tactic(auto)]
 
+// entries
 mod entries;
 mod entry;
-mod matches;
 mod number;
-mod source;
+
+// tables
+mod matches;
 mod table;
+
+// what has tables
+mod source;
 
 pub use entries::Entries;
 pub use entry::{Entry, Hops};

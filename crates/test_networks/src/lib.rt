@@ -1,13 +1,27 @@
 //! The networks that tests share, as configurations from which `Net::build` makes them, and as texts.
 //!
 //! Routers are named R and a digit, and stand in the order of their digits. OSPF has distance 110, and IS-IS is at 255.
+//!
+//! | File | What it holds |
+//! |---|---|
+//! | `small` | routers without interfaces, two routers on one link, a network with one target |
+//! | `areas`, `levels` | a ring of routers in areas of OSPF, and one in levels of IS-IS |
+//! | `router`, `interface` | the configurations that they are made of |
+//! | `texts` | texts of configurations: a triangle, a square, two border routers with a range, chains of links |
+//!
+//! Each call takes the time of the routers that it makes.
 #![tactic(auto)]
 
+// networks
 mod areas;
-mod interface;
 mod levels;
-mod router;
 mod small;
+
+// what they are made of
+mod interface;
+mod router;
+
+// texts
 mod texts;
 
 pub use areas::{Rules, ring_of_areas};

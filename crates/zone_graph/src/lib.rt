@@ -16,11 +16,17 @@
 //! | `attachments` | those of all routers, in the order of their subnets; level 1 joins the routers of one IS-IS area |
 //! | `segments` | the segments that they make, which stand for the adjacencies (`AreZoneSegments`) |
 //! | `zone_walks` | the least walks over them |
+//!
+//! The segments of a zone take the time of sorting the network's interfaces that are in it, and the walks that of
+//! `segment_walks`: routers times ports.
 #![tactic(auto)]
 
+// adjacencies
 mod attachments;
 mod links;
 mod segments;
+
+// walks over them
 mod zone_walks;
 
 pub use segments::zone_segments;

@@ -1,11 +1,8 @@
-ghost use Rattle.std.specs.Prelude.{◌↔◌, IsTrue};
-ghost use Rattle.net_model.specs.Links.{IsLink};
-ghost use Rattle.net_model.specs.Network.{RunsIn};
 ghost use Rattle.zone_graph.specs.steps.LinkLists.{IsLinkAt};
 
 use crate::OutOfMemory;
 use net_addr::Prefix;
-use net_model::{Interface, Zone, cost_in};
+use net_model::{Interface, Zone, cost_in, is_link};
 use std::alloc::Global;
 use std::marker::Model;
 
@@ -70,23 +67,5 @@ fn link_of(zone: Zone, interface: &Interface) -> Option<Link>
             cost: cost_in(zone, interface),
         }),
         _ => None,
-    }
-}
-
-/// Whether an interface may take part in an adjacency of the zone.
-fn is_link(zone: Zone, interface: &Interface) -> bool
-    ensures { IsTrue result ↔ IsLink zone interface.now }
-{
-    interface.up && !interface.loopback && runs_in(zone, interface)
-}
-
-/// Whether an interface forms adjacencies in the zone.
-fn runs_in(zone: Zone, interface: &Interface) -> bool
-    ensures { IsTrue result ↔ RunsIn zone interface.now }
-{
-    match zone {
-        Zone::Area(number) => interface.area == Some(number) && !interface.ospf_passive,
-        Zone::One => interface.level1 && !interface.isis_passive,
-        Zone::Two => interface.level2 && !interface.isis_passive,
     }
 }
