@@ -4,8 +4,8 @@
 //! | File | The lines that it prints |
 //! |---|---|
 //! | `report`, `ends` | `safe ..`, `unsafe ..`, `unsound ..`: an order, a wave list, an end of the migration |
-//! | `journal` | `reached ..`, `next ..`, `departs ..`: where a journal stands |
-//! | `tree` | `closed ..`, `unfinished ..`, `wrong ..`: what is found of a tree file |
+//! | `journal` | `at ..`, `next ..`, `done`, `departs ..`: where a journal stands |
+//! | `tree` | `closed ..`, `open ..`, `wrong ..`: what is found of a tree file |
 //! | `summary` | what sums up a plan |
 //! | `refusal`, `network`, `design`, `kinds` | `refused ..`, `limit ..`, `read fault ..`, `words refused`, with the names of kinds |
 //!
