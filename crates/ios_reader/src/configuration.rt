@@ -9,8 +9,8 @@ use crate::interfaces::interfaces_of;
 use crate::settings::{IsisSettings, OspfSettings, isis_settings, name_or_empty, ospf_settings};
 use ios_lines::fault::{Fault, fault_if, lesser_fault};
 use ios_lines::kind::ReadKind;
-use ios_sections::isis_process::{isis_line_faults, lacking, second_titles};
-use ios_sections::process::ospf_line_faults;
+use ios_sections::isis_process::{lacking, least_isis_line_fault, least_second_title};
+use ios_sections::process::least_ospf_line_fault;
 use ios_sections::read_section::read_sections;
 use ios_sections::statements::{Statements, statements_of};
 use ios_sections::text_line::TextLine;
@@ -22,18 +22,18 @@ use std::alloc::Global;
 fn ospf_fault(statements: &Statements) -> Option<Fault>
     ensures { result ≡ ospf_fault_by statements.now }
 {
-    let heads = lesser_fault(statements.heads, statements.processes);
-    lesser_fault(heads, ospf_line_faults(statements.ospf.as_slice()))
+    let heads = lesser_fault(statements.head_fault, statements.process_fault);
+    lesser_fault(heads, least_ospf_line_fault(statements.ospf.as_slice()))
 }
 
 /// The least fault of the IS-IS process.
 fn isis_fault(statements: &Statements) -> Option<Fault>
     ensures { result ≡ isis_fault_by statements.now }
 {
-    let lines = isis_line_faults(statements.isis.as_slice());
-    let titles = second_titles(statements.isis.as_slice());
+    let lines = least_isis_line_fault(statements.isis.as_slice());
+    let titles = least_second_title(statements.isis.as_slice());
     let missing = lacking(statements.isis_line, statements.isis.as_slice());
-    let own = lesser_fault(lesser_fault(statements.tags, lines), titles);
+    let own = lesser_fault(lesser_fault(statements.tag_fault, lines), titles);
     lesser_fault(own, missing)
 }
 

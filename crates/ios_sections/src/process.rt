@@ -188,7 +188,7 @@ fn ospf_statement_fault(statement: &OspfStatement) -> Option<Fault>
 }
 
 /// The least fault that a line of the OSPF process has by itself.
-pub fn ospf_line_faults(lines: &[OspfStatement]) -> Option<Fault>
+pub fn least_ospf_line_fault(lines: &[OspfStatement]) -> Option<Fault>
     ensures { result ≡ least_fault (flat_map ospf_statement_faults lines.now) }
 {
     let mut fault = None;

@@ -26,12 +26,12 @@ use Rattle.ios_sections.specs.Statements.{Statements}
 
 -- the least fault of the OSPF process, and of the first lines
 abbrev pub ospf_fault_by : Statements → Option Fault
-ospf_fault_by s = lesser_fault (lesser_fault s.heads s.processes) (least_fault (flat_map ospf_statement_faults s.ospf))
+ospf_fault_by s = lesser_fault (lesser_fault s.head_fault s.process_fault) (least_fault (flat_map ospf_statement_faults s.ospf))
 
 -- the least fault of the IS-IS process
 abbrev pub isis_fault_by : Statements → Option Fault
 isis_fault_by s =
-    lesser_fault (lesser_fault (lesser_fault s.tags (least_fault (flat_map isis_statement_faults s.isis))) (least_fault (second_titles s.isis)))
+    lesser_fault (lesser_fault (lesser_fault s.tag_fault (least_fault (flat_map isis_statement_faults s.isis))) (least_fault (second_titles s.isis)))
     (least_fault (lacking s.isis_line s.isis))
 
 -- the least fault of the interfaces

@@ -4,7 +4,7 @@ use Rattle.ios_lines.specs.FaultOrder.{lesser_fault, least_fault}
 use Rattle.ios_reader.specs.Faults.{statement_faults}
 use Rattle.ios_lines.specs.declared.fault.Fault.{Fault}
 use Rattle.ios_lines.proofs.FaultFacts.{least_more}
-use Rattle.ios_reader.proofs.interface_fault.interface_line_faults.Goals as goal
+use Rattle.ios_reader.proofs.interface_fault.least_interface_line_fault.Goals as goal
 
 pub loop-statement-preserved : goal.loop-statement-preserved
 loop-statement-preserved c =

@@ -4,7 +4,7 @@ use Rattle.ios_lines.specs.FaultOrder.{lesser_fault, least_fault}
 use Rattle.ios_sections.specs.ProcessFaults.{tag_faults_of}
 use Rattle.ios_lines.specs.declared.fault.Fault.{Fault}
 use Rattle.ios_lines.proofs.FaultFacts.{least_more}
-use Rattle.ios_sections.proofs.isis_process.tag_faults.Goals as goal
+use Rattle.ios_sections.proofs.isis_process.least_tag_fault.Goals as goal
 
 pub loop-section-preserved : goal.loop-section-preserved
 loop-section-preserved c =
