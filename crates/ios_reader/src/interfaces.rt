@@ -2,7 +2,8 @@ ghost use Rattle.std.specs.Prelude.{◌≡◌, flat_map, map, option_copied, IfO
 ghost use Rattle.ios_lines.specs.FaultOrder.{least_fault};
 ghost use Rattle.ios_reader.specs.Faults.{interface_faults};
 ghost use Rattle.ios_reader.specs.InterfacesAsRead.{interface_as_read};
-ghost use Rattle.ios_reader.specs.steps.ByStatements.{interfaces_by, interfaces_fault_by};
+ghost use Rattle.ios_reader.specs.Configurations.{interfaces_by};
+ghost use Rattle.ios_reader.specs.steps.ByStatements.{interfaces_fault_by};
 ghost use Rattle.ios_reader.specs.steps.Passives.{ArePassivesOf};
 
 use crate::OutOfMemory;

@@ -1,7 +1,7 @@
 ghost use Rattle.std.specs.Prelude.{◌≡◌, [], unwrap_or, IfOk};
 ghost use Rattle.ios_lines.specs.Lookups.{value_or};
-ghost use Rattle.ios_reader.specs.Configurations.{area_in, system_in};
-ghost use Rattle.ios_reader.specs.steps.ByStatements.{title_after, title_by, ospf_settings, isis_settings};
+ghost use Rattle.ios_reader.specs.Configurations.{area_in, system_in, title_by, ospf_settings, isis_settings};
+ghost use Rattle.ios_reader.specs.steps.ProcessFacts.{title_after};
 
 use crate::OutOfMemory;
 use crate::areas::{ranges_in, stubs_in};
