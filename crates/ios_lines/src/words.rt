@@ -193,7 +193,12 @@ fn wide_number_of(word: &[u8], most: u64) -> Option<u64>
 }
 
 /// A number from `least` to `most`, or the fault of a word that is none.
-pub(crate) fn number_from(word: &[u8], least: u32, most: u32, kind: ReadKind) -> Result<u32, ReadKind>
+pub(crate) fn number_from(
+    word: &[u8],
+    least: u32,
+    most: u32,
+    kind: ReadKind,
+) -> Result<u32, ReadKind>
     ensures value { result ≡ number_from least most kind word.now }
     ensures least { IfOk result (λ n. least ≤ n) }
     ensures most { IfOk result (λ n. n ≤ most) }

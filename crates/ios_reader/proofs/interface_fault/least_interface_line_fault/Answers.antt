@@ -1,17 +1,9 @@
-use Rattle.std.proofs.Common.{◌<◌, Option, length, take, sym, ap, ◌∙◌}
-use Rattle.std.specs.Prelude.{option_copied, flat_map}
-use Rattle.ios_lines.specs.FaultOrder.{lesser_fault, least_fault}
+use Rattle.std.specs.Prelude.{option_copied}
+use Rattle.ios_sections.proofs.LeastSteps.{least_kept}
 use Rattle.ios_reader.specs.Faults.{statement_faults}
-use Rattle.ios_lines.specs.declared.fault.Fault.{Fault}
-use Rattle.ios_lines.proofs.FaultFacts.{least_more}
 use Rattle.ios_reader.proofs.interface_fault.least_interface_line_fault.Goals as goal
 
 pub loop-statement-preserved : goal.loop-statement-preserved
 loop-statement-preserved c =
-    let within : c.loop-statement.statement-index < length c.args.lines.now = c.loop-statement-test.true in
-    c.lesser_fault-fault.ensures
-    ∙ ap (λ (o : Option Fault). lesser_fault o c.statement_fault.result) c.loop-statement.invariant
-    ∙ ap (lesser_fault (least_fault (flat_map (statement_faults (option_copied c.args.first)) (take c.loop-statement.statement-index c.args.lines.now))))
-    c.statement_fault.ensures
-    ∙ sym (least_more (statement_faults (option_copied c.args.first)) c.args.lines.now c.loop-statement.statement-index c.statement-item.result within
-    c.statement-item.is)
+    least_kept (statement_faults (option_copied c.args.first)) c.args.lines.now c.loop-statement.statement-index c.statement-item.result _ _ _
+    c.loop-statement-test.true c.statement-item.is c.loop-statement.invariant c.statement_fault.ensures c.lesser_fault-fault.ensures
