@@ -3,13 +3,11 @@ use Rattle.std.proofs.Common.{◌≡◌, ℕ, ◌+◌, Bool, true, false, not, �
 use Rattle.std.proofs.Common.{Ok, Err}
 use Rattle.std.specs.Prelude.{filter_map, flat_map, option_map, is_none, is_some, unwrap_or, fold}
 use Rattle.std.specs.List.{cons_option}
-use Rattle.net_model.specs.Configuration.{Configuration}
 use Rattle.net_model.specs.LevelSets.{has_level_one, has_level_two}
 use Rattle.net_model.specs.declared.area.Stub.{Stub}
-use Rattle.net_model.specs.declared.config.Levels.{Levels}
 use Rattle.net_model.specs.declared.interface.Interface.{Interface}
 use Rattle.ios_lines.specs.Words.{Word}
-use Rattle.ios_lines.specs.Lookups.{later, last_of, earlier, first_of, replaced, value_or}
+use Rattle.ios_lines.specs.Lookups.{later, last_of, earlier, first_of, replaced}
 use Rattle.ios_lines.specs.FaultOrder.{faults_at, faults_if}
 use Rattle.ios_lines.specs.InterfaceLines.{interface_line_fault, counting}
 use Rattle.ios_lines.specs.declared.address.InterfaceAddress.{InterfaceAddress}
@@ -27,10 +25,9 @@ use Rattle.ios_sections.specs.Sections.{sections_in}
 use Rattle.ios_sections.specs.Processes.{as_hostname, as_isis, as_fault, interfaces_in, process_of, first_tag, ospf_lines, isis_lines}
 use Rattle.ios_sections.specs.ProcessFaults.{second_processes, ospf_faults, isis_faults}
 use Rattle.ios_sections.specs.declared.section.InterfaceSection.{InterfaceSection}
-use Rattle.ios_sections.specs.declared.section.IsisSection.{IsisSection}
 use Rattle.ios_sections.specs.declared.section.Section.{Section}
 use Rattle.ios_sections.proofs.FurtherFacts.{last_of-map, flat_map-map, interface_line_further, ospf_line_further, isis_line_further, fault_further}
-use Rattle.ios_sections.proofs.FurtherFacts.{interface_further, isis_further, section_further, part_further, sections_among-further}
+use Rattle.ios_sections.proofs.FurtherFacts.{interface_further, section_further, part_further, sections_among-further}
 use Rattle.ios_sections.proofs.FurtherProcesses.{name-further, interfaces-further, isis_sections-further, heads-further, counting-further, process-further}
 use Rattle.ios_sections.proofs.FurtherProcesses.{ospf_lines-further, tag-further, isis_lines-further, faults_if-further, faults_at-further, two-further}
 use Rattle.ios_sections.proofs.FurtherProcesses.{second_processes-further, ospf_faults-further, isis_faults-further}

@@ -1,7 +1,7 @@
 -- The answer to a text, from what was read of its parts.
 use Rattle.std.proofs.Common.{sym, ◌≡◌, ℕ, ◌+◌, ◌≤◌, Bool, true, false, List, [], ◌∷◌, ◌++◌, length, Option, Some, None, refl, ap, subst, ◌∙◌, cond}
 use Rattle.std.proofs.Common.{arith, zero, suc, inl, inr}
-use Rattle.std.specs.Prelude.{flat_map, All, filter_map, is_none, is_some, unwrap_or}
+use Rattle.std.specs.Prelude.{flat_map, All, filter_map, is_none, is_some}
 use Rattle.std.specs.List.{slice_split}
 use Rattle.std.proofs.lemmas.List.{length-map}
 use Rattle.std.proofs.lemmas.List.Splits.{length-slice_split}
