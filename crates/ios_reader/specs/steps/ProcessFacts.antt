@@ -10,6 +10,7 @@ use Rattle.ios_lines.specs.declared.isis_line.IsisStatement.{IsisStatement}
 use Rattle.ios_lines.specs.declared.title.Title.{Title}
 use Rattle.ios_reader.specs.declared.router.OspfFacts.{OspfFacts}
 use Rattle.ios_reader.specs.declared.router.IsisFacts.{IsisFacts}
+use Rattle.ios_reader.specs.declared.router.ProcessFacts.{ProcessFacts}
 
 -- of each form the last line of an OSPF process
 abbrev pub ospf_facts_of : List OspfStatement → OspfFacts
@@ -46,6 +47,10 @@ isis_noted facts s = record {
   distance = later facts.distance (isis_distance_said s.says);
   leak = later facts.leak (leak_said s.says);
 }
+
+-- of each form the last line of either process
+abbrev pub process_facts_of : List OspfStatement → List IsisStatement → ProcessFacts
+process_facts_of ospf isis = record { ospf = ospf_facts_of ospf; isis = isis_facts_of isis }
 
 -- the title after one more line
 abbrev pub title_after : Option Title → IsisLine → Option Title
