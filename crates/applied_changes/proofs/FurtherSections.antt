@@ -34,7 +34,7 @@ use Rattle.ios_lines.specs.declared.isis_line.IsisStatement.{IsisStatement}
 use Rattle.ios_lines.specs.declared.isis_line.IsisLine.TheVariants.{Distance as IsisDistance}
 use Rattle.ios_lines.specs.declared.ospf_line.OspfStatement.{OspfStatement}
 use Rattle.ios_lines.specs.declared.ospf_line.OspfLine.TheVariants.{Distance as OspfDistance}
-use Rattle.ios_sections.specs.Processes.{mention_of, mentions_in, mentions_of, first_mention, first_process, lines_of_process, first_isis, first_tag}
+use Rattle.ios_sections.specs.Processes.{mention_of, mentions_in, mentions_of, first_mention, first_process, lines_of_process, first_tag}
 use Rattle.ios_sections.specs.Processes.{lines_of_tag}
 use Rattle.ios_sections.specs.ProcessFaults.{process_faults, ospf_statement_faults, tag_faults_of, isis_statement_faults, second_titles, lacking, is_net}
 use Rattle.ios_sections.specs.ProcessFaults.{is_metric_style}
@@ -50,7 +50,7 @@ use Rattle.ios_reader.specs.InterfacesAsRead.{interface_as_read, runs_level, lev
 use Rattle.ios_reader.specs.InterfaceFacts.{facts_of}
 use Rattle.ios_reader.specs.Faults.{interface_line_faults, loopback_faults, interface_faults}
 use Rattle.ios_reader.proofs.LookedUp.{two_none, none_left, none_right, ospf_lines_by, isis_lines_by, process_by, HasNoFault, configuration_by}
-use Rattle.ios_reader.specs.Configurations.{title_given, area_in, system_in, tag_in}
+use Rattle.ios_reader.specs.Configurations.{title_given, area_in, system_in}
 
 -- ---- one item more at the end of a list ----
 
@@ -430,8 +430,8 @@ module _ (name : Option Word) (interfaces : List InterfaceSection) (ospf : List 
     name = unwrap_or name [];
     interfaces = its;
     process = its_process;
-    isis = is_some (first_isis isis);
-    tag = tag_in (first_isis isis);
+    isis = is_some (first_tag isis);
+    tag = unwrap_or (first_tag isis) [];
     isis_area = area_in the_title;
     system = system_in the_title;
     levels = value_or (last_of (λ (s : IsisStatement). levels_said s.says) all_isis) Both;

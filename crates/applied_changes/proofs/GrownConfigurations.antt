@@ -1,7 +1,7 @@
 -- The lines of a change, put before an `end` line, change a distance of its configuration and nothing else.
 use Rattle.std.proofs.Common.{◌≡◌, ℕ, ◌+◌, Bool, true, false, cond, List, [], ◌∷◌, ◌++◌, Option, Some, None, refl, sym, ap, subst}
 use Rattle.std.proofs.Common.{◌∙◌}
-use Rattle.std.specs.Prelude.{filter_map, is_some, IfSome}
+use Rattle.std.specs.Prelude.{filter_map, is_some, unwrap_or, IfSome}
 use Rattle.std.specs.List.{list_all}
 use Rattle.std.proofs.lemmas.List.Elements.{filter_map-append}
 use Rattle.net_model.specs.Configuration.{Configuration}
@@ -10,12 +10,12 @@ use Rattle.ios_lines.specs.Words.{Word, is_printable}
 use Rattle.ios_lines.specs.Lookups.{last_of}
 use Rattle.ios_lines.proofs.GoodLines.{IsFrom}
 use Rattle.ios_sections.specs.JoinedLines.{sections_further_on}
-use Rattle.ios_sections.specs.Processes.{as_hostname, as_interface, as_ospf, as_isis, as_fault, merged_interfaces, interfaces_in, process_of, first_isis}
+use Rattle.ios_sections.specs.Processes.{as_hostname, as_interface, as_ospf, as_isis, as_fault, merged_interfaces, interfaces_in, process_of, first_tag}
 use Rattle.ios_sections.specs.declared.section.Section.{Section}
 use Rattle.ios_sections.specs.declared.section.Section.TheVariants.{Isis, Ospf}
 use Rattle.ios_sections.specs.declared.section.IsisSection.{IsisSection}
 use Rattle.ios_reader.specs.Faults.{section_faults}
-use Rattle.ios_reader.specs.Configurations.{tag_in, configuration_of}
+use Rattle.ios_reader.specs.Configurations.{configuration_of}
 use Rattle.igp_theory.specs.declared.phase.Phase.{Phase}
 use Rattle.igp_theory.specs.declared.phase.Phase.TheVariants.{Old, Middle, New}
 use Rattle.printed_lines.specs.Texts.{text_of}
@@ -112,14 +112,14 @@ first_grows ss ends fine = by_sections (filter_map as_isis ss) refl
     by_sections : (l : List IsisSection) → filter_map as_isis ss ≡ l → Grows ss ends (text_of (isis_change_lines (configuration_of ss)))
         (after_first (configuration_of ss))
     by_sections [] has =
-        let without : (configuration_of ss).isis ≡ false = ap (λ l. is_some (first_isis l)) has in
+        let without : (configuration_of ss).isis ≡ false = ap (λ l. is_some (first_tag l)) has in
         subst (λ t. Grows ss ends t (after_first (configuration_of ss)))
         (sym (ap (λ (b : Bool). text_of (cond b (isis_head (configuration_of ss).tag ∷ distance_line ISIS_DISTANCE ∷ []) [])) without))
         (subst (λ g. Grows ss ends [] g) (sym (ap (λ (b : Bool). cond b (with_isis_distance (configuration_of ss)) (configuration_of ss)) without))
         (nothing_grows ss ends fine))
     by_sections (f ∷ more) has =
-        let runs : (configuration_of ss).isis ≡ true = ap (λ l. is_some (first_isis l)) has in
-        let tag : (configuration_of ss).tag ≡ f.tag = ap (λ l. tag_in (first_isis l)) has in
+        let runs : (configuration_of ss).isis ≡ true = ap (λ l. is_some (first_tag l)) has in
+        let tag : (configuration_of ss).tag ≡ f.tag = ap (λ l. unwrap_or (first_tag l) []) has in
         subst (λ t. Grows ss ends t (after_first (configuration_of ss)))
         (sym (ap (λ (b : Bool). text_of (cond b (isis_head (configuration_of ss).tag ∷ distance_line ISIS_DISTANCE ∷ []) [])) runs ∙ ap isis_block tag))
         (subst (λ g. Grows ss ends (isis_block f.tag) g)

@@ -12,10 +12,10 @@ use Rattle.igp_theory.specs.States.{State, changes_of, changes_on, phase_after}
 use Rattle.igp_theory.specs.declared.phase.Phase.{Phase}
 use Rattle.igp_theory.specs.declared.phase.Phase.TheVariants.{Old, Middle, New}
 use Rattle.ios_lines.specs.Lookups.{last_of}
-use Rattle.ios_sections.specs.Processes.{as_hostname, as_isis, first_isis, first_tag, process_of}
+use Rattle.ios_sections.specs.Processes.{as_hostname, as_isis, first_tag, process_of}
 use Rattle.ios_sections.specs.declared.section.IsisSection.{IsisSection}
 use Rattle.ios_sections.specs.declared.section.Section.{Section}
-use Rattle.ios_reader.specs.Configurations.{configuration_of, tag_in}
+use Rattle.ios_reader.specs.Configurations.{configuration_of}
 use Rattle.net_model.specs.declared.bounds.TheConstants.{ISIS_DISTANCE}
 use Rattle.step_scripts.specs.Scripts.{isis_head, distance_line, isis_change_lines, ospf_change_lines}
 use Rattle.applied_changes.specs.AppliedTexts.{lines_to, block_for}
@@ -89,7 +89,7 @@ phase_further net state name u config at before other =
 pub lines_joined : (one two : List (List ℕ)) → text_of one ++ text_of two ≡ text_of (one ++ two)
 lines_joined one two = sym (flat_map-append (λ (line : List ℕ). line ++ 10 ∷ []) one two)
 
-tag_of_first : (sections : List IsisSection) (c : Configuration) → c.isis ≡ is_some (first_isis sections) → c.tag ≡ tag_in (first_isis sections) →
+tag_of_first : (sections : List IsisSection) (c : Configuration) → c.isis ≡ is_some (first_tag sections) → c.tag ≡ unwrap_or (first_tag sections) [] →
     tag_lines (first_tag sections) ≡ isis_change_lines c
 tag_of_first [] c isis tag = sym (ap (λ b. cond b (isis_head c.tag ∷ distance_line ISIS_DISTANCE ∷ []) []) isis)
 tag_of_first (section ∷ sections) c isis tag =

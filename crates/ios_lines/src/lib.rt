@@ -3,6 +3,8 @@
 //! | File | What it holds |
 //! |---|---|
 //! | `words` | the words of a line, and what a word stands for: a number, an address, the length of a mask, an area, a level |
+//! | `bounds` | the greatest values of some numbers, and the values that hold where no line says one |
+//! | `address` | the address of an interface, with the length of its mask |
 //! | `head` | what a line at indent 0 says: the router's name, an interface, a process |
 //! | `interface_line` | what a line of an interface says |
 //! | `ospf_line` | what a line of `router ospf` says |

@@ -199,7 +199,7 @@ fn range_ends(words: &Words, k: usize) -> bool
 }
 
 /// The prefix of an address and the length of its mask.
-pub fn prefix_of(address: u32, len: u8) -> Prefix
+pub(crate) fn prefix_of(address: u32, len: u8) -> Prefix
     requires { len ≤ 32 }
     ensures { result ≡ prefix_of address len }
 {

@@ -119,7 +119,7 @@ fn system_value(groups: &[u8]) -> u64
 
 /// The title for which a word stands.
 #[tactic(auto, unfolding(crate::specs::IsisLines::title_of))]
-pub fn title_of(alloc: Global, word: &[u8]) -> Result<Option<Title>, OutOfMemory>
+pub(crate) fn title_of(alloc: Global, word: &[u8]) -> Result<Option<Title>, OutOfMemory>
     ensures { IfOk result (λ title. title ≡ title_of word.now) }
 {
     if !is_title(word) {

@@ -193,7 +193,12 @@ fn wide_number_of(word: &[u8], most: u64) -> Option<u64>
 }
 
 /// A number from `least` to `most`, or the fault of a word that is none.
-pub fn number_from(word: &[u8], least: u32, most: u32, kind: ReadKind) -> Result<u32, ReadKind>
+pub(crate) fn number_from(
+    word: &[u8],
+    least: u32,
+    most: u32,
+    kind: ReadKind,
+) -> Result<u32, ReadKind>
     ensures value { result ≡ number_from least most kind word.now }
     ensures least { IfOk result (λ n. least ≤ n) }
     ensures most { IfOk result (λ n. n ≤ most) }
@@ -206,7 +211,7 @@ pub fn number_from(word: &[u8], least: u32, most: u32, kind: ReadKind) -> Result
 
 /// The address for which a word stands.
 #[tactic(auto, using(crate::proofs::AddressFacts::address_read))]
-pub fn address_of(word: &[u8]) -> Option<u32>
+pub(crate) fn address_of(word: &[u8]) -> Option<u32>
     ensures value { result ≡ address_of word.now }
 {
     read_addr(word)
@@ -214,7 +219,7 @@ pub fn address_of(word: &[u8]) -> Option<u32>
 
 /// The length of the mask for which a word stands.
 #[tactic(auto, using(crate::proofs::MaskWordFacts::mask_read))]
-pub fn mask_of(word: &[u8]) -> Option<u8>
+pub(crate) fn mask_of(word: &[u8]) -> Option<u8>
     ensures value { result ≡ mask_of word.now }
     ensures most { IfSome result (λ len. len ≤ 32) }
 {
@@ -222,7 +227,7 @@ pub fn mask_of(word: &[u8]) -> Option<u8>
 }
 
 /// The number of an area, written as a number or as an address.
-pub fn area_of(word: &[u8]) -> Option<u32>
+pub(crate) fn area_of(word: &[u8]) -> Option<u32>
     ensures { result ≡ area_of word.now }
 {
     match number_of(word, u32::MAX) {
@@ -232,7 +237,7 @@ pub fn area_of(word: &[u8]) -> Option<u32>
 }
 
 /// A level as `is-type` and `isis circuit-type` write it.
-pub fn levels_of(word: &[u8]) -> Result<Levels, ReadKind>
+pub(crate) fn levels_of(word: &[u8]) -> Result<Levels, ReadKind>
     ensures { result ≡ levels_of word.now }
 {
     if is_text(word, b"level-1") {
@@ -248,7 +253,7 @@ pub fn levels_of(word: &[u8]) -> Result<Levels, ReadKind>
 }
 
 /// Whether a byte is neither a blank nor a control character, from `!` to `~`.
-pub fn is_printable(byte: u8) -> bool
+pub(crate) fn is_printable(byte: u8) -> bool
     ensures { result ≡ is_printable byte }
 {
     byte.is_ascii_graphic()

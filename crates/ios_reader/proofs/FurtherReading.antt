@@ -3,13 +3,11 @@ use Rattle.std.proofs.Common.{◌≡◌, ℕ, ◌+◌, Bool, true, false, not, �
 use Rattle.std.proofs.Common.{Ok, Err}
 use Rattle.std.specs.Prelude.{filter_map, flat_map, option_map, is_none, is_some, unwrap_or, fold}
 use Rattle.std.specs.List.{cons_option}
-use Rattle.net_model.specs.Configuration.{Configuration}
 use Rattle.net_model.specs.LevelSets.{has_level_one, has_level_two}
 use Rattle.net_model.specs.declared.area.Stub.{Stub}
-use Rattle.net_model.specs.declared.config.Levels.{Levels}
 use Rattle.net_model.specs.declared.interface.Interface.{Interface}
 use Rattle.ios_lines.specs.Words.{Word}
-use Rattle.ios_lines.specs.Lookups.{later, last_of, earlier, first_of, replaced, value_or}
+use Rattle.ios_lines.specs.Lookups.{later, last_of, earlier, first_of, replaced}
 use Rattle.ios_lines.specs.FaultOrder.{faults_at, faults_if}
 use Rattle.ios_lines.specs.InterfaceLines.{interface_line_fault, counting}
 use Rattle.ios_lines.specs.declared.address.InterfaceAddress.{InterfaceAddress}
@@ -24,13 +22,12 @@ use Rattle.ios_lines.specs.declared.ospf_line.StubLine.{StubLine}
 use Rattle.ios_lines.specs.declared.isis_line.IsisStatement.{IsisStatement}
 use Rattle.ios_sections.specs.TextLines.{Part}
 use Rattle.ios_sections.specs.Sections.{sections_in}
-use Rattle.ios_sections.specs.Processes.{as_hostname, as_isis, as_fault, interfaces_in, process_of, first_isis, first_tag, ospf_lines, isis_lines}
+use Rattle.ios_sections.specs.Processes.{as_hostname, as_isis, as_fault, interfaces_in, process_of, first_tag, ospf_lines, isis_lines}
 use Rattle.ios_sections.specs.ProcessFaults.{second_processes, ospf_faults, isis_faults}
 use Rattle.ios_sections.specs.declared.section.InterfaceSection.{InterfaceSection}
-use Rattle.ios_sections.specs.declared.section.IsisSection.{IsisSection}
 use Rattle.ios_sections.specs.declared.section.Section.{Section}
 use Rattle.ios_sections.proofs.FurtherFacts.{last_of-map, flat_map-map, interface_line_further, ospf_line_further, isis_line_further, fault_further}
-use Rattle.ios_sections.proofs.FurtherFacts.{interface_further, isis_further, section_further, part_further, sections_among-further}
+use Rattle.ios_sections.proofs.FurtherFacts.{interface_further, section_further, part_further, sections_among-further}
 use Rattle.ios_sections.proofs.FurtherProcesses.{name-further, interfaces-further, isis_sections-further, heads-further, counting-further, process-further}
 use Rattle.ios_sections.proofs.FurtherProcesses.{ospf_lines-further, tag-further, isis_lines-further, faults_if-further, faults_at-further, two-further}
 use Rattle.ios_sections.proofs.FurtherProcesses.{second_processes-further, ospf_faults-further, isis_faults-further}
@@ -46,7 +43,8 @@ use Rattle.ios_reader.specs.InterfacesAsRead.{is_ospf_passive, interface_with, i
 use Rattle.ios_reader.specs.InterfacesAsRead.{cost_field}
 use Rattle.ios_reader.specs.Faults.{membership_fault, statement_faults, interface_line_faults, long_mask, address_mask_faults, is_point_to_point}
 use Rattle.ios_reader.specs.Faults.{loopback_faults, bandwidth_faults, interface_faults, section_faults, part_faults}
-use Rattle.ios_reader.specs.Configurations.{configuration_of, title_given, area_in, system_in, tag_in}
+use Rattle.ios_reader.specs.Configurations.{ospf_settings, isis_settings, configuration_of}
+use Rattle.ios_reader.proofs.ConfigurationFacts.{same_parts}
 
 -- ---- what the lines of an interface say ----
 
@@ -263,6 +261,9 @@ interface_faults-further k r tag s =
 
 -- ---- the faults of a configuration ----
 
+first_tag-further : (k : ℕ) (ss : List Section) → first_tag (filter_map as_isis (map (section_further k) ss)) ≡ first_tag (filter_map as_isis ss)
+first_tag-further k ss = ap first_tag (isis_sections-further k ss) ∙ tag-further k (filter_map as_isis ss)
+
 interfaces_faults-further : (k : ℕ) (ss : List Section) →
     flat_map (interface_faults (router_of (map (section_further k) ss)) (first_tag (filter_map as_isis (map (section_further k) ss))))
     (interfaces_in (map (section_further k) ss))
@@ -271,7 +272,7 @@ interfaces_faults-further k ss =
     ap (λ (r : Router). flat_map (interface_faults r (first_tag (filter_map as_isis (map (section_further k) ss))))
     (interfaces_in (map (section_further k) ss))) (router-further k ss)
     ∙ ap (λ (t : Option Word). flat_map (interface_faults (router_further k (router_of ss)) t) (interfaces_in (map (section_further k) ss)))
-    (ap first_tag (isis_sections-further k ss) ∙ tag-further k (filter_map as_isis ss))
+    (first_tag-further k ss)
     ∙ ap (flat_map (interface_faults (router_further k (router_of ss)) (first_tag (filter_map as_isis ss)))) (interfaces-further k ss)
     ∙ flat_map-map (interface_faults (router_further k (router_of ss)) (first_tag (filter_map as_isis ss)))
     (interface_faults (router_of ss) (first_tag (filter_map as_isis ss)))
@@ -328,94 +329,38 @@ stubs-further k ls =
     (filter_map-same (λ (s : OspfStatement). stub_said s.says) (ospf_line_further k) (λ x. refl) ls)
     ∙ all_stubs-further k ls (stub_lines_in ls)
 
--- what no sections say
-abbrev nothing_said : Configuration
-nothing_said = configuration_of []
-
--- a configuration by what is looked up among sections; all else is as without sections
-abbrev configuration_with : Option Word → List Interface → Option ℕ → Bool → Word → Levels → List OspfStatement → List IsisStatement → Configuration
-configuration_with name interfaces process isis tag levels ospf_said isis_said = record nothing_said {
-  name = unwrap_or name [];
-  interfaces = interfaces;
-  process = process;
-  isis = isis;
-  tag = tag;
-  isis_area = area_in (title_given (last_of (λ (s : IsisStatement). title_said s.says) isis_said));
-  system = system_in (title_given (last_of (λ (s : IsisStatement). title_said s.says) isis_said));
-  levels = levels;
-  leak = unwrap_or (last_of (λ (s : IsisStatement). leak_said s.says) isis_said) false;
-  ranges = ranges_in ospf_said;
-  stubs = stubs_in ospf_said;
-  rfc1583 = unwrap_or (last_of (λ (s : OspfStatement). rfc1583_said s.says) ospf_said) true;
-  distances = record {
-    ospf = value_or (last_of (λ (s : OspfStatement). ospf_distance_said s.says) ospf_said) nothing_said.distances.ospf;
-    isis = value_or (last_of (λ (s : IsisStatement). isis_distance_said s.says) isis_said) nothing_said.distances.isis;
-  };
-}
-
-ospf_said-further : (k : ℕ) (n : Option Word) (is : List Interface) (p : Option ℕ) (i : Bool) (t : Word) (l : Levels) (os : List OspfStatement)
-    (zs : List IsisStatement) →
-    configuration_with n is p i t l (map (ospf_line_further k) os) zs ≡ configuration_with n is p i t l os zs
-ospf_said-further k n is p i t l os zs =
+ospf_settings-further : (k : ℕ) (process : Option ℕ) (ls : List OspfStatement) →
+    ospf_settings process (map (ospf_line_further k) ls) ≡ ospf_settings process ls
+ospf_settings-further k process ls =
     rw (
-      ranges-further k os,
-      stubs-further k os,
-      last_of-map (λ (s : OspfStatement). rfc1583_said s.says) (ospf_line_further k) (λ x. refl) os,
-      last_of-map (λ (s : OspfStatement). ospf_distance_said s.says) (ospf_line_further k) (λ x. refl) os,
+      ranges-further k ls,
+      stubs-further k ls,
+      last_of-map (λ (s : OspfStatement). rfc1583_said s.says) (ospf_line_further k) (λ x. refl) ls,
+      last_of-map (λ (s : OspfStatement). ospf_distance_said s.says) (ospf_line_further k) (λ x. refl) ls,
     ) refl
 
-isis_said-further : (k : ℕ) (n : Option Word) (is : List Interface) (p : Option ℕ) (i : Bool) (t : Word) (l : Levels) (os : List OspfStatement)
-    (zs : List IsisStatement) →
-    configuration_with n is p i t l os (map (isis_line_further k) zs) ≡ configuration_with n is p i t l os zs
-isis_said-further k n is p i t l os zs =
+isis_settings-further : (k : ℕ) (tag : Option Word) (ls : List IsisStatement) → isis_settings tag (map (isis_line_further k) ls) ≡ isis_settings tag ls
+isis_settings-further k tag ls =
     rw (
-      last_of-map (λ (s : IsisStatement). title_said s.says) (isis_line_further k) (λ x. refl) zs,
-      last_of-map (λ (s : IsisStatement). isis_distance_said s.says) (isis_line_further k) (λ x. refl) zs,
-      last_of-map (λ (s : IsisStatement). leak_said s.says) (isis_line_further k) (λ x. refl) zs,
+      last_of-map (λ (s : IsisStatement). title_said s.says) (isis_line_further k) (λ x. refl) ls,
+      last_of-map (λ (s : IsisStatement). levels_said s.says) (isis_line_further k) (λ x. refl) ls,
+      last_of-map (λ (s : IsisStatement). isis_distance_said s.says) (isis_line_further k) (λ x. refl) ls,
+      last_of-map (λ (s : IsisStatement). leak_said s.says) (isis_line_further k) (λ x. refl) ls,
     ) refl
-
-there-further : (k : ℕ) (zs : List IsisSection) → is_some (first_isis (map (isis_further k) zs)) ≡ is_some (first_isis zs)
-there-further k [] = refl
-there-further k (z ∷ zs) = refl
-
-tag_in-further : (k : ℕ) (zs : List IsisSection) → tag_in (first_isis (map (isis_further k) zs)) ≡ tag_in (first_isis zs)
-tag_in-further k [] = refl
-tag_in-further k (z ∷ zs) = refl
-
-configuration_with-same : (n m : Option Word) (is js : List Interface) (p q : Option ℕ) (i j : Bool) (t u : Word) (l r : Levels) (os ps : List OspfStatement)
-    (zs ys : List IsisStatement) →
-    n ≡ m → is ≡ js → p ≡ q → i ≡ j → t ≡ u → l ≡ r → os ≡ ps → zs ≡ ys → configuration_with n is p i t l os zs ≡ configuration_with m js q j u r ps ys
-configuration_with-same n m is js p q i j t u l r os ps zs ys e1 e2 e3 e4 e5 e6 e7 e8 =
-    ap (λ (x : Option Word). configuration_with x is p i t l os zs) e1
-    ∙ ap (λ (x : List Interface). configuration_with m x p i t l os zs) e2
-    ∙ ap (λ (x : Option ℕ). configuration_with m js x i t l os zs) e3
-    ∙ ap (λ (x : Bool). configuration_with m js q x t l os zs) e4
-    ∙ ap (λ (x : Word). configuration_with m js q j x l os zs) e5
-    ∙ ap (λ (x : Levels). configuration_with m js q j u x os zs) e6
-    ∙ ap (λ (x : List OspfStatement). configuration_with m js q j u r x zs) e7
-    ∙ ap (configuration_with m js q j u r ps) e8
 
 configuration-further : (k : ℕ) (ss : List Section) → configuration_of (map (section_further k) ss) ≡ configuration_of ss
 configuration-further k ss =
-    configuration_with-same _ (last_of as_hostname ss) _ (map (interface_as_read (router_of ss)) (interfaces_in ss)) _ (process_of ss) _
-    (is_some (first_isis (filter_map as_isis ss))) _ (tag_in (first_isis (filter_map as_isis ss)))
-    _ (router_of ss).levels _ (map (ospf_line_further k) (ospf_lines ss)) _ (map (isis_line_further k) (isis_lines ss))
-    (name-further k ss)
+    same_parts _ _ _ _ _ _ _ _
+    (ap (λ (o : Option Word). unwrap_or o []) (name-further k ss))
     (ap (λ (r : Router). map (interface_as_read r) (interfaces_in (map (section_further k) ss))) (router-further k ss)
     ∙ ap (map (interface_as_read (router_further k (router_of ss)))) (interfaces-further k ss)
     ∙ all_read-further k (router_of ss) (interfaces_in ss))
-    (process-further k ss)
-    (ap (λ (zs : List IsisSection). is_some (first_isis zs)) (isis_sections-further k ss) ∙ there-further k (filter_map as_isis ss))
-    (ap (λ (zs : List IsisSection). tag_in (first_isis zs)) (isis_sections-further k ss) ∙ tag_in-further k (filter_map as_isis ss))
-    (ap (λ (r : Router). r.levels) (router-further k ss))
-    (ospf_lines-further k ss)
-    (isis_lines-further k ss)
-    ∙ ospf_said-further k (last_of as_hostname ss) (map (interface_as_read (router_of ss)) (interfaces_in ss)) (process_of ss)
-    (is_some (first_isis (filter_map as_isis ss))) (tag_in (first_isis (filter_map as_isis ss)))
-    (router_of ss).levels (ospf_lines ss) (map (isis_line_further k) (isis_lines ss))
-    ∙ isis_said-further k (last_of as_hostname ss) (map (interface_as_read (router_of ss)) (interfaces_in ss)) (process_of ss)
-    (is_some (first_isis (filter_map as_isis ss))) (tag_in (first_isis (filter_map as_isis ss)))
-    (router_of ss).levels (ospf_lines ss) (isis_lines ss)
+    (ap (λ (p : Option ℕ). ospf_settings p (ospf_lines (map (section_further k) ss))) (process-further k ss)
+    ∙ ap (ospf_settings (process_of ss)) (ospf_lines-further k ss)
+    ∙ ospf_settings-further k (process_of ss) (ospf_lines ss))
+    (ap (λ (t : Option Word). isis_settings t (isis_lines (map (section_further k) ss))) (first_tag-further k ss)
+    ∙ ap (isis_settings (first_tag (filter_map as_isis ss))) (isis_lines-further k ss)
+    ∙ isis_settings-further k (first_tag (filter_map as_isis ss)) (isis_lines ss))
 
 -- ---- a part ----
 

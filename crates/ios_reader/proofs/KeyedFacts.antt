@@ -1,19 +1,15 @@
 -- Tables whose values stand under their keys.
-use Rattle.std.proofs.Common.{sym, ◌≡◌, ℕ, zero, suc, ◌+◌, ◌<◌, Bool, true, false, ◌&&◌, List, [], ◌∷◌, ◌++◌, length, take, get_or, Option, Some, None, refl}
-use Rattle.std.proofs.Common.{ap, ◌∙◌, cond, map, nat_eq, add-one}
-use Rattle.std.specs.Prelude.{slice_get}
-use Rattle.std.specs.List.{cons_option}
+use Rattle.std.proofs.Common.{sym, ◌≡◌, ℕ, ◌+◌, ◌<◌, Bool, true, false, ◌&&◌, List, [], ◌∷◌, length, take, get_or, Option, Some, None, refl}
+use Rattle.std.proofs.Common.{ap, ◌∙◌, cond, nat_eq}
 use Rattle.std.specs.Cmp.{nat_eq_equiv}
 use Rattle.std.proofs.lemmas.Bool.{false≢true, eqb-true}
-use Rattle.std.proofs.lemmas.List.{map-append}
 use Rattle.std.proofs.lemmas.List.Elements.{All-cons, All-head, All-tail}
 use Rattle.std.specs.Map.{lookup}
 use Rattle.indexmap.specs.IndexMap.{insert_entry}
 use Rattle.ios_lines.specs.Lookups.{later, replaced, last_of}
 use Rattle.net_model.specs.declared.area.Range.{Range}
-use Rattle.ios_lines.specs.declared.ospf_line.StubLine.{StubLine}
 use Rattle.ios_reader.specs.Routers.{cost_if, is_same_range}
-use Rattle.ios_reader.specs.steps.Tables.{values_in, AreKeyed, range_key, stub_made}
+use Rattle.ios_reader.specs.steps.Tables.{values_in, AreKeyed, range_key}
 use Rattle.ios_lines.proofs.NumberFacts.{and_left, and_right}
 use Rattle.ios_lines.proofs.LineLookups.{last_of_more}
 
@@ -46,18 +42,6 @@ insert_keyed {K} {V} eq key alike [] v h = All-cons (λ (p : K × V). p.0 ≡ ke
 insert_keyed {K} {V} eq key alike (e ∷ es) v h =
     keyed_cases key (eq (key v) e.0) e v es (insert_entry eq es (key v) v) (λ t. sym (alike (key v) e.0 t)) h
     (insert_keyed eq key alike es v (All-tail (λ (p : K × V). p.0 ≡ key p.1) e es h))
-
--- ---- reading the values off ----
-
--- one more value, read by its place
-pub value_more : {V : Type 0} (vs : List V) (i : ℕ) → take (i + 1) vs ≡ take i vs ++ cons_option (slice_get vs i) []
-value_more vs i = rw add-one (by_suc vs i)
-  where
-    by_suc : {V : Type 0} (vs : List V) (i : ℕ) → take (suc i) vs ≡ take i vs ++ cons_option (slice_get vs i) []
-    by_suc [] zero = refl
-    by_suc [] (suc i) = refl
-    by_suc (v ∷ vs) zero = refl
-    by_suc {V} (v ∷ vs) (suc i) = ap (λ (w : List V). v ∷ w) (by_suc vs i)
 
 -- ---- numbers as keys ----
 
@@ -101,13 +85,6 @@ pub lookup_more : {A : Type 0} (form : ℕ → A → Option ℕ) (xs : List A) (
     (q : ℕ) → lookup (nat_eq q) new ≡ last_of (form q) (take (i + 1) xs)
 lookup_more form xs i x old new within read before step q =
     step q ∙ ap (λ (o : Option ℕ). later o (form q x)) (before q) ∙ sym (last_of_more (form q) xs i x within read)
-
--- ---- stub areas ----
-
--- one more stub area, read by its place
-pub stub_more : (cost : ℕ → Option ℕ) (vs : List StubLine) (i : ℕ) → map (stub_made cost) (take (i + 1) vs) ≡ map (stub_made cost) (take i vs)
-    ++ map (stub_made cost) (cons_option (slice_get vs i) [])
-stub_more cost vs i = ap (map (stub_made cost)) (value_more vs i) ∙ map-append (stub_made cost) (take i vs) (cons_option (slice_get vs i) [])
 
 -- ---- ranges ----
 

@@ -3,8 +3,8 @@ use Rattle.std.proofs.Common.{◌≡◌, List, [], ◌∷◌, ◌++◌, Option, 
 use Rattle.ios_lines.specs.declared.isis_line.IsisStatement.{IsisStatement}
 use Rattle.ios_lines.specs.Lookups.{later, last_of}
 use Rattle.ios_reader.specs.Routers.{title_said}
-use Rattle.ios_reader.specs.Configurations.{title_given}
-use Rattle.ios_reader.specs.steps.ByStatements.{title_after, title_by}
+use Rattle.ios_reader.specs.Configurations.{title_given, title_by}
+use Rattle.ios_reader.specs.steps.ProcessFacts.{title_after}
 use Rattle.ios_lines.specs.declared.title.Title.{Title}
 use Rattle.ios_lines.specs.declared.isis_line.IsisLine.{IsisLine}
 use Rattle.ios_lines.specs.declared.isis_line.IsisLine.TheVariants.{Net, Levels, MetricStyle, Metric, Distance, Passive, Leak, Faulty, Skipped}

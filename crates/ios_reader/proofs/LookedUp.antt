@@ -1,18 +1,16 @@
 -- A configuration and its faults, by what its sections are looked up by.
-use Rattle.std.proofs.Common.{◌≡◌, ℕ, true, false, List, [], ◌∷◌, ◌++◌, map, Option, refl, sym, ap, subst, ◌∙◌}
-use Rattle.std.specs.Prelude.{filter_map, unwrap_or, is_some, is_none}
+use Rattle.std.proofs.Common.{◌≡◌, ℕ, List, [], ◌∷◌, ◌++◌, map, Option, refl, sym, ap, subst, ◌∙◌}
+use Rattle.std.specs.Prelude.{filter_map, unwrap_or, is_none}
 use Rattle.std.specs.List.{flat_map}
 use Rattle.net_model.specs.Configuration.{Configuration}
-use Rattle.net_model.specs.declared.bounds.TheConstants.{ISIS_DISTANCE, OSPF_DISTANCE}
 use Rattle.ios_lines.specs.Words.{Word}
-use Rattle.ios_lines.specs.Lookups.{last_of, value_or}
+use Rattle.ios_lines.specs.Lookups.{last_of}
 use Rattle.ios_lines.specs.FaultOrder.{faults_if}
 use Rattle.ios_lines.specs.declared.kind.ReadKind.TheVariants.{NoHostname}
 use Rattle.ios_lines.specs.declared.fault.Fault.{Fault}
-use Rattle.ios_lines.specs.declared.title.Title.{Title}
 use Rattle.ios_lines.specs.declared.isis_line.IsisStatement.{IsisStatement}
 use Rattle.ios_lines.specs.declared.ospf_line.OspfStatement.{OspfStatement}
-use Rattle.ios_sections.specs.Processes.{as_hostname, as_ospf, as_isis, as_fault, interfaces_in, mentions_of, first_process, lines_of_process, first_isis}
+use Rattle.ios_sections.specs.Processes.{as_hostname, as_ospf, as_isis, as_fault, interfaces_in, mentions_of, first_process, lines_of_process}
 use Rattle.ios_sections.specs.Processes.{first_tag, lines_of_tag}
 use Rattle.ios_sections.specs.ProcessFaults.{process_faults, ospf_statement_faults, tag_faults_of, isis_statement_faults, second_titles, lacking}
 use Rattle.ios_sections.specs.ProcessFaults.{first_isis_line}
@@ -20,10 +18,10 @@ use Rattle.ios_sections.specs.declared.section.Section.{Section}
 use Rattle.ios_sections.specs.declared.section.IsisSection.{IsisSection}
 use Rattle.ios_sections.specs.declared.section.OspfSection.{OspfSection}
 use Rattle.ios_sections.specs.declared.section.InterfaceSection.{InterfaceSection}
-use Rattle.ios_reader.specs.Routers.{router_with, title_said, isis_distance_said, ospf_distance_said, rfc1583_said, ranges_in, stubs_in, leak_said}
+use Rattle.ios_reader.specs.Routers.{router_with}
 use Rattle.ios_reader.specs.InterfacesAsRead.{interface_as_read}
 use Rattle.ios_reader.specs.Faults.{interface_faults, section_faults}
-use Rattle.ios_reader.specs.Configurations.{title_given, area_in, system_in, tag_in, configuration_of}
+use Rattle.ios_reader.specs.Configurations.{ospf_settings, isis_settings, configuration_of_settings, configuration_of}
 
 pub two_none : (fs gs : List Fault) → fs ≡ [] → gs ≡ [] → fs ++ gs ≡ []
 two_none fs gs one two = ap (λ l. l ++ gs) one ∙ two
@@ -116,25 +114,8 @@ configuration_by name interfaces ospf isis =
     let process : Option ℕ = process_by ospf interfaces in
     let lines : List OspfStatement = ospf_lines_by process ospf in
     let others : List IsisStatement = isis_lines_by isis in
-    let title : Option Title = title_given (last_of (λ (s : IsisStatement). title_said s.says) others) in
-    record {
-      name = unwrap_or name [];
-      interfaces = map (interface_as_read (router_with process lines others)) interfaces;
-      process = process;
-      isis = is_some (first_isis isis);
-      tag = tag_in (first_isis isis);
-      isis_area = area_in title;
-      system = system_in title;
-      levels = (router_with process lines others).levels;
-      leak = unwrap_or (last_of (λ (s : IsisStatement). leak_said s.says) others) false;
-      ranges = ranges_in lines;
-      stubs = stubs_in lines;
-      rfc1583 = unwrap_or (last_of (λ (s : OspfStatement). rfc1583_said s.says) lines) true;
-      distances = record {
-        ospf = value_or (last_of (λ (s : OspfStatement). ospf_distance_said s.says) lines) OSPF_DISTANCE;
-        isis = value_or (last_of (λ (s : IsisStatement). isis_distance_said s.says) others) ISIS_DISTANCE;
-      };
-    }
+    configuration_of_settings (unwrap_or name []) (map (interface_as_read (router_with process lines others)) interfaces) (ospf_settings process lines)
+    (isis_settings (first_tag isis) others)
 
 pub made_by : (ss : List Section) (name : Option Word) (interfaces : List InterfaceSection) (ospf : List OspfSection) (isis : List IsisSection) →
     last_of as_hostname ss ≡ name → interfaces_in ss ≡ interfaces → filter_map as_ospf ss ≡ ospf → filter_map as_isis ss ≡ isis →

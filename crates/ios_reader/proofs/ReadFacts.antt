@@ -1,7 +1,7 @@
 -- The answer to a text, from what was read of its parts.
 use Rattle.std.proofs.Common.{sym, ◌≡◌, ℕ, ◌+◌, ◌≤◌, Bool, true, false, List, [], ◌∷◌, ◌++◌, length, Option, Some, None, refl, ap, subst, ◌∙◌, cond}
 use Rattle.std.proofs.Common.{arith, zero, suc, inl, inr}
-use Rattle.std.specs.Prelude.{flat_map, All, filter_map, is_none, is_some, unwrap_or}
+use Rattle.std.specs.Prelude.{flat_map, All, filter_map, is_none, is_some}
 use Rattle.std.specs.List.{slice_split}
 use Rattle.std.proofs.lemmas.List.{length-map}
 use Rattle.std.proofs.lemmas.List.Splits.{length-slice_split}
@@ -16,12 +16,12 @@ use Rattle.ios_sections.specs.ProcessFaults.{second_processes, ospf_faults, isis
 use Rattle.ios_sections.specs.ProcessFaults.{first_isis_line}
 use Rattle.ios_reader.specs.Faults.{interface_faults, section_faults, part_faults, faults_in}
 use Rattle.ios_sections.specs.Sections.{sections_in}
-use Rattle.ios_sections.specs.Processes.{as_hostname, as_isis, as_fault, interfaces_in, first_isis, first_tag, isis_lines}
+use Rattle.ios_sections.specs.Processes.{as_hostname, as_isis, as_fault, interfaces_in, first_tag, isis_lines}
 use Rattle.ios_reader.specs.Routers.{router_of}
 use Rattle.ios_lines.specs.Lookups.{last_of}
-use Rattle.ios_reader.specs.Configurations.{IsNotAfter, IsLeastFault, configuration_of, tag_in}
+use Rattle.ios_reader.specs.Configurations.{IsNotAfter, IsLeastFault, configuration_by}
 use Rattle.ios_sections.specs.Statements.{Statements, statements_of}
-use Rattle.ios_reader.specs.steps.ByStatements.{ospf_fault_by, isis_fault_by, fault_by, configuration_by}
+use Rattle.ios_reader.specs.steps.ByStatements.{ospf_fault_by, isis_fault_by, fault_by}
 use Rattle.ios_reader.specs.steps.Parts.{IsMadeOf, Reading, IsReadingOf}
 use Rattle.ios_reader.specs.Texts.{ReadsText, IsRefusedText}
 use Rattle.ios_lines.specs.declared.kind.ReadKind.TheVariants.{NoHostname, NoEnd}
@@ -65,12 +65,6 @@ fault_is sections ends =
     (isis_is sections))
     refl) refl
 
--- ---- the configuration ----
-
-tag_there : (all : List IsisSection) → is_some (first_tag all) ≡ is_some (first_isis all)
-tag_there [] = refl
-tag_there (s ∷ ss) = refl
-
 append_none : (fs gs : List Fault) → fs ++ gs ≡ [] → gs ≡ []
 append_none [] gs e = e
 append_none (f ∷ fs) gs e = absurd cc
@@ -78,19 +72,6 @@ append_none (f ∷ fs) gs e = absurd cc
 no_fault : (t : Bool) (line : ℕ) → faults_if t line NoHostname ≡ [] → t ≡ false
 no_fault true line e = absurd cc
 no_fault false line e = refl
-
-tag_is : (all : List IsisSection) → unwrap_or (first_tag all) [] ≡ tag_in (first_isis all)
-tag_is [] = refl
-tag_is (s ∷ ss) = refl
-
-abbrev with_tag : Configuration → Bool → Word → Configuration
-with_tag c isis tag = record c { isis = isis; tag = tag }
-
-pub configuration_is : (sections : List Section) → configuration_by (statements_of sections) ≡ configuration_of sections
-configuration_is sections =
-    ap (λ (b : Bool). with_tag (configuration_by (statements_of sections)) b (unwrap_or (first_tag (filter_map as_isis sections)) []))
-    (tag_there (filter_map as_isis sections))
-    ∙ ap (with_tag (configuration_by (statements_of sections)) (is_some (first_isis (filter_map as_isis sections)))) (tag_is (filter_map as_isis sections))
 
 -- ---- a part ----
 
@@ -117,15 +98,14 @@ part_faultless part s e none = none_least (part_faults part) (sym (part_fault pa
 pub part_kept : (part : Part) (s : Statements) → s ≡ statements_of (sections_in part) → fault_by s part.ends ≡ None → IsConfiguration (configuration_by s)
 part_kept part s e none =
     let named : is_some (last_of as_hostname (sections_in part)) ≡ true = part_named (sections_in part) part.ends (part_faultless part s e none) in
-    subst (λ (t : Statements). IsConfiguration (configuration_by t)) (sym e)
-    (subst IsConfiguration (sym (configuration_is (sections_in part))) (configuration_kept (sections_in part) (sections_good part) named))
+    subst (λ (t : Statements). IsConfiguration (configuration_by t)) (sym e) (configuration_kept (sections_in part) (sections_good part) named)
 
 -- a part without a fault is read into its configuration
 pub part_made : (part : Part) (s : Statements) (c : Configuration) → s ≡ statements_of (sections_in part) → fault_by s part.ends ≡ None → c
     ≡ configuration_by s → IsMadeOf part c
 part_made part s c e none made = record {
   faultless = part_faultless part s e none;
-  made = made ∙ ap configuration_by e ∙ configuration_is (sections_in part);
+  made = made ∙ ap configuration_by e;
 }
 
 -- a faulty part is read into its least fault

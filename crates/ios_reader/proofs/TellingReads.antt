@@ -12,10 +12,10 @@ use Rattle.ios_sections.specs.Sections.{sections_in}
 use Rattle.ios_sections.specs.Statements.{Statements}
 use Rattle.ios_sections.proofs.TellingFacts.{told_part, parts_told, rest_told, begins_told, none_told, statements_told}
 use Rattle.ios_reader.specs.Faults.{part_faults}
-use Rattle.ios_reader.specs.Configurations.{configuration_of}
-use Rattle.ios_reader.specs.steps.ByStatements.{fault_by, configuration_by}
+use Rattle.ios_reader.specs.Configurations.{configuration_of, configuration_by}
+use Rattle.ios_reader.specs.steps.ByStatements.{fault_by}
 use Rattle.ios_reader.specs.steps.Parts.{Reading, IsReadingOf}
-use Rattle.ios_reader.proofs.ReadFacts.{fault_is, configuration_is}
+use Rattle.ios_reader.proofs.ReadFacts.{fault_is}
 
 fault_told : (part : Part) → least_fault (part_faults (told_part part)) ≡ least_fault (part_faults part)
 fault_told part =
@@ -27,8 +27,7 @@ abbrev made : Part → Configuration
 made part = configuration_of (sections_in part)
 
 made_told : (part : Part) → made (told_part part) ≡ made part
-made_told part =
-    sym (configuration_is (sections_in (told_part part))) ∙ ap configuration_by (statements_told part) ∙ configuration_is (sections_in part)
+made_told part = ap configuration_by (statements_told part)
 
 faults_told : (parts : List Part) → least_fault (flat_map part_faults (map told_part parts)) ≡ least_fault (flat_map part_faults parts)
 faults_told [] = refl

@@ -1,13 +1,15 @@
 -- The configurations of a text, or its least faulty line.
 pub use Rattle.ios_lines.specs.FaultOrder.{rank}
-use Rattle.std.specs.Prelude.{◌≡◌, ℕ, ◌<◌, ◌≤◌, false, true, List, [], Option, Some, None, map, filter_map, unwrap_or, is_some, All, Contains, ◌⊎◌}
+use Rattle.std.specs.Prelude.{◌≡◌, ℕ, ◌<◌, ◌≤◌, false, true, List, [], Option, Some, None, map, unwrap_or, is_some, All, Contains, ◌⊎◌}
 use Rattle.net_model.specs.Configuration.{Configuration}
 use Rattle.net_model.specs.declared.bounds.TheConstants.{ISIS_DISTANCE, OSPF_DISTANCE}
+use Rattle.net_model.specs.declared.config.Levels.TheVariants.{Both}
+use Rattle.net_model.specs.declared.interface.Interface.{Interface}
 use Rattle.ios_lines.specs.Words.{Word}
 use Rattle.ios_lines.specs.Lookups.{last_of, value_or}
 use Rattle.ios_sections.specs.TextLines.{TextLine, parts_of}
-use Rattle.ios_sections.specs.Processes.{as_hostname, as_isis, interfaces_in, process_of, ospf_lines, isis_lines, first_isis}
-use Rattle.ios_reader.specs.Routers.{router_of, title_said, ospf_distance_said, isis_distance_said, leak_said, rfc1583_said, ranges_in, stubs_in}
+use Rattle.ios_sections.specs.Statements.{Statements, statements_of}
+use Rattle.ios_reader.specs.Routers.{router_with, title_said, levels_said, ospf_distance_said, isis_distance_said, leak_said, rfc1583_said, ranges_in, stubs_in}
 use Rattle.ios_reader.specs.InterfacesAsRead.{interface_as_read}
 use Rattle.ios_reader.specs.Faults.{faults_in}
 use Rattle.ios_sections.specs.Sections.{sections_in}
@@ -15,7 +17,8 @@ use Rattle.ios_lines.specs.declared.fault.Fault.{Fault}
 use Rattle.ios_lines.specs.declared.ospf_line.OspfStatement.{OspfStatement}
 use Rattle.ios_lines.specs.declared.isis_line.IsisStatement.{IsisStatement}
 use Rattle.ios_lines.specs.declared.title.Title.{Title}
-use Rattle.ios_sections.specs.declared.section.IsisSection.{IsisSection}
+use Rattle.ios_reader.specs.declared.settings.OspfSettings.{OspfSettings}
+use Rattle.ios_reader.specs.declared.settings.IsisSettings.{IsisSettings}
 use Rattle.ios_sections.specs.declared.section.Section.{Section}
 
 -- the title that a `net` line gives
@@ -33,36 +36,61 @@ abbrev pub system_in : Option Title → ℕ
 system_in None = 0
 system_in (Some title) = title.system
 
--- the tag of the process, where there is one
-abbrev pub tag_in : Option IsisSection → Word
-tag_in None = []
-tag_in (Some first) = first.tag
+-- the title of the last `net` line
+abbrev pub title_by : List IsisStatement → Option Title
+title_by lines = title_given (last_of (λ (s : IsisStatement). title_said s.says) lines)
+
+-- what the lines of an OSPF process of this number say of a configuration
+abbrev pub ospf_settings : Option ℕ → List OspfStatement → OspfSettings
+ospf_settings process lines = record {
+  process = process;
+  ranges = ranges_in lines;
+  stubs = stubs_in lines;
+  rfc1583 = unwrap_or (last_of (λ (s : OspfStatement). rfc1583_said s.says) lines) true;
+  distance = value_or (last_of (λ (s : OspfStatement). ospf_distance_said s.says) lines) OSPF_DISTANCE;
+}
+
+-- what the lines of an IS-IS process with this tag say of a configuration
+abbrev pub isis_settings : Option Word → List IsisStatement → IsisSettings
+isis_settings tag lines = record {
+  isis = is_some tag;
+  tag = unwrap_or tag [];
+  area = area_in (title_by lines);
+  system = system_in (title_by lines);
+  levels = value_or (last_of (λ (s : IsisStatement). levels_said s.says) lines) Both;
+  leak = unwrap_or (last_of (λ (s : IsisStatement). leak_said s.says) lines) false;
+  distance = value_or (last_of (λ (s : IsisStatement). isis_distance_said s.says) lines) ISIS_DISTANCE;
+}
+
+-- the configuration of a router of this name with these interfaces
+abbrev pub configuration_of_settings : Word → List Interface → OspfSettings → IsisSettings → Configuration
+configuration_of_settings name interfaces ospf isis = record {
+  name = name;
+  interfaces = interfaces;
+  process = ospf.process;
+  isis = isis.isis;
+  tag = isis.tag;
+  isis_area = isis.area;
+  system = isis.system;
+  levels = isis.levels;
+  leak = isis.leak;
+  ranges = ospf.ranges;
+  stubs = ospf.stubs;
+  rfc1583 = ospf.rfc1583;
+  distances = record { ospf = ospf.distance; isis = isis.distance };
+}
+
+-- the interfaces, as they are read
+abbrev pub interfaces_by : Statements → List Interface
+interfaces_by s = map (interface_as_read (router_with s.process s.ospf s.isis)) s.interfaces
+
+-- the configuration, by what its sections say
+abbrev pub configuration_by : Statements → Configuration
+configuration_by s = configuration_of_settings (unwrap_or s.name []) (interfaces_by s) (ospf_settings s.process s.ospf) (isis_settings s.tag s.isis)
 
 -- the configuration that sections make
 abbrev pub configuration_of : List Section → Configuration
-configuration_of sections =
-    let first = first_isis (filter_map as_isis sections) in
-    let ospf = ospf_lines sections in
-    let isis = isis_lines sections in
-    let title = title_given (last_of (λ (s : IsisStatement). title_said s.says) isis) in
-    record {
-      name = unwrap_or (last_of as_hostname sections) [];
-      interfaces = map (interface_as_read (router_of sections)) (interfaces_in sections);
-      process = process_of sections;
-      isis = is_some first;
-      tag = tag_in first;
-      isis_area = area_in title;
-      system = system_in title;
-      levels = (router_of sections).levels;
-      leak = unwrap_or (last_of (λ (s : IsisStatement). leak_said s.says) isis) false;
-      ranges = ranges_in ospf;
-      stubs = stubs_in ospf;
-      rfc1583 = unwrap_or (last_of (λ (s : OspfStatement). rfc1583_said s.says) ospf) true;
-      distances = record {
-        ospf = value_or (last_of (λ (s : OspfStatement). ospf_distance_said s.says) ospf) OSPF_DISTANCE;
-        isis = value_or (last_of (λ (s : IsisStatement). isis_distance_said s.says) isis) ISIS_DISTANCE;
-      };
-    }
+configuration_of sections = configuration_by (statements_of sections)
 
 -- the configurations of a text without a faulty line
 abbrev pub configurations_in : List TextLine → List Configuration

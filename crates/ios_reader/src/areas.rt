@@ -1,4 +1,4 @@
-ghost use Rattle.std.specs.Prelude.{◌≡◌, ℕ, [], ◌++◌, nat_eq, map, fold, slice_get, OnOk, IfOk};
+ghost use Rattle.std.specs.Prelude.{◌≡◌, ℕ, [], nat_eq, map, fold, OnOk, IfOk};
 ghost use Rattle.std.specs.List.{cons_option};
 ghost use Rattle.indexmap.specs.IndexMap.{get};
 ghost use Rattle.ios_lines.specs.Lookups.{later, last_of, replaced};
@@ -71,43 +71,12 @@ fn range_table(
     Ok(ranges)
 }
 
-/// The range at a place of a table.
-fn range_at(ranges: &IndexMap<RangeKey, Range>, place: usize) -> Option<Range>
-    ensures { result ≡ slice_get (values_in ranges.now.entries) place }
-{
-    match ranges.get_index(place) {
-        Some((_, range)) => Some(*range),
-        None => None,
-    }
-}
-
-/// Takes in a range, where there is one.
-fn push_range(ranges: &mut Vec<Range>, range: Option<Range>) -> Result<(), OutOfMemory>
-    ensures { OnOk result (ranges.new.items ≡ ranges.old.items ++ cons_option range []) }
-{
-    if let Some(range) = range {
-        ranges.push(range)?;
-    }
-    Ok(())
-}
-
-/// The ranges of a table, in order.
-fn ranges_of(alloc: Global, table: &IndexMap<RangeKey, Range>) -> Result<Vec<Range>, OutOfMemory>
-    ensures { IfOk result (λ ranges. ranges.items ≡ values_in table.now.entries) }
-{
-    let mut ranges = Vec::new(alloc);
-    for place in 0..table.len() {
-        push_range(&mut ranges, range_at(table, place))?;
-    }
-    Ok(ranges)
-}
-
 /// The ranges of an OSPF process.
 pub fn ranges_in(alloc: Global, lines: &[OspfStatement]) -> Result<Vec<Range>, OutOfMemory>
     ensures { IfOk result (λ ranges. ranges.items ≡ ranges_in lines.now) }
 {
     let table = range_table(alloc, lines)?;
-    ranges_of(alloc, &table)
+    Vec::from_slice(alloc, table.values().as_slice())
 }
 
 /// Takes in a stub line: it replaces the earlier one for the same area.
@@ -190,16 +159,6 @@ fn default_cost_at(costs: &IndexMap<u32, u32>, area: u32) -> Option<u32>
     }
 }
 
-/// The stub line at a place of a table.
-fn stub_at(stubs: &IndexMap<u32, StubLine>, place: usize) -> Option<StubLine>
-    ensures { result ≡ slice_get (values_in stubs.now.entries) place }
-{
-    match stubs.get_index(place) {
-        Some((_, stub)) => Some(*stub),
-        None => None,
-    }
-}
-
 /// A stub area with its default cost.
 fn stub_made(costs: &IndexMap<u32, u32>, stub: StubLine) -> Stub
     ensures { result ≡ stub_made (get nat_eq costs.now) stub }
@@ -211,31 +170,17 @@ fn stub_made(costs: &IndexMap<u32, u32>, stub: StubLine) -> Stub
     }
 }
 
-/// Takes in a stub area with its default cost, where there is one.
-fn push_stub(
-    stubs: &mut Vec<Stub>,
-    costs: &IndexMap<u32, u32>,
-    stub: Option<StubLine>,
-) -> Result<(), OutOfMemory>
-    ensures { OnOk result (stubs.new.items ≡ stubs.old.items ++ map (stub_made (get nat_eq costs.now)) (cons_option stub [])) }
-{
-    if let Some(stub) = stub {
-        stubs.push(stub_made(costs, stub))?;
-    }
-    Ok(())
-}
-
-/// The stub areas of a table, each with its default cost, in order.
+/// The stub areas of these lines, each with its default cost, in order.
 fn stubs_of(
     alloc: Global,
-    table: &IndexMap<u32, StubLine>,
+    lines: &[StubLine],
     costs: &IndexMap<u32, u32>,
 ) -> Result<Vec<Stub>, OutOfMemory>
-    ensures { IfOk result (λ stubs. stubs.items ≡ map (stub_made (get nat_eq costs.now)) (values_in table.now.entries)) }
+    ensures { IfOk result (λ stubs. stubs.items ≡ map (stub_made (get nat_eq costs.now)) lines.now) }
 {
-    let mut stubs = Vec::new(alloc);
-    for place in 0..table.len() {
-        push_stub(&mut stubs, costs, stub_at(table, place))?;
+    let mut stubs = Vec::with_capacity(alloc, lines.len())?;
+    for line in lines {
+        stubs.push(stub_made(costs, *line))?;
     }
     Ok(stubs)
 }
@@ -246,5 +191,5 @@ pub fn stubs_in(alloc: Global, lines: &[OspfStatement]) -> Result<Vec<Stub>, Out
 {
     let table = stub_table(alloc, lines)?;
     let costs = default_costs(alloc, lines)?;
-    stubs_of(alloc, &table, &costs)
+    stubs_of(alloc, table.values().as_slice(), &costs)
 }

@@ -1,16 +1,18 @@
 ghost use Rattle.std.specs.Prelude.{◌≡◌, IfOk};
 ghost use Rattle.net_model.specs.Configuration.{IsConfiguration};
-ghost use Rattle.ios_reader.specs.steps.ByStatements.{ospf_fault_by, isis_fault_by, interfaces_fault_by, fault_by, interfaces_by};
-ghost use Rattle.ios_reader.specs.steps.ByStatements.{configuration_of_settings, configuration_by};
+ghost use Rattle.ios_reader.specs.Configurations.{interfaces_by, configuration_of_settings, configuration_by};
+ghost use Rattle.ios_reader.specs.steps.ByStatements.{ospf_fault_by, isis_fault_by, interfaces_fault_by, fault_by};
 ghost use Rattle.ios_reader.specs.steps.Parts.{part_at, IsPartRead};
+ghost use Rattle.ios_reader.specs.steps.ProcessFacts.{process_facts_of};
 
 use crate::OutOfMemory;
 use crate::interfaces::interfaces_of;
+use crate::router::{ProcessFacts, process_facts_of};
 use crate::settings::{IsisSettings, OspfSettings, isis_settings, name_or_empty, ospf_settings};
 use ios_lines::fault::{Fault, fault_if, lesser_fault};
 use ios_lines::kind::ReadKind;
-use ios_sections::isis_process::{isis_line_faults, lacking, second_titles};
-use ios_sections::process::ospf_line_faults;
+use ios_sections::isis_process::{lacking, least_isis_line_fault, least_second_title};
+use ios_sections::process::least_ospf_line_fault;
 use ios_sections::read_section::read_sections;
 use ios_sections::statements::{Statements, statements_of};
 use ios_sections::text_line::TextLine;
@@ -22,18 +24,18 @@ use std::alloc::Global;
 fn ospf_fault(statements: &Statements) -> Option<Fault>
     ensures { result ≡ ospf_fault_by statements.now }
 {
-    let heads = lesser_fault(statements.heads, statements.processes);
-    lesser_fault(heads, ospf_line_faults(statements.ospf.as_slice()))
+    let head = lesser_fault(statements.head_fault, statements.process_fault);
+    lesser_fault(head, least_ospf_line_fault(statements.ospf.as_slice()))
 }
 
 /// The least fault of the IS-IS process.
 fn isis_fault(statements: &Statements) -> Option<Fault>
     ensures { result ≡ isis_fault_by statements.now }
 {
-    let lines = isis_line_faults(statements.isis.as_slice());
-    let titles = second_titles(statements.isis.as_slice());
+    let line = least_isis_line_fault(statements.isis.as_slice());
+    let title = least_second_title(statements.isis.as_slice());
     let missing = lacking(statements.isis_line, statements.isis.as_slice());
-    let own = lesser_fault(lesser_fault(statements.tags, lines), titles);
+    let own = lesser_fault(lesser_fault(statements.tag_fault, line), title);
     lesser_fault(own, missing)
 }
 
@@ -77,14 +79,16 @@ fn config_with(
     }
 }
 
-/// The configuration that the statements of a router make, with their interfaces.
+/// The configuration that the statements of a router make, with their interfaces and the facts of its processes.
 fn config_of(
     alloc: Global,
     statements: Statements,
     interfaces: Vec<Interface>,
+    facts: ProcessFacts,
 ) -> Result<Config, OutOfMemory>
     requires kept { IsConfiguration (configuration_by statements) }
     requires interfaces { interfaces.items ≡ interfaces_by statements }
+    requires facts { facts ≡ process_facts_of statements.ospf statements.isis }
     ensures { IfOk result (λ c. c ≡ configuration_by statements) }
 {
     let Statements {
@@ -95,8 +99,8 @@ fn config_of(
         isis,
         ..
     } = statements;
-    let ospf = ospf_settings(alloc, process, ospf.as_slice())?;
-    let isis = isis_settings(alloc, tag, isis);
+    let ospf = ospf_settings(alloc, process, ospf.as_slice(), facts.ospf)?;
+    let isis = isis_settings(alloc, tag, isis, facts.isis);
     Ok(config_with(name_or_empty(alloc, name), interfaces, ospf, isis))
 }
 
@@ -110,9 +114,10 @@ pub fn read_part(
 {
     let sections = read_sections(alloc, lines)?;
     let statements = statements_of(alloc, sections)?;
-    let interfaces = interfaces_of(alloc, &statements)?;
+    let facts = process_facts_of(statements.ospf.as_slice(), statements.isis.as_slice());
+    let interfaces = interfaces_of(alloc, &statements, facts)?;
     match fault_of(&statements, interfaces.fault, ends) {
         Some(fault) => Ok(Err(fault)),
-        None => Ok(Ok(config_of(alloc, statements, interfaces.all)?)),
+        None => Ok(Ok(config_of(alloc, statements, interfaces.all, facts)?)),
     }
 }

@@ -55,7 +55,7 @@ fn statement_fault(first: Option<&[u8]>, statement: &InterfaceStatement) -> Opti
 }
 
 /// The least fault of the lines of an interface.
-fn interface_line_faults(first: Option<&[u8]>, lines: &[InterfaceStatement]) -> Option<Fault>
+fn least_interface_line_fault(first: Option<&[u8]>, lines: &[InterfaceStatement]) -> Option<Fault>
     ensures { result ≡ least_fault (interface_line_faults (option_copied first.entry) lines.now) }
 {
     let mut fault = None;
@@ -132,7 +132,7 @@ pub fn interface_fault(
     requires { facts.now ≡ facts_of (counting section.now.lines) }
     ensures { result ≡ least_fault (interface_faults router.now (option_copied tag.entry) section.now) }
 {
-    let own = interface_line_faults(tag, counting(section.lines.as_slice()));
+    let own = least_interface_line_fault(tag, counting(section.lines.as_slice()));
     let mask = loopback_fault(section.name.as_slice(), facts);
     let bandwidth = bandwidth_fault(router, section, facts);
     lesser_fault(lesser_fault(own, mask), bandwidth)

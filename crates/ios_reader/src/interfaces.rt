@@ -2,8 +2,10 @@ ghost use Rattle.std.specs.Prelude.{◌≡◌, flat_map, map, option_copied, IfO
 ghost use Rattle.ios_lines.specs.FaultOrder.{least_fault};
 ghost use Rattle.ios_reader.specs.Faults.{interface_faults};
 ghost use Rattle.ios_reader.specs.InterfacesAsRead.{interface_as_read};
-ghost use Rattle.ios_reader.specs.steps.ByStatements.{interfaces_by, interfaces_fault_by};
+ghost use Rattle.ios_reader.specs.Configurations.{interfaces_by};
+ghost use Rattle.ios_reader.specs.steps.ByStatements.{interfaces_fault_by};
 ghost use Rattle.ios_reader.specs.steps.Passives.{ArePassivesOf};
+ghost use Rattle.ios_reader.specs.steps.ProcessFacts.{process_facts_of};
 
 use crate::OutOfMemory;
 use crate::facts::facts_of;
@@ -11,7 +13,7 @@ use crate::interface_fault::interface_fault;
 use crate::interface_read::interface_with;
 use crate::networks::networks_of;
 use crate::passive::{Passives, passives_of};
-use crate::router::{Router, router_with};
+use crate::router::{ProcessFacts, Router, router_with};
 use ios_lines::fault::{Fault, lesser_fault};
 use ios_lines::interface_line::counting;
 use ios_lines::words::name_of;
@@ -52,8 +54,13 @@ fn read_interfaces(
     Ok(InterfacesRead { all, fault })
 }
 
-/// Reads the interfaces that the statements of a router make.
-pub fn interfaces_of(alloc: Global, statements: &Statements) -> Result<InterfacesRead, OutOfMemory>
+/// Reads the interfaces that the statements of a router make, whose processes say this in the end.
+pub fn interfaces_of(
+    alloc: Global,
+    statements: &Statements,
+    facts: ProcessFacts,
+) -> Result<InterfacesRead, OutOfMemory>
+    requires { facts ≡ process_facts_of statements.now.ospf statements.now.isis }
     ensures all { IfOk result (λ read. read.all.items ≡ interfaces_by statements.now) }
     ensures fault { IfOk result (λ read. read.fault ≡ interfaces_fault_by statements.now) }
 {
@@ -63,6 +70,7 @@ pub fn interfaces_of(alloc: Global, statements: &Statements) -> Result<Interface
         statements.ospf.as_slice(),
         &networks,
         statements.isis.as_slice(),
+        facts,
     );
     let passives = passives_of(alloc, &router)?;
     let read = read_interfaces(

@@ -2,7 +2,8 @@
 //!
 //! | File | What it holds |
 //! |---|---|
-//! | `reader` | `read_configs`: a text, read into its configurations or refused for its first faulty line |
+//! | `reader`, `refusal` | `read_configs`: a text, read into its configurations or refused for its first faulty line |
+//! | `kind`, `fault` | why a line is faulty, and a faulty line: those of `ios_lines` |
 //! | `configuration` | the lines before an `end` line, read into a configuration or their least fault |
 //! | `facts`, `router` | what the lines of an interface, and of the two processes, say in the end: of each form the last line |
 //! | `settings` | what the lines of the two processes say of a configuration |
@@ -11,6 +12,7 @@
 //! | `passive` | which interfaces the two processes make passive |
 //! | `interfaces` | the interfaces of a router: what the lines of each say is found once, for both of the next |
 //! | `interface_read`, `interface_fault` | an interface as read, and what is wrong with it |
+//! | `places` | where a line of a text begins, and what stands between two places |
 //! | `laws`, `inserted` | that each text is read in one way; what texts are read as that are put together |
 //!
 //! A text is gone through once, and lines that tell nothing are left out at their first word. It is read in time of

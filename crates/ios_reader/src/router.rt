@@ -3,7 +3,7 @@ ghost use Rattle.ios_lines.specs.Lookups.{value_or};
 ghost use Rattle.ios_reader.specs.Routers.{router_with};
 ghost use Rattle.ios_reader.specs.InterfacesAsRead.{network_area};
 ghost use Rattle.ios_reader.specs.steps.Networks.{placed_networks};
-ghost use Rattle.ios_reader.specs.steps.ProcessFacts.{ospf_noted, ospf_facts_of, isis_noted, isis_facts_of};
+ghost use Rattle.ios_reader.specs.steps.ProcessFacts.{ospf_noted, ospf_facts_of, isis_noted, isis_facts_of, process_facts_of};
 
 use crate::networks::Networks;
 use ios_lines::isis_line::{IsisLine, IsisStatement};
@@ -39,6 +39,15 @@ pub struct IsisFacts {
     pub leak: Option<bool>,
 }
 
+/// What the lines of both processes say in the end.
+#[derive(Clone, Copy, Debug)]
+pub struct ProcessFacts {
+    /// What those of the OSPF process say.
+    pub ospf: OspfFacts,
+    /// What those of the IS-IS process say.
+    pub isis: IsisFacts,
+}
+
 /// What the lines of an OSPF process say in the end, with one more line.
 fn ospf_noted(facts: OspfFacts, statement: &OspfStatement) -> OspfFacts
     ensures { result ≡ ospf_noted facts statement.now }
@@ -55,7 +64,7 @@ fn ospf_noted(facts: OspfFacts, statement: &OspfStatement) -> OspfFacts
 }
 
 /// What the lines of an OSPF process say in the end: of each form the last one.
-pub fn ospf_facts_of(lines: &[OspfStatement]) -> OspfFacts
+fn ospf_facts_of(lines: &[OspfStatement]) -> OspfFacts
     ensures { result ≡ ospf_facts_of lines.now }
 {
     let mut facts = OspfFacts {
@@ -86,7 +95,7 @@ fn isis_noted(facts: IsisFacts, statement: &IsisStatement) -> IsisFacts
 }
 
 /// What the lines of an IS-IS process say in the end: of each form the last one.
-pub fn isis_facts_of(lines: &[IsisStatement]) -> IsisFacts
+fn isis_facts_of(lines: &[IsisStatement]) -> IsisFacts
     ensures { result ≡ isis_facts_of lines.now }
 {
     let mut facts = IsisFacts {
@@ -99,6 +108,16 @@ pub fn isis_facts_of(lines: &[IsisStatement]) -> IsisFacts
         facts = isis_noted(facts, statement);
     }
     facts
+}
+
+/// What the lines of both processes say in the end.
+pub fn process_facts_of(ospf: &[OspfStatement], isis: &[IsisStatement]) -> ProcessFacts
+    ensures { result ≡ process_facts_of ospf.now isis.now }
+{
+    ProcessFacts {
+        ospf: ospf_facts_of(ospf),
+        isis: isis_facts_of(isis),
+    }
 }
 
 /// What the two processes of a router say that concerns its interfaces.
@@ -178,20 +197,20 @@ pub fn router_with<'a>(
     ospf: &'a [OspfStatement],
     networks: &'a Networks,
     isis: &'a [IsisStatement],
+    facts: ProcessFacts,
 ) -> Router<'a>
-    requires { networks.now ≡ placed_networks 0 ospf.now }
+    requires networks { networks.now ≡ placed_networks 0 ospf.now }
+    requires facts { facts ≡ process_facts_of ospf.now isis.now }
     ensures { result ≡ router_with process ospf.entry.now isis.entry.now }
 {
-    let ospf_facts = ospf_facts_of(ospf);
-    let isis_facts = isis_facts_of(isis);
     Router {
         process,
         ospf,
         networks,
         isis,
-        passive_default: ospf_facts.passive_default.unwrap_or(false),
-        reference: value_or(ospf_facts.reference, DEFAULT_REFERENCE),
-        levels: levels_or_both(isis_facts.levels),
-        metric: value_or(isis_facts.metric, DEFAULT_METRIC),
+        passive_default: facts.ospf.passive_default.unwrap_or(false),
+        reference: value_or(facts.ospf.reference, DEFAULT_REFERENCE),
+        levels: levels_or_both(facts.isis.levels),
+        metric: value_or(facts.isis.metric, DEFAULT_METRIC),
     }
 }

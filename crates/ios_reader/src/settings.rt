@@ -1,11 +1,11 @@
 ghost use Rattle.std.specs.Prelude.{◌≡◌, [], unwrap_or, IfOk};
 ghost use Rattle.ios_lines.specs.Lookups.{value_or};
-ghost use Rattle.ios_reader.specs.Configurations.{area_in, system_in};
-ghost use Rattle.ios_reader.specs.steps.ByStatements.{title_after, title_by, ospf_settings, isis_settings};
+ghost use Rattle.ios_reader.specs.Configurations.{area_in, system_in, title_by, ospf_settings, isis_settings};
+ghost use Rattle.ios_reader.specs.steps.ProcessFacts.{title_after, ospf_facts_of, isis_facts_of};
 
 use crate::OutOfMemory;
 use crate::areas::{ranges_in, stubs_in};
-use crate::router::{isis_facts_of, levels_or_both, ospf_facts_of};
+use crate::router::{IsisFacts, OspfFacts, levels_or_both};
 use ios_lines::isis_line::{IsisLine, IsisStatement};
 use ios_lines::kind::ReadKind;
 use ios_lines::ospf_line::OspfStatement;
@@ -53,12 +53,13 @@ pub fn ospf_settings(
     alloc: Global,
     process: Option<u32>,
     lines: &[OspfStatement],
+    facts: OspfFacts,
 ) -> Result<OspfSettings, OutOfMemory>
+    requires { facts ≡ ospf_facts_of lines.now }
     ensures { IfOk result (λ s. s ≡ ospf_settings process lines.now) }
 {
     let ranges = ranges_in(alloc, lines)?;
     let stubs = stubs_in(alloc, lines)?;
-    let facts = ospf_facts_of(lines);
     Ok(OspfSettings {
         process,
         ranges: Ranges::from_vec(ranges),
@@ -69,10 +70,15 @@ pub fn ospf_settings(
 }
 
 /// What the lines of an IS-IS process with this tag say of a configuration.
-pub fn isis_settings(alloc: Global, tag: Option<Name>, lines: Vec<IsisStatement>) -> IsisSettings
+pub fn isis_settings(
+    alloc: Global,
+    tag: Option<Name>,
+    lines: Vec<IsisStatement>,
+    facts: IsisFacts,
+) -> IsisSettings
+    requires { facts ≡ isis_facts_of lines.items }
     ensures { result ≡ isis_settings tag lines.items }
 {
-    let facts = isis_facts_of(lines.as_slice());
     let (area, system) = title_parts(alloc, title_of_lines(lines));
     IsisSettings {
         isis: tag.is_some(),

@@ -8,3 +8,4 @@ pub mod FurtherFacts
 pub mod FurtherProcesses
 pub mod LawFacts
 pub mod TellingFacts
+pub mod LeastSteps

@@ -127,12 +127,7 @@ ospf_lines sections = flat_map (lines_of_process (process_of sections)) (filter_
 
 -- ---- the IS-IS process ----
 
--- the process of the router: the first that the configuration opens
-abbrev pub first_isis : List IsisSection → Option IsisSection
-first_isis [] = None
-first_isis (section ∷ _) = Some section
-
--- the tag of the process
+-- the tag of the process of the router: of the first that the configuration opens
 abbrev pub first_tag : List IsisSection → Option Word
 first_tag [] = None
 first_tag (section ∷ _) = Some section.tag

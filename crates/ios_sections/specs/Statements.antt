@@ -20,9 +20,9 @@ pub record Statements : Type 0 where
   pub tag : Option Word
   pub isis_line : Option ℕ
   pub isis : List IsisStatement
-  pub heads : Option Fault
-  pub processes : Option Fault
-  pub tags : Option Fault
+  pub head_fault : Option Fault
+  pub process_fault : Option Fault
+  pub tag_fault : Option Fault
 
 -- what sections say
 abbrev pub statements_of : List Section → Statements
@@ -34,7 +34,7 @@ statements_of sections = record {
   tag = first_tag (filter_map as_isis sections);
   isis_line = first_isis_line (filter_map as_isis sections);
   isis = isis_lines sections;
-  heads = least_fault (filter_map as_fault sections);
-  processes = least_fault (second_processes sections);
-  tags = least_fault (tag_faults (filter_map as_isis sections));
+  head_fault = least_fault (filter_map as_fault sections);
+  process_fault = least_fault (second_processes sections);
+  tag_fault = least_fault (tag_faults (filter_map as_isis sections));
 }

@@ -14,7 +14,7 @@ use ios_lines::words::is_text;
 use std::alloc::Global;
 
 /// The tag of the process: that of the first `router isis` line.
-pub fn first_tag(sections: &[IsisSection]) -> Option<&[u8]>
+pub(crate) fn first_tag(sections: &[IsisSection]) -> Option<&[u8]>
     ensures { option_copied result ≡ first_tag sections.now }
 {
     match sections.first() {
@@ -77,7 +77,7 @@ fn add_isis_lines(
 }
 
 /// The lines of the IS-IS process.
-pub fn isis_lines(
+pub(crate) fn isis_lines(
     alloc: Global,
     tag: Option<&[u8]>,
     sections: Vec<IsisSection>,
@@ -92,7 +92,7 @@ pub fn isis_lines(
 }
 
 /// The least fault of the `router isis` lines.
-pub fn tag_faults(first: Option<&[u8]>, sections: &[IsisSection]) -> Option<Fault>
+pub(crate) fn least_tag_fault(first: Option<&[u8]>, sections: &[IsisSection]) -> Option<Fault>
     ensures { result ≡ least_fault (flat_map (tag_faults_of (option_copied first.entry)) sections.now) }
 {
     let mut fault = None;
@@ -110,7 +110,7 @@ fn isis_statement_fault(statement: &IsisStatement) -> Option<Fault>
 }
 
 /// The least fault that a line of the IS-IS process has by itself.
-pub fn isis_line_faults(lines: &[IsisStatement]) -> Option<Fault>
+pub fn least_isis_line_fault(lines: &[IsisStatement]) -> Option<Fault>
     ensures { result ≡ least_fault (flat_map isis_statement_faults lines.now) }
 {
     let mut fault = None;
@@ -175,7 +175,7 @@ fn second_title(titled: bool, statement: &IsisStatement) -> Option<Fault>
 }
 
 /// The first `net` line before which another one stands.
-pub fn second_titles(lines: &[IsisStatement]) -> Option<Fault>
+pub fn least_second_title(lines: &[IsisStatement]) -> Option<Fault>
     ensures { result ≡ least_fault (second_titles lines.now) }
 {
     let mut fault = None;

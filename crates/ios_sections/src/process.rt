@@ -70,7 +70,7 @@ fn section_mentions(alloc: Global, ospf: &[OspfSection]) -> Result<Vec<Mention>,
 }
 
 /// The lines that name a process.
-pub fn mentions_of(
+pub(crate) fn mentions_of(
     alloc: Global,
     ospf: &[OspfSection],
     interfaces: &[InterfaceSection],
@@ -95,7 +95,7 @@ fn first_mention(first: Option<Mention>, mention: Mention) -> Option<Mention>
 }
 
 /// The process that comes first.
-pub fn first_process(mentions: &[Mention]) -> Option<u32>
+pub(crate) fn first_process(mentions: &[Mention]) -> Option<u32>
     ensures { result ≡ first_process mentions.now }
 {
     let mut first = None;
@@ -130,7 +130,7 @@ fn process_fault(process: Option<u32>, mention: Mention) -> Option<Fault>
 }
 
 /// The first line that names a second process.
-pub fn second_process(process: Option<u32>, mentions: &[Mention]) -> Option<Fault>
+pub(crate) fn second_process(process: Option<u32>, mentions: &[Mention]) -> Option<Fault>
     ensures { result ≡ least_fault (flat_map (process_faults process) mentions.now) }
 {
     let mut fault = None;
@@ -166,7 +166,7 @@ fn add_ospf_lines(
 }
 
 /// The lines of the OSPF process.
-pub fn ospf_lines(
+pub(crate) fn ospf_lines(
     alloc: Global,
     process: Option<u32>,
     sections: Vec<OspfSection>,
@@ -188,7 +188,7 @@ fn ospf_statement_fault(statement: &OspfStatement) -> Option<Fault>
 }
 
 /// The least fault that a line of the OSPF process has by itself.
-pub fn ospf_line_faults(lines: &[OspfStatement]) -> Option<Fault>
+pub fn least_ospf_line_fault(lines: &[OspfStatement]) -> Option<Fault>
     ensures { result ≡ least_fault (flat_map ospf_statement_faults lines.now) }
 {
     let mut fault = None;

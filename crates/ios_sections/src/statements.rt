@@ -5,7 +5,7 @@ ghost use Rattle.ios_sections.specs.Statements.{statements_of};
 
 use crate::OutOfMemory;
 use crate::gather::gather;
-use crate::isis_process::{first_tag, isis_lines, tag_faults};
+use crate::isis_process::{first_tag, isis_lines, least_tag_fault};
 use crate::process::{first_process, mentions_of, ospf_lines, second_process};
 use crate::section::{InterfaceSection, IsisSection, Section};
 use ios_lines::fault::Fault;
@@ -34,11 +34,11 @@ pub struct Statements {
     /// The lines of the IS-IS process.
     pub isis: Vec<IsisStatement>,
     /// The least fault of a line at indent 0 by itself.
-    pub heads: Option<Fault>,
+    pub head_fault: Option<Fault>,
     /// The first line that names a second OSPF process.
-    pub processes: Option<Fault>,
+    pub process_fault: Option<Fault>,
     /// The least fault of the `router isis` lines.
-    pub tags: Option<Fault>,
+    pub tag_fault: Option<Fault>,
 }
 
 impl Model for Statements {
@@ -55,9 +55,9 @@ impl Model for Statements {
       isis_line
           = s.isis_line;
       isis = s.isis.items;
-      heads = s.heads;
-      processes = s.processes;
-      tags = s.tags;
+      head_fault = s.head_fault;
+      process_fault = s.process_fault;
+      tag_fault = s.tag_fault;
     } };
 }
 
@@ -102,8 +102,8 @@ pub fn statements_of(alloc: Global, sections: Vec<Section>) -> Result<Statements
         gathering.interfaces.as_slice(),
     )?;
     let process = first_process(mentions.as_slice());
-    let processes = second_process(process, mentions.as_slice());
-    let tags = tag_faults(
+    let process_fault = second_process(process, mentions.as_slice());
+    let tag_fault = least_tag_fault(
         first_tag(gathering.isis.as_slice()),
         gathering.isis.as_slice(),
     );
@@ -119,8 +119,8 @@ pub fn statements_of(alloc: Global, sections: Vec<Section>) -> Result<Statements
         tag,
         isis_line,
         isis,
-        heads: gathering.fault,
-        processes,
-        tags,
+        head_fault: gathering.fault,
+        process_fault,
+        tag_fault,
     })
 }

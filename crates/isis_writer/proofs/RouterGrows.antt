@@ -19,7 +19,7 @@ use Rattle.ios_lines.specs.declared.ospf_line.OspfStatement.{OspfStatement}
 use Rattle.ios_sections.specs.TextLines.{Part}
 use Rattle.ios_sections.specs.Sections.{sections_in}
 use Rattle.ios_sections.specs.Processes.{as_hostname, as_ospf, as_isis, as_fault, interfaces_in, mention_of, mentions_in, mentions_of, first_process}
-use Rattle.ios_sections.specs.Processes.{first_isis}
+use Rattle.ios_sections.specs.Processes.{first_tag}
 use Rattle.ios_sections.specs.ProcessFaults.{process_faults, ospf_statement_faults, isis_statement_faults, second_titles, lacking}
 use Rattle.ios_sections.specs.declared.process.Mention.{Mention}
 use Rattle.ios_sections.specs.declared.section.Section.{Section}
@@ -199,7 +199,7 @@ module _ (name : Option Word) (is : List InterfaceSection) (ospf : List OspfSect
 
 -- ---- sections ----
 
-no_isis : (l : List IsisSection) → is_some (first_isis l) ≡ false → l ≡ []
+no_isis : (l : List IsisSection) → is_some (first_tag l) ≡ false → l ≡ []
 no_isis [] none = refl
 no_isis (p ∷ l) none = absurd cc
 

@@ -1,12 +1,16 @@
 -- What the lines of the two processes say in the end: of each form the last one.
-use Rattle.std.specs.Prelude.{List}
+use Rattle.std.specs.Prelude.{List, Option}
 use Rattle.ios_lines.specs.Lookups.{later, last_of}
 use Rattle.ios_reader.specs.Routers.{passive_default_said, reference_said, ospf_distance_said, rfc1583_said, levels_said, router_metric_said}
 use Rattle.ios_reader.specs.Routers.{isis_distance_said, leak_said}
 use Rattle.ios_lines.specs.declared.ospf_line.OspfStatement.{OspfStatement}
+use Rattle.ios_lines.specs.declared.isis_line.IsisLine.{IsisLine}
+use Rattle.ios_lines.specs.declared.isis_line.IsisLine.TheVariants.{Net}
 use Rattle.ios_lines.specs.declared.isis_line.IsisStatement.{IsisStatement}
+use Rattle.ios_lines.specs.declared.title.Title.{Title}
 use Rattle.ios_reader.specs.declared.router.OspfFacts.{OspfFacts}
 use Rattle.ios_reader.specs.declared.router.IsisFacts.{IsisFacts}
+use Rattle.ios_reader.specs.declared.router.ProcessFacts.{ProcessFacts}
 
 -- of each form the last line of an OSPF process
 abbrev pub ospf_facts_of : List OspfStatement → OspfFacts
@@ -43,3 +47,12 @@ isis_noted facts s = record {
   distance = later facts.distance (isis_distance_said s.says);
   leak = later facts.leak (leak_said s.says);
 }
+
+-- of each form the last line of either process
+abbrev pub process_facts_of : List OspfStatement → List IsisStatement → ProcessFacts
+process_facts_of ospf isis = record { ospf = ospf_facts_of ospf; isis = isis_facts_of isis }
+
+-- the title after one more line
+abbrev pub title_after : Option Title → IsisLine → Option Title
+title_after before (Net title) = title
+title_after before _ = before

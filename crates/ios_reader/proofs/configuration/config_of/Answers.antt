@@ -2,7 +2,7 @@ use Rattle.std.proofs.Common.{◌≡◌, [], ap, subst, sym, ◌∙◌}
 use Rattle.std.specs.Prelude.{unwrap_or}
 use Rattle.net_model.specs.Configuration.{IsConfiguration}
 use Rattle.ios_sections.specs.Statements.{Statements}
-use Rattle.ios_reader.specs.steps.ByStatements.{ospf_settings, isis_settings, configuration_of_settings, configuration_by}
+use Rattle.ios_reader.specs.Configurations.{ospf_settings, isis_settings, configuration_of_settings, configuration_by}
 use Rattle.ios_reader.proofs.ConfigurationFacts.{same_parts}
 use Rattle.ios_reader.proofs.configuration.config_of.Goals.{After-name_or_empty}
 use Rattle.ios_reader.proofs.configuration.config_of.Goals as goal

@@ -1,12 +1,10 @@
-use Rattle.std.proofs.Common.{◌≡◌, ◌<◌, ◌+◌, ℕ, [], ◌∷◌, ◌++◌, List, Option, get_or, length, map, take, sym, ap, ◌∙◌}
-use Rattle.std.specs.Prelude.{flat_map, option_copied}
+use Rattle.std.proofs.Common.{◌≡◌, ◌<◌, ◌+◌, ℕ, [], ◌∷◌, ◌++◌, List, get_or, length, map, take, sym, ap, ◌∙◌}
+use Rattle.std.specs.Prelude.{option_copied}
 use Rattle.std.proofs.lemmas.List.{take_more, map-append}
 use Rattle.net_model.specs.declared.interface.Interface.{Interface}
-use Rattle.ios_lines.specs.FaultOrder.{lesser_fault, least_fault}
 use Rattle.ios_lines.specs.InterfaceLines.{counting}
 use Rattle.ios_lines.specs.Words.{Word}
-use Rattle.ios_lines.specs.declared.fault.Fault.{Fault}
-use Rattle.ios_lines.proofs.FaultFacts.{least_more}
+use Rattle.ios_sections.proofs.LeastSteps.{least_kept}
 use Rattle.ios_reader.specs.Faults.{interface_faults}
 use Rattle.ios_reader.specs.InterfaceFacts.{facts_of}
 use Rattle.ios_reader.specs.InterfacesAsRead.{interface_as_read, interface_with}
@@ -38,10 +36,6 @@ loop-section-preserved c =
           (read_one c)
           ∙ sym (map_more (interface_as_read c.args.router.now) c.args.sections.now c.loop-section.section-index c.section-item.result within
           c.section-item.is);
-      fault = c.lesser_fault-fault.ensures
-          ∙ ap (λ (o : Option Fault). lesser_fault o c.interface_fault.result) c.loop-section.invariant.fault
-          ∙ ap (lesser_fault (least_fault (flat_map (interface_faults c.args.router.now (option_copied c.args.tag))
-          (take c.loop-section.section-index c.args.sections.now)))) c.interface_fault.ensures
-          ∙ sym (least_more (interface_faults c.args.router.now (option_copied c.args.tag)) c.args.sections.now c.loop-section.section-index
-          c.section-item.result within c.section-item.is);
+      fault = least_kept (interface_faults c.args.router.now (option_copied c.args.tag)) c.args.sections.now c.loop-section.section-index
+          c.section-item.result _ _ _ within c.section-item.is c.loop-section.invariant.fault c.interface_fault.ensures c.lesser_fault-fault.ensures;
     }

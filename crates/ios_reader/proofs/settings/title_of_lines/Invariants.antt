@@ -1,5 +1,5 @@
 use Rattle.std.proofs.Common.{◌≡◌}
-use Rattle.ios_reader.specs.steps.ByStatements.{title_by}
+use Rattle.ios_reader.specs.Configurations.{title_by}
 use Rattle.ios_reader.proofs.settings.title_of_lines.Given as goal
 
 abbrev pub invariant-loop-statement : goal.invariant-loop-statement

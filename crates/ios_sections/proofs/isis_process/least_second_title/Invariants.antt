@@ -2,7 +2,7 @@ use Rattle.std.proofs.Common.{◌≡◌, take}
 use Rattle.std.specs.List.{list_any}
 use Rattle.ios_lines.specs.FaultOrder.{least_fault}
 use Rattle.ios_sections.specs.ProcessFaults.{is_net, second_titles}
-use Rattle.ios_sections.proofs.isis_process.second_titles.Given as goal
+use Rattle.ios_sections.proofs.isis_process.least_second_title.Given as goal
 
 abbrev pub invariant-loop-statement : goal.invariant-loop-statement
 invariant-loop-statement l = record {

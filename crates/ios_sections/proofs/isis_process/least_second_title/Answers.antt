@@ -4,7 +4,7 @@ use Rattle.ios_sections.specs.ProcessFaults.{is_net, second_titles}
 use Rattle.ios_lines.specs.declared.fault.Fault.{Fault}
 use Rattle.ios_lines.specs.declared.kind.ReadKind.TheVariants.{Unsupported}
 use Rattle.ios_sections.proofs.TitleFacts.{second_titles_more, any_more}
-use Rattle.ios_sections.proofs.isis_process.second_titles.Goals as goal
+use Rattle.ios_sections.proofs.isis_process.least_second_title.Goals as goal
 
 pub loop-statement-preserved : goal.loop-statement-preserved
 loop-statement-preserved c =
