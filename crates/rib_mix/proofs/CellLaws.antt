@@ -1,156 +1,99 @@
--- What is found for a router and an address says what the router uses in each phase.
-use Rattle.std.proofs.Common.{◌≡◌, ℕ, ◌+◌, ◌<◌, ◌≤◌, inl, inr, Bool, true, false, ◌==◌, if◌then◌else◌, List, Some, slice_get}
-use Rattle.std.proofs.Common.{◌≢◌, eqb-true, eq-eqb, arith, refl, sym, ap, subst, ◌∙◌}
-use Rattle.std.proofs.lemmas.Bool.{ne_eqb}
-use Rattle.std.proofs.lemmas.Option.{same_Some, slice_get_within}
+-- What a router has for a prefix, and uses for its parent, says what it uses for the addresses of the prefix.
+use Rattle.std.proofs.Common.{◌≡◌, ℕ, ◌<◌, ◌≤◌, ◌⊎◌, inl, inr, Bool, true, false, Option, Some, None, MatchOption, slice_get}
+use Rattle.std.proofs.Common.{⊎_elim, arith, refl, sym, ap, subst, ◌∙◌}
+use Rattle.std.proofs.lemmas.Bool.{cases_lt}
+use Rattle.std.proofs.lemmas.Option.{same_Some}
 use Rattle.net_addr.specs.Addresses.{Block, ContainsAddress}
+use Rattle.net_addr.proofs.Blocks.{same_block}
 use Rattle.net_model.specs.Configuration.{Configuration}
-use Rattle.net_model.specs.Network.{HasConfiguration}
-use Rattle.route_core.specs.Tables.{IsListed}
-use Rattle.route_core.specs.declared.table.TableParts.{TableParts}
+use Rattle.net_model.specs.Network.{Connected, HasConfiguration}
 use Rattle.route_core.specs.declared.entry.Entry.{Entry}
-use Rattle.route_core.proofs.TableLaws.{Contains-from_place}
 use Rattle.igp_theory.specs.Forwarding.{Usable, connected, of_old, of_new, connected_counts, old_counts, new_counts}
 use Rattle.igp_theory.specs.declared.phase.Phase.{Phase}
 use Rattle.igp_theory.specs.declared.phase.Phase.TheVariants.{Old, Middle, New}
-use Rattle.prefix_atoms.specs.Longest.{nothing}
-use Rattle.prefix_atoms.specs.declared.longest.Longest.{Longest}
-use Rattle.rib_mix.specs.steps.Candidates.{choice_at, connected_of, entry_of, old_of}
-use Rattle.rib_mix.specs.Cells.{IsCell, IsCellOf, IsUsable, IsUse, IsKeptUse, chosen_use, use_in, use_of}
-use Rattle.rib_mix.specs.Sites.{AreFound, CountsAt, HasOspfDistance, HasTableRows, IsFoundIn, IsLawfulSite, Kind, Site, UsesAt, table_of}
-use Rattle.rib_mix.specs.declared.candidate.Candidate.{Candidate}
-use Rattle.rib_mix.specs.declared.candidate.Choice.{Choice}
-use Rattle.rib_mix.specs.declared.candidate.Choice.TheVariants as choice
+use Rattle.rib_mix.specs.Cells.{IsUsable, use_in}
+use Rattle.rib_mix.specs.Sites.{CountsAt, HasOspfDistance, IsLawfulSite, Kind, Site}
+use Rattle.rib_mix.specs.steps.Uses.{cell_between, cell_of_three, cell_over}
+use Rattle.rib_mix.specs.steps.WayUp.{IsBestUse, IsCellUpTo, UpTo}
 use Rattle.rib_mix.specs.declared.cell.Cell.{Cell}
-use Rattle.rib_mix.specs.declared.found.Found.{Found}
+use Rattle.rib_mix.specs.declared.cell.Has.{Has}
 use Rattle.rib_mix.specs.declared.used.Used.{Used}
 use Rattle.rib_mix.specs.declared.used.Used.TheVariants as used
-use Rattle.rib_mix.proofs.Contests.{Either, IsBest, Within, best_along, better_best, leading_best}
-use Rattle.rib_mix.proofs.FoundFacts.{entry_kept, prefix_listed}
-use Rattle.rib_mix.proofs.OneUsed.{one_used}
+use Rattle.rib_mix.proofs.ClassUses.{Within}
+use Rattle.rib_mix.proofs.OneUsed.{counts_block}
 
--- whether a connected prefix is used, or an entry of a table
-abbrev IsConnected : Usable → Type 0
-IsConnected connected = Unit {0}
-IsConnected (of_old e) = ⊥
-IsConnected (of_new e) = ⊥
+-- a kind with the same entries has the same best one
+pub best_along : (s : Site) (one two : Kind) (way : Used) → Within one two → Within two one → IsBestUse s one way → IsBestUse s two way
+best_along s one two way to from h = elim h [
+  | inl none ↦ inl (none.0, λ q d x k. none.1 q d x (from q d x k))
+  | inr best ↦ inr (record {
+    entry = best.entry;
+    is = best.is;
+    prefix = best.prefix;
+    distance = best.distance;
+    among = to best.prefix best.distance best.entry best.among;
+    longest = λ q d x k. best.longest q d x (from q d x k);
+    lowest = λ q d x k. best.lowest q d x (from q d x k);
+  })
+]
 
-abbrev IsEntry : Usable → Type 0
-IsEntry connected = ⊥
-IsEntry (of_old e) = Unit {0}
-IsEntry (of_new e) = Unit {0}
+-- the entries that count in a phase for the address and whose prefixes are shorter than this
+abbrev pub Below : Site → Phase → ℕ → Kind
+Below s phase len q d x = CountsAt s phase q d x × ContainsAddress q s.a × (q.len < len)
 
--- the entries that count in a phase and are of this sort
-abbrev Only : Site → Phase → (Usable → Type 0) → Kind
-Only s phase fits q d x = CountsAt s phase q d x × fits x
+-- of the entries that count in a phase for a prefix this one has the lowest distance, or there are none
+record IsHere (s : Site) (phase : Phase) (p : Block) (way : Used) : Type 0 where
+  entry : Usable
+  is : IsUsable s.tables.old.entries.now s.tables.new.entries.now way entry
+  distance : ℕ
+  counts : CountsAt s phase p distance entry
+  lowest : (d : ℕ) (x : Usable) → CountsAt s phase p d x → distance ≤ d
 
--- what is chosen where nothing is found, and where a prefix is
-choice_none : (some : Choice) (size : ℕ) → size ≡ 0 → choice_at some size ≡ choice.Nothing
-choice_none some size none = ap (choice_at some) none
+abbrev NoneHere : Site → Phase → Block → Type 0
+NoneHere s phase p = (d : ℕ) (x : Usable) → CountsAt s phase p d x → ⊥
 
-choice_some : (some : Choice) (len size : ℕ) → len + 1 ≡ size → choice_at some size ≡ some
-choice_some some len size is =
-    ap (λ (none : Bool). if none then choice.Nothing else some) (ne_eqb size 0 (λ zero. omega (arith, zero)))
+-- what a router has for a prefix: a connected one, the entry of the old table at this distance, that of the new table
+pub record AreHere (s : Site) (p : Block) (ospf : ℕ) (has : Has) : Type 0 where
+  pub connected : MatchOption has.connected (Connected s.net s.u p → ⊥) (λ _. Connected s.net s.u p)
+  pub old : MatchOption has.old ((e : Entry) (d : ℕ) → CountsAt s Old p d (of_old e) → ⊥)
+      (λ n. (e : Entry) × (slice_get s.tables.old.entries.now n ≡ Some e) × CountsAt s Old p ospf (of_old e))
+  pub new : MatchOption has.new ((e : Entry) (d : ℕ) → CountsAt s New p d (of_new e) → ⊥)
+      (λ n. (e : Entry) × (slice_get s.tables.new.entries.now n ≡ Some e) × CountsAt s New p 115 (of_new e))
 
--- the longest connected prefix is the best of them
-connected_covers : (s : Site) (phase : Phase) (table : ℕ → Used) (found : Found) → AreFound s found
-    → IsBest s (Only s phase IsConnected) (use_of table (connected_of found.connected)) (connected_of found.connected)
-connected_covers s phase table found are = record {
-  there = elim are.connected.there [
-    | inl none ↦ inl (none, ap (λ (c : Choice). chosen_use table c 0) (choice_none choice.Connected found.connected.size none))
-    | inr at ↦ inr (record {
-      entry = connected;
-      is = subst (λ (c : Choice). IsUsable s.tables.old.entries.now s.tables.new.entries.now (chosen_use table c 0) connected)
-          (sym (choice_some choice.Connected at.prefix.len found.connected.size at.size_is)) refl;
-      prefix = at.prefix;
-      among = (connected_counts ((are.subnets_are at.prefix).0 (Contains-from_place are.subnets at.place at.prefix at.stands)), tt);
-      contains = at.contains;
-      size_is = at.size_is;
-    })
-  ];
-  covers = λ q d x only. covers q d x only.0 only.1;
-}
-  where
-    covers : (q : Block) (d : ℕ) (x : Usable) → CountsAt s phase q d x → IsConnected x → ContainsAddress q s.a
-        → (q.len < found.connected.size) × (q.len + 1 ≡ found.connected.size → 0 ≤ d)
-    covers q d x (connected_counts c) fits inside = (are.connected.covers q ((are.subnets_are q).1 c) inside, λ _. omega arith)
-    covers q d x (old_counts _ _ _ _ _ _) fits inside = absurd fits
-    covers q d x (new_counts _ _) fits inside = absurd fits
+-- an equally long prefix of the address is the same one
+same_here : (s : Site) (phase : Phase) (p q : Block) (d e : ℕ) (x y : Usable) → IsLawfulSite s → ContainsAddress p s.a → ContainsAddress q s.a
+    → q.len ≡ p.len → CountsAt s phase q d x → CountsAt s phase p e y → q ≡ p
+same_here s phase p q d e x y lawful in_p in_q same one two =
+    same_block q p s.a (counts_block s phase q d x lawful one) (counts_block s phase p e y lawful two) same in_q in_p
 
--- the longest entry of a table is the best of a kind that has the table's entries, at one distance
-entry_covers : (s : Site) (kind : Kind) (parts : TableParts) (distance : ℕ) (wrap : Entry → Usable) (table : ℕ → Used) (found : Longest)
-    → HasTableRows parts → IsFoundIn parts s.a found
-    → ((q : Block) (e : Entry) → IsListed (table_of parts) q e → kind q distance (wrap e))
-    → ((q : Block) (d : ℕ) (x : Usable) → kind q d x → ((e : Entry) × IsListed (table_of parts) q e) × (d ≡ distance))
-    → ((n : ℕ) (e : Entry) → slice_get parts.entries.now n ≡ Some e → IsUsable s.tables.old.entries.now s.tables.new.entries.now (table n) (wrap e))
-    → IsBest s kind (use_of table (entry_of distance found)) (entry_of distance found)
-entry_covers s kind parts distance wrap table found rows is into from says = record {
-  there = elim is.there [
-    | inl none ↦ inl (none, ap (λ (c : Choice). chosen_use table c found.number) (choice_none choice.Entry found.size none))
-    | inr at ↦
-        let kept = entry_kept parts s.a found rows at in
-        inr (record {
-          entry = wrap kept.0;
-          is = subst (λ (c : Choice). IsUsable s.tables.old.entries.now s.tables.new.entries.now (chosen_use table c found.number) (wrap kept.0))
-              (sym (choice_some choice.Entry at.prefix.len found.size at.size_is)) (says found.number kept.0 kept.1);
-          prefix = at.prefix;
-          among = into at.prefix kept.0 kept.2;
-          contains = at.contains;
-          size_is = at.size_is;
-        })
-  ];
-  covers = λ q d x k inside.
-      let near : d ≡ distance = (from q d x k).1 in
-      (is.covers q (prefix_listed parts q (from q d x k).0) inside, λ _. omega arith);
-}
+-- so the best of those that count for it is the best of all up to it
+here_best : (s : Site) (phase : Phase) (p : Block) (way : Used) → IsLawfulSite s → ContainsAddress p s.a → IsHere s phase p way
+    → IsBestUse s (UpTo s phase p.len) way
+here_best s phase p way lawful inside here = inr (record {
+  entry = here.entry;
+  is = here.is;
+  prefix = p;
+  distance = here.distance;
+  among = (here.counts, inside, omega arith);
+  longest = λ q d x k. k.2;
+  lowest = λ q d x k same. here.lowest d x (subst (λ (b : Block). CountsAt s phase b d x)
+      (same_here s phase p q d here.distance x here.entry lawful inside k.1 same k.0 here.counts) k.0);
+})
 
--- the router's OSPF distance is that of its configuration
-ospf_of : (s : Site) (ospf : ℕ) (c : Configuration) → HasOspfDistance s.net s.u ospf → HasConfiguration s.net s.u c → c.distances.ospf ≡ ospf
-ospf_of s ospf c at has = ap (λ (k : Configuration). k.distances.ospf) (same_Some c at.config (sym has ∙ at.has)) ∙ at.distance_is
-
-old_covers : (s : Site) (ospf : ℕ) (found : Found) (most : Bool) → (ospf == 255) ≡ most → HasOspfDistance s.net s.u ospf → IsLawfulSite s
-    → AreFound s found → let c = if most then entry_of ospf nothing else entry_of ospf found.old in IsBest s (Only s Old IsEntry) (use_of used.Old c) c
-old_covers s ospf found true is_most at lawful are = record { there = inl (refl, refl); covers = λ q d x only. none q d x only.0 only.1 }
-  where
-    none : (q : Block) (d : ℕ) (x : Usable) → CountsAt s Old q d x → IsEntry x → ContainsAddress q s.a → (q.len < 0) × (q.len + 1 ≡ 0 → ospf ≤ d)
-    none q d x (connected_counts _) fits inside = absurd fits
-    none q d x (old_counts _ c has is set _) fits inside = absurd (set (sym is ∙ ospf_of s ospf c at has ∙ eqb-true ospf 255 is_most))
-    none q d x (new_counts counts _) fits inside = absurd counts
-old_covers s ospf found false is_most at lawful are =
-    entry_covers s (Only s Old IsEntry) s.tables.old ospf of_old used.Old found.old lawful.old_rows are.old
-    (λ q e listed. (old_counts tt at.config at.has at.distance_is set listed, tt)) (λ q d x only. from q d x only.0 only.1) (λ n e stands. (e, stands, refl))
-  where
-    set : ospf ≢ 255
-    set same = let most : (ospf == 255) ≡ true = eq-eqb ospf 255 same in cc
-
-    from : (q : Block) (d : ℕ) (x : Usable) → CountsAt s Old q d x → IsEntry x → ((e : Entry) × IsListed (table_of s.tables.old) q e) × (d ≡ ospf)
-    from q d x (connected_counts _) fits = absurd fits
-    from q d x (old_counts {e = e} _ c has is _ listed) fits = ((e, listed), sym is ∙ ospf_of s ospf c at has)
-    from q d x (new_counts counts _) fits = absurd counts
-
-new_covers : (s : Site) (found : Found) → IsLawfulSite s → AreFound s found
-    → IsBest s (Only s New IsEntry) (use_of used.New (entry_of 115 found.new)) (entry_of 115 found.new)
-new_covers s found lawful are =
-    entry_covers s (Only s New IsEntry) s.tables.new 115 of_new used.New found.new lawful.new_rows are.new (λ q e listed. (new_counts tt listed, tt))
-    (λ q d x only. from q d x only.0 only.1)
-    (λ n e stands. (e, stands, refl))
-  where
-    from : (q : Block) (d : ℕ) (x : Usable) → CountsAt s New q d x → IsEntry x → ((e : Entry) × IsListed (table_of s.tables.new) q e) × (d ≡ 115)
-    from q d x (connected_counts _) fits = absurd fits
-    from q d x (old_counts counts _ _ _ _ _) fits = absurd counts
-    from q d x (new_counts {e = e} _ listed) fits = ((e, listed), refl)
-
--- what counts in a phase is a connected prefix or an entry of a table
-of_a_sort : (s : Site) (phase : Phase) → Within (CountsAt s phase) (Either (Only s phase IsConnected) (Only s phase IsEntry))
-of_a_sort s phase q d x (connected_counts h) = inl (connected_counts h, tt)
-of_a_sort s phase q d x (old_counts counts c has is set listed) = inr (old_counts counts c has is set listed, tt)
-of_a_sort s phase q d x (new_counts counts listed) = inr (new_counts counts listed, tt)
-
-any_sort : (s : Site) (phase : Phase) → Within (Either (Only s phase IsConnected) (Only s phase IsEntry)) (CountsAt s phase)
-any_sort s phase q d x either = elim either [ inl only ↦ only.0 | inr only ↦ only.0 ]
+-- and where none counts for it, that of the shorter ones
+none_best : (s : Site) (phase : Phase) (p : Block) (way : Used) → ((q : Block) (d : ℕ) (x : Usable) → UpTo s phase p.len q d x → q.len ≡ p.len → q ≡ p)
+    → NoneHere s phase p → IsBestUse s (Below s phase p.len) way → IsBestUse s (UpTo s phase p.len) way
+none_best s phase p way one none = best_along s (Below s phase p.len) (UpTo s phase p.len) way (λ q d x k. (k.0, k.1, omega (arith, k.2)))
+    (λ q d x k. (
+      k.0,
+      k.1,
+      ⊎_elim (λ (l : q.len < p.len). l)
+          (λ (l : p.len ≤ q.len). absurd (none d x (subst (λ (b : Block). CountsAt s phase b d x) (one q d x k (omega (arith, l, k.2))) k.0)))
+          (cases_lt q.len p.len),
+    ))
 
 -- what counts in Middle counts in Old or in New, and the other way round
-at_an_end : (s : Site) → Within (CountsAt s Middle) (Either (CountsAt s Old) (CountsAt s New))
+at_an_end : (s : Site) (q : Block) (d : ℕ) (x : Usable) → CountsAt s Middle q d x → CountsAt s Old q d x ⊎ CountsAt s New q d x
 at_an_end s q d x (connected_counts h) = inl (connected_counts h)
 at_an_end s q d x (old_counts counts c has is set listed) = inl (old_counts tt c has is set listed)
 at_an_end s q d x (new_counts counts listed) = inr (new_counts tt listed)
@@ -160,87 +103,117 @@ in_middle s phase q d x (connected_counts h) = connected_counts h
 in_middle s phase q d x (old_counts counts c has is set listed) = old_counts tt c has is set listed
 in_middle s phase q d x (new_counts counts listed) = new_counts tt listed
 
--- The best candidate is the used entry
+-- the one of an end is the one of Middle where no distance of either end is lower
+middle_here : (s : Site) (phase : Phase) (p : Block) (way : Used) → (here : IsHere s phase p way)
+    → ((d : ℕ) (x : Usable) → CountsAt s Old p d x → here.distance ≤ d) → ((d : ℕ) (x : Usable) → CountsAt s New p d x → here.distance ≤ d)
+    → IsHere s Middle p way
+middle_here s phase p way here old new = record {
+  entry = here.entry;
+  is = here.is;
+  distance = here.distance;
+  counts = in_middle s phase p here.distance here.entry here.counts;
+  lowest = λ d x counts. elim (at_an_end s p d x counts) [ inl one ↦ old d x one | inr two ↦ new d x two ];
+}
 
-within_of : (s : Site) (way : Used) (x : Usable) → IsUsable s.tables.old.entries.now s.tables.new.entries.now way x
-    → IsKeptUse s.tables.old.entries.now s.tables.new.entries.now way
-within_of s used.Nothing x is = tt
-within_of s used.Connected x is = tt
-within_of s (used.Old number) x is = slice_get_within s.tables.old.entries.now number is.0 is.1
-within_of s (used.New number) x is = slice_get_within s.tables.new.entries.now number is.0 is.1
+-- a connected prefix is the best in each phase
+connected_here : (s : Site) (phase : Phase) (p : Block) → Connected s.net s.u p → IsHere s phase p used.Connected
+connected_here s phase p h = record { entry = connected; is = refl; distance = 0; counts = connected_counts h; lowest = λ d x counts. omega arith }
 
-one_usable : (olds news : List Entry) (way : Used) (x y : Usable) → IsUsable olds news way x → IsUsable olds news way y → x ≡ y
-one_usable olds news used.Nothing x y h k = absurd h
-one_usable olds news used.Connected x y h k = h ∙ sym k
-one_usable olds news (used.Old number) x y h k = h.2 ∙ ap of_old (same_Some h.0 k.0 (sym h.1 ∙ k.1)) ∙ sym k.2
-one_usable olds news (used.New number) x y h k = h.2 ∙ ap of_new (same_Some h.0 k.0 (sym h.1 ∙ k.1)) ∙ sym k.2
+-- the router's OSPF distance is that of its configuration
+pub ospf_of : (s : Site) (ospf : ℕ) (c : Configuration) → HasOspfDistance s.net s.u ospf → HasConfiguration s.net s.u c → c.distances.ospf ≡ ospf
+ospf_of s ospf c at has = ap (λ (k : Configuration). k.distances.ospf) (same_Some c at.config (sym has ∙ at.has)) ∙ at.distance_is
 
-use_of_best : (s : Site) (phase : Phase) (way : Used) (best : Candidate) → IsLawfulSite s → IsBest s (CountsAt s phase) way best → IsUse s phase way
-use_of_best s phase way best lawful h = elim h.there [
-  | inl none ↦ subst (IsUse s phase) (sym none.1) (record {
-    within = tt;
-    exact = λ x. (
-      λ uses. absurd (let short : uses.prefix.len < best.size = (h.covers uses.prefix uses.distance x uses.counts uses.contains).0 in
-          let no : ⊥ = omega (arith, none.0) in no),
-      λ is. absurd is,
-    );
-  })
-  | inr chosen ↦
-      let uses : UsesAt s phase chosen.entry = record {
-        prefix = chosen.prefix;
-        distance = best.distance;
-        counts = chosen.among;
-        contains = chosen.contains;
-        longest = λ q d x counts inside. omega (arith, (h.covers q d x counts inside).0, chosen.size_is);
-        lowest = λ q d x counts inside same. (h.covers q d x counts inside).1 (ap (λ (n : ℕ). n + 1) same ∙ chosen.size_is);
-      } in
-      record {
-        within = within_of s way chosen.entry chosen.is;
-        exact = λ x. (
-          λ other. subst (IsUsable s.tables.old.entries.now s.tables.new.entries.now way) (one_used s phase chosen.entry x lawful uses other) chosen.is,
-          λ is. subst (UsesAt s phase) (one_usable s.tables.old.entries.now s.tables.new.entries.now way chosen.entry x chosen.is is) uses,
-        );
-      }
-]
+-- where no prefix is connected, what counts in Old is the entry of the old table, and in New that of the new one
+no_old : (s : Site) (p : Block) → (Connected s.net s.u p → ⊥) → ((e : Entry) (d : ℕ) → CountsAt s Old p d (of_old e) → ⊥) → NoneHere s Old p
+no_old s p apart none d x (connected_counts h) = apart h
+no_old s p apart none d x (old_counts {e = e} counts c has is set listed) = none e d (old_counts counts c has is set listed)
+no_old s p apart none d x (new_counts counts _) = absurd counts
 
--- what is found says what is used in each phase
-pub cell_found : (s : Site) (ospf : ℕ) (found : Found) (cell : Cell) → IsLawfulSite s → HasOspfDistance s.net s.u ospf → AreFound s found
-    → IsCellOf found ospf cell → IsCell s cell
-cell_found s ospf found cell lawful at are is = subst (IsCell s) (sym is.between.cell_is) by_phase
+no_new : (s : Site) (p : Block) → (Connected s.net s.u p → ⊥) → ((e : Entry) (d : ℕ) → CountsAt s New p d (of_new e) → ⊥) → NoneHere s New p
+no_new s p apart none d x (connected_counts h) = apart h
+no_new s p apart none d x (old_counts counts _ _ _ _ _) = absurd counts
+no_new s p apart none d x (new_counts {e = e} counts listed) = none e 115 (new_counts counts listed)
+
+old_far : (s : Site) (p : Block) (ospf d : ℕ) (x : Usable) → HasOspfDistance s.net s.u ospf → (Connected s.net s.u p → ⊥) → CountsAt s Old p d x → d ≡ ospf
+old_far s p ospf d x at apart (connected_counts h) = absurd (apart h)
+old_far s p ospf d x at apart (old_counts _ c has is _ _) = sym is ∙ ospf_of s ospf c at has
+old_far s p ospf d x at apart (new_counts counts _) = absurd counts
+
+new_far : (s : Site) (p : Block) (d : ℕ) (x : Usable) → (Connected s.net s.u p → ⊥) → CountsAt s New p d x → d ≡ 115
+new_far s p d x apart (connected_counts h) = absurd (apart h)
+new_far s p d x apart (old_counts counts _ _ _ _ _) = absurd counts
+new_far s p d x apart (new_counts _ _) = refl
+
+-- whether the old table's entries come first: no distance is lower
+abbrev pub OldFirst : Bool → ℕ → Type 0
+OldFirst true ospf = ospf ≤ 115
+OldFirst false ospf = 115 ≤ ospf
+
+-- what a router has for a prefix and uses for shorter ones says what it uses up to that length
+pub cell_step : (s : Site) (p : Block) (ospf : ℕ) (has : Has) (old_first : Bool) (up : Cell) → IsLawfulSite s
+    → HasOspfDistance s.net s.u ospf → ContainsAddress p s.a → ((q : Block) (phase : Phase) (d : ℕ) (x : Usable) → UpTo s phase p.len q d x → q.len ≡ p.len → q ≡ p)
+    → OldFirst old_first ospf → AreHere s p ospf has
+    → ((phase : Phase) → IsBestUse s (Below s phase p.len) (use_in up phase)) → IsCellUpTo s p.len (cell_over has old_first up)
+cell_step s p ospf has old_first up lawful at inside one first are shorter = by_three has.connected has.old has.new are
   where
-    old : Used
-    old = use_of used.Old is.best_old
+    here : (phase : Phase) (way : Used) → IsHere s phase p way → IsBestUse s (UpTo s phase p.len) way
+    here phase way = here_best s phase p way lawful inside
 
-    new : Used
-    new = use_of used.New is.best_new
+    none : (phase : Phase) → NoneHere s phase p → IsBestUse s (UpTo s phase p.len) (use_in up phase)
+    none phase not = none_best s phase p (use_in up phase) (λ q. one q phase) not (shorter phase)
 
-    best_old : IsBest s (CountsAt s Old) old is.best_old
-    best_old =
-        best_along s (Either (Only s Old IsConnected) (Only s Old IsEntry)) (CountsAt s Old) old is.best_old (any_sort s Old) (of_a_sort s Old)
-        (better_best s (Only s Old IsConnected) (Only s Old IsEntry) used.Old (connected_of found.connected) (old_of ospf found.old) is.best_old
-        is.is_old (connected_covers s Old used.Old found are) (old_covers s ospf found (ospf == 255) refl at lawful are))
+    old_here : (n : ℕ) → (Connected s.net s.u p → ⊥) → (e : Entry) × (slice_get s.tables.old.entries.now n ≡ Some e) × CountsAt s Old p ospf (of_old e)
+        → IsHere s Old p (used.Old n)
+    old_here n apart has = record {
+      entry = of_old has.0;
+      is = (has.0, has.1, refl);
+      distance = ospf;
+      counts = has.2;
+      lowest = λ d x counts. omega (arith, old_far s p ospf d x at apart counts);
+    }
 
-    best_new : IsBest s (CountsAt s New) new is.best_new
-    best_new =
-        best_along s (Either (Only s New IsConnected) (Only s New IsEntry)) (CountsAt s New) new is.best_new (any_sort s New) (of_a_sort s New)
-        (better_best s (Only s New IsConnected) (Only s New IsEntry) used.New (connected_of found.connected) (entry_of 115 found.new) is.best_new
-        is.is_new (connected_covers s New used.New found are) (new_covers s found lawful are))
+    new_here : (n : ℕ) → (Connected s.net s.u p → ⊥) → (e : Entry) × (slice_get s.tables.new.entries.now n ≡ Some e) × CountsAt s New p 115 (of_new e)
+        → IsHere s New p (used.New n)
+    new_here n apart has = record {
+      entry = of_new has.0;
+      is = (has.0, has.1, refl);
+      distance = 115;
+      counts = has.2;
+      lowest = λ d x counts. omega (arith, new_far s p d x apart counts);
+    }
 
-    best_middle : IsBest s (CountsAt s Middle) (if is.between.middle_is_new then new else old) (if is.between.middle_is_new then is.best_new else is.best_old)
-    best_middle =
-        best_along s (Either (CountsAt s Old) (CountsAt s New)) (CountsAt s Middle) (if is.between.middle_is_new then new else old)
-        (if is.between.middle_is_new then is.best_new else is.best_old)
-        (λ q d x either. elim either [ inl one ↦ in_middle s Old q d x one | inr two ↦ in_middle s New q d x two ]) (at_an_end s)
-        (leading_best s (CountsAt s Old) (CountsAt s New) old new is.best_old is.best_new is.between.middle_is_new is.between.middle best_old best_new)
+    by_three : (place old new : Option ℕ) → AreHere s p ospf (record { connected = place; old = old; new = new }) → IsCellUpTo s p.len (cell_of_three place old new old_first up)
+    by_three (Some _) old new h Old = here Old used.Connected (connected_here s Old p h.connected)
+    by_three (Some _) old new h Middle = here Middle used.Connected (connected_here s Middle p h.connected)
+    by_three (Some _) old new h New = here New used.Connected (connected_here s New p h.connected)
+    by_three None None None h Old = none Old (no_old s p h.connected h.old)
+    by_three None None None h Middle = none Middle (λ d x counts. elim (at_an_end s p d x counts) [
+      | inl one ↦ no_old s p h.connected h.old d x one
+      | inr two ↦ no_new s p h.connected h.new d x two
+    ])
+    by_three None None None h New = none New (no_new s p h.connected h.new)
+    by_three None (Some n) None h Old = here Old (used.Old n) (old_here n h.connected h.old)
+    by_three None (Some n) None h Middle = here Middle (used.Old n) (middle_here s Old p (used.Old n) (old_here n h.connected h.old)
+        (old_here n h.connected h.old).lowest (λ d x counts. absurd (no_new s p h.connected h.new d x counts)))
+    by_three None (Some n) None h New = none New (no_new s p h.connected h.new)
+    by_three None None (Some m) h Old = none Old (no_old s p h.connected h.old)
+    by_three None None (Some m) h Middle = here Middle (used.New m) (middle_here s New p (used.New m) (new_here m h.connected h.new)
+        (λ d x counts. absurd (no_old s p h.connected h.old d x counts)) (new_here m h.connected h.new).lowest)
+    by_three None None (Some m) h New = here New (used.New m) (new_here m h.connected h.new)
+    by_three None (Some n) (Some m) h phase = by_first old_first first phase
+      where
+        old_one : IsHere s Old p (used.Old n)
+        old_one = old_here n h.connected h.old
 
-    by_phase : (phase : Phase) → IsUse s phase (use_in (record {
-      old_entry = is.best_old.number;
-      new_entry = is.best_new.number;
-      old = is.best_old.choice;
-      new = is.best_new.choice;
-      middle_is_new = is.between.middle_is_new;
-    }) phase)
-    by_phase Old = use_of_best s Old old is.best_old lawful best_old
-    by_phase Middle =
-        use_of_best s Middle (if is.between.middle_is_new then new else old) (if is.between.middle_is_new then is.best_new else is.best_old) lawful best_middle
-    by_phase New = use_of_best s New new is.best_new lawful best_new
+        new_one : IsHere s New p (used.New m)
+        new_one = new_here m h.connected h.new
+
+        by_first : (old_first : Bool) → OldFirst old_first ospf → IsCellUpTo s p.len (cell_between (used.Old n) (used.New m) old_first)
+        by_first true near Old = here Old (used.Old n) old_one
+        by_first true near Middle = here Middle (used.Old n) (middle_here s Old p (used.Old n) old_one old_one.lowest
+            (λ d x counts. omega (arith, near, new_far s p d x h.connected counts)))
+        by_first true near New = here New (used.New m) new_one
+        by_first false near Old = here Old (used.Old n) old_one
+        by_first false near Middle = here Middle (used.New m) (middle_here s New p (used.New m) new_one
+            (λ d x counts. omega (arith, near, old_far s p ospf d x at h.connected counts)) new_one.lowest)
+        by_first false near New = here New (used.New m) new_one

@@ -1,5 +1,5 @@
 -- What is used for the sample of a class is used for each of its addresses, and says what a router does with their packets.
-use Rattle.std.proofs.Common.{◌≡◌, ℕ, ◌<◌, ◌⊎◌, ◌↔◌, inl, inr, Bool, true, false, if◌then◌else◌, List, length, get_or, Contains, refl, sym, subst}
+use Rattle.std.proofs.Common.{◌≡◌, ℕ, ◌<◌, ◌⊎◌, ◌↔◌, inl, inr, List, length, get_or, Contains, refl, sym, subst}
 use Rattle.std.proofs.lemmas.Option.{slice_get-get_or}
 use Rattle.net_addr.specs.Addresses.{Block, ContainsAddress}
 use Rattle.net_model.specs.Network.{Network}
@@ -12,15 +12,18 @@ use Rattle.igp_theory.specs.declared.phase.Phase.{Phase}
 use Rattle.igp_theory.specs.declared.phase.Phase.TheVariants.{Old, Middle, New}
 use Rattle.prefix_atoms.specs.Classes.{Classes, AreClasses, SourceEntry, connected_occurs, old_occurs, new_occurs, IsInClass}
 use Rattle.rib_mix.specs.Answers.{IsAlikeAt, IsNextAtAnEnd, IsNextOf, Says}
-use Rattle.rib_mix.specs.Cells.{IsCell, IsUsable, IsUse, ShowsUse, new_use, old_use, use_in}
-use Rattle.rib_mix.specs.Sites.{CountsAt, Site, UsesAt, table_of}
+use Rattle.rib_mix.specs.Cells.{IsCell, IsUsable, IsUse, ShowsUse, first_if_new, first_unless_new, use_in}
+use Rattle.rib_mix.specs.Sites.{CountsAt, Kind, Site, UsesAt, table_of}
 use Rattle.rib_mix.specs.declared.both_tables.BothTables.{BothTables}
 use Rattle.rib_mix.specs.declared.cell.Cell.{Cell}
 use Rattle.rib_mix.specs.declared.next.Next.{Next}
 use Rattle.rib_mix.specs.declared.next.Next.TheVariants.{Absent}
 use Rattle.rib_mix.specs.declared.used.Used.{Used}
 use Rattle.rib_mix.specs.declared.used.Used.TheVariants as used
-use Rattle.rib_mix.proofs.Contests.{Within}
+
+-- what is of this kind is of that kind
+abbrev pub Within : Kind → Kind → Type 0
+Within one two = (q : Block) (d : ℕ) (x : Usable) → one q d x → two q d x
 
 -- a router of a network, with its tables in their parts; the tables of all routers, and their classes
 pub record Place : Type 0 where
@@ -137,12 +140,15 @@ answer_of p k phase way next is alone shows = λ a inside. record {
 -- what is used in Middle is what is used in Old or in New, and so is the answer
 pub middle_answer : (p : Place) (k : ℕ) (cell : Cell) (next : Next) → IsPlace p → IsCell (sample p k) cell
     → ShowsUse p.tables.old.entries.now p.tables.new.entries.now (use_in cell Middle) next → IsNextAtAnEnd (move_of p) p.classes p.u k next
-middle_answer p k cell next is uses shows = by_end cell.middle_is_new shows
+middle_answer p k cell next is uses shows = by_middle cell.middle shows (uses Old) (uses New)
   where
-    by_end : (is_new : Bool) → ShowsUse p.tables.old.entries.now p.tables.new.entries.now (if is_new then new_use cell else old_use cell) next
+    by_middle : (middle : Used) → ShowsUse p.tables.old.entries.now p.tables.new.entries.now middle next
+        → IsUse (sample p k) Old (first_unless_new middle cell.other) → IsUse (sample p k) New (first_if_new middle cell.other)
         → IsNextAtAnEnd (move_of p) p.classes p.u k next
-    by_end true shown = inr (answer_of p k New (new_use cell) next is (uses New) shown)
-    by_end false shown = inl (answer_of p k Old (old_use cell) next is (uses Old) shown)
+    by_middle used.Nothing shown old new = inl (answer_of p k Old used.Nothing next is old shown)
+    by_middle used.Connected shown old new = inl (answer_of p k Old used.Connected next is old shown)
+    by_middle (used.Old n) shown old new = inl (answer_of p k Old (used.Old n) next is old shown)
+    by_middle (used.New n) shown old new = inr (answer_of p k New (used.New n) next is new shown)
 
 -- the answer for a class is the answer for each class with the same cell
 one_way : (p : Place) (k j : ℕ) (cell : Cell) → IsPlace p → k < length p.classes.samples → IsCell (sample p k) cell → IsCell (sample p j) cell

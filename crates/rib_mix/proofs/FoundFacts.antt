@@ -11,8 +11,7 @@ use Rattle.route_core.specs.declared.entry.Entry.TheVariants.{Discard}
 use Rattle.route_core.specs.declared.table.TableParts.{TableParts}
 use Rattle.route_core.proofs.RowLaws.{prefixes_of_rows}
 use Rattle.route_core.proofs.TableLaws.{Contains-from_place, prefix_of_entry}
-use Rattle.prefix_atoms.specs.Longest.{IsFoundAt, number_at}
-use Rattle.prefix_atoms.specs.declared.longest.Longest.{Longest}
+use Rattle.prefix_atoms.specs.Longest.{number_at}
 use Rattle.rib_mix.specs.Sites.{HasTableRows, IsLawfulTable, prefixes_in, table_of}
 use Rattle.prefix_atoms.proofs.Pushed.{at_place}
 use Rattle.rib_mix.proofs.RowSteps.{lawful_from}
@@ -33,22 +32,20 @@ prefix_listed parts p listed =
     subst (λ (ps : List Block). Contains ps p) (sym (rows_prefixes parts))
     (prefix_of_entry (table_of parts) p listed.0 listed.1)
 
--- the entry of the row that is found is kept under its number
-pub entry_kept : (parts : TableParts) (a : ℕ) (found : Longest) → HasTableRows parts
-    → (at : IsFoundAt (prefixes_in parts) (number_at (rows_in (kept_in parts))) a found)
-    → (e : Entry) × (slice_get parts.entries.now found.number ≡ Some e) × IsListed (table_of parts) at.prefix e
-entry_kept parts a found rows at =
+-- the entry of a row is kept under its number
+pub entry_kept : (parts : TableParts) (place number : ℕ) (p : Block) → HasTableRows parts → slice_get (prefixes_in parts) place ≡ Some p
+    → number_at (rows_in (kept_in parts)) place ≡ number → (e : Entry) × (slice_get parts.entries.now number ≡ Some e) × IsListed (table_of parts) p e
+entry_kept parts place number p rows stands number_is =
     let list : List Row = rows_in (kept_in parts) in
-    let place : ℕ = at.place in
     let many : place < length list = subst (λ (n : ℕ). place < n) (length-map list (row_prefix parts.prefixes.now))
-    (slice_get_within (prefixes_in parts) place at.prefix at.stands) in
+    (slice_get_within (prefixes_in parts) place p stands) in
     let row : (row : Row) × (slice_get list place ≡ Some row) = at_place list place many in
-    let dest : row_prefix parts.prefixes.now row.0 ≡ at.prefix =
-    same_Some (row_prefix parts.prefixes.now row.0) at.prefix
-    (sym (slice_get-map (row_prefix parts.prefixes.now) list place ∙ ap (option_map (row_prefix parts.prefixes.now)) row.1) ∙ at.stands) in
-    let number : row.0.number ≡ found.number =
+    let dest : row_prefix parts.prefixes.now row.0 ≡ p =
+    same_Some (row_prefix parts.prefixes.now row.0) p
+    (sym (slice_get-map (row_prefix parts.prefixes.now) list place ∙ ap (option_map (row_prefix parts.prefixes.now)) row.1) ∙ stands) in
+    let same : row.0.number ≡ number =
     sym (get_or_from_slice_get (map (λ (r : Row). r.number) list) place row.0.number 0
-    (slice_get-map (λ (r : Row). r.number) list place ∙ ap (option_map (λ (r : Row). r.number)) row.1)) ∙ at.number_is in
+    (slice_get-map (λ (r : Row). r.number) list place ∙ ap (option_map (λ (r : Row). r.number)) row.1)) ∙ number_is in
     let below : row.0.number < length parts.entries.now =
     subst (λ (r : Row). r.number < length parts.entries.now) (get_or_from_slice_get list place row.0 row.0 row.1) (rows.numbers place row.0 many) in
     let entry : Entry = get_or parts.entries.now row.0.number Discard in
@@ -56,6 +53,6 @@ entry_kept parts a found rows at =
     Contains-from_place (table_of parts) place (row_prefix parts.prefixes.now row.0, entry)
     (slice_get-map (listed_row parts.prefixes.now parts.entries.now) list place ∙ ap (option_map (listed_row parts.prefixes.now parts.entries.now)) row.1) in (
       entry,
-      subst (λ (n : ℕ). slice_get parts.entries.now n ≡ Some entry) number (slice_get-get_or parts.entries.now row.0.number Discard below),
-      subst (λ (p : Block). IsListed (table_of parts) p entry) dest listed,
+      subst (λ (n : ℕ). slice_get parts.entries.now n ≡ Some entry) same (slice_get-get_or parts.entries.now row.0.number Discard below),
+      subst (λ (b : Block). IsListed (table_of parts) b entry) dest listed,
     )

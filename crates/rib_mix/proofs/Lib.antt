@@ -1,12 +1,12 @@
 pub mod NextLaws
-mod Contests
 mod OneUsed
 mod CellLaws
 mod ClassUses
 mod MixedLaws
 mod FoundFacts
-mod SubnetFacts
 mod RowSteps
+mod SubnetFacts
 mod RowLaws
 mod SpotLaws
 mod UpLaws
+mod UseLaws

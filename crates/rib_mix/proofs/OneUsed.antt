@@ -17,7 +17,7 @@ config_of : (net : Network) (u : ℕ) (c : Configuration) → IsNetwork net → 
 config_of net u c network has =
     All-contains IsConfiguration net c network.configurations (u, slice_get_within net u c has, get_or_from_slice_get net u c c has)
 
-counts_block : (s : Site) (phase : Phase) (p : Block) (d : ℕ) (x : Usable) → IsLawfulSite s → CountsAt s phase p d x → IsBlock p
+pub counts_block : (s : Site) (phase : Phase) (p : Block) (d : ℕ) (x : Usable) → IsLawfulSite s → CountsAt s phase p d x → IsBlock p
 counts_block s phase p d x lawful (connected_counts h) =
     let config : IsConfiguration h.up.config = config_of s.net s.u h.up.config lawful.network h.up.router in
     let interface : IsInterface h.interface = All-contains IsInterface h.up.config.interfaces h.interface config.interfaces h.up.among in

@@ -1,25 +1,19 @@
--- What is found for a router and each class says what the router uses for it.
-use Rattle.std.proofs.Common.{◌≡◌, ℕ, ◌<◌, List, All, Option, None, Some, length, get_or, slice_get, arith, sym, subst, ◌∙◌}
-use Rattle.std.proofs.lemmas.List.{get_or_default}
-use Rattle.std.proofs.lemmas.List.Elements.{All-contains}
+-- What a router has, and what it uses for each class.
+use Rattle.std.proofs.Common.{◌≡◌, ℕ, ◌<◌, List, Option, None, Some, length, get_or, slice_get, arith, sym, subst, ◌∙◌}
 use Rattle.std.proofs.lemmas.Option.{slice_get_within, slice_get-get_or}
-use Rattle.net_addr.specs.Addresses.{Block, IsBlock}
+use Rattle.net_addr.specs.Addresses.{Block}
 use Rattle.net_model.specs.Refusals.{IsNetwork}
-use Rattle.route_core.proofs.RowLaws.{table_rows}
-use Rattle.route_core.specs.Rows.{kept_in}
 use Rattle.prefix_atoms.proofs.Pushed.{at_place}
 use Rattle.prefix_atoms.specs.Classes.{Classes, IsClassing}
 use Rattle.prefix_atoms.specs.Nested.{IsTop}
 use Rattle.rib_mix.specs.steps.Spots.{AreSpots, AreTableSpots}
-use Rattle.rib_mix.specs.steps.WayUp.{AreOwnFound, IsFoundRow, IsOwnAmong, found_at}
-use Rattle.rib_mix.specs.Rows.{AllOccur, AreAmong, AreSubnets, Ground, IsRow}
-use Rattle.rib_mix.specs.Sites.{AreTablesInParts, HasOspfDistance, Site, prefixes_in}
+use Rattle.rib_mix.specs.steps.WayUp.{AreOwnCells, IsOwnAmong, IsRowOfTops}
+use Rattle.rib_mix.specs.Cells.{IsCell}
+use Rattle.rib_mix.specs.Rows.{AllOccur, AreSubnets, Ground, IsRow}
+use Rattle.rib_mix.specs.Sites.{AreTablesInParts, HasOspfDistance, Site}
 use Rattle.rib_mix.specs.declared.both_tables.BothTables.{BothTables}
 use Rattle.rib_mix.specs.declared.cell.Cell.{Cell}
-use Rattle.rib_mix.specs.declared.found.Found.{Found}
 use Rattle.rib_mix.specs.declared.spots.Spots.{Spots}
-use Rattle.rib_mix.proofs.CellLaws.{cell_found}
-use Rattle.rib_mix.proofs.FoundFacts.{lawful_table}
 
 -- the tables of all routers share their prefixes, and so their spots
 shared_spots : (prefixes : List Block) (routers u : ℕ) (tables : List BothTables) (both : BothTables) (spots : Spots) → AreTablesInParts routers tables
@@ -48,34 +42,16 @@ own_among prefixes g u both subnets spots parts occur own at are = record {
   spots_are = shared_spots prefixes (length g.net) u g.tables both spots parts at are;
 }
 
--- prefixes that are among blocks are blocks
-among_blocks : (prefixes own : List Block) → All IsBlock prefixes → AreAmong prefixes own → All IsBlock own
-among_blocks prefixes own blocks among k d l =
-    All-contains IsBlock prefixes (get_or own k d) blocks (among (get_or own k d) (k, l, get_or_default own k (get_or own k d) d l))
-
-pub row_found : (s : Site) (ospf : ℕ) (subnets : List Block) (classes : Classes) (spots : Spots) (found : List Found) (row : List Cell)
-    → IsNetwork s.net → HasOspfDistance s.net s.u ospf → AreSubnets s.net s.u subnets → IsClassing classes
-    → IsOwnAmong classes.prefixes subnets s.tables spots → AreOwnFound classes.prefixes subnets s.tables found → IsFoundRow classes.tops found ospf row
+-- what is used for the longest prefix of each class makes the row of a router
+pub row_made : (s : Site) (ospf : ℕ) (subnets : List Block) (classes : Classes) (cells row : List Cell) → IsNetwork s.net → HasOspfDistance s.net s.u ospf
+    → AreSubnets s.net s.u subnets → IsClassing classes → AreOwnCells classes.prefixes subnets s.tables ospf cells → IsRowOfTops classes.tops cells row
     → IsRow (λ a. record s { a = a }) classes.samples row
-row_found s ospf subnets classes spots found row network distance subnets_are classing among are is = record {
+row_made s ospf subnets classes cells row network distance subnets_are classing are is = record {
   count = is.count ∙ classing.tops.count;
   each = λ k cell at.
-      let here : k < length row = slice_get_within row k cell at in
       let a : ℕ = get_or classes.samples k 0 in
       let top : Option ℕ = get_or classes.tops k None in
-      let is_top : IsTop classes.prefixes a top = classing.tops.each k top (slice_get-get_or classes.tops k None (omega (arith, is.count))) in
-      let own = are top a is_top in
-      let old_rows = table_rows (kept_in s.tables.old) among.old_table in
-      let new_rows = table_rows (kept_in s.tables.new) among.new_table in
-      cell_found (record s { a = a }) ospf (found_at found top) cell
-      (record {
-        network = network;
-        old = lawful_table s.tables.old old_rows (among_blocks classes.prefixes (prefixes_in s.tables.old) classing.nested.blocks among.old);
-        new = lawful_table s.tables.new new_rows (among_blocks classes.prefixes (prefixes_in s.tables.new) classing.nested.blocks among.new);
-        old_rows = old_rows;
-        new_rows = new_rows;
-      })
-      distance
-      (record { subnets = subnets; subnets_are = subnets_are; connected = own.connected; old = own.old; new = own.new })
-      (is.each k cell at);
+      let here : k < length row = slice_get_within row k cell at in
+      let is_top : IsTop classes.prefixes a top = classing.tops.each k top (slice_get-get_or classes.tops k None (omega (arith, here, is.count))) in
+      subst (IsCell (record s { a = a })) (sym (is.each k cell at)) (are s.net s.u a top network distance subnets_are is_top);
 }

@@ -1,29 +1,38 @@
--- The way up from the longest prefix of an address: what is found there of some numbers is the longest of the own prefixes.
-use Rattle.std.proofs.Common.{◌≡◌, ◌≢◌, ℕ, ◌+◌, ◌<◌, ◌≤◌, inl, inr, List, length, get_or, set, Option, Some, None, Contains, IfSome, slice_get, ⊎_elim}
-use Rattle.std.proofs.Common.{arith, refl, sym, ap, subst, ◌∙◌, get_or-set_other, get_or-set_same}
-use Rattle.std.proofs.lemmas.Bool.{cases_lt}
+-- The way up from the longest prefix of an address: what is used there is what is used of all entries.
+use Rattle.std.proofs.Common.{◌≡◌, ◌≢◌, ◌⊎◌, ℕ, ◌+◌, ◌<◌, ◌≤◌, inl, inr, Bool, true, false, List, length, get_or, set, Option, Some, None, Contains, IfSome, IsTrue, MatchOption}
+use Rattle.std.proofs.Common.{arith, refl, sym, subst, ◌∙◌, get_or-set_other, get_or-set_same, slice_get, ⊎_elim, eqb-true, ◌==◌, if◌then◌else◌}
+use Rattle.std.proofs.lemmas.Bool.{cases_lt, eqb-false}
 use Rattle.std.proofs.lemmas.List.Elements.{All-contains}
 use Rattle.std.proofs.lemmas.Option.{same_Some, slice_get_within, slice_get-get_or}
 use Rattle.net_addr.specs.Addresses.{Block, ContainsAddress, IsBlock}
 use Rattle.net_addr.proofs.Blocks.{same_block}
+use Rattle.net_model.specs.Network.{Connected}
 use Rattle.route_core.specs.Rows.{kept_in, rows_in}
-use Rattle.route_core.specs.declared.table.TableParts.{TableParts}
+use Rattle.route_core.specs.declared.entry.Entry.{Entry}
+use Rattle.route_core.proofs.RowLaws.{table_rows}
 use Rattle.route_core.proofs.TableLaws.{Contains-from_place}
+use Rattle.igp_theory.specs.Forwarding.{Usable, of_new, of_old, connected_counts, old_counts, new_counts}
+use Rattle.igp_theory.specs.declared.phase.Phase.{Phase}
+use Rattle.igp_theory.specs.declared.phase.Phase.TheVariants.{Old, Middle, New}
 use Rattle.prefix_atoms.specs.Classes.{Classes, IsClassing}
-use Rattle.prefix_atoms.specs.Longest.{IsKept, number_at}
+use Rattle.prefix_atoms.specs.Longest.{number_at}
 use Rattle.prefix_atoms.specs.Nested.{IsNextShorter, IsParent, IsTop}
-use Rattle.prefix_atoms.specs.declared.longest.Longest.{Longest}
 use Rattle.prefix_atoms.proofs.NestedLaws.{parent_is_next}
-use Rattle.rib_mix.specs.Rows.{AreAmong}
-use Rattle.rib_mix.specs.Sites.{IsFoundIn, prefixes_in}
+use Rattle.rib_mix.specs.Cells.{IsCell, no_cell, use_in}
+use Rattle.rib_mix.specs.Sites.{CountsAt, HasTableRows, Site, prefixes_in}
 use Rattle.rib_mix.specs.steps.Spots.{AreSpots, IsPlaced, number_in}
-use Rattle.rib_mix.specs.steps.WayUp.{AreAllFound, AreFoundUp, AreOwnFound, AreOwnNumbers, IsFoundFor, IsFoundUp, IsKeptUpTo, IsOwnAmong, IsOwnNumber}
-use Rattle.rib_mix.specs.steps.WayUp.{connected_in, found_at, found_or, no_found, own_found}
-use Rattle.rib_mix.specs.declared.both_tables.BothTables.{BothTables}
-use Rattle.rib_mix.specs.declared.found.Found.{Found}
+use Rattle.rib_mix.specs.steps.Uses.{cell_at, cell_over}
+use Rattle.rib_mix.specs.steps.WayUp.{AreAllCells, AreOwnCells, IsBestUse, IsCellFor, IsOwnAmong, IsOwnNumber, IsOwnSite, UpTo, connected_in, has_at}
+use Rattle.rib_mix.specs.declared.cell.Cell.{Cell}
 use Rattle.rib_mix.specs.declared.marks.Own.{Own}
 use Rattle.rib_mix.specs.declared.spots.Spots.{Spots}
+use Rattle.rib_mix.specs.declared.used.Used.TheVariants as used
+use Rattle.rib_mix.proofs.CellLaws.{AreHere, Below, OldFirst, best_along, cell_step, ospf_of}
+use Rattle.rib_mix.proofs.FoundFacts.{entry_kept, lawful_table, prefix_listed}
+use Rattle.rib_mix.proofs.OneUsed.{counts_block}
+use Rattle.rib_mix.proofs.RowSteps.{among_blocks}
 use Rattle.rib_mix.proofs.SpotLaws.{rows_number, spots_number}
+use Rattle.rib_mix.proofs.UseLaws.{use_of_best}
 
 -- the parent of a prefix is the next shorter one, and stands before it
 pub parent_of : (c : Classes) (place : ℕ) (p : Block) → IsClassing c → slice_get c.prefixes place ≡ Some p
@@ -32,57 +41,102 @@ parent_of c place p classing at =
     classing.nested.parents_are place p (get_or c.parents place None) at
     (slice_get-get_or c.parents place None (omega (arith, slice_get_within c.prefixes place p at, classing.nested.count)))
 
--- what is found for a prefix is itself where it is an own one, and otherwise what is found for its parent
-pub found_more : (c : Classes) (marks : ℕ → Option ℕ) (place : ℕ) (p : Block) (up : Longest) → IsClassing c → slice_get c.prefixes place ≡ Some p
-    → IsFoundUp c.prefixes marks (get_or c.parents place None) up → IsFoundFor c.prefixes marks p (found_or (p.len + 1) (marks place) up)
-found_more c marks place p up classing at above own numbers a among are inside = by_mark (marks place) (are place p at)
-  where
-    is_block : (q : Block) → Contains c.prefixes q → IsBlock q
-    is_block q has = All-contains IsBlock c.prefixes q classing.nested.blocks has
+-- what counts at a router is for a prefix of those that it has
+occurs : (prefixes : List Block) (own : Own) (s : Site) (phase : Phase) (q : Block) (d : ℕ) (x : Usable) → IsOwnSite prefixes own s → CountsAt s phase q d x
+    → Contains prefixes q
+occurs prefixes own s phase q d x site (connected_counts h) = site.among q ((site.subnets_are q).1 h)
+occurs prefixes own s phase q d x site (old_counts {e = e} _ _ _ _ _ listed) = site.old_among q (prefix_listed s.tables.old q (e, listed))
+occurs prefixes own s phase q d x site (new_counts {e = e} _ listed) = site.new_among q (prefix_listed s.tables.new q (e, listed))
 
-    block : IsBlock p
-    block = is_block p (Contains-from_place c.prefixes place p at)
-
-    -- an own prefix that is no longer than this one, which isn't an own one, is shorter
-    lower : (Contains own p → ⊥) → (q : Block) → Contains own q → ContainsAddress q a → q.len ≤ p.len → q.len < p.len
-    lower none q has around short = ⊎_elim
-        (λ (l : q.len < p.len). l)
-        (λ (l : p.len ≤ q.len). absurd (none (subst (Contains own) (same_block q p a (is_block q (among q has)) block (omega arith) around inside) has)))
-        (cases_lt q.len p.len)
-
-    by_parent : (o : Option ℕ) → IsNextShorter c.prefixes p.len a o → IsFoundUp c.prefixes marks o up → (Contains own p → ⊥)
-        → IsKeptUpTo own numbers p.len a up
-    by_parent None shorter is none = record {
-      there = inl (ap (λ (l : Longest). l.size) is);
-      covers = λ q has around short. absurd (shorter q (among q has, lower none q has around short) around);
-    }
-    by_parent (Some j) longest found none =
-        let kept = found longest.prefix longest.stands own numbers a among are longest.match.contains in
-        record {
-          there = kept.there;
-          covers = λ q has around short.
-              kept.covers q has around (longest.match.longest q (among q has, lower none q has around short) around);
-        }
-
-    by_mark : (o : Option ℕ) → IsOwnNumber own numbers p o → IsKeptUpTo own numbers p.len a (found_or (p.len + 1) o up)
-    by_mark None none =
-        by_parent (get_or c.parents place None)
-        (parent_is_next c.prefixes p a (get_or c.parents place None) block inside (parent_of c place p classing at).next) above none
-    by_mark (Some number) one = record {
-      there = inr (record { place = one.0; prefix = p; stands = one.1; contains = inside; size_is = refl; number_is = one.2 });
-      covers = λ q has around short. omega (arith, short);
-    }
-
--- what is found at the place of the longest prefix of an address is the longest own prefix that contains it
-pub top_found : (prefixes own : List Block) (numbers : ℕ → ℕ) (marks : ℕ → Option ℕ) (top : Option ℕ) (a : ℕ) (found : Longest) → AreAmong prefixes own
-    → AreOwnNumbers prefixes own numbers marks → IsTop prefixes a top → IsFoundUp prefixes marks top found → IsKept own numbers a found
-top_found prefixes own numbers marks None a found among are none is = record {
-  there = inl (ap (λ (l : Longest). l.size) is);
-  covers = λ q has around. absurd (none q (among q has) around);
+-- what is had at the place of a prefix is what counts for it
+own_here : (prefixes : List Block) (own : Own) (s : Site) (i : ℕ) (p : Block) → IsOwnSite prefixes own s → slice_get prefixes i ≡ Some p
+    → AreHere s p own.ospf (has_at own i)
+own_here prefixes own s i p site at = record {
+  connected = by_connected (connected_in own i) (site.connected i p at);
+  old = by_most (own.ospf == 255) refl;
+  new = by_new (number_in own.new i) (site.new i p at);
 }
-top_found prefixes own numbers marks (Some place) a found among are longest up =
-    let kept = up longest.prefix longest.stands own numbers a among are longest.match.contains in
-    record { there = kept.there; covers = λ q has around. kept.covers q has around (longest.match.longest q (among q has) around) }
+  where
+    by_connected : (o : Option ℕ) → IsOwnNumber site.subnets (λ place. place) p o
+        → MatchOption o (Connected s.net s.u p → ⊥) (λ _. Connected s.net s.u p)
+    by_connected None none = λ h. none ((site.subnets_are p).1 h)
+    by_connected (Some k) one = (site.subnets_are p).0 (Contains-from_place site.subnets one.0 p one.1)
+
+    not_old : IsTrue (own.ospf == 255) ⊎ (Contains (prefixes_in s.tables.old) p → ⊥) → (e : Entry) (d : ℕ) → CountsAt s Old p d (of_old e) → ⊥
+    not_old none e d (old_counts _ c has is set listed) = elim none [
+      | inl most ↦ set (sym is ∙ ospf_of s own.ospf c site.distance has ∙ eqb-true own.ospf 255 most)
+      | inr apart ↦ apart (prefix_listed s.tables.old p (e, listed))
+    ]
+
+    by_old : (o : Option ℕ) → own.ospf ≢ 255 → IsOwnNumber (prefixes_in s.tables.old) (number_at (rows_in (kept_in s.tables.old))) p o
+        → MatchOption o ((e : Entry) (d : ℕ) → CountsAt s Old p d (of_old e) → ⊥)
+        (λ n. (e : Entry) × (slice_get s.tables.old.entries.now n ≡ Some e) × CountsAt s Old p own.ospf (of_old e))
+    by_old None set none = not_old (inr none)
+    by_old (Some n) set one =
+        let kept = entry_kept s.tables.old one.0 n p site.lawful.old_rows one.1 one.2 in
+        (kept.0, kept.1, old_counts tt site.distance.config site.distance.has site.distance.distance_is set kept.2)
+
+    by_most : (most : Bool) → (own.ospf == 255) ≡ most → let o = if most then None else number_in own.old i in
+        MatchOption o ((e : Entry) (d : ℕ) → CountsAt s Old p d (of_old e) → ⊥)
+        (λ n. (e : Entry) × (slice_get s.tables.old.entries.now n ≡ Some e) × CountsAt s Old p own.ospf (of_old e))
+    by_most true is = not_old (inl is)
+    by_most false is = by_old (number_in own.old i) (eqb-false own.ospf 255 is) (site.old i p at)
+
+    by_new : (o : Option ℕ) → IsOwnNumber (prefixes_in s.tables.new) (number_at (rows_in (kept_in s.tables.new))) p o
+        → MatchOption o ((e : Entry) (d : ℕ) → CountsAt s New p d (of_new e) → ⊥)
+        (λ n. (e : Entry) × (slice_get s.tables.new.entries.now n ≡ Some e) × CountsAt s New p 115 (of_new e))
+    by_new None none = not_new
+      where
+        not_new : (e : Entry) (d : ℕ) → CountsAt s New p d (of_new e) → ⊥
+        not_new e d (new_counts _ listed) = none (prefix_listed s.tables.new p (e, listed))
+    by_new (Some n) one =
+        let kept = entry_kept s.tables.new one.0 n p site.lawful.new_rows one.1 one.2 in (kept.0, kept.1, new_counts tt kept.2)
+
+-- what is used of the shorter prefixes is what is used for the parent
+shorter_best : (prefixes : List Block) (own : Own) (s : Site) (len : ℕ) (o : Option ℕ) (up : Cell) → IsOwnSite prefixes own s
+    → IsNextShorter prefixes len s.a o → IsCellFor prefixes own o up → (phase : Phase) → IsBestUse s (Below s phase len) (use_in up phase)
+shorter_best prefixes own s len None up site none is phase = subst (λ (c : Cell). IsBestUse s (Below s phase len) (use_in c phase)) (sym is) (by_phase phase)
+  where
+    by_phase : (phase : Phase) → IsBestUse s (Below s phase len) (use_in no_cell phase)
+    by_phase Old = inl (refl, λ q d x k. none q (occurs prefixes own s Old q d x site k.0, k.2) k.1)
+    by_phase Middle = inl (refl, λ q d x k. none q (occurs prefixes own s Middle q d x site k.0, k.2) k.1)
+    by_phase New = inl (refl, λ q d x k. none q (occurs prefixes own s New q d x site k.0, k.2) k.1)
+shorter_best prefixes own s len (Some j) up site longest found phase =
+    best_along s (UpTo s phase longest.prefix.len) (Below s phase len) (use_in up phase)
+    (λ q d x k. (k.0, k.1, omega (arith, k.2, longest.match.is_offered.1)))
+    (λ q d x k. (k.0, k.1, longest.match.longest q (occurs prefixes own s phase q d x site k.0, k.2) k.1))
+    (found longest.prefix s longest.stands site longest.match.contains phase)
+
+-- what is used for a prefix, of what is used for its parent
+cell_more : (c : Classes) (own : Own) (place : ℕ) (p : Block) (up : Cell) (old_first : Bool) → IsClassing c → OldFirst old_first own.ospf
+    → slice_get c.prefixes place ≡ Some p → IsCellFor c.prefixes own (get_or c.parents place None) up
+    → IsCellFor c.prefixes own (Some place) (cell_over (has_at own place) old_first up)
+cell_more c own place p up old_first classing first at above q s at_q site inside =
+    let same : p ≡ q = same_Some p q (sym at ∙ at_q) in
+    let block : IsBlock q = All-contains IsBlock c.prefixes q classing.nested.blocks (Contains-from_place c.prefixes place q at_q) in
+    cell_step s q own.ospf (has_at own place) old_first up site.lawful site.distance inside
+    (λ r phase d x k same_len. same_block r q s.a (counts_block s phase r d x site.lawful k.0) block same_len k.1 inside)
+    first (own_here c.prefixes own s place q site at_q)
+    (shorter_best c.prefixes own s q.len (get_or c.parents place None) up site
+    (parent_is_next c.prefixes q s.a (get_or c.parents place None) block inside (parent_of c place q classing at_q).next) above)
+
+-- what is used for the longest prefix of an address is what is used of all entries
+top_cell : (prefixes : List Block) (own : Own) (s : Site) (top : Option ℕ) (cell : Cell) → IsOwnSite prefixes own s → IsTop prefixes s.a top
+    → IsCellFor prefixes own top cell → IsCell s cell
+top_cell prefixes own s None cell site none is = subst (IsCell s) (sym is) by_phase
+  where
+    nothing : (phase : Phase) (q : Block) (d : ℕ) (x : Usable) → CountsAt s phase q d x × ContainsAddress q s.a → ⊥
+    nothing phase q d x k = none q (occurs prefixes own s phase q d x site k.0) k.1
+
+    by_phase : IsCell s no_cell
+    by_phase Old = use_of_best s Old used.Nothing site.lawful (inl (refl, nothing Old))
+    by_phase Middle = use_of_best s Middle used.Nothing site.lawful (inl (refl, nothing Middle))
+    by_phase New = use_of_best s New used.Nothing site.lawful (inl (refl, nothing New))
+top_cell prefixes own s (Some place) cell site longest up = λ phase.
+    use_of_best s phase (use_in cell phase) site.lawful
+    (best_along s (UpTo s phase longest.prefix.len) (λ q d x. CountsAt s phase q d x × ContainsAddress q s.a) (use_in cell phase)
+    (λ q d x k. (k.0, k.1)) (λ q d x k. (k.0, k.1, longest.match.longest q (occurs prefixes own s phase q d x site k.0) k.1))
+    (up longest.prefix s longest.stands site longest.match.contains phase))
 
 -- a place that stands before another one is within
 pub earlier_within : (n place : ℕ) (o : Option ℕ) → place < n → IfSome o (λ k. k < place) → IfSome o (λ k. k < n)
@@ -99,65 +153,74 @@ top_within c k classing within =
     top_inside c.prefixes (get_or c.samples k 0) (get_or c.tops k None)
     (classing.tops.each k (get_or c.tops k None) (slice_get-get_or c.tops k None within))
 
--- What is found for all prefixes, of what a router has
+-- What is used for all prefixes, of what a router has
 
--- what is found for the earlier prefixes is found for the parent of the next one
-pub earlier_found : (prefixes : List Block) (own : Own) (n : ℕ) (found : List Found) (o : Option ℕ) → IfSome o (λ j. j < n)
-    → AreAllFound prefixes own n found → AreFoundUp prefixes own o (found_at found o)
-earlier_found prefixes own n found None before are = record { connected = refl; old = refl; new = refl }
-earlier_found prefixes own n found (Some j) before are = are j before
+-- what is used for the earlier prefixes is used for the parent of the next one
+earlier_cell : (prefixes : List Block) (own : Own) (n : ℕ) (cells : List Cell) (o : Option ℕ) → IfSome o (λ j. j < n)
+    → AreAllCells prefixes own n cells → IsCellFor prefixes own o (cell_at cells o)
+earlier_cell prefixes own n cells None before are = refl
+earlier_cell prefixes own n cells (Some j) before are = are j before
 
 -- one prefix more
-pub all_found_more : (c : Classes) (own : Own) (place : ℕ) (p : Block) (old new : List Found) → IsClassing c → slice_get c.prefixes place ≡ Some p
-    → length old ≡ length c.prefixes → new ≡ set old place (own_found own place p (found_at old (get_or c.parents place None)))
-    → AreAllFound c.prefixes own place old → AreAllFound c.prefixes own (place + 1) new
-all_found_more c own place p old new classing at long is are = subst (AreAllFound c.prefixes own (place + 1)) (sym is) each
+pub all_cells_more : (c : Classes) (own : Own) (place : ℕ) (p : Block) (old : List Cell) (old_first : Bool) → IsClassing c → OldFirst old_first own.ospf
+    → slice_get c.prefixes place ≡ Some p → length old ≡ length c.prefixes → AreAllCells c.prefixes own place old
+    → AreAllCells c.prefixes own (place + 1) (set old place (cell_over (has_at own place) old_first (cell_at old (get_or c.parents place None))))
+all_cells_more c own place p old old_first classing first at long are k below = ⊎_elim
+    (λ (l : k < place).
+    let apart : k ≢ place = omega arith in
+    subst (IsCellFor c.prefixes own (Some k)) (sym (get_or-set_other old place k next no_cell apart)) (are k l))
+    (λ (l : place ≤ k).
+    let same : place ≡ k = omega arith in
+    subst (λ (j : ℕ). IsCellFor c.prefixes own (Some j) (get_or (set old place next) j no_cell)) same
+    (subst (IsCellFor c.prefixes own (Some place))
+    (sym (get_or-set_same old place next no_cell (omega (arith, slice_get_within c.prefixes place p at, long)))) here))
+    (cases_lt k place)
   where
-    up : AreFoundUp c.prefixes own (get_or c.parents place None) (found_at old (get_or c.parents place None))
-    up = earlier_found c.prefixes own place old (get_or c.parents place None) (parent_of c place p classing at).before are
+    up : Cell
+    up = cell_at old (get_or c.parents place None)
 
-    next : Found
-    next = own_found own place p (found_at old (get_or c.parents place None))
+    next : Cell
+    next = cell_over (has_at own place) old_first up
 
-    at_next : (marks : ℕ → Option ℕ) (found : Longest) → IsFoundUp c.prefixes marks (get_or c.parents place None) found
-        → IsFoundUp c.prefixes marks (Some place) (found_or (p.len + 1) (marks place) found)
-    at_next marks found above = λ q at_q. subst (λ (x : Block). IsFoundFor c.prefixes marks x (found_or (p.len + 1) (marks place) found))
-        (same_Some p q (sym at ∙ at_q)) (found_more c marks place p found classing at above)
+    here : IsCellFor c.prefixes own (Some place) next
+    here = cell_more c own place p up old_first classing first at
+        (earlier_cell c.prefixes own place old (get_or c.parents place None) (parent_of c place p classing at).before are)
 
-    here : AreFoundUp c.prefixes own (Some place) next
-    here = record {
-      connected = at_next (connected_in own) (found_at old (get_or c.parents place None)).connected up.connected;
-      old = at_next (number_in own.old) (found_at old (get_or c.parents place None)).old up.old;
-      new = at_next (number_in own.new) (found_at old (get_or c.parents place None)).new up.new;
+-- so at the place of the longest prefix of an address there is what the router uses for it
+pub own_cells : (c : Classes) (subnets : List Block) (spots : Spots) (own : Own) (cells : List Cell) → IsClassing c
+    → IsOwnAmong c.prefixes subnets (record { old = own.old.parts; new = own.new.parts }) spots
+    → AreSpots c.prefixes subnets (length subnets) own.connected.now → IsPlaced c.prefixes own.old → IsPlaced c.prefixes own.new
+    → AreAllCells c.prefixes own (length c.prefixes) cells
+    → AreOwnCells c.prefixes subnets (record { old = own.old.parts; new = own.new.parts }) own.ospf cells
+own_cells c subnets spots own cells classing among connected old new are net u a top network distance subnets_are is_top =
+    top_cell c.prefixes own s top (cell_at cells top) site is_top
+    (earlier_cell c.prefixes own (length c.prefixes) cells top (top_inside c.prefixes a top is_top) are)
+  where
+    s : Site
+    s = record { net = net; u = u; tables = record { old = own.old.parts; new = own.new.parts }; a = a }
+
+    old_rows : HasTableRows own.old.parts
+    old_rows = table_rows (kept_in own.old.parts) among.old_table
+
+    new_rows : HasTableRows own.new.parts
+    new_rows = table_rows (kept_in own.new.parts) among.new_table
+
+    site : IsOwnSite c.prefixes own s
+    site = record {
+      lawful = record {
+        network = network;
+        old = lawful_table own.old.parts old_rows (among_blocks c.prefixes (prefixes_in own.old.parts) classing.nested.blocks among.old);
+        new = lawful_table own.new.parts new_rows (among_blocks c.prefixes (prefixes_in own.new.parts) classing.nested.blocks among.new);
+        old_rows = old_rows;
+        new_rows = new_rows;
+      };
+      distance = distance;
+      subnets = subnets;
+      subnets_are = subnets_are;
+      among = among.connected;
+      old_among = among.old;
+      new_among = among.new;
+      connected = spots_number c.prefixes subnets own.connected.now connected;
+      old = rows_number c.prefixes own.old old;
+      new = rows_number c.prefixes own.new new;
     }
-
-    each : AreAllFound c.prefixes own (place + 1) (set old place next)
-    each k below = ⊎_elim
-        (λ (l : k < place).
-        let apart : k ≢ place = omega arith in
-        subst (AreFoundUp c.prefixes own (Some k)) (sym (get_or-set_other old place k next no_found apart)) (are k l))
-        (λ (l : place ≤ k).
-        let same : place ≡ k = omega arith in
-        subst (λ (j : ℕ). AreFoundUp c.prefixes own (Some j) (get_or (set old place next) j no_found)) same
-        (subst (AreFoundUp c.prefixes own (Some place))
-        (sym (get_or-set_same old place next no_found (omega (arith, slice_get_within c.prefixes place p at, long)))) here))
-        (cases_lt k place)
-
--- so at the place of the longest prefix of an address there is what the router has for it
-pub found_own : (prefixes subnets : List Block) (both : BothTables) (spots : Spots) (own : Own) (found : List Found)
-    → IsOwnAmong prefixes subnets both spots → AreSpots prefixes subnets (length subnets) own.connected.now
-    → IsPlaced prefixes own.old → IsPlaced prefixes own.new → own.old.parts ≡ both.old → own.new.parts ≡ both.new
-    → AreAllFound prefixes own (length prefixes) found → AreOwnFound prefixes subnets both found
-found_own prefixes subnets both spots own found among connected old new is_old is_new are top a is_top = record {
-  connected = top_found prefixes subnets (λ place. place) (connected_in own) top a (found_at found top).connected among.connected
-      (spots_number prefixes subnets own.connected.now connected) is_top up.connected;
-  old = subst (λ (parts : TableParts). IsFoundIn parts a (found_at found top).old) is_old
-      (top_found prefixes (prefixes_in own.old.parts) (number_at (rows_in (kept_in own.old.parts))) (number_in own.old) top a (found_at found top).old
-      (subst (λ (parts : TableParts). AreAmong prefixes (prefixes_in parts)) (sym is_old) among.old) (rows_number prefixes own.old old) is_top up.old);
-  new = subst (λ (parts : TableParts). IsFoundIn parts a (found_at found top).new) is_new
-      (top_found prefixes (prefixes_in own.new.parts) (number_at (rows_in (kept_in own.new.parts))) (number_in own.new) top a (found_at found top).new
-      (subst (λ (parts : TableParts). AreAmong prefixes (prefixes_in parts)) (sym is_new) among.new) (rows_number prefixes own.new new) is_top up.new);
-}
-  where
-    up : AreFoundUp prefixes own top (found_at found top)
-    up = earlier_found prefixes own (length prefixes) found top (top_inside prefixes a top is_top) are

@@ -1,59 +1,46 @@
 -- What is kept for each router and class: what is used in each phase.
-use Rattle.std.specs.Prelude.{◌≡◌, ◌↔◌, ℕ, ◌<◌, Bool, if◌then◌else◌, List, length, Some, slice_get}
-use Rattle.net_model.specs.declared.bounds.TheConstants.{ISIS_DISTANCE}
+use Rattle.std.specs.Prelude.{◌≡◌, ◌↔◌, ◌<◌, List, length, Some, slice_get}
 use Rattle.route_core.specs.declared.entry.Entry.{Entry}
 use Rattle.igp_theory.specs.Forwarding.{Usable, connected, of_old, of_new}
 use Rattle.igp_theory.specs.declared.phase.Phase.{Phase}
 use Rattle.igp_theory.specs.declared.phase.Phase.TheVariants as phase
 use Rattle.rib_mix.specs.Answers.{ShowsEntry}
-use Rattle.rib_mix.specs.steps.Candidates.{connected_of, entry_of, old_of, IsBetter, SecondLeads}
 use Rattle.rib_mix.specs.Sites.{Site, UsesAt}
-use Rattle.rib_mix.specs.declared.candidate.Candidate.{Candidate}
 use Rattle.rib_mix.specs.declared.cell.Cell.{Cell}
-use Rattle.rib_mix.specs.declared.candidate.Choice.{Choice}
-use Rattle.rib_mix.specs.declared.candidate.Choice.TheVariants as choice
 use Rattle.rib_mix.specs.declared.used.Used.{Used}
 use Rattle.rib_mix.specs.declared.used.Used.TheVariants as used
-use Rattle.rib_mix.specs.declared.found.Found.{Found}
 use Rattle.rib_mix.specs.declared.next.Next.{Next}
 use Rattle.rib_mix.specs.declared.next.Next.TheVariants as next
 
--- what is used at an end where this is chosen, with the number of an entry of the end's table
-abbrev pub chosen_use : (ℕ → Used) → Choice → ℕ → Used
-chosen_use table choice.Nothing number = used.Nothing
-chosen_use table choice.Connected number = used.Connected
-chosen_use table choice.Entry number = table number
+-- nothing is used
+abbrev pub no_cell : Cell
+no_cell = record { middle = used.Nothing; other = used.Nothing }
 
--- what is used in Old, and in New
+-- what is used in Old: what is used in Middle, unless that is of the new table
+abbrev pub first_unless_new : Used → Used → Used
+first_unless_new used.Nothing other = used.Nothing
+first_unless_new used.Connected other = used.Connected
+first_unless_new (used.Old number) other = used.Old number
+first_unless_new (used.New number) other = other
+
 abbrev pub old_use : Cell → Used
-old_use cell = chosen_use used.Old cell.old cell.old_entry
+old_use cell = first_unless_new cell.middle cell.other
+
+-- what is used in New: what is used in Middle where that is of the new table
+abbrev pub first_if_new : Used → Used → Used
+first_if_new used.Nothing other = other
+first_if_new used.Connected other = other
+first_if_new (used.Old number) other = other
+first_if_new (used.New number) other = used.New number
 
 abbrev pub new_use : Cell → Used
-new_use cell = chosen_use used.New cell.new cell.new_entry
+new_use cell = first_if_new cell.middle cell.other
 
 -- what is used in a phase
 abbrev pub use_in : Cell → Phase → Used
 use_in cell phase.Old = old_use cell
-use_in cell phase.Middle = if cell.middle_is_new then new_use cell else old_use cell
+use_in cell phase.Middle = cell.middle
 use_in cell phase.New = new_use cell
-
--- what is used where this is the best candidate
-abbrev pub use_of : (ℕ → Used) → Candidate → Used
-use_of table c = chosen_use table c.choice c.number
-
--- what a router uses in each phase whose best candidates in Old and in New are these: in Middle what the better of the two says
-pub record IsCellBetween (old new : Candidate) (cell : Cell) : Type 0 where
-  pub middle_is_new : Bool
-  pub middle : SecondLeads middle_is_new old new
-  pub cell_is : cell ≡ record { old_entry = old.number; new_entry = new.number; old = old.choice; new = new.choice; middle_is_new = middle_is_new }
-
--- what a router with this OSPF distance uses in each phase, of what is found: at each end what the best candidate says
-pub record IsCellOf (found : Found) (ospf : ℕ) (cell : Cell) : Type 0 where
-  pub best_old : Candidate
-  pub best_new : Candidate
-  pub is_old : IsBetter (connected_of found.connected) (old_of ospf found.old) best_old
-  pub is_new : IsBetter (connected_of found.connected) (entry_of ISIS_DISTANCE found.new) best_new
-  pub between : IsCellBetween best_old best_new cell
 
 -- what is used is within the entries that the tables keep
 abbrev pub IsKeptUse : List Entry → List Entry → Used → Type 0

@@ -1,8 +1,8 @@
 -- Where an answer is asked for, and what is known of the entries there.
-use Rattle.std.specs.Prelude.{◌≡◌, ℕ, ◌↔◌, List, length, slice_get, All, Some, Contains}
+use Rattle.std.specs.Prelude.{◌≡◌, ℕ, List, length, slice_get, All, Some}
 use Rattle.net_addr.specs.Addresses.{Block, IsBlock}
 use Rattle.net_model.specs.Configuration.{Configuration}
-use Rattle.net_model.specs.Network.{Network, Connected, HasConfiguration}
+use Rattle.net_model.specs.Network.{Network, HasConfiguration}
 use Rattle.net_model.specs.Refusals.{IsNetwork}
 use Rattle.route_core.specs.Rows.{AreTableRows, IsTable, kept_in, listed, row_prefixes, rows_in}
 use Rattle.route_core.specs.Tables.{HasDistinctPrefixes, IsListed}
@@ -11,10 +11,7 @@ use Rattle.route_core.specs.declared.table.TableParts.{TableParts}
 use Rattle.igp_theory.specs.Forwarding.{Usable, Counts, Uses}
 use Rattle.igp_theory.specs.Migrations.{Migration, migration}
 use Rattle.igp_theory.specs.declared.phase.Phase.{Phase}
-use Rattle.prefix_atoms.specs.Longest.{IsKept, number_at}
-use Rattle.prefix_atoms.specs.declared.longest.Longest.{Longest}
 use Rattle.rib_mix.specs.declared.both_tables.BothTables.{BothTables}
-use Rattle.rib_mix.specs.declared.found.Found.{Found}
 
 -- where an answer is asked for: at router u of a network, with its tables in their parts, for address a
 pub record Site : Type 0 where
@@ -49,18 +46,6 @@ CountsAt s phase = Counts (own_migration s) s.u phase
 
 abbrev pub UsesAt : Site → Phase → Usable → Type 0
 UsesAt s phase = Uses (own_migration s) s.u phase s.a
-
--- the longest entry of a table, by its number
-abbrev pub IsFoundIn : TableParts → ℕ → Longest → Type 0
-IsFoundIn parts a found = IsKept (prefixes_in parts) (number_at (rows_in (kept_in parts))) a found
-
--- what is found there, of these connected prefixes and of both tables
-pub record AreFound (s : Site) (found : Found) : Type 0 where
-  pub subnets : List Block
-  pub subnets_are : (p : Block) → Contains subnets p ↔ Connected s.net s.u p
-  pub connected : IsKept subnets (λ place. place) s.a found.connected
-  pub old : IsFoundIn s.tables.old s.a found.old
-  pub new : IsFoundIn s.tables.new s.a found.new
 
 -- a router has this OSPF distance
 pub record HasOspfDistance (net : Network) (u ospf : ℕ) : Type 0 where

@@ -1,3 +1,4 @@
-pub mod Candidates
+pub mod Codes
 pub mod Spots
+pub mod Uses
 pub mod WayUp

@@ -1,110 +1,121 @@
-ghost use Rattle.std.specs.Prelude.{◌≡◌};
-ghost use Rattle.igp_theory.specs.declared.phase.Phase.TheVariants.{Middle};
-ghost use Rattle.rib_mix.specs.Cells.{IsCellBetween, IsCellOf, new_use, old_use, use_in};
+ghost use Rattle.std.specs.Prelude.{◌≡◌, ◌<◌, IfOk, IfSome, length};
+ghost use Rattle.rib_mix.specs.Cells.{new_use, no_cell, old_use, use_in};
+ghost use Rattle.rib_mix.specs.steps.Uses.{cell_at, cell_between, cell_over};
 
-use crate::candidate::{
-    Candidate, Choice, better, connected_candidate, entry_candidate, is_better, old_candidate,
-};
-use crate::found::Found;
-use crate::used::Used;
+use crate::used::{Use, Used};
 use igp_theory::Phase;
-use net_model::{ISIS_DISTANCE, MOST_DISTANCE};
+use route_core::OutOfMemory;
 
-/// What a router uses for an address in each phase. It has 12 bytes, since there is one for each router and class.
+/// What a router uses for an address in each phase. It has 8 bytes, since there is one for each router and class.
 #[derive(Clone, Copy, Debug, PartialEq, Eq)]
 pub struct Cell {
-    /// The number of the entry that is used in Old, 0 where none is.
-    pub old_entry: u32,
-    /// The number of the entry that is used in New, 0 where none is.
-    pub new_entry: u32,
-    /// What is chosen in Old.
-    pub old: Choice,
-    /// What is chosen in New.
-    pub new: Choice,
-    /// Whether in Middle that is used which is in New, and not what is in Old.
-    pub middle_is_new: bool,
+    /// What it uses in Middle, which is what it uses in Old or in New.
+    pub middle: Use,
+    /// What it uses at the other end: in Old where it uses an entry of the new table in Middle, otherwise in New.
+    pub other: Use,
+}
+
+/// What a router has for a prefix.
+#[derive(Clone, Copy, Debug)]
+pub struct Has {
+    /// The place of the prefix among the connected ones.
+    pub connected: Option<u32>,
+    /// The number of the entry of the old table, where that counts.
+    pub old: Option<u32>,
+    /// The number of the entry of the new table.
+    pub new: Option<u32>,
 }
 
 impl Cell {
+    /// It uses nothing.
+    pub fn nothing() -> Cell
+        ensures { result ≡ no_cell }
+    {
+        Cell {
+            middle: Use::nothing(),
+            other: Use::nothing(),
+        }
+    }
+
     /// What it uses in a phase.
     pub fn used(self, phase: Phase) -> Used
         ensures { result ≡ use_in self phase }
     {
         match phase {
-            Phase::Old => self.used_in_old(),
-            Phase::Middle => self.used_in_middle(),
-            Phase::New => self.used_in_new(),
+            Phase::Old => self.in_old().get(),
+            Phase::Middle => self.middle.get(),
+            Phase::New => self.in_new().get(),
         }
     }
 
     /// What it uses in Old.
-    fn used_in_old(self) -> Used
+    #[inline(always)]
+    fn in_old(self) -> Use
         ensures { result ≡ old_use self }
     {
-        match self.old {
-            Choice::Nothing => Used::Nothing,
-            Choice::Connected => Used::Connected,
-            Choice::Entry => Used::Old(self.old_entry),
-        }
-    }
-
-    /// What it uses in Middle.
-    fn used_in_middle(self) -> Used
-        ensures { result ≡ use_in self Middle }
-    {
-        if self.middle_is_new {
-            self.used_in_new()
+        if self.middle.is_of_new() {
+            self.other
         } else {
-            self.used_in_old()
+            self.middle
         }
     }
 
     /// What it uses in New.
-    fn used_in_new(self) -> Used
+    #[inline(always)]
+    fn in_new(self) -> Use
         ensures { result ≡ new_use self }
     {
-        match self.new {
-            Choice::Nothing => Used::Nothing,
-            Choice::Connected => Used::Connected,
-            Choice::Entry => Used::New(self.new_entry),
+        if self.middle.is_of_new() {
+            self.middle
+        } else {
+            self.other
         }
     }
 }
 
-/// What a router with this OSPF distance uses in each phase, of what is found for an address. Mostly no connected prefix is.
+/// What a router uses in each phase for the addresses of a prefix that are in no longer one: what it has for the prefix, and
+/// at an end where it has nothing what it uses for the parent. Of entries of both tables that of lower distance comes first.
 #[inline(always)]
-pub fn cell_of(found: Found, ospf: u8) -> Cell
-    ensures { IsCellOf found ospf result }
+pub fn cell_over(has: Has, old_first: bool, parent: Cell) -> Result<Cell, OutOfMemory>
+    ensures { IfOk result (λ cell. cell ≡ cell_over has old_first parent) }
 {
-    if found.connected.size == 0 && ospf != MOST_DISTANCE {
-        let old = entry_candidate(found.old, ospf);
-        let new = entry_candidate(found.new, ISIS_DISTANCE);
-        return cell_between(old, new);
+    if has.connected.is_some() {
+        return Ok(Cell {
+            middle: Use::connected(),
+            other: Use::connected(),
+        });
     }
-    cell_of_three(found, ospf)
+    match (has.old, has.new) {
+        (None, None) => Ok(parent),
+        (Some(old), None) => Ok(Cell {
+            middle: Use::old(old)?,
+            other: parent.in_new(),
+        }),
+        (None, Some(new)) => Ok(Cell {
+            middle: Use::new(new)?,
+            other: parent.in_old(),
+        }),
+        (Some(old), Some(new)) => Ok(cell_between(Use::old(old)?, Use::new(new)?, old_first)),
+    }
 }
 
-/// The same, where a connected prefix may be the best, or the old table may not count.
+/// What a router uses that has an entry of each table.
 #[inline(always)]
-fn cell_of_three(found: Found, ospf: u8) -> Cell
-    ensures { IsCellOf found ospf result }
+fn cell_between(old: Use, new: Use, old_first: bool) -> Cell
+    ensures { result ≡ cell_between old new old_first }
 {
-    let connected = connected_candidate(found.connected);
-    let best_old = better(connected, old_candidate(found.old, ospf));
-    let best_new = better(connected, entry_candidate(found.new, ISIS_DISTANCE));
-    cell_between(best_old, best_new)
+    let (middle, other) = if old_first { (old, new) } else { (new, old) };
+    Cell { middle, other }
 }
 
-/// What a router uses whose best candidates in Old and in New are these.
+/// What a router uses for the addresses of the prefix at a place, and nothing where there is none.
 #[inline(always)]
-fn cell_between(old: Candidate, new: Candidate) -> Cell
-    ensures { IsCellBetween old new result }
+pub fn cell_at(cells: &[Cell], place: Option<u32>) -> Cell
+    requires { IfSome place (λ i. i < length cells.now) }
+    ensures { result ≡ cell_at cells.now place }
 {
-    Cell {
-        old_entry: old.number,
-        new_entry: new.number,
-        old: old.choice,
-        new: new.choice,
-        middle_is_new: is_better(old, new),
+    match place {
+        Some(place) => cells[place as usize],
+        None => Cell::nothing(),
     }
 }

@@ -8,26 +8,24 @@
 //! | `mixed`, `next` | mixed forwarding over a network and two sources of tables, and what a router does |
 //! | `both_tables`, `subnets` | of each router: its tables in their parts, and its connected prefixes |
 //! | `spots` | where the prefixes that occur stand among those that the old tables share, and among those of the new ones |
-//! | `marks`, `found` | what is found for each prefix: what the router has for it, and otherwise what is found for its parent |
-//! | `candidate`, `used` | the best of what counts in Old or in New, and what is used |
-//! | `cell`, `cells`, `row` | what a router uses in each phase (in Middle what it does in Old or in New): for an address, and for each class |
+//! | `marks` | what a router uses for each prefix: what it has for it, and otherwise what it uses for its parent |
+//! | `cell`, `used` | what a router uses in each phase (in Middle what it does in Old or in New), and in one of them |
+//! | `cells`, `row` | what a router uses for each class |
 //! | `law` | that what a router does is what the definitions call its steps |
 //!
 //! `Mixed::build` takes time of routers times prefixes that occur, for each of which it reads a number of each table and no
 //! entry, and of routers times classes; `hops` looks one cell up, `originates` takes time of the router's subnets. A cell has
-//! 12 bytes; those of a router stand side by side.
+//! 8 bytes; those of a router stand side by side.
 #![tactic(auto)]
 
 // mixed forwarding
 mod mixed;
 mod next;
 
-// what is found and used
+// what a router has and uses
 mod both_tables;
-mod candidate;
 mod cell;
 mod cells;
-mod found;
 mod marks;
 mod row;
 mod spots;

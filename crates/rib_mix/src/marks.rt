@@ -1,25 +1,26 @@
 ghost use Rattle.std.specs.Prelude.{◌≡◌, ◌<◌, IfOk, OnOk, length};
 ghost use Rattle.rib_mix.specs.steps.Spots.{HasPlace};
-ghost use Rattle.rib_mix.specs.steps.WayUp.{AreAllFound, AreOwnFound, HavePlaces, IsOwn, IsOwnAmong, own_found};
+ghost use Rattle.rib_mix.specs.steps.WayUp.{AreAllCells, AreOwnCells, HavePlaces, IsOwn, IsOwnAmong, has_at};
 
 use crate::both_tables::BothTables;
-use crate::found::{Found, found_at, found_or};
+use crate::cell::{Cell, Has, cell_at, cell_over};
 use crate::spots::{PlacedTable, Spots, find_spots};
 use net_addr::Prefix;
+use net_model::{ISIS_DISTANCE, MOST_DISTANCE};
 use prefix_atoms::Atoms;
 use route_core::{Number, OutOfMemory};
 use std::alloc::Global;
 
-/// What a router has for each prefix that occurs, and what is found of that. One value serves all routers, one after another.
+/// What a router has for each prefix that occurs, and what it uses by that. One value serves all routers, one after another.
 #[derive(Drop)]
 pub struct Marks {
     /// Where the prefixes stand among the connected ones.
     pub connected: Vec<Number>,
-    /// What is found for each prefix: for its addresses that are in no longer one.
-    pub found: Vec<Found>,
+    /// What it uses for each prefix: for its addresses that are in no longer one.
+    pub cells: Vec<Cell>,
 }
 
-/// What a router has: its connected prefixes by the places of those that occur, and both tables.
+/// What a router has: its connected prefixes by the places of those that occur, both tables, and its OSPF distance.
 #[derive(Clone, Copy, Debug)]
 pub struct Own<'a> {
     /// Where the prefixes stand among the connected ones.
@@ -28,6 +29,8 @@ pub struct Own<'a> {
     pub old: PlacedTable<'a>,
     /// The new table.
     pub new: PlacedTable<'a>,
+    /// The distance of the entries of the old table, which don't count at the greatest.
+    pub ospf: u8,
 }
 
 impl Marks {
@@ -37,22 +40,23 @@ impl Marks {
     {
         Ok(Marks {
             connected: vec![in alloc; Number::none(); places]?,
-            found: vec![in alloc; Found::NOTHING; places]?,
+            cells: vec![in alloc; Cell::nothing(); places]?,
         })
     }
 
-    /// Finds what a router has for each prefix: these connected ones, and the entries of both tables.
+    /// Finds what a router with this OSPF distance uses for each prefix, of these connected ones and both tables.
     pub fn find(
         &mut self,
         atoms: &Atoms,
         subnets: &[Prefix],
         spots: &Spots,
         tables: BothTables<'_>,
+        ospf: u8,
     ) -> Result<(), OutOfMemory>
         requires places { HavePlaces (length atoms.now.prefixes) self.old }
         requires own { IsOwnAmong atoms.now.prefixes subnets.now tables spots.now }
         ensures places { OnOk result (HavePlaces (length atoms.now.prefixes) self.new) }
-        ensures found { OnOk result (AreOwnFound atoms.now.prefixes subnets.now tables.entry self.new.found.items) }
+        ensures cells { OnOk result (AreOwnCells atoms.now.prefixes subnets.now tables.entry ospf self.new.cells.items) }
     {
         find_spots(&mut self.connected, atoms.prefixes(), subnets)?;
         let own = Own {
@@ -65,41 +69,47 @@ impl Marks {
                 spots: spots.news.as_slice(),
                 parts: tables.new,
             },
+            ospf,
         };
-        find_all(&mut self.found, atoms, own);
+        find_all(&mut self.cells, atoms, own)?;
         Ok(())
     }
 }
 
 impl Own<'_> {
-    /// What the router has for the prefix at a place, and of what it hasn't what is found for its parent.
+    /// What the router has for the prefix at a place.
     #[inline(always)]
-    fn at(self, place: usize, prefix: Prefix, parent: Found) -> Found
+    fn at(self, place: usize) -> Has
         requires connected { place < length self.connected.now }
         requires old { HasPlace self.old place }
         requires new { HasPlace self.new place }
-        ensures { result ≡ own_found self.entry place prefix parent }
+        ensures { result ≡ has_at self.entry place }
     {
-        let size = u32::from(prefix.len()) + 1;
-        Found {
-            connected: found_or(self.connected[place].get(), size, parent.connected),
-            old: found_or(self.old.number(place), size, parent.old),
-            new: found_or(self.new.number(place), size, parent.new),
+        let old = if self.ospf == MOST_DISTANCE {
+            None
+        } else {
+            self.old.number(place)
+        };
+        Has {
+            connected: self.connected[place].get(),
+            old,
+            new: self.new.number(place),
         }
     }
 }
 
-/// Finds for each prefix what the router has for it, and otherwise what is found for its parent, which stands before it.
-fn find_all(found: &mut Vec<Found>, atoms: &Atoms, own: Own<'_>)
-    requires places { length found.old.items ≡ length atoms.now.prefixes }
+/// Finds for each prefix what the router uses, by what it has for the prefix and uses for the parent, which stands before it.
+fn find_all(cells: &mut Vec<Cell>, atoms: &Atoms, own: Own<'_>) -> Result<(), OutOfMemory>
+    requires places { length cells.old.items ≡ length atoms.now.prefixes }
     requires own { IsOwn atoms.now.prefixes own }
-    ensures places { length found.new.items ≡ length atoms.now.prefixes }
-    ensures found { AreAllFound atoms.now.prefixes own.entry (length atoms.now.prefixes) found.new.items }
+    ensures places { OnOk result (length cells.new.items ≡ length atoms.now.prefixes) }
+    ensures cells { OnOk result (AreAllCells atoms.now.prefixes own.entry (length atoms.now.prefixes) cells.new.items) }
 {
-    let prefixes = atoms.prefixes();
     let parents = atoms.parents();
-    for place in 0..prefixes.len() {
-        let parent = found_at(found.as_slice(), parents[place]);
-        found[place] = own.at(place, prefixes[place], parent);
+    let old_first = own.ospf < ISIS_DISTANCE;
+    for place in 0..parents.len() {
+        let parent = cell_at(cells.as_slice(), parents[place]);
+        cells[place] = cell_over(own.at(place), old_first, parent)?;
     }
+    Ok(())
 }

@@ -172,13 +172,14 @@ fn rows_of(
     for router in 0..net.routers() {
         let subnets = &subnets[router as usize];
         let both = tables[router as usize];
-        marks.find(atoms, subnets.as_slice(), &spots, both)?;
-        let row = row_of(
-            alloc,
+        marks.find(
             atoms,
-            marks.found.as_slice(),
+            subnets.as_slice(),
+            &spots,
+            both,
             ospf_distance(net, router),
         )?;
+        let row = row_of(alloc, atoms, marks.cells.as_slice())?;
         rows.push(row)?;
     }
     Ok(rows)

@@ -1,22 +1,21 @@
 ghost use Rattle.std.specs.Prelude.{◌≡◌, IfOk, length};
-ghost use Rattle.rib_mix.specs.steps.WayUp.{IsFoundRow};
+ghost use Rattle.rib_mix.specs.steps.WayUp.{IsRowOfTops};
 
-use crate::cell::cell_of;
+use crate::cell::{Cell, cell_at};
 use crate::cells::Cells;
-use crate::found::{Found, found_at};
 use prefix_atoms::Atoms;
 use route_core::OutOfMemory;
 use std::alloc::Global;
 
-/// What a router with this OSPF distance uses for each class, of what is found for each prefix.
-pub fn row_of(alloc: Global, atoms: &Atoms, found: &[Found], ospf: u8) -> Result<Cells, OutOfMemory>
-    requires { length found.now ≡ length atoms.now.prefixes }
-    ensures { IfOk result (IsFoundRow atoms.now.tops found.now ospf) }
+/// What a router uses for each class, by what it uses for each prefix.
+pub fn row_of(alloc: Global, atoms: &Atoms, cells: &[Cell]) -> Result<Cells, OutOfMemory>
+    requires { length cells.now ≡ length atoms.now.prefixes }
+    ensures { IfOk result (IsRowOfTops atoms.now.tops cells.now) }
 {
     let tops = atoms.tops();
     let mut row = Vec::with_capacity(alloc, tops.len())?;
     for top in tops {
-        row.push_reserved(cell_of(found_at(found, *top), ospf));
+        row.push_reserved(cell_at(cells, *top));
     }
     Ok(Cells::from_vec(row))
 }

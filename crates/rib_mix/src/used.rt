@@ -1,3 +1,9 @@
+ghost use Rattle.std.specs.Prelude.{◌≡◌, ◌↔◌, IfOk, IsTrue};
+ghost use Rattle.rib_mix.specs.steps.Uses.{IsOfNew};
+
+use route_core::OutOfMemory;
+use std::marker::Model;
+
 /// What a router uses for an address.
 #[derive(Clone, Copy, Debug)]
 pub enum Used {
@@ -9,4 +15,98 @@ pub enum Used {
     Old(u32),
     /// The entry of this number that the new table keeps.
     New(u32),
+}
+
+/// The same in 4 bytes, since there are two for each router and class.
+#[derive(Clone, Copy, Debug, PartialEq, Eq)]
+pub struct Use {
+    /// 0 for nothing, 1 for a connected prefix, 2 n + 2 for entry n of the old table and 2 n + 3 for entry n of the new one.
+    code: u32,
+}
+
+impl Model for Use {
+    ghost use Rattle.std.specs.Prelude.{ℕ};
+    ghost use Rattle.std.proofs.Common.{ap};
+    ghost use Rattle.rib_mix.specs.declared.used.Used.{Used};
+    ghost use Rattle.rib_mix.specs.steps.Codes.{code_back, code_of_use, use_of_code};
+
+    ghost Value = { Used };
+
+    ghost view = { λ x. use_of_code x.code };
+
+    ghost inverse = { λ u. record { code = code_of_use u } };
+
+    ghost inverse_ok = { λ x h. let P : ℕ → Inside = λ n. record { code = n } in ap P (code_back x.code) };
+}
+
+impl Use {
+    ghost use Rattle.std.specs.Prelude.{◌≡◌, ◌↔◌, IfOk, IsTrue};
+    ghost use Rattle.rib_mix.specs.steps.Uses.{IsOfNew};
+    ghost use Rattle.rib_mix.specs.declared.used.Used.TheVariants.{Connected, New, Nothing, Old};
+
+    /// The number of entries up to which all have a code.
+    const MOST_NUMBERS: u32 = 0x7FFF_FFFF;
+
+    /// No entry.
+    #[inline(always)]
+    pub fn nothing() -> Use
+        ensures { result ≡ Nothing }
+    {
+        Use { code: 0 }
+    }
+
+    /// A connected prefix.
+    #[inline(always)]
+    pub fn connected() -> Use
+        ensures { result ≡ Connected }
+    {
+        Use { code: 1 }
+    }
+
+    /// The entry of this number that the old table keeps. From 2^31 - 1 on it gives `OutOfMemory`, since no table has so many.
+    #[inline(always)]
+    pub fn old(number: u32) -> Result<Use, OutOfMemory>
+        ensures { IfOk result (λ own. own ≡ Old number) }
+    {
+        if number >= Use::MOST_NUMBERS {
+            return Err(OutOfMemory);
+        }
+        Ok(Use {
+            code: 2 * number + 2,
+        })
+    }
+
+    /// The same of the new table.
+    #[inline(always)]
+    pub fn new(number: u32) -> Result<Use, OutOfMemory>
+        ensures { IfOk result (λ own. own ≡ New number) }
+    {
+        if number >= Use::MOST_NUMBERS {
+            return Err(OutOfMemory);
+        }
+        Ok(Use {
+            code: 2 * number + 3,
+        })
+    }
+
+    /// What is used.
+    #[inline(always)]
+    pub fn get(self) -> Used
+        ensures { result ≡ self }
+    {
+        match self.code {
+            0 => Used::Nothing,
+            1 => Used::Connected,
+            code if code % 2 == 0 => Used::Old(code / 2 - 1),
+            code => Used::New(code / 2 - 1),
+        }
+    }
+
+    /// Whether it is an entry of the new table.
+    #[inline(always)]
+    pub fn is_of_new(self) -> bool
+        ensures { IsTrue result ↔ IsOfNew self }
+    {
+        self.code > 1 && self.code % 2 == 1
+    }
 }

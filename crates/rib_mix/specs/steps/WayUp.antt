@@ -1,20 +1,27 @@
--- What is found for each prefix that occurs of what a router has for it and for those that it lies in, and what the router uses by that.
-use Rattle.std.specs.Prelude.{◌≡◌, ℕ, ◌+◌, ◌<◌, ◌≤◌, ◌⊎◌, List, length, slice_get, slice_index_or, Option, Some, None, Contains, MatchOption}
+-- What a router uses for each prefix that occurs, of what it has for the prefix and for those that it lies in.
+use Rattle.std.specs.Prelude.{◌≡◌, ℕ, ◌<◌, ◌≤◌, ◌⊎◌, ◌==◌, if◌then◌else◌, List, length, slice_get, slice_index_or, Option, Some, None, Contains, MatchOption}
 use Rattle.net_addr.specs.Addresses.{Block, ContainsAddress}
-use Rattle.route_core.specs.Rows.{IsTable, kept_in}
-use Rattle.prefix_atoms.specs.Longest.{IsFoundAt, IsKept, nothing}
+use Rattle.net_model.specs.Network.{Network}
+use Rattle.net_model.specs.Refusals.{IsNetwork}
+use Rattle.net_model.specs.declared.bounds.TheConstants.{MOST_DISTANCE}
+use Rattle.route_core.specs.Rows.{IsTable, kept_in, rows_in}
+use Rattle.igp_theory.specs.Forwarding.{Usable}
+use Rattle.igp_theory.specs.declared.phase.Phase.{Phase}
+use Rattle.prefix_atoms.specs.Longest.{number_at}
 use Rattle.prefix_atoms.specs.Nested.{IsTop}
-use Rattle.prefix_atoms.specs.declared.longest.Longest.{Longest}
-use Rattle.rib_mix.specs.Cells.{IsCellOf}
-use Rattle.rib_mix.specs.Rows.{AreAmong}
-use Rattle.rib_mix.specs.Sites.{IsFoundIn, prefixes_in}
+use Rattle.rib_mix.specs.Cells.{IsCell, IsUsable, no_cell, use_in}
+use Rattle.rib_mix.specs.Rows.{AreAmong, AreSubnets}
+use Rattle.rib_mix.specs.Sites.{CountsAt, HasOspfDistance, IsLawfulSite, Kind, Site, prefixes_in}
 use Rattle.rib_mix.specs.steps.Spots.{AreTableSpots, IsPlaced, number_in}
+use Rattle.rib_mix.specs.steps.Uses.{cell_at}
 use Rattle.rib_mix.specs.declared.both_tables.BothTables.{BothTables}
 use Rattle.rib_mix.specs.declared.cell.Cell.{Cell}
-use Rattle.rib_mix.specs.declared.found.Found.{Found}
+use Rattle.rib_mix.specs.declared.cell.Has.{Has}
 use Rattle.rib_mix.specs.declared.marks.Marks.{Marks}
 use Rattle.rib_mix.specs.declared.marks.Own.{Own}
 use Rattle.rib_mix.specs.declared.spots.Spots.{Spots}
+use Rattle.rib_mix.specs.declared.used.Used.{Used}
+use Rattle.rib_mix.specs.declared.used.Used.TheVariants as used
 
 -- the number of a prefix among own ones, or none where it isn't one
 abbrev pub IsOwnNumber : List Block → (ℕ → ℕ) → Block → Option ℕ → Type 0
@@ -25,57 +32,62 @@ IsOwnNumber own numbers p number =
 abbrev pub AreOwnNumbers : List Block → List Block → (ℕ → ℕ) → (ℕ → Option ℕ) → Type 0
 AreOwnNumbers prefixes own numbers marks = (i : ℕ) (p : Block) → slice_get prefixes i ≡ Some p → IsOwnNumber own numbers p (marks i)
 
--- of the own prefixes that contain an address and are no longer than this the longest is found, or there is none
-pub record IsKeptUpTo (own : List Block) (numbers : ℕ → ℕ) (len a : ℕ) (found : Longest) : Type 0 where
-  pub there : (found.size ≡ 0) ⊎ IsFoundAt own numbers a found
-  pub covers : (q : Block) → Contains own q → ContainsAddress q a → q.len ≤ len → q.len < found.size
+-- the entries that count in a phase for the address and whose prefixes are no longer than this
+abbrev pub UpTo : Site → Phase → ℕ → Kind
+UpTo s phase len q d x = CountsAt s phase q d x × ContainsAddress q s.a × (q.len ≤ len)
 
--- it is found of some numbers for the addresses of a prefix
-abbrev pub IsFoundFor : List Block → (ℕ → Option ℕ) → Block → Longest → Type 0
-IsFoundFor prefixes marks p found =
-    (own : List Block) (numbers : ℕ → ℕ) (a : ℕ) → AreAmong prefixes own → AreOwnNumbers prefixes own numbers marks → ContainsAddress p a →
-    IsKeptUpTo own numbers p.len a found
+-- this is the best of the entries of a kind: the longest, and of equally long ones that of the lowest distance
+pub record IsBest (s : Site) (kind : Kind) (way : Used) : Type 0 where
+  pub entry : Usable
+  pub is : IsUsable s.tables.old.entries.now s.tables.new.entries.now way entry
+  pub prefix : Block
+  pub distance : ℕ
+  pub among : kind prefix distance entry
+  pub longest : (q : Block) (d : ℕ) (x : Usable) → kind q d x → q.len ≤ prefix.len
+  pub lowest : (q : Block) (d : ℕ) (x : Usable) → kind q d x → q.len ≡ prefix.len → distance ≤ d
 
--- the same for the prefix at a place, if there is one
-abbrev pub IsFoundUp : List Block → (ℕ → Option ℕ) → Option ℕ → Longest → Type 0
-IsFoundUp prefixes marks None found = found ≡ nothing
-IsFoundUp prefixes marks (Some place) found = (p : Block) → slice_get prefixes place ≡ Some p → IsFoundFor prefixes marks p found
+-- it is, or nothing is used and there is none
+abbrev pub IsBestUse : Site → Kind → Used → Type 0
+IsBestUse s kind way = ((way ≡ used.Nothing) × ((q : Block) (d : ℕ) (x : Usable) → kind q d x → ⊥)) ⊎ IsBest s kind way
+
+-- what is used in each phase of the entries whose prefixes are no longer than this
+abbrev pub IsCellUpTo : Site → ℕ → Cell → Type 0
+IsCellUpTo s len cell = (phase : Phase) → IsBestUse s (UpTo s phase len) (use_in cell phase)
 
 -- what a router has at a place among its connected prefixes
 abbrev pub connected_in : Own → ℕ → Option ℕ
 connected_in own place = slice_index_or own.connected.now place None
 
--- what is found of a router's connected prefixes and of both tables for the prefix at a place, if there is one
-pub record AreFoundUp (prefixes : List Block) (own : Own) (place : Option ℕ) (found : Found) : Type 0 where
-  pub connected : IsFoundUp prefixes (connected_in own) place found.connected
-  pub old : IsFoundUp prefixes (number_in own.old) place found.old
-  pub new : IsFoundUp prefixes (number_in own.new) place found.new
+-- the number of its entry of the old table at a place, where that table counts
+abbrev pub old_in : Own → ℕ → Option ℕ
+old_in own place = if own.ospf == MOST_DISTANCE then None else number_in own.old place
 
--- nothing is found
-abbrev pub no_found : Found
-no_found = record { connected = nothing; old = nothing; new = nothing }
+-- what it has for the prefix at a place
+abbrev pub has_at : Own → ℕ → Has
+has_at own place = record { connected = connected_in own place; old = old_in own place; new = number_in own.new place }
 
--- what is found at a place, if there is one
-abbrev pub found_at : List Found → Option ℕ → Found
-found_at found None = no_found
-found_at found (Some place) = slice_index_or found place no_found
+-- it is asked for at the router that has this, whose prefixes are among these
+pub record IsOwnSite (prefixes : List Block) (own : Own) (s : Site) : Type 0 where
+  pub lawful : IsLawfulSite s
+  pub distance : HasOspfDistance s.net s.u own.ospf
+  pub subnets : List Block
+  pub subnets_are : AreSubnets s.net s.u subnets
+  pub among : AreAmong prefixes subnets
+  pub old_among : AreAmong prefixes (prefixes_in s.tables.old)
+  pub new_among : AreAmong prefixes (prefixes_in s.tables.new)
+  pub connected : AreOwnNumbers prefixes subnets (λ place. place) (connected_in own)
+  pub old : AreOwnNumbers prefixes (prefixes_in s.tables.old) (number_at (rows_in (kept_in s.tables.old))) (number_in own.old)
+  pub new : AreOwnNumbers prefixes (prefixes_in s.tables.new) (number_at (rows_in (kept_in s.tables.new))) (number_in own.new)
 
--- a prefix of this size under a number, if there is one, and otherwise what is found for its parent
-abbrev pub found_or : ℕ → Option ℕ → Longest → Longest
-found_or size None parent = parent
-found_or size (Some number) parent = record { number = number; size = size }
+-- what is used for the addresses of the prefix at a place of the prefixes that are no longer, if there is one
+abbrev pub IsCellFor : List Block → Own → Option ℕ → Cell → Type 0
+IsCellFor prefixes own None cell = cell ≡ no_cell
+IsCellFor prefixes own (Some place) cell =
+    (p : Block) (s : Site) → slice_get prefixes place ≡ Some p → IsOwnSite prefixes own s → ContainsAddress p s.a → IsCellUpTo s p.len cell
 
--- what a router has for the prefix at a place, and of what it hasn't what is found for its parent
-abbrev pub own_found : Own → ℕ → Block → Found → Found
-own_found own place p parent = record {
-  connected = found_or (p.len + 1) (connected_in own place) parent.connected;
-  old = found_or (p.len + 1) (number_in own.old place) parent.old;
-  new = found_or (p.len + 1) (number_in own.new place) parent.new;
-}
-
--- what is found for each of the first n prefixes
-abbrev pub AreAllFound : List Block → Own → ℕ → List Found → Type 0
-AreAllFound prefixes own n found = (place : ℕ) → place < n → AreFoundUp prefixes own (Some place) (slice_index_or found place no_found)
+-- the same for each of the first n prefixes
+abbrev pub AreAllCells : List Block → Own → ℕ → List Cell → Type 0
+AreAllCells prefixes own n cells = (place : ℕ) → place < n → IsCellFor prefixes own (Some place) (slice_index_or cells place no_cell)
 
 -- what a router has, by the places of prefixes
 pub record IsOwn (prefixes : List Block) (own : Own) : Type 0 where
@@ -86,7 +98,7 @@ pub record IsOwn (prefixes : List Block) (own : Own) : Type 0 where
 -- there is room for so many prefixes
 pub record HavePlaces (places : ℕ) (marks : Marks) : Type 0 where
   pub connected : length marks.connected.items ≡ places
-  pub found : length marks.found.items ≡ places
+  pub cells : length marks.cells.items ≡ places
 
 -- the prefixes of a router are among these, of which the spots in its tables are known
 pub record IsOwnAmong (prefixes subnets : List Block) (both : BothTables) (spots : Spots) : Type 0 where
@@ -97,17 +109,13 @@ pub record IsOwnAmong (prefixes subnets : List Block) (both : BothTables) (spots
   pub new_table : IsTable (kept_in both.new)
   pub spots_are : AreTableSpots prefixes both spots
 
--- what is found for an address of these connected prefixes and of both tables
-pub record IsOwnFound (subnets : List Block) (both : BothTables) (a : ℕ) (found : Found) : Type 0 where
-  pub connected : IsKept subnets (λ place. place) a found.connected
-  pub old : IsFoundIn both.old a found.old
-  pub new : IsFoundIn both.new a found.new
+-- what a router with these connected prefixes, both tables and OSPF distance uses for an address stands at the place of its longest prefix
+abbrev pub AreOwnCells : List Block → List Block → BothTables → ℕ → List Cell → Type 0
+AreOwnCells prefixes subnets both ospf cells =
+    (net : Network) (u a : ℕ) (top : Option ℕ) → IsNetwork net → HasOspfDistance net u ospf → AreSubnets net u subnets → IsTop prefixes a top →
+    IsCell (record { net = net; u = u; tables = both; a = a }) (cell_at cells top)
 
--- it is what is found at the place of the longest prefix of the address
-abbrev pub AreOwnFound : List Block → List Block → BothTables → List Found → Type 0
-AreOwnFound prefixes subnets both found = (top : Option ℕ) (a : ℕ) → IsTop prefixes a top → IsOwnFound subnets both a (found_at found top)
-
--- what a router with this OSPF distance uses for each class, of what is found at the place of its longest prefix
-pub record IsFoundRow (tops : List (Option ℕ)) (found : List Found) (ospf : ℕ) (row : List Cell) : Type 0 where
+-- what a router uses for each class, by what it uses for the longest prefix of each
+pub record IsRowOfTops (tops : List (Option ℕ)) (cells row : List Cell) : Type 0 where
   pub count : length row ≡ length tops
-  pub each : (k : ℕ) (cell : Cell) → slice_get row k ≡ Some cell → IsCellOf (found_at found (slice_index_or tops k None)) ospf cell
+  pub each : (k : ℕ) (cell : Cell) → slice_get row k ≡ Some cell → cell ≡ cell_at cells (slice_index_or tops k None)

@@ -4,10 +4,9 @@ use Rattle.net_addr.specs.Addresses.{Block}
 use Rattle.rib_mix.specs.Rows.{AreSubnets, Ground, IsRow, site}
 use Rattle.rib_mix.specs.declared.both_tables.BothTables.{BothTables}
 use Rattle.rib_mix.specs.declared.cell.Cell.{Cell}
-use Rattle.rib_mix.specs.declared.found.Found.{Found}
 use Rattle.rib_mix.specs.steps.Spots.{AreTableSpots}
-use Rattle.rib_mix.specs.steps.WayUp.{AreOwnFound, IsFoundRow, IsOwnAmong}
-use Rattle.rib_mix.proofs.RowLaws.{own_among, row_found}
+use Rattle.rib_mix.specs.steps.WayUp.{AreOwnCells, IsOwnAmong, IsRowOfTops}
+use Rattle.rib_mix.proofs.RowLaws.{own_among, row_made}
 use Rattle.prefix_atoms.proofs.Pushed.{count_more, each_more}
 use Rattle.rib_mix.proofs.mixed.rows_of.Goals as goal
 
@@ -40,15 +39,11 @@ loop-router-preserved c =
     let own : AreSubnets c.args.net.now router subnets = c.requires.subnets.each router subnets
     (slice_get_read c.args.subnets.now (length c.args.subnets.now) router subnets refl
     (omega (arith, c.loop-router-test.true, c.requires.subnets.count, c.routers-router-end.ensures.count)) c.index-subnets-router.is) in
-    let among : IsOwnAmong prefixes subnets both c.in_ok-spots.spots =
-    own_among prefixes g router both subnets c.in_ok-spots.spots c.requires.tables c.requires.occur own here
-    (subst (λ (ps : List Block). (first : BothTables) → slice_get c.args.tables.now 0 ≡ Some first → AreTableSpots ps first c.in_ok-spots.spots)
-    c.prefixes-prefixes.ensures.prefixes c.in_ok-spots.ensures) in
     let row : IsRow (site g router both) c.args.atoms.now.samples c.in_ok-row.row =
-    row_found (site g router both 0) c.ospf_distance.result subnets c.args.atoms.now c.in_ok-spots.spots c.find.new.self.found.items c.in_ok-row.row
-    c.ospf_distance.ensures.network c.ospf_distance.ensures.distance own c.prefixes-prefixes.ensures.classing among
-    (subst (λ (ps : List Block). AreOwnFound prefixes ps both c.find.new.self.found.items) c.as_slice.ensures c.in_ok-find.ensures.found)
-    (subst (λ (fs : List Found). IsFoundRow c.args.atoms.now.tops fs c.ospf_distance.result c.in_ok-row.row) c.as_slice-in-loop-router.ensures.value
+    row_made (site g router both 0) c.ospf_distance.result subnets c.args.atoms.now c.find.new.self.cells.items c.in_ok-row.row
+    c.ospf_distance.ensures.network c.ospf_distance.ensures.distance own c.prefixes-prefixes.ensures.classing
+    (subst (λ (ps : List Block). AreOwnCells prefixes ps both c.ospf_distance.result c.find.new.self.cells.items) c.as_slice.ensures c.in_ok-find.ensures.cells)
+    (subst (λ (cells : List Cell). IsRowOfTops c.args.atoms.now.tops cells c.in_ok-row.row) c.as_slice-in-loop-router.ensures.value
     c.in_ok-row.ensures) in
     record {
       places = c.in_ok-find.ensures.places;

@@ -1,0 +1,35 @@
+-- What a router uses for the addresses of a prefix, by what it has for the prefix and what it uses for its parent.
+use Rattle.std.specs.Prelude.{ℕ, Bool, if◌then◌else◌, List, slice_index_or, Option, Some, None}
+use Rattle.rib_mix.specs.Cells.{new_use, no_cell, old_use}
+use Rattle.rib_mix.specs.declared.cell.Cell.{Cell}
+use Rattle.rib_mix.specs.declared.cell.Has.{Has}
+use Rattle.rib_mix.specs.declared.used.Used.{Used}
+use Rattle.rib_mix.specs.declared.used.Used.TheVariants.{Connected, New, Nothing, Old}
+
+-- an entry of the new table is used
+abbrev pub IsOfNew : Used → Type 0
+IsOfNew Nothing = ⊥
+IsOfNew Connected = ⊥
+IsOfNew (Old n) = ⊥
+IsOfNew (New n) = Unit {0}
+
+-- what is used that is of the old table, and what is used that is of the new one: that of the lower distance comes first
+abbrev pub cell_between : Used → Used → Bool → Cell
+cell_between old new old_first = if old_first then record { middle = old; other = new } else record { middle = new; other = old }
+
+-- what is used where there is a connected prefix, or an entry of the old table, or one of the new one
+abbrev pub cell_of_three : Option ℕ → Option ℕ → Option ℕ → Bool → Cell → Cell
+cell_of_three (Some place) old new old_first up = record { middle = Connected; other = Connected }
+cell_of_three None None None old_first up = up
+cell_of_three None (Some n) None old_first up = record { middle = Old n; other = new_use up }
+cell_of_three None None (Some n) old_first up = record { middle = New n; other = old_use up }
+cell_of_three None (Some n) (Some m) old_first up = cell_between (Old n) (New m) old_first
+
+-- what is used of what a router has for a prefix, and at an end where it has nothing that of its parent
+abbrev pub cell_over : Has → Bool → Cell → Cell
+cell_over has old_first up = cell_of_three has.connected has.old has.new old_first up
+
+-- what is used for the prefix at a place, if there is one
+abbrev pub cell_at : List Cell → Option ℕ → Cell
+cell_at cells None = no_cell
+cell_at cells (Some place) = slice_index_or cells place no_cell
