@@ -1,14 +1,17 @@
 -- The way up from the longest prefix of an address: what is used there is what is used of all entries.
 use Rattle.std.proofs.Common.{◌≡◌, ◌≢◌, ◌⊎◌, ℕ, ◌+◌, ◌<◌, ◌≤◌, inl, inr, Bool, true, false, List, length, get_or, set, Option, Some, None, Contains, IfSome, IsTrue, MatchOption}
-use Rattle.std.proofs.Common.{arith, refl, sym, subst, ◌∙◌, get_or-set_other, get_or-set_same, slice_get, ⊎_elim, eqb-true, ◌==◌, if◌then◌else◌}
+use Rattle.std.proofs.Common.{ap, arith, refl, sym, subst, ◌∙◌, get_or-set_other, get_or-set_same, slice_get, ⊎_elim, eqb-true, ◌==◌, if◌then◌else◌}
 use Rattle.std.proofs.lemmas.Bool.{cases_lt, eqb-false}
 use Rattle.std.proofs.lemmas.List.Elements.{All-contains}
 use Rattle.std.proofs.lemmas.Option.{same_Some, slice_get_within, slice_get-get_or}
 use Rattle.net_addr.specs.Addresses.{Block, ContainsAddress, IsBlock}
 use Rattle.net_addr.proofs.Blocks.{same_block}
-use Rattle.net_model.specs.Network.{Connected}
+use Rattle.net_model.specs.Configuration.{Configuration}
+use Rattle.net_model.specs.Network.{Connected, HasConfiguration}
 use Rattle.route_core.specs.Rows.{kept_in, rows_in}
+use Rattle.route_core.specs.Tables.{IsListed}
 use Rattle.route_core.specs.declared.entry.Entry.{Entry}
+use Rattle.route_core.specs.declared.table.TableParts.{TableParts}
 use Rattle.route_core.proofs.RowLaws.{table_rows}
 use Rattle.route_core.proofs.TableLaws.{Contains-from_place}
 use Rattle.igp_theory.specs.Forwarding.{Usable, of_new, of_old, connected_counts, old_counts, new_counts}
@@ -18,16 +21,17 @@ use Rattle.prefix_atoms.specs.Classes.{Classes, IsClassing}
 use Rattle.prefix_atoms.specs.Longest.{number_at}
 use Rattle.prefix_atoms.specs.Nested.{IsNextShorter, IsParent, IsTop}
 use Rattle.prefix_atoms.proofs.NestedLaws.{parent_is_next}
-use Rattle.rib_mix.specs.Cells.{IsCell, no_cell, use_in}
-use Rattle.rib_mix.specs.Sites.{CountsAt, HasTableRows, Site, prefixes_in}
+use Rattle.rib_mix.specs.Cells.{IsCell, IsUsable, no_cell, use_in}
+use Rattle.rib_mix.specs.Sites.{CountsAt, HasOspfDistance, HasTableRows, Site, prefixes_in, table_of}
 use Rattle.rib_mix.specs.steps.Spots.{AreSpots, IsPlaced, number_in}
 use Rattle.rib_mix.specs.steps.Uses.{cell_at, cell_over}
-use Rattle.rib_mix.specs.steps.WayUp.{AreAllCells, AreOwnCells, IsBestUse, IsCellFor, IsOwnAmong, IsOwnNumber, IsOwnSite, UpTo, connected_in, has_at}
+use Rattle.rib_mix.specs.steps.WayUp.{AreAllCells, AreOwnCells, IsBestUse, IsCellFor, IsOwnAmong, IsOwnNumber, IsOwnSite, UpTo, connected_in, has_at, old_in}
 use Rattle.rib_mix.specs.declared.cell.Cell.{Cell}
 use Rattle.rib_mix.specs.declared.marks.Own.{Own}
 use Rattle.rib_mix.specs.declared.spots.Spots.{Spots}
+use Rattle.rib_mix.specs.declared.used.Used.{Used}
 use Rattle.rib_mix.specs.declared.used.Used.TheVariants as used
-use Rattle.rib_mix.proofs.CellLaws.{AreHere, Below, OldFirst, best_along, cell_step, ospf_of}
+use Rattle.rib_mix.proofs.CellLaws.{AreHere, Below, IsEnd, NoneHere, OldFirst, best_along, cell_step}
 use Rattle.rib_mix.proofs.FoundFacts.{entry_kept, lawful_table, prefix_listed}
 use Rattle.rib_mix.proofs.OneUsed.{counts_block}
 use Rattle.rib_mix.proofs.RowSteps.{among_blocks}
@@ -48,49 +52,66 @@ occurs prefixes own s phase q d x site (connected_counts h) = site.among q ((sit
 occurs prefixes own s phase q d x site (old_counts {e = e} _ _ _ _ _ listed) = site.old_among q (prefix_listed s.tables.old q (e, listed))
 occurs prefixes own s phase q d x site (new_counts {e = e} _ listed) = site.new_among q (prefix_listed s.tables.new q (e, listed))
 
+-- the entry that a table has for a prefix counts for it at an end where all that counts is the table's, at one distance
+end_here : (s : Site) (phase : Phase) (p : Block) (distance : ℕ) (parts : TableParts) (wrap : Entry → Usable) (table : ℕ → Used) (o : Option ℕ)
+    → HasTableRows parts → IsOwnNumber (prefixes_in parts) (number_at (rows_in (kept_in parts))) p o
+    → ((d : ℕ) (x : Usable) → CountsAt s phase p d x → ((e : Entry) × IsListed (table_of parts) p e) × (d ≡ distance))
+    → ((e : Entry) → IsListed (table_of parts) p e → CountsAt s phase p distance (wrap e))
+    → ((n : ℕ) (e : Entry) → slice_get parts.entries.now n ≡ Some e → IsUsable s.tables.old.entries.now s.tables.new.entries.now (table n) (wrap e))
+    → IsEnd s phase p distance table o
+end_here s phase p distance parts wrap table None rows none from into says = λ d x counts. none (prefix_listed parts p (from d x counts).0)
+end_here s phase p distance parts wrap table (Some n) rows one from into says =
+    let kept = entry_kept parts one.0 n p rows one.1 one.2 in
+    record {
+      entry = wrap kept.0;
+      is = says n kept.0 kept.1;
+      counts = into kept.0 kept.2;
+      lowest = λ d x counts. let near : d ≡ distance = (from d x counts).1 in omega arith;
+    }
+
+-- the router's OSPF distance is that of its configuration
+ospf_of : (s : Site) (ospf : ℕ) (c : Configuration) → HasOspfDistance s.net s.u ospf → HasConfiguration s.net s.u c → c.distances.ospf ≡ ospf
+ospf_of s ospf c at has = ap (λ (k : Configuration). k.distances.ospf) (same_Some c at.config (sym has ∙ at.has)) ∙ at.distance_is
+
 -- what is had at the place of a prefix is what counts for it
 own_here : (prefixes : List Block) (own : Own) (s : Site) (i : ℕ) (p : Block) → IsOwnSite prefixes own s → slice_get prefixes i ≡ Some p
     → AreHere s p own.ospf (has_at own i)
-own_here prefixes own s i p site at = record {
-  connected = by_connected (connected_in own i) (site.connected i p at);
-  old = by_most (own.ospf == 255) refl;
-  new = by_new (number_in own.new i) (site.new i p at);
-}
+own_here prefixes own s i p site at = by_connected (connected_in own i) (site.connected i p at)
   where
-    by_connected : (o : Option ℕ) → IsOwnNumber site.subnets (λ place. place) p o
-        → MatchOption o (Connected s.net s.u p → ⊥) (λ _. Connected s.net s.u p)
-    by_connected None none = λ h. none ((site.subnets_are p).1 h)
-    by_connected (Some k) one = (site.subnets_are p).0 (Contains-from_place site.subnets one.0 p one.1)
-
-    not_old : IsTrue (own.ospf == 255) ⊎ (Contains (prefixes_in s.tables.old) p → ⊥) → (e : Entry) (d : ℕ) → CountsAt s Old p d (of_old e) → ⊥
-    not_old none e d (old_counts _ c has is set listed) = elim none [
-      | inl most ↦ set (sym is ∙ ospf_of s own.ospf c site.distance has ∙ eqb-true own.ospf 255 most)
-      | inr apart ↦ apart (prefix_listed s.tables.old p (e, listed))
-    ]
-
-    by_old : (o : Option ℕ) → own.ospf ≢ 255 → IsOwnNumber (prefixes_in s.tables.old) (number_at (rows_in (kept_in s.tables.old))) p o
-        → MatchOption o ((e : Entry) (d : ℕ) → CountsAt s Old p d (of_old e) → ⊥)
-        (λ n. (e : Entry) × (slice_get s.tables.old.entries.now n ≡ Some e) × CountsAt s Old p own.ospf (of_old e))
-    by_old None set none = not_old (inr none)
-    by_old (Some n) set one =
-        let kept = entry_kept s.tables.old one.0 n p site.lawful.old_rows one.1 one.2 in
-        (kept.0, kept.1, old_counts tt site.distance.config site.distance.has site.distance.distance_is set kept.2)
-
-    by_most : (most : Bool) → (own.ospf == 255) ≡ most → let o = if most then None else number_in own.old i in
-        MatchOption o ((e : Entry) (d : ℕ) → CountsAt s Old p d (of_old e) → ⊥)
-        (λ n. (e : Entry) × (slice_get s.tables.old.entries.now n ≡ Some e) × CountsAt s Old p own.ospf (of_old e))
-    by_most true is = not_old (inl is)
-    by_most false is = by_old (number_in own.old i) (eqb-false own.ospf 255 is) (site.old i p at)
-
-    by_new : (o : Option ℕ) → IsOwnNumber (prefixes_in s.tables.new) (number_at (rows_in (kept_in s.tables.new))) p o
-        → MatchOption o ((e : Entry) (d : ℕ) → CountsAt s New p d (of_new e) → ⊥)
-        (λ n. (e : Entry) × (slice_get s.tables.new.entries.now n ≡ Some e) × CountsAt s New p 115 (of_new e))
-    by_new None none = not_new
+    old_here : (Connected s.net s.u p → ⊥) → (most : Bool) → (own.ospf == 255) ≡ most
+        → IsEnd s Old p own.ospf used.Old (if most then None else number_in own.old i)
+    old_here apart true most = none
       where
-        not_new : (e : Entry) (d : ℕ) → CountsAt s New p d (of_new e) → ⊥
-        not_new e d (new_counts _ listed) = none (prefix_listed s.tables.new p (e, listed))
-    by_new (Some n) one =
-        let kept = entry_kept s.tables.new one.0 n p site.lawful.new_rows one.1 one.2 in (kept.0, kept.1, new_counts tt kept.2)
+        none : NoneHere s Old p
+        none d x (connected_counts h) = apart h
+        none d x (old_counts _ c has is set _) = set (sym is ∙ ospf_of s own.ospf c site.distance has ∙ eqb-true own.ospf 255 most)
+        none d x (new_counts counts _) = absurd counts
+    old_here apart false most =
+        end_here s Old p own.ospf s.tables.old of_old used.Old (number_in own.old i) site.lawful.old_rows (site.old i p at) from
+        (λ e listed. old_counts tt site.distance.config site.distance.has site.distance.distance_is (eqb-false own.ospf 255 most) listed)
+        (λ n e stands. (e, stands, refl))
+      where
+        from : (d : ℕ) (x : Usable) → CountsAt s Old p d x → ((e : Entry) × IsListed (table_of s.tables.old) p e) × (d ≡ own.ospf)
+        from d x (connected_counts h) = absurd (apart h)
+        from d x (old_counts {e = e} _ c has is _ listed) = ((e, listed), sym is ∙ ospf_of s own.ospf c site.distance has)
+        from d x (new_counts counts _) = absurd counts
+
+    new_here : (Connected s.net s.u p → ⊥) → IsEnd s New p 115 used.New (number_in own.new i)
+    new_here apart =
+        end_here s New p 115 s.tables.new of_new used.New (number_in own.new i) site.lawful.new_rows (site.new i p at) from
+        (λ e listed. new_counts tt listed) (λ n e stands. (e, stands, refl))
+      where
+        from : (d : ℕ) (x : Usable) → CountsAt s New p d x → ((e : Entry) × IsListed (table_of s.tables.new) p e) × (d ≡ 115)
+        from d x (connected_counts h) = absurd (apart h)
+        from d x (old_counts counts _ _ _ _ _) = absurd counts
+        from d x (new_counts {e = e} _ listed) = ((e, listed), refl)
+
+    by_connected : (o : Option ℕ) → IsOwnNumber site.subnets (λ place. place) p o
+        → AreHere s p own.ospf (record { connected = o; old = old_in own i; new = number_in own.new i })
+    by_connected None none =
+        let apart : Connected s.net s.u p → ⊥ = λ h. none ((site.subnets_are p).1 h) in
+        record { connected = apart; old = old_here apart (own.ospf == 255) refl; new = new_here apart }
+    by_connected (Some k) one = record { connected = (site.subnets_are p).0 (Contains-from_place site.subnets one.0 p one.1); old = tt; new = tt }
 
 -- what is used of the shorter prefixes is what is used for the parent
 shorter_best : (prefixes : List Block) (own : Own) (s : Site) (len : ℕ) (o : Option ℕ) (up : Cell) → IsOwnSite prefixes own s
@@ -112,11 +133,10 @@ cell_more : (c : Classes) (own : Own) (place : ℕ) (p : Block) (up : Cell) (old
     → slice_get c.prefixes place ≡ Some p → IsCellFor c.prefixes own (get_or c.parents place None) up
     → IsCellFor c.prefixes own (Some place) (cell_over (has_at own place) old_first up)
 cell_more c own place p up old_first classing first at above q s at_q site inside =
-    let same : p ≡ q = same_Some p q (sym at ∙ at_q) in
     let block : IsBlock q = All-contains IsBlock c.prefixes q classing.nested.blocks (Contains-from_place c.prefixes place q at_q) in
-    cell_step s q own.ospf (has_at own place) old_first up site.lawful site.distance inside
+    cell_step s q own.ospf (has_at own place) old_first up
     (λ r phase d x k same_len. same_block r q s.a (counts_block s phase r d x site.lawful k.0) block same_len k.1 inside)
-    first (own_here c.prefixes own s place q site at_q)
+    inside first (own_here c.prefixes own s place q site at_q)
     (shorter_best c.prefixes own s q.len (get_or c.parents place None) up site
     (parent_is_next c.prefixes q s.a (get_or c.parents place None) block inside (parent_of c place q classing at_q).next) above)
 
