@@ -1,18 +1,14 @@
 -- What a router has for a prefix, and uses for its parent, says what it uses for the addresses of the prefix.
-use Rattle.std.proofs.Common.{◌≡◌, ℕ, ◌<◌, ◌≤◌, ◌⊎◌, inl, inr, Bool, true, false, Option, Some, None, IfNone, MatchOption, slice_get}
-use Rattle.std.proofs.Common.{⊎_elim, arith, refl, sym, ap, subst, ◌∙◌}
+use Rattle.std.proofs.Common.{◌≡◌, ℕ, ◌<◌, ◌≤◌, ◌⊎◌, inl, inr, Bool, true, false, Option, Some, None, IfNone, MatchOption}
+use Rattle.std.proofs.Common.{⊎_elim, arith, refl, subst}
 use Rattle.std.proofs.lemmas.Bool.{cases_lt}
-use Rattle.std.proofs.lemmas.Option.{same_Some}
 use Rattle.net_addr.specs.Addresses.{Block, ContainsAddress}
-use Rattle.net_addr.proofs.Blocks.{same_block}
-use Rattle.net_model.specs.Configuration.{Configuration}
-use Rattle.net_model.specs.Network.{Connected, HasConfiguration}
-use Rattle.route_core.specs.declared.entry.Entry.{Entry}
-use Rattle.igp_theory.specs.Forwarding.{Usable, connected, of_old, of_new, connected_counts, old_counts, new_counts}
+use Rattle.net_model.specs.Network.{Connected}
+use Rattle.igp_theory.specs.Forwarding.{Usable, connected, connected_counts, old_counts, new_counts}
 use Rattle.igp_theory.specs.declared.phase.Phase.{Phase}
 use Rattle.igp_theory.specs.declared.phase.Phase.TheVariants.{Old, Middle, New}
 use Rattle.rib_mix.specs.Cells.{IsUsable, use_in}
-use Rattle.rib_mix.specs.Sites.{CountsAt, HasOspfDistance, IsLawfulSite, Kind, Site}
+use Rattle.rib_mix.specs.Sites.{CountsAt, Kind, Site}
 use Rattle.rib_mix.specs.steps.Uses.{cell_between, cell_of_three, cell_over}
 use Rattle.rib_mix.specs.steps.WayUp.{IsBestUse, IsCellUpTo, UpTo}
 use Rattle.rib_mix.specs.declared.cell.Cell.{Cell}
@@ -20,7 +16,6 @@ use Rattle.rib_mix.specs.declared.cell.Has.{Has}
 use Rattle.rib_mix.specs.declared.used.Used.{Used}
 use Rattle.rib_mix.specs.declared.used.Used.TheVariants as used
 use Rattle.rib_mix.proofs.ClassUses.{Within}
-use Rattle.rib_mix.proofs.OneUsed.{counts_block}
 
 -- a kind with the same entries has the same best one
 pub best_along : (s : Site) (one two : Kind) (way : Used) → Within one two → Within two one → IsBestUse s one way → IsBestUse s two way
@@ -82,9 +77,13 @@ here_best s phase p distance way one inside here = inr (record {
 none_best : (s : Site) (phase : Phase) (p : Block) (way : Used) → IsOneAt s p → NoneHere s phase p → IsBestUse s (Below s phase p.len) way
     → IsBestUse s (UpTo s phase p.len) way
 none_best s phase p way one none = best_along s (Below s phase p.len) (UpTo s phase p.len) way (λ q d x k. (k.0, k.1, omega (arith, k.2)))
-    (λ q d x k. (k.0, k.1, ⊎_elim (λ (l : q.len < p.len). l)
-    (λ (l : p.len ≤ q.len). absurd (none d x (subst (λ (b : Block). CountsAt s phase b d x) (one q phase d x k (omega (arith, l, k.2))) k.0)))
-    (cases_lt q.len p.len)))
+    (λ q d x k. (
+      k.0,
+      k.1,
+      ⊎_elim (λ (l : q.len < p.len). l)
+          (λ (l : p.len ≤ q.len). absurd (none d x (subst (λ (b : Block). CountsAt s phase b d x) (one q phase d x k (omega (arith, l, k.2))) k.0)))
+          (cases_lt q.len p.len),
+    ))
 
 -- what counts in Middle counts in Old or in New, and the other way round
 at_an_end : (s : Site) (q : Block) (d : ℕ) (x : Usable) → CountsAt s Middle q d x → CountsAt s Old q d x ⊎ CountsAt s New q d x

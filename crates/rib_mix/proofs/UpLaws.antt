@@ -1,5 +1,5 @@
 -- The way up from the longest prefix of an address: what is used there is what is used of all entries.
-use Rattle.std.proofs.Common.{◌≡◌, ◌≢◌, ◌⊎◌, ℕ, ◌+◌, ◌<◌, ◌≤◌, inl, inr, Bool, true, false, List, length, get_or, set, Option, Some, None, Contains, IfSome, IsTrue, MatchOption}
+use Rattle.std.proofs.Common.{◌≡◌, ◌≢◌, ℕ, ◌+◌, ◌<◌, ◌≤◌, inl, Bool, true, false, List, length, get_or, set, Option, Some, None, Contains, IfSome}
 use Rattle.std.proofs.Common.{ap, arith, refl, sym, subst, ◌∙◌, get_or-set_other, get_or-set_same, slice_get, ⊎_elim, eqb-true, ◌==◌, if◌then◌else◌}
 use Rattle.std.proofs.lemmas.Bool.{cases_lt, eqb-false}
 use Rattle.std.proofs.lemmas.List.Elements.{All-contains}
