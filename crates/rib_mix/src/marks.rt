@@ -99,6 +99,7 @@ impl Own<'_> {
 }
 
 /// Finds for each prefix what the router uses, by what it has for the prefix and uses for the parent, which stands before it.
+#[inline(never)]
 fn find_all(cells: &mut Vec<Cell>, atoms: &Atoms, own: Own<'_>) -> Result<(), OutOfMemory>
     requires places { length cells.old.items ≡ length atoms.now.prefixes }
     requires own { IsOwn atoms.now.prefixes own }

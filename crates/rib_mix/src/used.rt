@@ -20,7 +20,7 @@ pub enum Used {
 /// The same in 4 bytes, since there are two for each router and class.
 #[derive(Clone, Copy, Debug, PartialEq, Eq)]
 pub struct Use {
-    /// 0 for nothing, 1 for a connected prefix, 2 n + 2 for entry n of the old table and 2 n + 3 for entry n of the new one.
+    /// 0 for nothing, 2 for a connected prefix, 2 n + 4 for entry n of the old table and 2 n + 1 for entry n of the new one.
     code: u32,
 }
 
@@ -45,7 +45,7 @@ impl Use {
     ghost use Rattle.rib_mix.specs.declared.used.Used.TheVariants.{Connected, New, Nothing, Old};
 
     /// The number of entries up to which all have a code.
-    const MOST_NUMBERS: u32 = 0x7FFF_FFFF;
+    const MOST_NUMBERS: u32 = 0x7FFF_FFFE;
 
     /// No entry.
     #[inline(always)]
@@ -60,10 +60,10 @@ impl Use {
     pub fn connected() -> Use
         ensures { result ≡ Connected }
     {
-        Use { code: 1 }
+        Use { code: 2 }
     }
 
-    /// The entry of this number that the old table keeps. From 2^31 - 1 on it gives `OutOfMemory`, since no table has so many.
+    /// The entry of this number that the old table keeps. From 2^31 - 2 on it gives `OutOfMemory`, since no table has so many.
     #[inline(always)]
     pub fn old(number: u32) -> Result<Use, OutOfMemory>
         ensures { IfOk result (λ own. own ≡ Old number) }
@@ -72,7 +72,7 @@ impl Use {
             return Err(OutOfMemory);
         }
         Ok(Use {
-            code: 2 * number + 2,
+            code: 2 * number + 4,
         })
     }
 
@@ -85,7 +85,7 @@ impl Use {
             return Err(OutOfMemory);
         }
         Ok(Use {
-            code: 2 * number + 3,
+            code: 2 * number + 1,
         })
     }
 
@@ -95,10 +95,10 @@ impl Use {
         ensures { result ≡ self }
     {
         match self.code {
+            code if code % 2 == 1 => Used::New(code / 2),
             0 => Used::Nothing,
-            1 => Used::Connected,
-            code if code % 2 == 0 => Used::Old(code / 2 - 1),
-            code => Used::New(code / 2 - 1),
+            2 => Used::Connected,
+            code => Used::Old(code / 2 - 2),
         }
     }
 
@@ -107,6 +107,6 @@ impl Use {
     pub fn is_of_new(self) -> bool
         ensures { IsTrue result ↔ IsOfNew self }
     {
-        self.code > 1 && self.code % 2 == 1
+        self.code % 2 == 1
     }
 }
