@@ -4,7 +4,7 @@ use Rattle.std.proofs.lemmas.Bool.{cases_lt}
 use Rattle.std.proofs.lemmas.List.{get_or_default}
 use Rattle.std.proofs.lemmas.List.Kept.{AllPairs-from_increasing}
 use Rattle.std.specs.List.Sorted.{IsStrictlyIncreasing}
-use Rattle.prefix_atoms.specs.Lists.{IsPlaceOf}
+use Rattle.prefix_atoms.specs.steps.Lists.{IsPlaceOf}
 use Rattle.prefix_atoms.specs.Numbers.{InInterval}
 
 -- a number is below each later one

@@ -14,9 +14,10 @@ use Rattle.net_addr.proofs.Blocks.{Covers-common, ContainsAddress-covers}
 use Rattle.net_addr.proofs.BoundaryFacts.{ContainsAddress-alike}
 use Rattle.prefix_atoms.specs.Classes.{AreSamples, Classes, IsClassing}
 use Rattle.prefix_atoms.specs.Nested.{AreNested, AreTops}
-use Rattle.prefix_atoms.specs.Lists.{AreCuts}
-use Rattle.prefix_atoms.specs.Longest.{AreKeys, IsKey}
-use Rattle.prefix_atoms.specs.Numbers.{IsNumbering, NumbersClasses, ArePicked, InInterval, TellClasses}
+use Rattle.prefix_atoms.specs.steps.Lists.{AreCuts}
+use Rattle.prefix_atoms.specs.steps.Longest.{AreKeys, IsKey}
+use Rattle.prefix_atoms.specs.Numbers.{InInterval, TellClasses}
+use Rattle.prefix_atoms.specs.steps.Numbers.{IsNumbering, NumbersClasses, ArePicked}
 use Rattle.prefix_atoms.proofs.Ascending.{below_later, at_most_later, start_is_last}
 use Rattle.prefix_atoms.proofs.ClassLaws.{alike_sym, alike_trans}
 

@@ -5,7 +5,7 @@ use Rattle.std.proofs.lemmas.List.{take_more}
 use Rattle.std.proofs.lemmas.List.Elements.{All-push, Contains-push_cases}
 use Rattle.net_addr.specs.Addresses.{Block, IsBlock}
 use Rattle.net_addr.specs.Boundaries.{IsBoundary}
-use Rattle.prefix_atoms.specs.Lists.{GainsBoundaries}
+use Rattle.prefix_atoms.specs.steps.Lists.{GainsBoundaries}
 
 -- each boundary of these prefixes is in the list of numbers
 abbrev pub HasBoundaries : List Block → List ℕ → Type 0

@@ -5,7 +5,7 @@ use Rattle.net_addr.specs.Addresses.{Block}
 use Rattle.net_model.proofs.Members.{Contains-none}
 use Rattle.route_core.specs.Tables.{table_prefixes}
 use Rattle.route_core.specs.declared.entry.Entry.{Entry}
-use Rattle.prefix_atoms.specs.Lists.{source_prefixes, GainsPrefixes}
+use Rattle.prefix_atoms.specs.steps.Lists.{source_prefixes, GainsPrefixes}
 
 -- nothing is gained
 pub gains_nothing : (xs : List Block) → GainsPrefixes xs xs []

@@ -4,7 +4,7 @@ use Rattle.std.proofs.Common.{◌∙◌, below_more, length-append, get_or-set_o
 use Rattle.std.proofs.lemmas.Bool.{cases_eq, cases_lt}
 use Rattle.std.proofs.lemmas.List.{get_or_append_left, get_or_push, length-set}
 use Rattle.std.specs.List.Sorted.{IsStrictlyIncreasing}
-use Rattle.prefix_atoms.specs.Numbers.{TakesNumber}
+use Rattle.prefix_atoms.specs.steps.Numbers.{TakesNumber}
 
 -- what is known of a key: it has a number, or it isn't among the first n keys
 abbrev pub IsSeen : List ℕ → ℕ → List ℕ → ℕ → Option ℕ → Type 0

@@ -9,7 +9,7 @@ use Rattle.net_addr.specs.Addresses.{Block, default_prefix}
 use Rattle.net_model.proofs.Members.{Contains-map, Contains-in_map, Contains-filter_map, Contains-in_filter_map}
 use Rattle.route_core.specs.Rows.{KeptTable, Row, kept_number, row_prefix, row_prefixes, rows_in}
 use Rattle.route_core.proofs.RowLaws.{row_is, row_is_there}
-use Rattle.prefix_atoms.specs.Lists.{AreUnseen, GainsPrefixes, seen_prefix, unseen_place}
+use Rattle.prefix_atoms.specs.steps.Lists.{AreUnseen, GainsPrefixes, seen_prefix, unseen_place}
 
 -- at first no table has had an entry for any
 pub unseen_first : (shared : List Block) (unseen : List ℕ) (found : List Block) → unseen ≡ range_with_len 0 (length shared) → AreUnseen shared unseen found

@@ -6,3 +6,4 @@ pub mod Numbers
 pub mod Longest
 pub mod Nested
 pub mod Classes
+pub mod steps

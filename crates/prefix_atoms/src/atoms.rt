@@ -3,10 +3,11 @@ ghost use Rattle.std.specs.List.Sorted.{IsStrictlyIncreasing};
 ghost use Rattle.net_addr.specs.Addresses.{IsBlock};
 ghost use Rattle.igp_theory.specs.Migrations.{migration};
 ghost use Rattle.prefix_atoms.specs.Classes.{AreClasses, IsClassing, IsInClass, SourceEntry};
-ghost use Rattle.prefix_atoms.specs.Lists.{AreClassesOf, AreTargets};
-ghost use Rattle.prefix_atoms.specs.Longest.{AreKeys, key_of, top_of};
+ghost use Rattle.prefix_atoms.specs.steps.Lists.{AreClassesOf, AreTargets};
+ghost use Rattle.prefix_atoms.specs.steps.Longest.{AreKeys, key_of, top_of};
 ghost use Rattle.prefix_atoms.specs.Nested.{AreAscendingPrefixes, AreTops};
-ghost use Rattle.prefix_atoms.specs.Numbers.{ArePicked, InInterval, NumbersClasses};
+ghost use Rattle.prefix_atoms.specs.Numbers.{InInterval};
+ghost use Rattle.prefix_atoms.specs.steps.Numbers.{ArePicked, NumbersClasses};
 
 use crate::collect::{add_net, add_source, originated_prefixes};
 use crate::cuts::cuts_of;

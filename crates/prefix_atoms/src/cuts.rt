@@ -1,6 +1,6 @@
 ghost use Rattle.std.specs.Prelude.{IfOk, OnOk, All};
 ghost use Rattle.net_addr.specs.Addresses.{IsBlock};
-ghost use Rattle.prefix_atoms.specs.Lists.{AreCuts, GainsBoundaries};
+ghost use Rattle.prefix_atoms.specs.steps.Lists.{AreCuts, GainsBoundaries};
 
 use crate::distinct::keep_distinct_numbers;
 use net_addr::Prefix;

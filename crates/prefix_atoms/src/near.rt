@@ -1,5 +1,5 @@
 ghost use Rattle.std.specs.List.Sorted.{IsStrictlyIncreasing};
-ghost use Rattle.prefix_atoms.specs.Lists.{IsPlaceOf};
+ghost use Rattle.prefix_atoms.specs.steps.Lists.{IsPlaceOf};
 
 /// How many places are looked at one after another before a search over the whole list.
 const NEAR: usize = 8;

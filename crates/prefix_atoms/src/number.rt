@@ -1,5 +1,5 @@
 ghost use Rattle.std.specs.Prelude.{◌<◌, ◌≤◌, ◌^◌, All, IfOk, None, length, slice_index_or};
-ghost use Rattle.prefix_atoms.specs.Numbers.{IsNumbering, TakesNumber};
+ghost use Rattle.prefix_atoms.specs.steps.Numbers.{IsNumbering, TakesNumber};
 
 use std::alloc::{AllocError as OutOfMemory, Global};
 

@@ -1,7 +1,7 @@
 use Rattle.std.proofs.Common.{◌∙◌, ℕ, List, All, refl, subst, sym}
 use Rattle.std.specs.List.Sorted.{IsStrictlyIncreasing}
 use Rattle.net_addr.specs.Addresses.{IsBlock}
-use Rattle.prefix_atoms.specs.Lists.{AreTargets}
+use Rattle.prefix_atoms.specs.steps.Lists.{AreTargets}
 use Rattle.prefix_atoms.proofs.ClassFacts.{classing_from, made_from, samples_ascend, samples_made, intervals_tell}
 use Rattle.prefix_atoms.proofs.atoms.classes_of.Goals as goal
 

@@ -1,6 +1,6 @@
 use Rattle.std.proofs.Common.{◌∙◌, ap, length, map}
 use Rattle.std.proofs.lemmas.Result.{IfOk-weaker}
-use Rattle.prefix_atoms.specs.Longest.{key_of}
+use Rattle.prefix_atoms.specs.steps.Longest.{key_of}
 use Rattle.prefix_atoms.proofs.LongestSteps.{keys_kept}
 use Rattle.prefix_atoms.proofs.atoms.keys_of.Goals as goal
 

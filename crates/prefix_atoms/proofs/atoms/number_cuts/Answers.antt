@@ -1,7 +1,7 @@
 use Rattle.std.proofs.Common.{◌≡◌, ◌≤◌, ◌+◌, ◌<◌, ◌^◌, ◌∙◌, ℕ, List, All, length, get_or, arith, ap, subst, sym}
 use Rattle.std.proofs.lemmas.List.{get_or_default}
 use Rattle.std.proofs.lemmas.Result.{IfOk-weaker}
-use Rattle.prefix_atoms.specs.Numbers.{IsNumbering}
+use Rattle.prefix_atoms.specs.steps.Numbers.{IsNumbering}
 use Rattle.prefix_atoms.proofs.Ascending.{length_below}
 use Rattle.prefix_atoms.proofs.ClassFacts.{keys_below, numbers_classes}
 use Rattle.prefix_atoms.proofs.NestedLaws.{ascending_apart}

@@ -1,6 +1,6 @@
 use Rattle.std.proofs.Common.{◌∙◌, ap, map}
 use Rattle.std.proofs.lemmas.Result.{IfOk-weaker}
-use Rattle.prefix_atoms.specs.Longest.{top_of}
+use Rattle.prefix_atoms.specs.steps.Longest.{top_of}
 use Rattle.prefix_atoms.proofs.LongestSteps.{tops_kept}
 use Rattle.prefix_atoms.proofs.atoms.tops_of.Goals as goal
 

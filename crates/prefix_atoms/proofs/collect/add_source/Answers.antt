@@ -3,7 +3,7 @@ use Rattle.net_addr.specs.Addresses.{Block}
 use Rattle.route_core.specs.Rows.{IsTable, KeptTable, kept_in, listed, row_prefixes, rows_in}
 use Rattle.route_core.specs.Tables.{table_prefixes}
 use Rattle.route_core.proofs.RowLaws.{prefixes_of_rows}
-use Rattle.prefix_atoms.specs.Lists.{source_prefixes, AreUnseen, GainsPrefixes}
+use Rattle.prefix_atoms.specs.steps.Lists.{source_prefixes, AreUnseen, GainsPrefixes}
 use Rattle.prefix_atoms.proofs.Gained.{gains_nothing, source_gains}
 use Rattle.prefix_atoms.proofs.Unseen.{unseen_first}
 use Rattle.prefix_atoms.proofs.collect.add_source.Goals as goal

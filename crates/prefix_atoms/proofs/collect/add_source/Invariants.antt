@@ -1,5 +1,5 @@
 use Rattle.std.proofs.Common.{◌<◌}
-use Rattle.prefix_atoms.specs.Lists.{source_prefixes, AreUnseen, GainsPrefixes}
+use Rattle.prefix_atoms.specs.steps.Lists.{source_prefixes, AreUnseen, GainsPrefixes}
 use Rattle.prefix_atoms.proofs.collect.add_source.Given as goal
 
 abbrev pub invariant-loop-router : goal.invariant-loop-router

@@ -3,7 +3,7 @@ use Rattle.std.specs.List.{filter_map}
 use Rattle.std.proofs.lemmas.Grind.{common_steps}
 use Rattle.std.proofs.lemmas.List.Elements.{filter_map-append}
 use Rattle.route_core.specs.Rows.{kept_in}
-use Rattle.prefix_atoms.specs.Lists.{seen_prefix, unseen_place}
+use Rattle.prefix_atoms.specs.steps.Lists.{seen_prefix, unseen_place}
 use Rattle.prefix_atoms.proofs.CutSteps.{take_whole}
 use Rattle.prefix_atoms.proofs.Unseen.{rows_gained, unseen_more}
 use Rattle.prefix_atoms.proofs.collect.add_table.Goals as goal

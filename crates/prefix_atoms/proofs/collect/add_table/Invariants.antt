@@ -1,7 +1,7 @@
 use Rattle.std.proofs.Common.{◌≡◌, ◌++◌, take}
 use Rattle.std.specs.List.{filter_map}
 use Rattle.route_core.specs.Rows.{kept_in}
-use Rattle.prefix_atoms.specs.Lists.{seen_prefix, unseen_place}
+use Rattle.prefix_atoms.specs.steps.Lists.{seen_prefix, unseen_place}
 use Rattle.prefix_atoms.proofs.collect.add_table.Given as goal
 
 abbrev pub invariant-loop-place : goal.invariant-loop-place

@@ -1,6 +1,6 @@
 use Rattle.std.proofs.Common.{◌≡◌, ◌≤◌, ◌<◌, ◌+◌, ℕ, get_or, arith, ap, sym, subst, ◌∙◌}
 use Rattle.net_addr.specs.Boundaries.{last_address}
-use Rattle.prefix_atoms.specs.Lists.{IsPlaceOf}
+use Rattle.prefix_atoms.specs.steps.Lists.{IsPlaceOf}
 use Rattle.prefix_atoms.proofs.LongestSteps.{painted_none, painted_more, painted_all}
 use Rattle.prefix_atoms.proofs.longest.take_prefix.Goals as goal
 

@@ -1,6 +1,6 @@
 use Rattle.std.proofs.Common.{◌≡◌, ℕ, List, length}
 use Rattle.net_addr.specs.Addresses.{Block}
-use Rattle.prefix_atoms.specs.Longest.{AreLongestKept}
+use Rattle.prefix_atoms.specs.steps.Longest.{AreLongestKept}
 use Rattle.prefix_atoms.proofs.LongestSteps.{Painted}
 use Rattle.prefix_atoms.proofs.longest.take_prefix.Given as goal
 
