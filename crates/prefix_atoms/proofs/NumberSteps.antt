@@ -4,7 +4,7 @@ use Rattle.std.proofs.Common.{◌∙◌, below_more, length-append, get_or-set_o
 use Rattle.std.proofs.lemmas.Bool.{cases_eq, cases_lt}
 use Rattle.std.proofs.lemmas.List.{get_or_append_left, get_or_push, length-set}
 use Rattle.std.specs.List.Sorted.{IsStrictlyIncreasing}
-use Rattle.prefix_atoms.specs.steps.Numbers.{TakesNumber}
+use Rattle.prefix_atoms.specs.steps.Numbers.{TakesNumber, Tally}
 
 -- what is known of a key: it has a number, or it isn't among the first n keys
 abbrev pub IsSeen : List ℕ → ℕ → List ℕ → ℕ → Option ℕ → Type 0
@@ -143,16 +143,17 @@ fresh_more keys bound n numbers firsts seen h at below =
         (cases_eq (get_or keys n 0) x)
 
 -- numbering goes on by one key
-pub numbered_more : (keys : List ℕ) (bound n : ℕ) (numbers firsts firsts' : List ℕ) (seen seen' : List (Option ℕ)) (o : Option ℕ) (number : ℕ)
-    → Numbered keys bound n numbers firsts seen → get_or keys n 0 < bound → get_or seen (get_or keys n 0) None ≡ o
-    → TakesNumber o seen firsts (get_or keys n 0) n number seen' firsts' → Numbered keys bound (n + 1) (numbers ++ number ∷ []) firsts' seen'
-numbered_more keys bound n numbers firsts firsts' seen seen' (Some k) number h below at takes =
-    subst (λ (m : ℕ). Numbered keys bound (n + 1) (numbers ++ m ∷ []) firsts' seen') (sym takes.0)
-    (subst (λ (s : List (Option ℕ)). Numbered keys bound (n + 1) (numbers ++ k ∷ []) firsts' s) (sym takes.1)
-    (subst (λ (f : List ℕ). Numbered keys bound (n + 1) (numbers ++ k ∷ []) f seen) (sym takes.2)
-    (known_more keys bound n numbers firsts seen k h at below)))
-numbered_more keys bound n numbers firsts firsts' seen seen' None number h below at takes =
-    subst (λ (m : ℕ). Numbered keys bound (n + 1) (numbers ++ m ∷ []) firsts' seen') (sym takes.0)
-    (subst (λ (s : List (Option ℕ)). Numbered keys bound (n + 1) (numbers ++ length firsts ∷ []) firsts' s) (sym takes.1)
-    (subst (λ (f : List ℕ). Numbered keys bound (n + 1) (numbers ++ length firsts ∷ []) f (set seen (get_or keys n 0) (Some (length firsts)))) (sym takes.2)
-    (fresh_more keys bound n numbers firsts seen h at below)))
+pub numbered_more : (keys : List ℕ) (bound n : ℕ) (numbers : List ℕ) (old new : Tally) (o : Option ℕ) (number : ℕ)
+    → Numbered keys bound n numbers old.firsts old.seen → get_or keys n 0 < bound → get_or old.seen (get_or keys n 0) None ≡ o
+    → TakesNumber o (get_or keys n 0) n number old new → Numbered keys bound (n + 1) (numbers ++ number ∷ []) new.firsts new.seen
+numbered_more keys bound n numbers old new (Some k) number h below at takes =
+    subst (λ (m : ℕ). Numbered keys bound (n + 1) (numbers ++ m ∷ []) new.firsts new.seen) (sym takes.0)
+    (subst (λ (s : List (Option ℕ)). Numbered keys bound (n + 1) (numbers ++ k ∷ []) new.firsts s) (sym takes.1)
+    (subst (λ (f : List ℕ). Numbered keys bound (n + 1) (numbers ++ k ∷ []) f old.seen) (sym takes.2)
+    (known_more keys bound n numbers old.firsts old.seen k h at below)))
+numbered_more keys bound n numbers old new None number h below at takes =
+    let many : ℕ = length old.firsts in
+    subst (λ (m : ℕ). Numbered keys bound (n + 1) (numbers ++ m ∷ []) new.firsts new.seen) (sym takes.0)
+    (subst (λ (s : List (Option ℕ)). Numbered keys bound (n + 1) (numbers ++ many ∷ []) new.firsts s) (sym takes.1)
+    (subst (λ (f : List ℕ). Numbered keys bound (n + 1) (numbers ++ many ∷ []) f (set old.seen (get_or keys n 0) (Some many))) (sym takes.2)
+    (fresh_more keys bound n numbers old.firsts old.seen h at below)))

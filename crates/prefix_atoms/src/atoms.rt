@@ -121,14 +121,6 @@ impl Atoms {
         self.samples[atom as usize]
     }
 
-    /// The least addresses of all classes, which ascend.
-    pub fn samples(&self) -> &[u32]
-        ensures samples { result.now ≡ self.now.samples }
-        ensures classing { IsClassing self.now }
-    {
-        self.samples.as_slice()
-    }
-
     /// The target of a class, none where its addresses have none.
     pub fn target(&self, atom: u32) -> Option<Prefix>
         requires { atom < length self.now.samples }

@@ -37,8 +37,8 @@ fn next_number(
 ) -> Result<u32, OutOfMemory>
     requires key { key < length seen.old.items }
     requires few { length firsts.old.items < 2 ^ 32 }
-    ensures { IfOk result (λ number. TakesNumber (slice_index_or seen.old.items key None) seen.old.items firsts.old.items key place number
-        seen.new.items firsts.new.items) }
+    ensures { IfOk result (λ number. TakesNumber (slice_index_or seen.old.items key None) key place number
+        (record { seen = seen.old.items; firsts = firsts.old.items }) (record { seen = seen.new.items; firsts = firsts.new.items })) }
 {
     match seen[key] {
         Some(number) => Ok(number),

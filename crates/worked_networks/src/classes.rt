@@ -77,7 +77,12 @@ fn nested_prefixes_make_classes(rt: HostRuntime) -> Result<(), Fail> {
     let new = make_dropper(rt.alloc(), 0x0a00_0180, 25)?;
     let atoms = Atoms::build(rt.alloc(), &net, &old, &new)?;
     assert_eq!(rt; atoms.count(), 3);
-    assert_eq!(rt; atoms.samples(), [0, 0x0a00_0000, 0x0a00_0180].as_slice());
+    let outside = atoms.of(0);
+    assert_eq!(rt; atoms.sample(outside), 0);
+    let outer = atoms.of(0x0a00_0000);
+    assert_eq!(rt; atoms.sample(outer), 0x0a00_0000);
+    let inner = atoms.of(0x0a00_0180);
+    assert_eq!(rt; atoms.sample(inner), 0x0a00_0180);
     let after = atoms.of(0x0a00_0200);
     assert_eq!(rt; atoms.sample(after), 0x0a00_0000);
     assert_eq!(rt; atoms.target(after), None);

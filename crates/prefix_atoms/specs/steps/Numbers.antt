@@ -23,11 +23,16 @@ pub record NumbersClasses (prefixes : List Block) (cuts numbers firsts : List �
   pub numbered : (j : ℕ) → j < length cuts → slice_index numbers j < length firsts
   pub same : (j : ℕ) → j < length cuts → SameBlocksContain prefixes (slice_index cuts (slice_index firsts (slice_index numbers j))) (slice_index cuts j)
 
--- what is done with the next key: it keeps the number that it has, or takes the next one
-abbrev pub TakesNumber : Option ℕ → List (Option ℕ) → List ℕ → ℕ → ℕ → ℕ → List (Option ℕ) → List ℕ → Type 0
-TakesNumber (Some k) seen firsts key place number seen' firsts' = (number ≡ k) × (seen' ≡ seen) × (firsts' ≡ firsts)
-TakesNumber None seen firsts key place number seen' firsts' =
-    (number ≡ length firsts) × (seen' ≡ slice_set seen key (Some (length firsts))) × (firsts' ≡ firsts ++ place ∷ [])
+-- how far keys are numbered: the number that each key has, and the first place of each number
+pub record Tally : Type 0 where
+  pub seen : List (Option ℕ)
+  pub firsts : List ℕ
+
+-- what is done with the key at a place: it keeps the number that it has, or takes the next one
+abbrev pub TakesNumber : Option ℕ → ℕ → ℕ → ℕ → Tally → Tally → Type 0
+TakesNumber (Some k) key place number old new = (number ≡ k) × (new.seen ≡ old.seen) × (new.firsts ≡ old.firsts)
+TakesNumber None key place number old new =
+    (number ≡ length old.firsts) × (new.seen ≡ slice_set old.seen key (Some (length old.firsts))) × (new.firsts ≡ old.firsts ++ place ∷ [])
 
 -- the numbers at these places of a list
 pub record ArePicked (numbers places picked : List ℕ) : Type 0 where
