@@ -13,15 +13,17 @@ use Rattle.igp_theory.specs.Waves.{IsStateOfWave}
 use Rattle.igp_theory.specs.declared.phase.Phase.{Phase}
 use Rattle.igp_theory.specs.declared.phase.Phase.TheVariants.{Old, New}
 use Rattle.igp_theory.proofs.SameTables.{follows_over}
-use Rattle.loop_finder.specs.Calm.{WaveStep, IsCalmBefore, IsUnstirred, AreCalm, AreLowered}
+use Rattle.loop_finder.specs.Calm.{WaveStep, IsCalmBefore, IsUnstirred, AreCalm}
+use Rattle.loop_finder.specs.steps.Calm.{AreLowered}
 use Rattle.loop_finder.specs.Faults.{state_in}
-use Rattle.loop_finder.specs.Parts.{ClassPart, AreSteppers, IsBareIn, IsPart, AreParts}
+use Rattle.loop_finder.specs.Parts.{ClassPart, IsPart, AreParts}
+use Rattle.loop_finder.specs.steps.Parts.{AreSteppers, IsBareIn}
 use Rattle.loop_finder.specs.Returns.{NeverReturnsTo}
 use Rattle.loop_finder.specs.ClassSteps.{sample_of, Mix}
-use Rattle.loop_finder.specs.Verdicts.{SoundAt, Sound, SoundWave, SoundWavesBefore}
+use Rattle.loop_finder.specs.Verdicts.{SoundAt, Sound}
+use Rattle.loop_finder.specs.steps.Verdicts.{IsClearAt, SoundWave, SoundWavesBefore}
 use Rattle.loop_finder.specs.Watches.{IsIdle, ArePlacesOf}
-use Rattle.loop_finder.specs.WaveLists.{AreSwitchedBefore}
-use Rattle.loop_finder.specs.steps.WaveStarts.{AreClearParts, BeginsSound}
+use Rattle.loop_finder.specs.steps.WaveStarts.{AreSwitchedBefore, AreClearParts, BeginsSound}
 use Rattle.loop_finder.proofs.ClassVerdicts.{sample_in}
 use Rattle.loop_finder.proofs.PartLists.{sound_whole}
 use Rattle.loop_finder.proofs.StateVerdicts.{sound_from_classes}
@@ -172,7 +174,7 @@ sound_in_calm m part ranks c w first last state is ends calm less begun of_wave 
 
 pub clear_parts : (m : Mix) (parts : List ClassPart) (ranks calm : List ℕ) (w : ℕ) (first last : List Phase)
     → AreParts m parts (length m.classes.samples) → AreEnds (length m.net) ranks w first last → AreCalm parts ranks calm → Sound m (state_in first)
-    → AreClearParts m parts calm w first last
+    → AreClearParts (IsClearAt m first last) parts calm w
 clear_parts m parts ranks calm w first last are ends calms begun p d within less state between =
     let is : IsPart m (get_or parts p d) = are.each p d within in
     sound_in_calm m (get_or parts p d) ranks (get_or calm p 0) w first last state is ends (calms.each p d within) less
@@ -217,7 +219,7 @@ sound_wave m parts ranks calm start w each are calms least less begins state of_
     let none : ClassPart = record { atom = 0; moves = true; rows = [] } in
     let ends : AreEnds (length m.net) ranks w first last = record { each = each; begins = switched_before ranks w; ends = switched_before ranks (w + 1) } in
     let begun : Sound m (state_in first) = begins first (phases_many ranks w) (switched_before ranks w) in
-    let clear : AreClearParts m parts calm w first last = clear_parts m parts ranks calm w first last are ends calms begun in
+    let clear : AreClearParts (IsClearAt m first last) parts calm w = clear_parts m parts ranks calm w first last are ends calms begun in
     sound_from_classes m state (length m.classes.samples) are.classes (omega arith)
     (λ k below. sound_whole m parts (length m.classes.samples) none state are
     (λ p within. clear p none within (let more : start ≤ get_or calm p 0 = least p (omega (arith, within, calms.many)) in omega (arith, more, less)) state

@@ -4,7 +4,7 @@ use Rattle.std.proofs.lemmas.Bool.{cases_lt}
 use Rattle.std.proofs.lemmas.List.Elements.{All-contains}
 use Rattle.igp_theory.specs.States.{Follows}
 use Rattle.order_core.specs.Marks.{IsMarked}
-use Rattle.loop_finder.specs.Returns.{HasLayer, IsLevelled, MarksAgain, layer_in}
+use Rattle.loop_finder.specs.steps.Returns.{HasLayer, IsLevelled, MarksAgain, layer_in}
 use Rattle.loop_finder.proofs.LowestSteps.{marked_cases}
 
 -- from the first i routers no step leads higher, and those without layer keep their marks

@@ -8,9 +8,11 @@ use Rattle.igp_theory.specs.States.{State, changes_of, changes_on, phase_after, 
 use Rattle.igp_theory.specs.declared.phase.Phase.{Phase}
 use Rattle.loop_finder.specs.Faults.{state_in, told_fault}
 use Rattle.order_core.specs.declared.turn.Turn.{Turn}
-use Rattle.loop_finder.specs.Orders.{next_phase, IsStateOf, IsAdvanced, AreFirstStates}
+use Rattle.loop_finder.specs.Orders.{AreFirstStates}
+use Rattle.loop_finder.specs.steps.Orders.{next_phase, IsStateOf, IsAdvanced}
 use Rattle.loop_finder.specs.ClassSteps.{Mix}
-use Rattle.loop_finder.specs.Verdicts.{Sound, FirstFaulty}
+use Rattle.loop_finder.specs.Verdicts.{Sound}
+use Rattle.loop_finder.specs.steps.Verdicts.{FirstFaulty}
 use Rattle.loop_finder.specs.declared.fault.Fault.{Fault}
 
 -- two states that give each router one phase are one

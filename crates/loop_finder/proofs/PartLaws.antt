@@ -13,11 +13,15 @@ use Rattle.igp_theory.proofs.SameTables.{follows_over}
 use Rattle.order_core.specs.Marks.{IsMarked}
 use Rattle.prefix_atoms.specs.Classes.{HasTarget}
 use Rattle.loop_finder.specs.Faults.{state_in}
-use Rattle.loop_finder.specs.Parts.{PhaseHops, ClassPart, hops_of, no_hops, part_hops, StepsOf, StepsEver, HasStepOf, AllMove, IsPart, PartStep}
-use Rattle.loop_finder.specs.Parts.{HaveReturning, NeverUnsound, SoundWith, DifferAt}
-use Rattle.loop_finder.specs.Returns.{NeverReturnsTo, MarksReturns}
-use Rattle.loop_finder.specs.ClassSteps.{ClassState, sample_of, Mix, migration_in}
-use Rattle.loop_finder.specs.Verdicts.{SoundAt, IsBetween, IsClearAt}
+use Rattle.loop_finder.specs.Parts.{PhaseHops, ClassPart, hops_of, no_hops, part_hops, StepsOf, StepsEver, HasStepOf, AllMove, IsPart}
+use Rattle.loop_finder.specs.steps.Parts.{PartStep, DifferAt}
+use Rattle.loop_finder.specs.Parts.{HaveReturning, NeverUnsound, SoundWith}
+use Rattle.loop_finder.specs.Returns.{NeverReturnsTo}
+use Rattle.loop_finder.specs.steps.Returns.{MarksReturns}
+use Rattle.loop_finder.specs.ClassSteps.{sample_of, Mix, migration_in}
+use Rattle.loop_finder.specs.steps.ClassSteps.{ClassState}
+use Rattle.loop_finder.specs.Verdicts.{SoundAt}
+use Rattle.loop_finder.specs.steps.Verdicts.{IsBetween, IsClearAt}
 use Rattle.loop_finder.specs.steps.Walks.{ReturnsNever}
 use Rattle.loop_finder.proofs.Between.{step_between}
 use Rattle.loop_finder.proofs.PartRows.{none_among}

@@ -12,7 +12,7 @@ use Rattle.loop_finder.specs.ClassSteps.{sample_of, Mix}
 use Rattle.loop_finder.specs.Verdicts.{ClassesOf, SoundAt}
 use Rattle.loop_finder.proofs.PartLaws.{sound_with}
 use Rattle.loop_finder.proofs.PartRows.{have_returning}
-use Rattle.loop_finder.specs.Returns.{MarksReturns}
+use Rattle.loop_finder.specs.steps.Returns.{MarksReturns}
 
 -- What they tell
 

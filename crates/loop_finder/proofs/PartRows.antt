@@ -21,8 +21,9 @@ use Rattle.rib_mix.specs.Answers.{IsAlikeAt}
 use Rattle.loop_finder.specs.steps.Ends.{ReadHops, AreNoHops, EndStep, HasBothSteps, hops_at}
 use Rattle.loop_finder.specs.steps.Making.{IsHopsOf, IsMaking, IsRead, IsReadAt, IsSameAt}
 use Rattle.loop_finder.specs.steps.PartRows.{AreKept, HasHops, HasMarked, HaveHops, IsRowOf, AreFirstRows}
-use Rattle.loop_finder.specs.Parts.{PhaseHops, hops_of, no_hops, StepsOf, StepsEver, HasStepOf, AllMove, HaveReturning, IsPart, AreAllBut, AddsUnless}
-use Rattle.loop_finder.specs.Returns.{MarksAgain, MarksReturns}
+use Rattle.loop_finder.specs.Parts.{PhaseHops, hops_of, no_hops, StepsOf, StepsEver, HasStepOf, AllMove, HaveReturning, IsPart}
+use Rattle.loop_finder.specs.steps.Parts.{AreAllBut, AddsUnless}
+use Rattle.loop_finder.specs.steps.Returns.{MarksAgain, MarksReturns}
 use Rattle.loop_finder.specs.ClassSteps.{sample_of, Mix, migration_in}
 use Rattle.loop_finder.specs.declared.parts.Making.{Making}
 use Rattle.loop_finder.proofs.ClassFacts.{steps_to_those}

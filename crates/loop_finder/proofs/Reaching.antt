@@ -8,7 +8,8 @@ use Rattle.std.proofs.lemmas.List.Elements.{All-nil, All-push, Contains-append_l
 use Rattle.std.proofs.lemmas.List.Sums.{sum_by-set, count_by-le-length}
 use Rattle.igp_theory.specs.States.{Follows}
 use Rattle.order_core.specs.Marks.{IsMarked, marked_count}
-use Rattle.loop_finder.specs.Returns.{NeverReturnsTo, AreReached, ReachesMore}
+use Rattle.loop_finder.specs.Returns.{NeverReturnsTo}
+use Rattle.loop_finder.specs.steps.Returns.{AreReached, ReachesMore}
 
 -- where no router is marked, none is counted
 none_counted : (marks : List Bool) → ((r : ℕ) → ¬ IsMarked marks r) → marked_count marks ≡ 0

@@ -8,11 +8,14 @@ use Rattle.igp_theory.specs.States.{State}
 use Rattle.igp_theory.specs.declared.phase.Phase.{Phase}
 use Rattle.order_core.specs.declared.turn.Turn.{Turn}
 use Rattle.loop_finder.specs.Faults.{state_in}
-use Rattle.loop_finder.specs.Parts.{PhaseHops, ClassPart, AreAllBut, hops_of, no_hops, PartStep, IsPart, AreParts, part_hops}
+use Rattle.loop_finder.specs.Parts.{PhaseHops, ClassPart, hops_of, no_hops, IsPart, AreParts, part_hops}
+use Rattle.loop_finder.specs.steps.Parts.{AreAllBut, PartStep}
 use Rattle.loop_finder.specs.Returns.{NeverReturnsTo}
 use Rattle.loop_finder.specs.ClassSteps.{sample_of, Mix}
-use Rattle.loop_finder.specs.Verdicts.{SoundAt, Sound, IsClassVerdict, Faulty}
-use Rattle.loop_finder.specs.Watches.{PhaseChange, LeadsFrom, IsIdle, AreFirstPlaces, ArePlacesOf, AddsPlace, IsWatch, StaysSoundAt, StaysSound, TurnsFaulty}
+use Rattle.loop_finder.specs.Verdicts.{SoundAt, Sound}
+use Rattle.loop_finder.specs.steps.Verdicts.{IsClassVerdict, Faulty}
+use Rattle.loop_finder.specs.Watches.{IsIdle, AreFirstPlaces, ArePlacesOf, IsWatch}
+use Rattle.loop_finder.specs.steps.Watches.{PhaseChange, LeadsFrom, AddsPlace, StaysSoundAt, StaysSound, TurnsFaulty}
 use Rattle.loop_finder.specs.declared.fault.Fault.{Fault}
 use Rattle.loop_finder.proofs.Between.{between_itself, clear_told}
 use Rattle.loop_finder.proofs.ClassVerdicts.{sample_in}

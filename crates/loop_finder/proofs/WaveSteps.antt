@@ -14,12 +14,13 @@ use Rattle.igp_theory.proofs.AlikeStates.{sound_at_alike}
 use Rattle.igp_theory.proofs.SameTables.{follows_over}
 use Rattle.loop_finder.specs.Calm.{WaveStep}
 use Rattle.loop_finder.specs.Faults.{state_in}
-use Rattle.loop_finder.specs.Parts.{ClassPart, part_hops, PartStep, IsPart}
+use Rattle.loop_finder.specs.Parts.{ClassPart, part_hops, IsPart}
+use Rattle.loop_finder.specs.steps.Parts.{PartStep}
 use Rattle.loop_finder.specs.Returns.{NeverReturnsTo}
 use Rattle.loop_finder.specs.ClassSteps.{sample_of, Mix}
-use Rattle.loop_finder.specs.Verdicts.{SoundAt, Sound, SoundWavesBefore, IsBetween}
-use Rattle.loop_finder.specs.WaveLists.{AreSwitchedBefore}
-use Rattle.loop_finder.specs.steps.WaveStarts.{BeginsSound}
+use Rattle.loop_finder.specs.Verdicts.{SoundAt, Sound}
+use Rattle.loop_finder.specs.steps.Verdicts.{SoundWavesBefore, IsBetween}
+use Rattle.loop_finder.specs.steps.WaveStarts.{AreSwitchedBefore, BeginsSound}
 use Rattle.loop_finder.proofs.OrderStates.{same_state}
 use Rattle.loop_finder.proofs.PartLaws.{part_stays_sound, part_inside}
 use Rattle.loop_finder.proofs.ToldOfWaves.{AreEnds, wave_between}

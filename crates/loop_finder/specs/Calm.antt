@@ -28,21 +28,3 @@ pub record IsCalmBefore (part : ClassPart) (ranks : List ℕ) (w : ℕ) : Type 0
 pub record AreCalm (parts : List ClassPart) (ranks calm : List ℕ) : Type 0 where
   pub many : length calm ≡ length parts
   pub each : (p : ℕ) (d : ClassPart) → p < length parts → IsCalmBefore (slice_index_or parts p d) ranks (slice_index calm p)
-
--- a part in a wave
-pub record WaveState : Type 0 where
-  pub part : ClassPart
-  pub ranks : List ℕ
-  pub wave : ℕ
-  pub routers : ℕ
-
--- it is of so many routers
-pub record IsWaveState (c : WaveState) : Type 0 where
-  pub rows : length c.part.rows ≡ c.routers
-  pub each : length c.ranks ≡ c.routers
-
--- each of some numbers is no greater than it was, and those at these places are at most this one
-pub record AreLowered (places : List ℕ) (most : ℕ) (old new : List ℕ) : Type 0 where
-  pub many : length new ≡ length old
-  pub each : (p : ℕ) → slice_index new p ≤ slice_index old p
-  pub these : (p : ℕ) → Contains places p → slice_index new p ≤ most

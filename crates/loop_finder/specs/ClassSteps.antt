@@ -1,17 +1,11 @@
--- The steps of two states, for the addresses of one class: both are the state looked at, or the ends of a wave.
-use Rattle.std.specs.Prelude.{◌≡◌, ℕ, ◌<◌, ◌↔◌, ◌^◌, ◌⊎◌, Bool, List, length, slice_index, Option, Some, None}
+-- What is mixed, its migration, and the least addresses of its classes.
+use Rattle.std.specs.Prelude.{ℕ, List, slice_index}
 use Rattle.net_addr.specs.Addresses.{Block}
 use Rattle.net_model.specs.Network.{Network}
 use Rattle.route_core.specs.declared.entry.Entry.{Entry}
-use Rattle.igp_theory.specs.Forwarding.{MustForward, Steps}
 use Rattle.igp_theory.specs.Migrations.{Migration, listed_migration}
 use Rattle.prefix_atoms.specs.Classes.{Classes}
-use Rattle.igp_theory.specs.Loops.{IsTag}
-use Rattle.igp_theory.specs.declared.phase.Phase.{Phase}
-use Rattle.order_core.specs.Marks.{IsMarked}
-use Rattle.order_core.specs.declared.turn.Turn.{Turn}
 use Rattle.rib_mix.specs.Mixture.{Mixture}
-use Rattle.loop_finder.specs.Faults.{state_in}
 
 -- the entries of a source's tables
 abbrev pub Listing : Type 0 → Type 0
@@ -32,73 +26,6 @@ mix_of old new m = record { net = m.net; old = old m.old; new = new m.new; class
 abbrev pub migration_in : Mix → Migration
 migration_in m = listed_migration m.net m.old m.new
 
--- two states and a class: what is mixed, the phase of each router in the first state and in the last, whether
--- each router has to pass packets on, and the class
-pub record ClassState : Type 0 where
-  pub mixture : Mix
-  pub first : List Phase
-  pub last : List Phase
-  pub forwards : List Bool
-  pub atom : ℕ
-
--- that of two sources
-pub record SourceState (O N : Type 0) : Type 0 where
-  pub mixture : Mixture O N
-  pub first : List Phase
-  pub last : List Phase
-  pub forwards : List Bool
-  pub atom : ℕ
-
-abbrev pub state_over : {O N : Type 0} → Listing O → Listing N → SourceState O N → ClassState
-state_over old new s = record { mixture = mix_of old new s.mixture; first = s.first; last = s.last; forwards = s.forwards; atom = s.atom }
-
 -- the least address of a class
 abbrev pub sample_of : Classes → ℕ → ℕ
 sample_of classes atom = slice_index classes.samples atom
-
--- the marked routers are those that have to pass packets on
-abbrev pub AreForwarders : Network → ℕ → List Bool → Type 0
-AreForwarders net a forwards = (u : ℕ) → IsMarked forwards u ↔ MustForward net a u
-
--- what two states and a class keep
-pub record IsClassState (c : ClassState) : Type 0 where
-  pub inside : c.atom < length c.mixture.classes.samples
-  pub address : sample_of c.mixture.classes c.atom < 2 ^ 32
-  pub first_phases : length c.first ≡ length c.mixture.net
-  pub last_phases : length c.last ≡ length c.mixture.net
-  pub many : length c.forwards ≡ length c.mixture.net
-  pub forwarders : AreForwarders c.mixture.net (sample_of c.mixture.classes c.atom) c.forwards
-
--- a router steps to another in a phase, for the addresses of the class
-abbrev pub StepsBy : ClassState → ℕ → Phase → ℕ → Type 0
-StepsBy c u phase h = Steps (migration_in c.mixture) u phase (sample_of c.mixture.classes c.atom) h
-
--- a router steps to another in one of the states
-abbrev pub ClassStep : ClassState → ℕ → ℕ → Type 0
-ClassStep c u h = StepsBy c u (state_in c.first u) h ⊎ StepsBy c u (state_in c.last u) h
-
--- a router of a ring has the tag by which it steps to the next one
-abbrev pub IsTagged : ClassState → Turn → ℕ → Type 0
-IsTagged c turn next = IsTag (migration_in c.mixture) (sample_of c.mixture.classes c.atom) turn next
-
--- a router has to pass packets on, and has no step in a phase
-pub record IsStuckIn (c : ClassState) (u : ℕ) (phase : Phase) : Type 0 where
-  pub must : MustForward c.mixture.net (sample_of c.mixture.classes c.atom) u
-  pub lacks : (h : ℕ) → ¬ StepsBy c u phase h
-
--- a router that has to pass packets on has a step in a phase
-abbrev pub MovesIn : ClassState → ℕ → Phase → Type 0
-MovesIn c u phase = MustForward c.mixture.net (sample_of c.mixture.classes c.atom) u → (h : ℕ) × StepsBy c u phase h
-
--- a router has to pass packets on, and has no step in one of the states
-abbrev pub IsStuck : ClassState → ℕ → Type 0
-IsStuck c u = IsStuckIn c u (state_in c.first u) ⊎ IsStuckIn c u (state_in c.last u)
-
--- a router that has to pass packets on has a step in both
-abbrev pub Moves : ClassState → ℕ → Type 0
-Moves c u = MovesIn c u (state_in c.first u) × MovesIn c u (state_in c.last u)
-
--- the lowest-numbered router that is stuck, none where all move
-abbrev pub FirstStuck : ClassState → Option ℕ → Type 0
-FirstStuck c None = (u : ℕ) → Moves c u
-FirstStuck c (Some u) = IsStuck c u × ((v : ℕ) → v < u → Moves c v)

@@ -1,11 +1,10 @@
 -- The parts of classes that loops can take, and how they tell of all classes.
-use Rattle.std.specs.Prelude.{◌≡◌, ℕ, ◌<◌, ◌⊎◌, Bool, List, [], ◌∷◌, ◌++◌, length, slice_index_or, All, AllPairs, Contains}
+use Rattle.std.specs.Prelude.{◌≡◌, ℕ, ◌<◌, ◌⊎◌, Bool, List, [], length, slice_index_or, All, AllPairs, Contains}
 use Rattle.std.specs.Bool.{OnTrue}
 use Rattle.igp_theory.specs.Forwarding.{MustForward, Steps, HasStep}
 use Rattle.igp_theory.specs.States.{State, Follows}
 use Rattle.igp_theory.specs.declared.phase.Phase.{Phase}
 use Rattle.igp_theory.specs.declared.phase.Phase.TheVariants.{Old, Middle, New}
-use Rattle.loop_finder.specs.Faults.{state_in}
 use Rattle.loop_finder.specs.ClassSteps.{sample_of, Mix, migration_in}
 use Rattle.loop_finder.specs.Verdicts.{ClassesOf, SoundAt}
 
@@ -34,23 +33,6 @@ pub record ClassPart : Type 0 where
 -- the hops of router u in a phase
 abbrev pub part_hops : ClassPart → ℕ → Phase → List ℕ
 part_hops part u phase = hops_of (slice_index_or part.rows u no_hops) phase
-
--- router u has no hops by some rows
-abbrev pub IsBareIn : List PhaseHops → ℕ → Type 0
-IsBareIn rows u = (phase : Phase) (h : ℕ) → ¬ Contains (hops_of (slice_index_or rows u no_hops) phase) h
-
--- some of the first n routers, with all for which something doesn't hold
-pub record AreAllBut (Is : ℕ → Type 0) (n : ℕ) (routers : List ℕ) : Type 0 where
-  pub below : All (λ u. u < n) routers
-  pub whole : (u : ℕ) → u < n → Contains routers u ⊎ Is u
-
--- a router is added at the end, or something holds
-abbrev pub AddsUnless : Type 0 → ℕ → List ℕ → List ℕ → Type 0
-AddsUnless Holds u old new = (new ≡ old ++ u ∷ []) ⊎ ((new ≡ old) × Holds)
-
--- the routers that have hops by some rows
-abbrev pub AreSteppers : List PhaseHops → List ℕ → Type 0
-AreSteppers rows routers = AreAllBut (IsBareIn rows) (length rows) routers
 
 -- a router steps to another in a phase, for the addresses of a class
 abbrev pub StepsOf : Mix → ℕ → ℕ → Phase → ℕ → Type 0
@@ -82,23 +64,6 @@ pub record IsPart (m : Mix) (part : ClassPart) : Type 0 where
   pub steps : (u h : ℕ) (phase : Phase) → Contains (part_hops part u phase) h → StepsOf m part.atom u phase h
   pub returns : HaveReturning m part.atom part.rows
 
--- the steps of a part in one of two states
-abbrev pub PartStep : ClassPart → List Phase → List Phase → ℕ → ℕ → Type 0
-PartStep part first last u h = Contains (part_hops part u (state_in first u)) h ⊎ Contains (part_hops part u (state_in last u)) h
-
--- two states and a part
-pub record PartState : Type 0 where
-  pub part : ClassPart
-  pub first : List Phase
-  pub last : List Phase
-  pub routers : ℕ
-
--- they are of so many routers
-pub record IsPartState (c : PartState) : Type 0 where
-  pub rows : length c.part.rows ≡ c.routers
-  pub first_phases : length c.first ≡ c.routers
-  pub last_phases : length c.last ≡ c.routers
-
 -- What the parts tell
 
 -- every state is sound for a class
@@ -129,9 +94,3 @@ pub record AreParts (m : Mix) (parts : List ClassPart) (n : ℕ) : Type 0 where
   pub ascending : AllPairs (λ (part other : ClassPart). part.atom < other.atom) parts
   pub below : All (λ (part : ClassPart). part.atom < n) parts
   pub covered : (k : ℕ) → k < n → IsCovered m parts k
-
--- Changes
-
--- two states of n routers differ at router u alone
-abbrev pub DifferAt : ℕ → ℕ → State → State → Type 0
-DifferAt n u before after = (v : ℕ) → v < n → ¬ (v ≡ u) → after v ≡ before v

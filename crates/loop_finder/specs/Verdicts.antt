@@ -1,105 +1,18 @@
--- What is told of a class, of a state and of an order, over what is mixed.
-use Rattle.std.specs.Prelude.{◌≡◌, ℕ, ◌<◌, ◌⊎◌, Bool, List, length, Option, Some, None}
-use Rattle.igp_theory.specs.Loops.{Fault as WholeFault, AroundRing, IsFoundRing, IsFault, IsFirstFault}
+-- When a state is sound, over what is mixed.
+use Rattle.std.specs.Prelude.{ℕ, length}
 use Rattle.igp_theory.specs.Migrations.{migration}
 use Rattle.igp_theory.specs.States.{State, IsSoundAt, IsSound}
-use Rattle.igp_theory.specs.WaveFaults.{IsFaultOver}
-use Rattle.igp_theory.specs.WaveLaws.{IsStateOfSomeWave}
-use Rattle.igp_theory.specs.Waves.{IsStateOfWave}
-use Rattle.igp_theory.specs.declared.phase.Phase.{Phase}
-use Rattle.igp_theory.specs.declared.phase.Phase.TheVariants.{Old, New}
 use Rattle.prefix_atoms.specs.Classes.{AreClasses, SourceEntry}
-use Rattle.order_core.specs.Turns.{routers_of}
-use Rattle.order_core.specs.declared.turn.Turn.{Turn}
-use Rattle.loop_finder.specs.Faults.{state_in, told_fault}
-use Rattle.loop_finder.specs.ClassSteps.{ClassState, sample_of, ClassStep, IsTagged, Moves, FirstStuck, Mix, migration_in}
-use Rattle.loop_finder.specs.steps.Walks.{ReturnsNever}
-use Rattle.loop_finder.specs.WaveLists.{IsNumberedWavesFault}
-use Rattle.loop_finder.specs.declared.fault.Fault.{Fault}
-use Rattle.loop_finder.specs.declared.fault.Fault.TheVariants.{Loop, Missing}
-
--- a loop of a class: no router is stuck, and the turns are those of the ring that is told
-pub record IsClassLoop (c : ClassState) (a : ℕ) (turns : List Turn) : Type 0 where
-  pub address : a ≡ sample_of c.mixture.classes c.atom
-  pub moves : (u : ℕ) → Moves c u
-  pub found : IsFoundRing (ClassStep c) (length c.mixture.net) (routers_of turns)
-  pub tags : AroundRing (λ (s t : Turn). IsTagged c s t.router) turns
-
--- what is told of two states and a class
-abbrev pub Verdict : ClassState → Option Fault → List Turn → Type 0
-Verdict c None turns = ((u : ℕ) → Moves c u) × ReturnsNever (ClassStep c)
-Verdict c (Some (Loop a)) turns = IsClassLoop c a turns
-Verdict c (Some (Missing a u)) turns = (a ≡ sample_of c.mixture.classes c.atom) × FirstStuck c (Some u)
-
--- what is told of the class with this number, whichever routers have to pass packets on
-pub record IsClassVerdict (m : Mix) (first last : List Phase) (atom : ℕ) (result : Option Fault)
-    (turns : List Turn) : Type 0 where
-  pub forwards : List Bool
-  pub verdict : Verdict (record { mixture = m; first = first; last = last; forwards = forwards; atom = atom }) result turns
+use Rattle.loop_finder.specs.ClassSteps.{Mix, migration_in}
 
 -- the classes of what is mixed
 abbrev pub ClassesOf : Mix → Type 0
 ClassesOf m = AreClasses (migration m.net (SourceEntry (length m.net) m.old) (SourceEntry (length m.net) m.new)) m.classes
 
--- a state is sound for an address, for all lower ones, for all
+-- a state is sound for an address
 abbrev pub SoundAt : Mix → State → ℕ → Type 0
 SoundAt m state a = IsSoundAt (migration_in m) state a
 
-abbrev pub SoundBelow : Mix → State → ℕ → Type 0
-SoundBelow m state a = (b : ℕ) → b < a → SoundAt m state b
-
+-- it is so for all addresses
 abbrev pub Sound : Mix → State → Type 0
 Sound m state = IsSound (migration_in m) state
-
--- a state of n routers is between two others: each router has its phase in the first, or it is Old in the first and
--- New in the last, and has any phase
-abbrev pub IsBetween : ℕ → List Phase → List Phase → State → Type 0
-IsBetween n first last state = (u : ℕ) → u < n → (state u ≡ state_in first u) ⊎ ((state_in first u ≡ Old) × (state_in last u ≡ New))
-
--- the states between two are sound for a class
-abbrev pub IsClearAt : Mix → List Phase → List Phase → ℕ → Type 0
-IsClearAt m first last atom = (state : State) → IsBetween (length m.net) first last state → SoundAt m state (sample_of m.classes atom)
-
--- the states between two are sound for the first n classes
-abbrev pub AreClear : Mix → List Phase → List Phase → ℕ → Type 0
-AreClear m first last n = (k : ℕ) → k < n → (state : State) → IsBetween (length m.net) first last state → SoundAt m state (sample_of m.classes k)
-
--- the fault of the first class that has one
-pub record IsFirstTold (m : Mix) (first last : List Phase) (fault : Fault) (turns : List Turn) : Type 0 where
-  pub atom : ℕ
-  pub within : atom < length m.classes.samples
-  pub before : AreClear m first last atom
-  pub here : IsClassVerdict m first last atom (Some fault) turns
-
--- what is told of all classes
-abbrev pub Told : Mix → List Phase → List Phase → Option Fault → List Turn → Type 0
-Told m first last None turns = AreClear m first last (length m.classes.samples)
-Told m first last (Some fault) turns = IsFirstTold m first last fault turns
-
--- the fault of a state, as an answer with the turns beside it
-abbrev pub Faulty : Mix → State → Fault → List Turn → Type 0
-Faulty m state fault turns = IsFault (migration_in m) state (told_fault fault turns)
-
--- the first fault of an order
-abbrev pub FirstFaulty : Mix → List ℕ → ℕ → WholeFault → Type 0
-FirstFaulty m order k fault = IsFirstFault (migration_in m) order k fault
-
--- every state of a wave is sound
-abbrev pub SoundWave : Mix → List ℕ → ℕ → Type 0
-SoundWave m ranks w = (state : State) → IsStateOfWave (length m.net) ranks w state → Sound m state
-
--- every state of the waves before one is sound
-abbrev pub SoundWavesBefore : Mix → List ℕ → ℕ → Type 0
-SoundWavesBefore m ranks w = (v : ℕ) → v < w → SoundWave m ranks v
-
--- every state of a wave list is sound
-abbrev pub SoundWaves : Mix → List ℕ → Type 0
-SoundWaves m ranks = (state : State) → IsStateOfSomeWave (length m.net) ranks state → Sound m state
-
--- the fault of the states of a wave
-abbrev pub FaultyWave : Mix → List ℕ → ℕ → WholeFault → Type 0
-FaultyWave m ranks w fault = IsFaultOver (migration_in m) (IsStateOfWave (length m.net) ranks w) fault
-
--- the fault of a wave list, with the number of the wave
-abbrev pub FaultyWaves : Mix → List ℕ → ℕ → WholeFault → Type 0
-FaultyWaves m ranks number fault = IsNumberedWavesFault (migration_in m) ranks number fault

@@ -7,3 +7,10 @@ pub mod Ends
 pub mod Making
 pub mod WaveStarts
 pub mod Targets
+pub mod Calm
+pub mod ClassSteps
+pub mod Orders
+pub mod Parts
+pub mod Returns
+pub mod Verdicts
+pub mod Watches

@@ -1,7 +1,8 @@
 ghost use Rattle.std.specs.Prelude.{◌≡◌, ◌<◌, ◌≤◌, ◌↔◌, ℕ, List, All, Contains, IfOk, length, slice_index, slice_set};
 ghost use Rattle.std.specs.Bool.{OnFalse};
 ghost use Rattle.order_core.specs.Rankings.{rank_of};
-ghost use Rattle.loop_finder.specs.Calm.{AreCalm, AreLowered, IsCalmBefore, IsUnstirred, WaveStep};
+ghost use Rattle.loop_finder.specs.Calm.{AreCalm, IsCalmBefore, IsUnstirred, WaveStep};
+ghost use Rattle.loop_finder.specs.steps.Calm.{AreLowered};
 ghost use Rattle.loop_finder.specs.Parts.{part_hops};
 ghost use Rattle.loop_finder.specs.Returns.{NeverReturnsTo};
 ghost use Rattle.loop_finder.specs.Rooms.{HasRoom};
@@ -26,7 +27,7 @@ struct WaveSteps<'s> {
 }
 
 impl<'s> Model for WaveSteps<'s> {
-    ghost use Rattle.loop_finder.specs.Calm.{IsWaveState, WaveState};
+    ghost use Rattle.loop_finder.specs.steps.Calm.{IsWaveState, WaveState};
 
     ghost Value = { WaveState };
 

@@ -4,8 +4,9 @@ ghost use Rattle.loop_finder.specs.ClassSteps.{mix_of};
 ghost use Rattle.loop_finder.specs.Faults.{KeepsRing};
 ghost use Rattle.loop_finder.specs.Parts.{AreParts, IsPart, part_hops};
 ghost use Rattle.loop_finder.specs.Rooms.{HasRoom};
-ghost use Rattle.loop_finder.specs.Verdicts.{IsClassVerdict};
-ghost use Rattle.loop_finder.specs.Watches.{ArePlacesOf, StaysSound, StaysSoundAt, TurnsFaulty};
+ghost use Rattle.loop_finder.specs.steps.Verdicts.{IsClassVerdict};
+ghost use Rattle.loop_finder.specs.Watches.{ArePlacesOf};
+ghost use Rattle.loop_finder.specs.steps.Watches.{StaysSound, StaysSoundAt, TurnsFaulty};
 
 use crate::class_fault::class_fault;
 use crate::fault::Fault;

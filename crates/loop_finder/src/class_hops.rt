@@ -2,7 +2,8 @@ ghost use Rattle.std.specs.Prelude.{◌≡◌, ◌<◌, ◌↔◌, ◌^◌, ℕ,
 ghost use Rattle.loop_finder.specs.steps.Making.{IsHopsOf};
 ghost use Rattle.rib_mix.specs.Answers.{NextLeadsTo};
 ghost use Rattle.loop_finder.specs.Parts.{StepsOf};
-ghost use Rattle.loop_finder.specs.ClassSteps.{AreForwarders, mix_of, sample_of};
+ghost use Rattle.loop_finder.specs.ClassSteps.{mix_of, sample_of};
+ghost use Rattle.loop_finder.specs.steps.ClassSteps.{AreForwarders};
 
 use rib_mix::{Mixed, Next, Phase};
 use route_core::RouteSource;

@@ -2,7 +2,8 @@ ghost use Rattle.std.specs.Prelude.{◌≡◌, ◌<◌, ◌↔◌, ◌^◌, ℕ,
 ghost use Rattle.std.specs.Bool.{OnFalse, OnTrue};
 ghost use Rattle.igp_theory.specs.Forwarding.{MustForward};
 ghost use Rattle.loop_finder.specs.Faults.{state_in};
-ghost use Rattle.loop_finder.specs.ClassSteps.{AreForwarders, FirstStuck, IsStuck, IsStuckIn, Moves, MovesIn, StepsBy, sample_of, state_over};
+ghost use Rattle.loop_finder.specs.ClassSteps.{sample_of};
+ghost use Rattle.loop_finder.specs.steps.ClassSteps.{AreForwarders, FirstStuck, IsStuck, IsStuckIn, Moves, MovesIn, StepsBy, state_over};
 
 use crate::class_hops::class_hops;
 use crate::graph::StepGraph;
@@ -21,7 +22,8 @@ pub struct ClassSteps<'s, 'm, O: RouteSource, N: RouteSource> {
 }
 
 impl<'s, 'm, O: RouteSource, N: RouteSource> Model for ClassSteps<'s, 'm, O, N> {
-    ghost use Rattle.loop_finder.specs.ClassSteps.{IsClassState, SourceState, mix_of};
+    ghost use Rattle.loop_finder.specs.ClassSteps.{mix_of};
+    ghost use Rattle.loop_finder.specs.steps.ClassSteps.{IsClassState, SourceState};
 
     ghost Value = { SourceState O N };
 
@@ -147,7 +149,7 @@ impl<'s, 'm, O: RouteSource, N: RouteSource> ClassSteps<'s, 'm, O, N> {
 
 impl<'s, 'm, O: RouteSource, N: RouteSource> StepGraph for ClassSteps<'s, 'm, O, N> {
     ghost use Rattle.std.specs.Prelude.{length};
-    ghost use Rattle.loop_finder.specs.ClassSteps.{ClassStep, state_over};
+    ghost use Rattle.loop_finder.specs.steps.ClassSteps.{ClassStep, state_over};
 
     ghost size = { λ s. length s.mixture.net };
 

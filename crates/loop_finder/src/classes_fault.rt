@@ -3,7 +3,7 @@ ghost use Rattle.loop_finder.specs.ClassSteps.{mix_of};
 ghost use Rattle.loop_finder.specs.Faults.{KeepsRing};
 ghost use Rattle.loop_finder.specs.Parts.{AreParts, IsPart};
 ghost use Rattle.loop_finder.specs.Rooms.{HasRoom};
-ghost use Rattle.loop_finder.specs.Verdicts.{IsClearAt, IsClassVerdict, Told};
+ghost use Rattle.loop_finder.specs.steps.Verdicts.{IsClearAt, IsClassVerdict, Told};
 
 use crate::class_fault::class_fault;
 use crate::fault::Fault;

@@ -1,6 +1,6 @@
 ghost use Rattle.std.specs.Prelude.{◌≡◌, ◌<◌, length, true};
 ghost use Rattle.std.specs.Bool.{OnTrue};
-ghost use Rattle.loop_finder.specs.Parts.{PartStep};
+ghost use Rattle.loop_finder.specs.steps.Parts.{PartStep};
 ghost use Rattle.loop_finder.specs.Returns.{NeverReturnsTo};
 ghost use Rattle.loop_finder.specs.Rooms.{HasRoom};
 ghost use Rattle.loop_finder.specs.steps.Walks.{ReturnsNever};
@@ -23,7 +23,7 @@ struct PartSteps<'s> {
 }
 
 impl<'s> Model for PartSteps<'s> {
-    ghost use Rattle.loop_finder.specs.Parts.{IsPartState, PartState};
+    ghost use Rattle.loop_finder.specs.steps.Parts.{IsPartState, PartState};
 
     ghost Value = { PartState };
 
@@ -50,7 +50,7 @@ impl<'s> PartSteps<'s> {
 }
 
 impl<'s> StepGraph for PartSteps<'s> {
-    ghost use Rattle.loop_finder.specs.Parts.{PartStep};
+    ghost use Rattle.loop_finder.specs.steps.Parts.{PartStep};
 
     ghost size = { λ s. s.routers };
 

@@ -2,7 +2,7 @@ ghost use Rattle.std.specs.Prelude.{◌≡◌, ◌+◌, ◌<◌, ◌≤◌, ℕ,
 ghost use Rattle.std.specs.Bool.{OnFalse, OnTrue};
 ghost use Rattle.order_core.specs.Marks.{IsMarked};
 ghost use Rattle.loop_finder.specs.steps.Ends.{EndStep};
-ghost use Rattle.loop_finder.specs.Returns.{HasLayer, IsLayerAbove, IsLevelled, MarksAgain, layer_in};
+ghost use Rattle.loop_finder.specs.steps.Returns.{HasLayer, IsLayerAbove, IsLevelled, MarksAgain, layer_in};
 
 use crate::chains::NO_LAYER;
 use crate::end_lists::EndLists;

@@ -4,8 +4,9 @@ ghost use Rattle.order_core.specs.Marks.{IsMarked};
 ghost use Rattle.loop_finder.specs.steps.Targets.{IsTargetIn};
 ghost use Rattle.igp_theory.specs.declared.phase.Phase.{Phase};
 ghost use Rattle.loop_finder.specs.steps.PartRows.{AreKept, AreRowsOf, HasHops, HasMarked, HaveHops, IsRowOf};
-ghost use Rattle.loop_finder.specs.Parts.{AddsUnless, AllMove, AreSteppers, IsBareIn, IsPart, StepsEver, hops_of, no_hops, part_hops};
-ghost use Rattle.loop_finder.specs.Returns.{MarksReturns};
+ghost use Rattle.loop_finder.specs.Parts.{AllMove, IsPart, StepsEver, hops_of, no_hops, part_hops};
+ghost use Rattle.loop_finder.specs.steps.Parts.{AddsUnless, AreSteppers, IsBareIn};
+ghost use Rattle.loop_finder.specs.steps.Returns.{MarksReturns};
 ghost use Rattle.loop_finder.specs.ClassSteps.{mix_of, sample_of};
 ghost use Rattle.loop_finder.specs.Watches.{IsIdle};
 
@@ -94,7 +95,8 @@ pub struct Part<'m> {
 }
 
 impl<'m> Model for Part<'m> {
-    ghost use Rattle.loop_finder.specs.Parts.{AreSteppers, ClassPart};
+    ghost use Rattle.loop_finder.specs.Parts.{ClassPart};
+    ghost use Rattle.loop_finder.specs.steps.Parts.{AreSteppers};
 
     ghost Value = { ClassPart };
 

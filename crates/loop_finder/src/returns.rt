@@ -2,7 +2,8 @@ ghost use Rattle.std.specs.Prelude.{◌≡◌, ◌<◌, ◌≤◌, ℕ, Contains
 ghost use Rattle.std.specs.Bool.{OnFalse};
 ghost use Rattle.std.specs.Vec.{vec_capacity};
 ghost use Rattle.order_core.specs.Marks.{IsMarked};
-ghost use Rattle.loop_finder.specs.Returns.{AreReached, NeverReturnsTo, ReachesMore};
+ghost use Rattle.loop_finder.specs.Returns.{NeverReturnsTo};
+ghost use Rattle.loop_finder.specs.steps.Returns.{AreReached, ReachesMore};
 
 use crate::graph::StepGraph;
 use crate::live::mark_none;

@@ -4,7 +4,7 @@ ghost use Rattle.igp_theory.specs.Loops.{AroundRing};
 ghost use Rattle.order_core.specs.Turns.{routers_of};
 ghost use Rattle.order_core.specs.declared.turn.Turn.{Turn};
 ghost use Rattle.loop_finder.specs.steps.Rings.{next_in};
-ghost use Rattle.loop_finder.specs.ClassSteps.{ClassStep, IsTagged, StepsBy, state_over};
+ghost use Rattle.loop_finder.specs.steps.ClassSteps.{ClassStep, IsTagged, StepsBy, state_over};
 
 use crate::class_steps::ClassSteps;
 use order_core::{Tag, Turn};

@@ -1,5 +1,6 @@
 ghost use Rattle.std.specs.Prelude.{◌≡◌, ◌<◌, All, IfOk, OnOk, length};
-ghost use Rattle.loop_finder.specs.Watches.{AddsPlace, ArePlacesOf, IsWatch};
+ghost use Rattle.loop_finder.specs.Watches.{ArePlacesOf, IsWatch};
+ghost use Rattle.loop_finder.specs.steps.Watches.{AddsPlace};
 
 use crate::part::Part;
 use rib_mix::OutOfMemory;

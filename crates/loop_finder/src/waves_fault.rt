@@ -7,8 +7,9 @@ ghost use Rattle.loop_finder.specs.Faults.{KeepsRing, told, told_fault};
 ghost use Rattle.igp_theory.specs.States.{all_old};
 ghost use Rattle.loop_finder.specs.Parts.{AreParts};
 ghost use Rattle.loop_finder.specs.Rooms.{HasRoom};
-ghost use Rattle.loop_finder.specs.Verdicts.{FaultyWave, FaultyWaves, Sound, SoundWave, SoundWaves, Told};
-ghost use Rattle.loop_finder.specs.WaveLists.{AreSwitchedBefore};
+ghost use Rattle.loop_finder.specs.Verdicts.{Sound};
+ghost use Rattle.loop_finder.specs.steps.Verdicts.{FaultyWave, FaultyWaves, IsClearAt, SoundWave, SoundWaves, Told};
+ghost use Rattle.loop_finder.specs.steps.WaveStarts.{AreSwitchedBefore};
 ghost use Rattle.loop_finder.specs.steps.WaveStarts.{AreClearParts, BeginsSound};
 
 use crate::calm::least_of;
@@ -134,7 +135,7 @@ fn stirred_fault<O: RouteSource, N: RouteSource>(
 ) -> Option<Fault>
     requires parts { AreParts (mix_of O.table N.table mixed.now) parts.now (length mixed.now.classes.samples) }
     requires many { length calm.now ≡ length parts.now }
-    requires calm { AreClearParts (mix_of O.table N.table mixed.now) parts.now calm.now wave first.now last.now }
+    requires calm { AreClearParts (IsClearAt (mix_of O.table N.table mixed.now) first.now last.now) parts.now calm.now wave }
     requires first { length first.now ≡ length mixed.now.net }
     requires last { length last.now ≡ length mixed.now.net }
     requires room { HasRoom (length mixed.now.net) room.old }

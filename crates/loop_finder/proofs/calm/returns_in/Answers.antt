@@ -1,6 +1,7 @@
 use Rattle.std.proofs.Common.{subst}
 use Rattle.std.specs.Bool.{OnFalse}
-use Rattle.loop_finder.specs.Calm.{WaveState, WaveStep}
+use Rattle.loop_finder.specs.Calm.{WaveStep}
+use Rattle.loop_finder.specs.steps.Calm.{WaveState}
 use Rattle.loop_finder.specs.Returns.{NeverReturnsTo}
 use Rattle.loop_finder.proofs.calm.returns_in.Goals as goal
 

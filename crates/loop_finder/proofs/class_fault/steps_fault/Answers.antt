@@ -1,7 +1,7 @@
 use Rattle.std.proofs.Common.{ℕ, ◌≤◌, List, length, ap, subst, sym, arith}
 use Rattle.igp_theory.specs.Loops.{AroundRing}
 use Rattle.igp_theory.proofs.Rings.{found_goes_round}
-use Rattle.loop_finder.specs.ClassSteps.{ClassStep, state_over}
+use Rattle.loop_finder.specs.steps.ClassSteps.{ClassStep, state_over}
 use Rattle.loop_finder.proofs.TagSteps.{steps_inside}
 use Rattle.loop_finder.proofs.WalkSteps.{found_short}
 use Rattle.loop_finder.proofs.class_fault.steps_fault.Goals as goal

@@ -1,6 +1,6 @@
 use Rattle.std.proofs.Common.{◌≡◌, ℕ, ◌<◌, ◌≤◌, length}
 use Rattle.loop_finder.specs.steps.Making.{IsReadAt, IsSameAt}
-use Rattle.loop_finder.specs.Parts.{AreAllBut}
+use Rattle.loop_finder.specs.steps.Parts.{AreAllBut}
 use Rattle.loop_finder.specs.ClassSteps.{mix_of}
 use Rattle.loop_finder.proofs.end_lists.read_class.Given as goal
 

@@ -1,6 +1,6 @@
 use Rattle.std.proofs.Common.{subst}
 use Rattle.std.specs.Bool.{OnFalse}
-use Rattle.loop_finder.specs.Parts.{PartState, PartStep}
+use Rattle.loop_finder.specs.steps.Parts.{PartState, PartStep}
 use Rattle.loop_finder.specs.steps.Walks.{ReturnsNever}
 use Rattle.loop_finder.proofs.OnFalse.{on_not}
 use Rattle.loop_finder.proofs.follow.is_clear.Goals as goal

@@ -1,6 +1,6 @@
 use Rattle.std.proofs.Common.{ℕ, ◌<◌, arith, sym, subst}
 use Rattle.std.specs.Bool.{OnFalse}
-use Rattle.loop_finder.specs.Parts.{PartState, PartStep}
+use Rattle.loop_finder.specs.steps.Parts.{PartState, PartStep}
 use Rattle.loop_finder.specs.Returns.{NeverReturnsTo}
 use Rattle.loop_finder.proofs.OnFalse.{on_not}
 use Rattle.loop_finder.proofs.PartLaws.{part_inside}

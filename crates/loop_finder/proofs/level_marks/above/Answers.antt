@@ -1,6 +1,6 @@
 use Rattle.std.proofs.Common.{◌≡◌, ℕ, ◌<◌, get_or, arith, ◌∙◌, subst}
 use Rattle.std.proofs.lemmas.List.{get_or_default}
-use Rattle.loop_finder.specs.Returns.{layer_in}
+use Rattle.loop_finder.specs.steps.Returns.{layer_in}
 use Rattle.loop_finder.proofs.level_marks.above.Goals as goal
 
 pub returns : goal.returns

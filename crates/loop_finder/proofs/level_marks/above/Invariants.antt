@@ -1,5 +1,5 @@
 use Rattle.std.proofs.Common.{ℕ, ◌<◌, get_or}
-use Rattle.loop_finder.specs.Returns.{layer_in}
+use Rattle.loop_finder.specs.steps.Returns.{layer_in}
 use Rattle.loop_finder.proofs.level_marks.above.Given as goal
 
 abbrev pub invariant-loop-router : goal.invariant-loop-router

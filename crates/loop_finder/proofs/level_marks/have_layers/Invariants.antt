@@ -1,5 +1,5 @@
 use Rattle.std.proofs.Common.{ℕ, ◌<◌, get_or}
-use Rattle.loop_finder.specs.Returns.{HasLayer}
+use Rattle.loop_finder.specs.steps.Returns.{HasLayer}
 use Rattle.loop_finder.proofs.level_marks.have_layers.Given as goal
 
 abbrev pub invariant-loop-router : goal.invariant-loop-router

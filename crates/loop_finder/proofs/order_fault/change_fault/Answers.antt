@@ -2,7 +2,7 @@ use Rattle.std.proofs.Common.{ℕ, ◌+◌, ◌/◌, ◌<◌, List, [], length, 
 use Rattle.std.proofs.lemmas.List.{get_or_default}
 use Rattle.igp_theory.specs.States.{State, state_of}
 use Rattle.loop_finder.specs.Faults.{state_in}
-use Rattle.loop_finder.specs.Orders.{IsStateOf}
+use Rattle.loop_finder.specs.steps.Orders.{IsStateOf}
 use Rattle.loop_finder.specs.Verdicts.{Sound}
 use Rattle.loop_finder.specs.Watches.{ArePlacesOf}
 use Rattle.loop_finder.proofs.OrderStates.{changed_inside, same_state, state_advanced, state_stays}

@@ -1,5 +1,6 @@
 use Rattle.std.proofs.Common.{◌≡◌, ◌+◌, length}
-use Rattle.loop_finder.specs.Orders.{AreFirstStates, IsStateOf}
+use Rattle.loop_finder.specs.Orders.{AreFirstStates}
+use Rattle.loop_finder.specs.steps.Orders.{IsStateOf}
 use Rattle.loop_finder.specs.Rooms.{HasRoom}
 use Rattle.loop_finder.specs.Verdicts.{Sound}
 use Rattle.loop_finder.specs.ClassSteps.{mix_of}

@@ -1,5 +1,5 @@
 use Rattle.std.proofs.Common.{ℕ, ◌≡◌, length, arith, subst}
-use Rattle.loop_finder.specs.Parts.{AreAllBut, IsBareIn}
+use Rattle.loop_finder.specs.steps.Parts.{AreAllBut, IsBareIn}
 use Rattle.loop_finder.proofs.PartRows.{AreAllBut-none, AreAllBut-more}
 use Rattle.loop_finder.proofs.part.steppers_of.Goals as goal
 

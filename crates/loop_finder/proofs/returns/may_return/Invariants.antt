@@ -1,7 +1,7 @@
 use Rattle.std.proofs.Common.{◌≡◌, ℕ, ◌-◌, ◌<◌, ◌≤◌, length, get_or}
 use Rattle.std.specs.Vec.{vec_capacity}
 use Rattle.order_core.specs.Marks.{IsMarked}
-use Rattle.loop_finder.specs.Returns.{AreReached}
+use Rattle.loop_finder.specs.steps.Returns.{AreReached}
 use Rattle.loop_finder.proofs.returns.may_return.Given as goal
 
 abbrev pub invariant-loop-place : goal.invariant-loop-place

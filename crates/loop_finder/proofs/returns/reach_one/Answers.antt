@@ -1,6 +1,6 @@
 use Rattle.std.proofs.Common.{◌≡◌, ℕ, ◌<◌, List, length, get_or, set, true, false, arith, sym, subst}
 use Rattle.std.proofs.lemmas.List.{get_or_read}
-use Rattle.loop_finder.specs.Returns.{AreReached}
+use Rattle.loop_finder.specs.steps.Returns.{AreReached}
 use Rattle.loop_finder.proofs.Reaching.{reached_short, AreReached-more}
 use Rattle.loop_finder.proofs.returns.reach_one.Goals as goal
 

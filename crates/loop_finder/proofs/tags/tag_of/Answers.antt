@@ -1,7 +1,7 @@
 use Rattle.std.proofs.Common.{refl}
 use Rattle.std.proofs.lemmas.Bool.{false≢true}
 use Rattle.loop_finder.proofs.TagSteps.{tagged_new}
-use Rattle.loop_finder.specs.ClassSteps.{state_over}
+use Rattle.loop_finder.specs.steps.ClassSteps.{state_over}
 use Rattle.loop_finder.proofs.tags.tag_of.Goals as goal
 
 pub returns-in-true-false : goal.returns-in-true-false

@@ -2,7 +2,7 @@ use Rattle.std.proofs.Common.{ℕ, ◌≡◌, ◌+◌, ◌⊎◌, List, length, 
 use Rattle.igp_theory.specs.declared.phase.Phase.TheVariants.{Old, New}
 use Rattle.order_core.specs.declared.turn.Turn.{Turn}
 use Rattle.loop_finder.specs.steps.Rings.{next_in}
-use Rattle.loop_finder.specs.ClassSteps.{StepsBy, ClassStep, IsTagged, state_over}
+use Rattle.loop_finder.specs.steps.ClassSteps.{StepsBy, ClassStep, IsTagged, state_over}
 use Rattle.loop_finder.proofs.TagSteps.{old_or_new, steps_inside, ring_step, IsPartRing, IsPartRing-more, part_length, ring_whole}
 use Rattle.loop_finder.proofs.tags.write_ring.Goals as goal
 

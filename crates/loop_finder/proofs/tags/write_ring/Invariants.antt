@@ -1,7 +1,7 @@
 use Rattle.std.proofs.Common.{◌≤◌, length}
 use Rattle.std.specs.Vec.{vec_capacity}
 use Rattle.loop_finder.proofs.TagSteps.{IsPartRing}
-use Rattle.loop_finder.specs.ClassSteps.{state_over}
+use Rattle.loop_finder.specs.steps.ClassSteps.{state_over}
 use Rattle.loop_finder.proofs.tags.write_ring.Given as goal
 
 abbrev pub invariant-loop-place : goal.invariant-loop-place

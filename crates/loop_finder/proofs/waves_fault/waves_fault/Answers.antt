@@ -1,7 +1,7 @@
 use Rattle.std.proofs.Common.{length, ap, ◌∙◌, refl, arith, below_more}
 use Rattle.std.proofs.lemmas.Bool.{false≢true}
 use Rattle.net_model.specs.Network.{Network}
-use Rattle.loop_finder.specs.Verdicts.{SoundWave}
+use Rattle.loop_finder.specs.steps.Verdicts.{SoundWave}
 use Rattle.loop_finder.proofs.CalmLaws.{sound_waves_before}
 use Rattle.loop_finder.proofs.OnFalse.{on_true}
 use Rattle.loop_finder.proofs.WaveListFacts.{sound_to_last, sound_to_all}

@@ -1,5 +1,5 @@
 use Rattle.std.proofs.Common.{ℕ, ◌<◌}
-use Rattle.loop_finder.specs.ClassSteps.{Moves, state_over}
+use Rattle.loop_finder.specs.steps.ClassSteps.{Moves, state_over}
 use Rattle.loop_finder.proofs.class_steps.ClassSteps.first_stuck.Given as goal
 
 abbrev pub invariant-loop-router : goal.invariant-loop-router

@@ -1,5 +1,5 @@
 use Rattle.std.proofs.Common.{◌↔◌, Contains, subst}
-use Rattle.loop_finder.specs.ClassSteps.{StepsBy, SourceState, state_over}
+use Rattle.loop_finder.specs.steps.ClassSteps.{StepsBy, SourceState, state_over}
 use Rattle.loop_finder.proofs.class_steps.ClassSteps.hops_in.Goals as goal
 
 pub returns : goal.returns

@@ -1,6 +1,6 @@
 use Rattle.std.proofs.Common.{refl}
 use Rattle.loop_finder.proofs.ClassFacts.{stuck_from, moves_from}
-use Rattle.loop_finder.specs.ClassSteps.{state_over}
+use Rattle.loop_finder.specs.steps.ClassSteps.{state_over}
 use Rattle.loop_finder.proofs.class_steps.ClassSteps.is_stuck_in.Goals as goal
 
 pub returns-clause-stuck : goal.returns-clause-stuck

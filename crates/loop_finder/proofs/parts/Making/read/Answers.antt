@@ -1,7 +1,7 @@
 use Rattle.std.proofs.Common.{◌≡◌, ℕ, Bool, List, length, ap, arith, eqb-true, ◌∙◌, sym, subst}
 use Rattle.std.proofs.lemmas.List.{with_items_is}
 use Rattle.loop_finder.specs.steps.Ends.{EndStep}
-use Rattle.loop_finder.specs.Returns.{MarksAgain, MarksReturns}
+use Rattle.loop_finder.specs.steps.Returns.{MarksAgain, MarksReturns}
 use Rattle.loop_finder.proofs.PartRows.{returns_again, returns_still}
 use Rattle.loop_finder.proofs.parts.Making.read.Goals as goal
 
