@@ -1,5 +1,5 @@
 -- The distances from a root of links are the least over these of what they cost and how far it is from their ends.
-use Rattle.std.proofs.Common.{◌≡◌, ◌≢◌, ℕ, ◌+◌, ◌*◌, ◌^◌, ◌<◌, ◌≤◌, Bool, true, false, List, [], ◌∷◌, ◌++◌, Option, Some, None, Contains, MatchOption}
+use Rattle.std.proofs.Common.{◌≡◌, ◌≢◌, ℕ, ◌+◌, ◌*◌, ◌^◌, ◌<◌, ◌≤◌, Bool, true, false, List, [], ◌∷◌, ◌++◌, Option, Some, None, Contains}
 use Rattle.std.proofs.Common.{length, get_or, set, get_or-set_other, get_or-set_same, length-append, length-set, take, inl, inr, sym, ap, subst, ◌∙◌, arith}
 use Rattle.std.proofs.lemmas.Bool.{cases_eq}
 use Rattle.std.proofs.lemmas.List.{get_or_default}
@@ -8,20 +8,19 @@ use borrow.Author.Count.{below_more}
 use Rattle.walk_core.specs.BestOffers.{least_cost_of, total_with}
 use Rattle.walk_core.specs.declared.outlets.Outlet.{Outlet}
 use Rattle.walk_core.specs.declared.segment.Port.{Port}
-use Rattle.walk_core.specs.Distances.{distance_at, AreLeastDistances, IsDistanceRow}
+use Rattle.walk_core.specs.Distances.{distance_at, IsDistanceRow}
 use Rattle.walk_core.specs.Segments.{AreSegments, SendsAcross}
 use Rattle.walk_core.specs.steps.Cheapest.{HasCost, IsCheapest, IsCheapestCost}
 use Rattle.walk_core.specs.steps.Ends.{AreRowsFound, AreSearched, IsEndRow, IsShortRow, distance_beyond, distance_over}
 use Rattle.walk_core.specs.steps.Flooding.{segment_at}
 use Rattle.walk_core.specs.steps.Relaxing.{IsAtMost}
-use Rattle.walk_core.specs.steps.SegmentWalks.{AreOutlets, HasOutlet, IsFarEnd, IsLan, IsOutlet}
+use Rattle.walk_core.specs.steps.SegmentWalks.{AreOutlets, HasOutlet, IsFarEnd, IsOutlet}
 use Rattle.walk_core.specs.Walks.{Arcs, Leg, Walks, LeastCost, walk_cost}
 use Rattle.walk_core.proofs.CheapestLaws.{cheapest_at_most, cheapest_end, cheapest_step}
 use Rattle.walk_core.proofs.FloodLaws.{at_most_more, segment_among, sends_at_place, total_parts}
-use Rattle.walk_core.proofs.RelaxLaws.{distance_cases, distances_from_reached}
+use Rattle.walk_core.proofs.RelaxLaws.{distances_from_reached}
 use Rattle.walk_core.proofs.ReachLaws.{each_at_more}
-use Rattle.walk_core.proofs.SegmentHopLaws.{arc_over}
-use Rattle.walk_core.proofs.WalkLaws.{least_cost_at_most}
+use Rattle.walk_core.proofs.SegmentHopLaws.{arc_over, at_most_of_walk, far_end}
 
 -- the far end of a link, with its row
 pub record IsShortEnd (arc : Arcs) (count root : ℕ) (rows : List (List (Option ℕ))) (outlet : Outlet) : Type 0 where
@@ -36,20 +35,6 @@ pub record HasEnds (segments : List (List Port)) (count root : ℕ) (outlets : L
   pub ports : AreSegments count segments
   pub listed : AreOutlets segments root (length segments) outlets
   pub ends : (outlet : Outlet) → Contains outlets outlet → IsShortEnd (SendsAcross segments) count root rows outlet
-
--- a distance is at most what a walk costs
-at_most_of_walk : (arc : Arcs) (u v : ℕ) (ds : List (Option ℕ)) (legs : List Leg) → AreLeastDistances arc u ds → Walks arc u legs v →
-    IsAtMost (distance_at ds v) (walk_cost legs)
-at_most_of_walk arc u v ds legs are leads = elim (distance_cases (distance_at ds v)) [
-  | inl none ↦ absurd ((are.none v).0 none legs leads)
-  | inr some ↦ record { value = some.0; is = some.1; below = least_cost_at_most ((are.least v some.0).0 some.1) legs leads }
-]
-
--- over a link one comes to its far end alone
-far_end : (segments : List (List Port)) (root to : ℕ) (outlet : Outlet) → IsOutlet segments root outlet → outlet.to ≡ Some to →
-    IsFarEnd (segment_at segments outlet.place) root to
-far_end segments root to outlet is leads = let ports : List Port = segment_at segments outlet.place in
-    subst (λ (o : Option ℕ). MatchOption o (IsLan ports) (IsFarEnd ports root)) leads is.leads
 
 -- a walk of this cost, which is below that of one arc for each vertex
 record WalksOver (segments : List (List Port)) (count root v d : ℕ) : Type 0 where

@@ -5,37 +5,47 @@ use Rattle.std.proofs.lemmas.List.Elements.{Contains-append_left, Contains-push,
 use Rattle.std.specs.List.Sorted.{IsStrictlyIncreasing}
 use Rattle.walk_core.specs.Distances.{distance_at, distance_between}
 use Rattle.walk_core.specs.Segments.{SendsAcross}
-use Rattle.walk_core.specs.Walks.{FirstHop, walk_cost}
+use Rattle.walk_core.specs.Walks.{FirstHop, walk_cost, Arcs, LeastCost}
 use Rattle.walk_core.specs.declared.ways.Aim.{Aim}
 use Rattle.walk_core.specs.declared.exits.Exit.{Exit}
 use Rattle.walk_core.specs.declared.exits.TwoExits.{TwoExits}
 use Rattle.walk_core.specs.declared.outlets.Outlet.{Outlet}
 use Rattle.walk_core.specs.declared.segment.Port.{Port}
-use Rattle.walk_core.specs.steps.Exits.{AddsHops, HasExit, HasTwoExits, IsExit, LeadsOut, LeadsOver, list_of_two}
+use Rattle.walk_core.specs.steps.Exits.{AddsHops, HasExit, HasTwoExits, IsExit, LeadsOut, LeadsOver, list_of_two, cost_over, FitsOver, IsNearer}
 use Rattle.walk_core.specs.steps.Flooding.{segment_at}
-use Rattle.walk_core.specs.steps.SegmentWalks.{GoesOut, GoesOver, IsBehind, IsEndAt, IsLan, IsLinkEnd, IsMesh, Mesh}
+use Rattle.walk_core.specs.steps.SegmentWalks.{GoesOut, GoesOver, IsBehind, IsEndAt, IsLan, IsLinkEnd, IsMesh, Mesh, AreOutlets, IsOutlet}
 use Rattle.walk_core.proofs.SegmentHopLaws.{IsWanted, ends_alone, hop_from_outlet, outlet_from_hop}
 use Rattle.walk_core.proofs.WalkLaws.{first_hop_has_least_cost}
+use Rattle.walk_core.specs.BestOffers.{total_with}
+use Rattle.walk_core.specs.steps.Relaxing.{IsAtMost}
+use Rattle.walk_core.proofs.FloodLaws.{total_parts}
+use Rattle.walk_core.proofs.SegmentHopLaws.{far_end, over_outlet, some_hop, no_hop_home, cost_from}
+use Rattle.std.proofs.Common.{◌^◌, ◌≢◌, ◌≤◌, length}
+use Rattle.std.proofs.lemmas.Bool.{cases_lt}
+use Rattle.std.proofs.Math.ListN.{get_or-eq_default}
 
--- an exit leads where one goes over its port
+-- an exit costs this, and leads to h
+abbrev LeadsAt : Exit → ℕ → ℕ → ℕ → Type 0
+LeadsAt exit v d h = (cost_over exit v ≡ Some d) × (exit.to ≡ h)
+
+-- so it does where one goes over its port
 over_exit : (mesh : Mesh) (root : ℕ) (outlets : List Outlet) (aim : Aim) (outlet : Outlet) (exit : Exit) (h : ℕ) → IsWanted mesh root outlets aim →
-    Contains outlets outlet → IsExit mesh.rows outlet exit → LeadsOver exit aim.vertex aim.distance h ↔ GoesOver mesh aim outlet h
+    Contains outlets outlet → IsExit mesh.rows outlet exit → LeadsAt exit aim.vertex aim.distance h ↔ GoesOver mesh aim outlet h
 over_exit mesh root outlets aim outlet exit h wanted among is = (
   λ leads.
-      let rest : Aim = record { vertex = aim.vertex; distance = leads.beyond } in
-      let behind : IsBehind aim outlet.cost rest = record { vertex = refl; sum = omega (arith, leads.sum, is.costs) } in
-      let far : distance_between mesh.rows exit.to aim.vertex ≡ Some leads.beyond =
-      subst (λ (l : List (Option ℕ)). distance_at l aim.vertex ≡ Some leads.beyond) is.row leads.far in
-      record { rest = rest; behind = behind; end = (alone rest behind).1 (record { far = far; is = leads.to }) },
+      let parts = total_parts (distance_at exit.row.now aim.vertex) exit.cost aim.distance leads.0 in
+      let rest : Aim = record { vertex = aim.vertex; distance = parts.0 } in
+      let behind : IsBehind aim outlet.cost rest = record { vertex = refl; sum = omega (arith, parts.2, is.costs) } in
+      let far : distance_between mesh.rows exit.to aim.vertex ≡ Some parts.0 =
+      subst (λ (l : List (Option ℕ)). distance_at l aim.vertex ≡ Some parts.0) is.row parts.1 in
+      record { rest = rest; behind = behind; end = (alone rest behind).1 (record { far = far; is = leads.1 }) },
   λ over.
       let end : IsLinkEnd mesh.rows over.rest exit.to h = (alone over.rest over.behind).0 over.end in
-      record {
-        beyond = over.rest.distance;
-        far = subst (λ (l : List (Option ℕ)). distance_at l aim.vertex ≡ Some over.rest.distance) (sym is.row)
-            (subst (λ (v : ℕ). distance_between mesh.rows exit.to v ≡ Some over.rest.distance) over.behind.vertex end.far);
-        sum = omega (arith, over.behind.sum, is.costs);
-        to = end.is;
-      },
+      let far : distance_at exit.row.now aim.vertex ≡ Some over.rest.distance =
+      subst (λ (l : List (Option ℕ)). distance_at l aim.vertex ≡ Some over.rest.distance) (sym is.row)
+      (subst (λ (v : ℕ). distance_between mesh.rows exit.to v ≡ Some over.rest.distance) over.behind.vertex end.far) in
+      let sum : over.rest.distance + exit.cost ≡ aim.distance = omega (arith, over.behind.sum, is.costs) in
+      (ap (λ (o : Option ℕ). total_with o exit.cost) far ∙ ap (λ (n : ℕ). Some n) sum, end.is),
 )
   where
     ports : List Port
@@ -47,38 +57,93 @@ over_exit mesh root outlets aim outlet exit h wanted among is = (
         (λ t. (r : Aim) (k : ℕ) → IsBehind aim outlet.cost r → IsEndAt mesh.rows ports r k ↔ IsLinkEnd mesh.rows r t k))
         is.leads (ends_alone mesh root outlets aim outlet wanted among) rest h behind
 
+-- the root is no farther than what it costs over an exit
+at_most_over : (mesh : Mesh) (root v c : ℕ) (outlets : List Outlet) (exit : Exit) → IsMesh mesh → root < mesh.count →
+    AreOutlets mesh.segments root (length mesh.segments) outlets → HasExit mesh.rows outlets exit → cost_over exit v ≡ Some c →
+    IsAtMost (distance_between mesh.rows root v) c
+at_most_over mesh root v c outlets exit is below listed has costs =
+    let parts = total_parts (distance_at exit.row.now v) exit.cost c costs in
+    let out : IsOutlet mesh.segments root has.outlet = listed.each has.outlet has.among in
+    let at = (far_end mesh.segments root exit.to has.outlet out has.is.leads).port in
+    let far : distance_between mesh.rows at.1.vertex v ≡ Some parts.0 =
+    subst (λ (n : ℕ). distance_between mesh.rows n v ≡ Some parts.0) (sym at.4)
+    (subst (λ (l : List (Option ℕ)). distance_at l v ≡ Some parts.0) has.is.row parts.1) in
+    let most = over_outlet mesh root v parts.0 has.outlet at.1 is below out (at.0, at.2, at.3) far in
+    record { value = most.value; is = most.is; below = omega (arith, most.below, parts.2, has.is.costs) }
+
 -- the exits lead to the first hops
 pub exits_lead : (mesh : Mesh) (root v h : ℕ) (exits : TwoExits) → IsMesh mesh → root < mesh.count → HasTwoExits mesh root exits →
     LeadsOut exits v h ↔ FirstHop (SendsAcross mesh.segments) root v h
 exits_lead mesh root v h exits is below has = (
-  λ out.
-      let aim : Aim = record { vertex = v; distance = out.distance } in
-      let far : IsWanted mesh root has.outlets aim =
-      wanted out.distance (subst (λ (l : List (Option ℕ)). distance_at l v ≡ Some out.distance) has.are.own out.away) in
-      let goes : (exit : Exit) → HasExit mesh.rows has.outlets exit → LeadsOver exit v out.distance h → GoesOut mesh has.outlets aim h = λ exit one leads.
-      record { thing = one.outlet; among = one.among; leads = (over_exit mesh root has.outlets aim one.outlet exit h far one.among one.is).0 leads } in
-      hop_from_outlet mesh root has.outlets aim h far (elim out.over [
-        | inl first ↦ goes exits.one has.are.one first
-        | inr second ↦ goes exits.other has.are.other second
-      ]),
+  λ out. elim out.over [
+    | inl first ↦ leads exits.one exits.other has.are.one over out.apart first
+    | inr second ↦ leads exits.other exits.one has.are.other
+        (λ d n away hop. elim (over d n away hop) [ inl at_one ↦ inr at_one | inr at_other ↦ inl at_other ]) out.apart second
+  ],
   λ hop.
       let cost : ℕ = walk_cost (hop.leg ∷ hop.legs) in
       let away : distance_between mesh.rows root v ≡ Some cost = ((is.rows.each root below).least.least v cost).1 (first_hop_has_least_cost hop) in
-      let aim : Aim = record { vertex = v; distance = cost } in
-      let far : IsWanted mesh root has.outlets aim = wanted cost away in
-      let goes : GoesOut mesh has.outlets aim h = outlet_from_hop mesh root has.outlets aim h far hop in
       record {
-        distance = cost;
-        away = subst (λ (l : List (Option ℕ)). distance_at l v ≡ Some cost) (sym has.are.own) away;
-        over = elim (has.are.every goes.thing goes.among) [
-          | inl first ↦ inl ((over_exit mesh root has.outlets aim goes.thing exits.one h far goes.among first).1 goes.leads)
-          | inr second ↦ inr ((over_exit mesh root has.outlets aim goes.thing exits.other h far goes.among second).1 goes.leads)
+        apart = λ home. no_hop_home mesh root v h is (home ∙ has.are.from) hop;
+        over = elim (over cost h away hop) [
+          | inl first ↦ inl (record { value = cost; is = first.0; least = none_less cost away exits.other has.are.other }, first.1)
+          | inr second ↦ inr (record { value = cost; is = second.0; least = none_less cost away exits.one has.are.one }, second.1)
         ];
       },
 )
   where
+    arc : Arcs
+    arc = SendsAcross mesh.segments
+
     wanted : (d : ℕ) → distance_between mesh.rows root v ≡ Some d → IsWanted mesh root has.outlets (record { vertex = v; distance = d })
     wanted d away = record { mesh_is = is; root_is = below; outlets_are = has.listed; away = away }
+
+    over : (d n : ℕ) → distance_between mesh.rows root v ≡ Some d → FirstHop arc root v n → LeadsAt exits.one v d n ⊎ LeadsAt exits.other v d n
+    over d n away hop =
+        let aim : Aim = record { vertex = v; distance = d } in
+        let goes : GoesOut mesh has.outlets aim n = outlet_from_hop mesh root has.outlets aim n (wanted d away) hop in
+        elim (has.are.every goes.thing goes.among) [
+          | inl first ↦ inl ((over_exit mesh root has.outlets aim goes.thing exits.one n (wanted d away) goes.among first).1 goes.leads)
+          | inr second ↦ inr ((over_exit mesh root has.outlets aim goes.thing exits.other n (wanted d away) goes.among second).1 goes.leads)
+        ]
+
+    leads : (exit other : Exit) → HasExit mesh.rows has.outlets exit →
+        ((d n : ℕ) → distance_between mesh.rows root v ≡ Some d → FirstHop arc root v n → LeadsAt exit v d n ⊎ LeadsAt other v d n) →
+        v ≢ exits.root → LeadsOver exit other v h → FirstHop arc root v h
+    leads exit other one either apart to_end =
+        let near : IsNearer (cost_over exit v) (cost_over other v) = to_end.0 in
+        let most = at_most_over mesh root v near.value has.outlets exit is below has.listed one near.is in
+        let least : LeastCost arc root v most.value = cost_from mesh root v most.value is below most.is in
+        let first = some_hop arc root v least.legs (λ same. apart (sym same ∙ sym has.are.from)) least.walk in
+        let same : near.value ≡ most.value = elim (either most.value first.0 most.is first.1) [
+          | inl here ↦ same_Some near.value most.value (sym near.is ∙ here.0)
+          | inr there ↦ omega (arith, most.below, near.least most.value there.0)
+        ] in
+        let aim : Aim = record { vertex = v; distance = most.value } in
+        hop_from_outlet mesh root has.outlets aim h (wanted most.value most.is) (record {
+          thing = one.outlet;
+          among = one.among;
+          leads = (over_exit mesh root has.outlets aim one.outlet exit h (wanted most.value most.is) one.among one.is).0
+              (near.is ∙ ap (λ (n : ℕ). Some n) same, to_end.1);
+        })
+
+    none_less : (d : ℕ) → distance_between mesh.rows root v ≡ Some d → (exit : Exit) → HasExit mesh.rows has.outlets exit → (c : ℕ) →
+        cost_over exit v ≡ Some c → d ≤ c
+    none_less d away exit one c costs =
+        let most = at_most_over mesh root v c has.outlets exit is below has.listed one costs in
+        omega (arith, most.below, same_Some most.value d (sym most.is ∙ away))
+
+-- one more arc leads from what is known of an exit's end to a cost of 64 bits
+pub exit_fits : (mesh : Mesh) (outlets : List Outlet) (exit : Exit) → IsMesh mesh → mesh.count < 2 ^ 32 → HasExit mesh.rows outlets exit → FitsOver exit
+exit_fits mesh outlets exit is few has v d far =
+    let at : distance_between mesh.rows exit.to v ≡ Some d = subst (λ (l : List (Option ℕ)). distance_at l v ≡ Some d) has.is.row far in
+    elim (cases_lt exit.to mesh.count) [
+      | inl below ↦ omega (arith, few, (is.rows.each exit.to below).near v d at)
+      | inr past ↦
+          let none : get_or mesh.rows exit.to [] ≡ [] = get_or-eq_default mesh.rows [] (omega (arith, past, is.rows.long)) in
+          let no : None ≡ Some d = subst (λ (l : List (Option ℕ)). distance_at l v ≡ Some d) none at in
+          absurd (cc no)
+    ]
 
 -- The list of two numbers
 
@@ -110,24 +175,24 @@ two_ascend (Some a) (Some b) less = λ k short.
     subst (λ (i : ℕ). get_or (a ∷ b ∷ []) i 0 < get_or (a ∷ b ∷ []) (i + 1) 0) (sym first) (less a b refl refl)
 
 -- the list of the ends to which the exits lead comes
-pub two_added : (exits : TwoExits) (v distance : ℕ) (one other : Option ℕ) (old new : List (List ℕ)) → distance_at exits.own.now v ≡ Some distance →
-    ((h : ℕ) → (one ≡ Some h) ↔ LeadsOver exits.one v distance h) → ((h : ℕ) → (other ≡ Some h) ↔ LeadsOver exits.other v distance h) →
+pub two_added : (exits : TwoExits) (v : ℕ) (one other : Option ℕ) (old new : List (List ℕ)) → v ≢ exits.root →
+    ((h : ℕ) → (one ≡ Some h) ↔ LeadsOver exits.one exits.other v h) → ((h : ℕ) → (other ≡ Some h) ↔ LeadsOver exits.other exits.one v h) →
     new ≡ old ++ list_of_two one other ∷ [] → AddsHops exits v old new
-two_added exits v distance one other old new away first second added = record {
+two_added exits v one other old new apart first second added = record {
   list = list_of_two one other;
   added = added;
   exact = λ h. (
-    λ has. record {
-      distance = distance;
-      away = away;
-      over = elim ((in_two one other h).0 has) [ inl is ↦ inl ((first h).0 is) | inr is ↦ inr ((second h).0 is) ];
-    },
-    λ out.
-        let same : out.distance ≡ distance = same_Some out.distance distance (sym out.away ∙ away) in
-        (in_two one other h).1 (elim out.over [
-          | inl leads ↦ inl ((first h).1 (subst (λ (d : ℕ). LeadsOver exits.one v d h) same leads))
-          | inr leads ↦ inr ((second h).1 (subst (λ (d : ℕ). LeadsOver exits.other v d h) same leads))
-        ]),
+    λ has. record { apart = apart; over = elim ((in_two one other h).0 has) [ inl is ↦ inl ((first h).0 is) | inr is ↦ inr ((second h).0 is) ] },
+    λ out. (in_two one other h).1 (elim out.over [ inl leads ↦ inl ((first h).1 leads) | inr leads ↦ inr ((second h).1 leads) ]),
   );
-  ascending = λ less. two_ascend one other (λ a b is too. omega (arith, less, ((first a).0 is).to, ((second b).0 too).to));
+  ascending = λ less. two_ascend one other (λ a b is too. omega (arith, less, ((first a).0 is).1, ((second b).0 too).1));
+}
+
+-- towards the root it is empty
+pub none_added : (exits : TwoExits) (v : ℕ) (old new : List (List ℕ)) → v ≡ exits.root → new ≡ old ++ [] ∷ [] → AddsHops exits v old new
+none_added exits v old new home added = record {
+  list = [];
+  added = added;
+  exact = λ h. (λ has. absurd (omega (arith, has.1)), λ out. absurd (out.apart home));
+  ascending = λ less k short. absurd (omega (arith, short));
 }

@@ -10,17 +10,15 @@ use Rattle.walk_core.specs.declared.segment.Port.{Port}
 use Rattle.walk_core.specs.Distances.{distance_between, IsDistanceRow}
 use Rattle.walk_core.specs.Reach.{Reach, distance_of, listed_hops_of, HasHop}
 use Rattle.walk_core.specs.Segments.{SendsAcross}
-use Rattle.walk_core.specs.Walks.{Arcs, Leg, Walks, LeastWalk, LeastCost, FirstHop, walk_cost}
+use Rattle.walk_core.specs.Walks.{Arcs, LeastCost, FirstHop, walk_cost}
 use Rattle.walk_core.specs.steps.Flooding.{segment_at}
 use Rattle.walk_core.specs.steps.SegmentWalks.{beyond_port, AreOutlets, IsOutlet, AreWalksFrom, GoesOut, GoesOver, IsBehind, IsEndAt, IsMesh, IsNoNearer, Mesh}
 use Rattle.walk_core.specs.steps.Cheapest.{IsCheapestCost}
 use Rattle.walk_core.specs.steps.FirstHops.{ListFirstHops}
-use Rattle.walk_core.proofs.FloodLaws.{segment_among}
 use Rattle.walk_core.proofs.ReachLaws.{hop_below, none_at}
-use Rattle.walk_core.proofs.HopLaws.{BeginsLeast, begins_least_from_first_hop}
-use Rattle.walk_core.proofs.SegmentHopLaws.{arc_over, cost_from, IsWanted, hop_from_outlet, none_nearer, outlet_from_hop}
+use Rattle.walk_core.proofs.SegmentHopLaws.{IsWanted, hop_from_outlet, none_nearer, outlet_from_hop, some_hop, over_outlet, no_hop_home}
 use Rattle.walk_core.proofs.SegmentSteps.{end_is_nearest, same_rest}
-use Rattle.walk_core.proofs.WalkLaws.{first_hop_has_least_cost, least_cost_at_most}
+use Rattle.walk_core.proofs.WalkLaws.{first_hop_has_least_cost}
 
 -- the only port of the root is on a LAN, and the walks that begin there are known
 pub record IsOnLan (mesh : Mesh) (root : ℕ) (outlet : Outlet) (reach : Reach) : Type 0 where
@@ -28,19 +26,6 @@ pub record IsOnLan (mesh : Mesh) (root : ℕ) (outlet : Outlet) (reach : Reach) 
   pub root_is : root < mesh.count
   pub outlets_are : AreOutlets mesh.segments root (length mesh.segments) (outlet ∷ [])
   pub walks : AreWalksFrom mesh.rows (segment_at mesh.segments outlet.place) mesh.count reach
-
--- a least walk to another vertex has a first hop
-some_hop : (arc : Arcs) (u v : ℕ) (legs : List Leg) → u ≢ v → LeastWalk arc u legs v → (h : ℕ) × FirstHop arc u v h
-some_hop arc u v [] apart walk = absurd (apart walk.leads)
-some_hop arc u v (leg ∷ legs) apart walk = (leg.to, record { leg = leg; legs = legs; walk = walk; begins = refl })
-
--- none leads back to where it begins
-no_hop_home : (mesh : Mesh) (root v h : ℕ) → IsMesh mesh → v ≡ root → FirstHop (SendsAcross mesh.segments) root v h → ⊥
-no_hop_home mesh root v h is home hop =
-    let begins : BeginsLeast (SendsAcross mesh.segments) root v h = begins_least_from_first_hop hop in
-    let sends = begins.over.over in
-    let positive = (is.ports sends.segment sends.among sends.over.near sends.over.near_among).cost in
-    omega (arith, least_cost_at_most begins.whole [] (sym home), positive, sends.over.costs)
 
 -- what goes out goes over the only port
 goes_over : (mesh : Mesh) (aim : Aim) (outlet : Outlet) (h : ℕ) → GoesOut mesh (outlet ∷ []) aim h → GoesOver mesh aim outlet h
@@ -118,17 +103,8 @@ unreached_beyond mesh root v outlet reach on below away = go (distance_of reach 
     go : (nearest : Option ℕ) → IsCheapestCost (beyond_port mesh.rows v) ports nearest → nearest ≡ None
     go None none = refl
     go (Some d) best =
-        let arc : Arcs = SendsAcross mesh.segments in
-        let port : Port = best.attained.thing in
-        let none : (legs : List Leg) → Walks arc root legs v → ⊥ = ((on.mesh_is.rows.each root on.root_is).least.none v).0 away in
-        let within : port.vertex < mesh.count =
-        (on.mesh_is.ports ports (segment_among mesh.segments outlet.place is.within) port best.attained.among).vertex in
-        let beyond : LeastCost arc port.vertex v d = cost_from mesh port.vertex v d on.mesh_is within best.attained.costs in
-        absurd (elim (cases_eq root port.vertex) [
-          | inl same ↦ none beyond.legs (subst (λ (n : ℕ). Walks arc n beyond.legs v) (sym same) beyond.walk.leads)
-          | inr apart ↦ none (record { to = port.vertex; cost = outlet.cost } ∷ beyond.legs)
-              (arc_over mesh.segments root outlet port is best.attained.among apart, beyond.walk.leads)
-        ])
+        let most = over_outlet mesh root v d outlet best.attained.thing on.mesh_is on.root_is is best.attained.among best.attained.costs in
+        absurd (cc (away, most.is))
 
 -- the lists of the walks that begin on the LAN, without one towards the root, have the first hops
 pub hops_on_lan : (mesh : Mesh) (root : ℕ) (outlet : Outlet) (reach : Reach) → IsOnLan mesh root outlet reach →

@@ -1,12 +1,12 @@
 -- First hops over segments: the vertices of the segments that the root sends on from which a least walk goes on.
 use Rattle.std.proofs.Common.{◌≡◌, ◌≢◌, ◌↔◌, MatchOption, None, ℕ, ◌+◌, ◌<◌, ◌≤◌, List, ◌∷◌, Option, Some, length, refl, sym, ap, subst, ◌∙◌, arith, inl}
-use Rattle.std.proofs.Common.{inr, Contains}
+use Rattle.std.proofs.Common.{inr, Contains, [], get_or}
 use Rattle.std.proofs.lemmas.Bool.{cases_eq}
 use Rattle.walk_core.specs.declared.ways.Aim.{Aim}
 use Rattle.walk_core.specs.declared.outlets.Outlet.{Outlet}
 use Rattle.walk_core.specs.declared.segment.Port.{Port}
-use Rattle.walk_core.specs.Walks.{Arcs, Leg, walk_cost, LeastCost, FirstHop}
-use Rattle.walk_core.specs.Distances.{distance_between}
+use Rattle.walk_core.specs.Walks.{Arcs, Leg, walk_cost, LeastCost, FirstHop, LeastWalk, Walks}
+use Rattle.walk_core.specs.Distances.{distance_between, AreLeastDistances, distance_at}
 use Rattle.walk_core.specs.steps.Flooding.{segment_at}
 use Rattle.walk_core.specs.steps.SegmentWalks.{Mesh, IsMesh, IsOutlet, HasOutlet, AreOutlets, GoesOver, GoesOut, IsNoNearer}
 use Rattle.walk_core.specs.steps.SegmentWalks.{EndsAlone, IsBehind, IsEndAt, IsLinkEnd, IsFarEnd, IsLan}
@@ -14,6 +14,23 @@ use Rattle.walk_core.specs.Segments.{SendsOn, SendsAcross}
 use Rattle.walk_core.proofs.FloodLaws.{segment_among, sends_at_place, sends_below}
 use Rattle.walk_core.proofs.HopLaws.{BeginsLeast, begins_least_from_first_hop, first_hop_from_begins_least}
 use Rattle.walk_core.proofs.WalkLaws.{least_cost_at_most, least_cost_unique}
+use Rattle.walk_core.specs.steps.Relaxing.{IsAtMost}
+use Rattle.std.proofs.lemmas.Option.{same_Some}
+use Rattle.walk_core.proofs.RelaxLaws.{distance_cases}
+
+-- a distance is at most what a walk costs
+pub at_most_of_walk : (arc : Arcs) (u v : ℕ) (ds : List (Option ℕ)) (legs : List Leg) → AreLeastDistances arc u ds → Walks arc u legs v →
+    IsAtMost (distance_at ds v) (walk_cost legs)
+at_most_of_walk arc u v ds legs are leads = elim (distance_cases (distance_at ds v)) [
+  | inl none ↦ absurd ((are.none v).0 none legs leads)
+  | inr some ↦ record { value = some.0; is = some.1; below = least_cost_at_most ((are.least v some.0).0 some.1) legs leads }
+]
+
+-- over a link one comes to its far end alone
+pub far_end : (segments : List (List Port)) (root to : ℕ) (outlet : Outlet) → IsOutlet segments root outlet → outlet.to ≡ Some to →
+    IsFarEnd (segment_at segments outlet.place) root to
+far_end segments root to outlet is leads = let ports : List Port = segment_at segments outlet.place in
+    subst (λ (o : Option ℕ). MatchOption o (IsLan ports) (IsFarEnd ports root)) leads is.leads
 
 -- what is known where first hops from the root towards what is looked for are wanted
 pub record IsWanted (mesh : Mesh) (root : ℕ) (outlets : List Outlet) (aim : Aim) : Type 0 where
@@ -100,27 +117,31 @@ outlet_from_hop mesh root outlets aim h wanted hop =
       };
     }
 
+-- over an outlet of the root a vertex is no farther than from a port of its segment, and what the outlet costs
+pub over_outlet : (mesh : Mesh) (root v d : ℕ) (outlet : Outlet) (port : Port) → IsMesh mesh → root < mesh.count → IsOutlet mesh.segments root outlet →
+    Contains (segment_at mesh.segments outlet.place) port → distance_between mesh.rows port.vertex v ≡ Some d →
+    IsAtMost (distance_between mesh.rows root v) (outlet.cost + d)
+over_outlet mesh root v d outlet port is below out among far =
+    let within = (is.ports (segment_at mesh.segments outlet.place) (segment_among mesh.segments outlet.place out.within) port among).vertex in
+    let beyond : LeastCost (SendsAcross mesh.segments) port.vertex v d = cost_from mesh port.vertex v d is within far in
+    elim (cases_eq root port.vertex) [
+      | inl same ↦ record {
+        value = d;
+        is = subst (λ (n : ℕ). distance_between mesh.rows n v ≡ Some d) (sym same) far;
+        below = omega arith;
+      }
+      | inr apart ↦
+          let most = at_most_of_walk (SendsAcross mesh.segments) root v (get_or mesh.rows root []) (record { to = port.vertex; cost = outlet.cost } ∷ beyond.legs)
+          (is.rows.each root below).least (arc_over mesh.segments root outlet port out among apart, beyond.walk.leads) in
+          record { value = most.value; is = most.is; below = omega (arith, most.below, beyond.costs) }
+    ]
+
 -- over no outlet of the root what is looked for is nearer
 pub none_nearer : (mesh : Mesh) (root : ℕ) (outlets : List Outlet) (aim : Aim) (outlet : Outlet) → IsWanted mesh root outlets aim →
     Contains outlets outlet → IsNoNearer mesh outlet aim
 none_nearer mesh root outlets aim outlet wanted listed port d among far =
-    let arc : Arcs = SendsAcross mesh.segments in
-    let v : ℕ = aim.vertex in
-    let is : IsOutlet mesh.segments root outlet = wanted.outlets_are.each outlet listed in
-    let below : port.vertex < mesh.count =
-    (wanted.mesh_is.ports (segment_at mesh.segments outlet.place) (segment_among mesh.segments outlet.place is.within) port among).vertex in
-    let whole : LeastCost arc root v aim.distance = cost_from mesh root v aim.distance wanted.mesh_is wanted.root_is wanted.away in
-    let beyond : LeastCost arc port.vertex v d = cost_from mesh port.vertex v d wanted.mesh_is below far in
-    elim (cases_eq root port.vertex) [
-      | inl same ↦
-          let here : LeastCost arc root v d = subst (λ (n : ℕ). LeastCost arc n v d) (sym same) beyond in
-          omega (arith, least_cost_unique here whole)
-      | inr apart ↦
-          let leg : Leg = record { to = port.vertex; cost = outlet.cost } in
-          let most : aim.distance ≤ outlet.cost + walk_cost beyond.legs =
-          least_cost_at_most whole (leg ∷ beyond.legs) (arc_over mesh.segments root outlet port is among apart, beyond.walk.leads) in
-          omega (arith, most, beyond.costs)
-    ]
+    let most = over_outlet mesh root aim.vertex d outlet port wanted.mesh_is wanted.root_is (wanted.outlets_are.each outlet listed) among far in
+    omega (arith, most.below, same_Some most.value aim.distance (sym most.is ∙ wanted.away))
 
 -- the end of a link is the only vertex of it from which a least walk of the root goes on
 pub ends_alone : (mesh : Mesh) (root : ℕ) (outlets : List Outlet) (aim : Aim) (outlet : Outlet) → IsWanted mesh root outlets aim →
@@ -165,3 +186,16 @@ ends_alone mesh root outlets aim outlet wanted listed = go outlet.to is.leads
         };
       },
     )
+
+-- a least walk to another vertex has a first hop
+pub some_hop : (arc : Arcs) (u v : ℕ) (legs : List Leg) → u ≢ v → LeastWalk arc u legs v → (h : ℕ) × FirstHop arc u v h
+some_hop arc u v [] apart walk = absurd (apart walk.leads)
+some_hop arc u v (leg ∷ legs) apart walk = (leg.to, record { leg = leg; legs = legs; walk = walk; begins = refl })
+
+-- none leads back to where it begins
+pub no_hop_home : (mesh : Mesh) (root v h : ℕ) → IsMesh mesh → v ≡ root → FirstHop (SendsAcross mesh.segments) root v h → ⊥
+no_hop_home mesh root v h is home hop =
+    let begins : BeginsLeast (SendsAcross mesh.segments) root v h = begins_least_from_first_hop hop in
+    let sends = begins.over.over in
+    let positive = (is.ports sends.segment sends.among sends.over.near sends.over.near_among).cost in
+    omega (arith, least_cost_at_most begins.whole [] (sym home), positive, sends.over.costs)

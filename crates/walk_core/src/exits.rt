@@ -1,5 +1,6 @@
-ghost use Rattle.std.specs.Prelude.{◌≡◌, ◌↔◌, ◌∷◌, ◌++◌, ℕ, [], Some, slice_index_or, IfSome, OnOk};
-ghost use Rattle.walk_core.specs.steps.Exits.{AddsHops, AreTwoExits, IsExit, LeadsOver, list_of_two};
+ghost use Rattle.std.specs.Prelude.{◌≡◌, ◌↔◌, ◌∷◌, ◌++◌, ◌+◌, ◌<◌, ◌^◌, ℕ, [], Some, slice_index_or, IfSome, OnOk};
+ghost use Rattle.walk_core.specs.Distances.{distance_at};
+ghost use Rattle.walk_core.specs.steps.Exits.{AddsHops, AreTwoExits, FitsOver, IsExit, IsNearer, cost_over, list_of_two};
 
 use crate::OutOfMemory;
 use crate::distance::Distance;
@@ -16,10 +17,10 @@ pub struct Exit<'a> {
     row: &'a [Distance],
 }
 
-/// How far the vertices are from a root of two ports, and its links, which these are, by ascending ends.
+/// A root of two ports, and its links, which these are, by ascending ends.
 #[derive(Clone, Copy)]
 pub struct TwoExits<'a> {
-    own: &'a [Distance],
+    root: u32,
     one: Exit<'a>,
     other: Exit<'a>,
 }
@@ -31,15 +32,14 @@ pub fn two_exits<'a>(rows: &'a [Distances], outlets: &[Outlet], root: u32) -> Op
     let [first, second] = outlets else {
         return None;
     };
-    let own = whole_row(rows, root)?;
     let one = exit_of(rows, *first)?;
     let other = exit_of(rows, *second)?;
     if one.to < other.to {
-        return Some(TwoExits { own, one, other });
+        return Some(TwoExits { root, one, other });
     }
     if other.to < one.to {
         return Some(TwoExits {
-            own,
+            root,
             one: other,
             other: one,
         });
@@ -67,30 +67,45 @@ pub fn whole_row(rows: &[Distances], u: u32) -> Option<&[Distance]>
     rows.get(u as usize)?.whole()
 }
 
-/// Adds the list of the first hops towards v, in ascending order.
+/// Adds the list of the first hops towards v, in ascending order: the ends over which it is nearest, and none towards the
+/// root itself.
 #[inline(always)]
 pub fn push_exits(hops: &mut NumberLists, exits: TwoExits<'_>, v: u32) -> Result<(), OutOfMemory>
+    requires one { FitsOver exits.one }
+    requires other { FitsOver exits.other }
     ensures { OnOk result (AddsHops exits.entry v hops.old hops.new) }
 {
-    match distance_at(exits.own, v) {
-        Some(distance) => {
-            let one = end_towards(exits.one, v, distance);
-            let other = end_towards(exits.other, v, distance);
-            push_two(hops, one, other)
-        }
-        None => hops.push(&[]),
+    if v == exits.root {
+        return hops.push(&[]);
     }
+    let one = cost_over(exits.one, v);
+    let other = cost_over(exits.other, v);
+    push_two(
+        hops,
+        nearer_end(exits.one.to, one, other),
+        nearer_end(exits.other.to, other, one),
+    )
 }
 
-/// The end of an exit, if a least walk to v, which is at this distance from the root, begins there.
+/// What it costs to go to v over an exit, and `None` where no walk leads there.
 #[inline(always)]
-fn end_towards(exit: Exit<'_>, v: u32, distance: u64) -> Option<u32>
-    ensures { (h : ℕ) → (result ≡ Some h) ↔ LeadsOver exit.entry v distance h }
+fn cost_over(exit: Exit<'_>, v: u32) -> Option<u64>
+    requires { FitsOver exit }
+    ensures { result ≡ cost_over exit.entry v }
 {
-    let cost = u64::from(exit.cost);
-    match distance_at(exit.row, v) {
-        Some(beyond) if cost <= distance && beyond == distance - cost => Some(exit.to),
-        _ => None,
+    let beyond = distance_at(exit.row, v)?;
+    Some(beyond + u64::from(exit.cost))
+}
+
+/// The end of an exit over which it costs this, unless it costs less over the other one.
+#[inline(always)]
+fn nearer_end(to: u32, cost: Option<u64>, rival: Option<u64>) -> Option<u32>
+    ensures { (h : ℕ) → (result ≡ Some h) ↔ (IsNearer cost rival × (to ≡ h)) }
+{
+    match (cost, rival) {
+        (Some(cost), Some(rival)) if rival < cost => None,
+        (Some(_), _) => Some(to),
+        (None, _) => None,
     }
 }
 

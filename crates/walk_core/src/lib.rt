@@ -15,7 +15,7 @@
 //! | `flood`, `outlets`, `over_segments` | over segments: distances, from stale vertices, and onto a LAN at once |
 //! | `ends` | the distances from a root of one or two links, by those from the far ends |
 //! | `beyond`, `ways` | the walks that begin on a LAN, once for all roots, and first hops by these and by the distances from the ends of links |
-//! | `exits` | first hops from a root of two links, as most have, in one pass over three rows of distances |
+//! | `exits` | first hops from a root of two links, as most have, in one pass over the rows of their two ends |
 //! | `union` | numbers below a bound, and in order |
 //!
 //! Over arcs all are relaxed until no distance falls. Over segments a vertex relaxes again only once it is stale, when its

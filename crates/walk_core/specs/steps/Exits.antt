@@ -1,6 +1,7 @@
 -- First hops from a root of two links, by the distances from their ends.
-use Rattle.std.specs.Prelude.{◌≡◌, ℕ, ◌+◌, ◌<◌, ◌↔◌, ◌⊎◌, ◌∷◌, ◌++◌, List, [], Option, Some, None, Contains, length, slice_index_or}
+use Rattle.std.specs.Prelude.{◌≡◌, ℕ, ◌+◌, ◌^◌, ◌<◌, ◌≤◌, ◌≢◌, ◌↔◌, ◌⊎◌, ◌∷◌, ◌++◌, List, [], Option, Some, None, Contains, length, slice_index_or}
 use Rattle.std.specs.List.Sorted.{IsStrictlyIncreasing}
+use Rattle.walk_core.specs.BestOffers.{total_with}
 use Rattle.walk_core.specs.Distances.{distance_at}
 use Rattle.walk_core.specs.declared.exits.Exit.{Exit}
 use Rattle.walk_core.specs.declared.exits.TwoExits.{TwoExits}
@@ -21,7 +22,7 @@ pub record HasExit (rows : List (List (Option ℕ))) (outlets : List Outlet) (ex
 
 -- the exits are over the ports of the root, each of them
 pub record AreTwoExits (rows : List (List (Option ℕ))) (outlets : List Outlet) (root : ℕ) (exits : TwoExits) : Type 0 where
-  pub own : exits.own.now ≡ slice_index_or rows root []
+  pub from : exits.root ≡ root
   pub less : exits.one.to < exits.other.to
   pub one : HasExit rows outlets exits.one
   pub other : HasExit rows outlets exits.other
@@ -33,18 +34,28 @@ pub record HasTwoExits (mesh : Mesh) (root : ℕ) (exits : TwoExits) : Type 0 wh
   pub listed : AreOutlets mesh.segments root (length mesh.segments) outlets
   pub are : AreTwoExits mesh.rows outlets root exits
 
--- the exit leads to h, and v is as far from the root as the exit costs and h is from v
-pub record LeadsOver (exit : Exit) (v distance h : ℕ) : Type 0 where
-  pub beyond : ℕ
-  pub far : distance_at exit.row.now v ≡ Some beyond
-  pub sum : exit.cost + beyond ≡ distance
-  pub to : exit.to ≡ h
+-- what it costs to go to v over an exit
+abbrev pub cost_over : Exit → ℕ → Option ℕ
+cost_over exit v = total_with (distance_at exit.row.now v) exit.cost
 
--- one of the exits does
+-- the distances from the end of an exit leave room for one more arc
+abbrev pub FitsOver : Exit → Type 0
+FitsOver exit = (v d : ℕ) → distance_at exit.row.now v ≡ Some d → d + 2 ^ 32 < 2 ^ 64
+
+-- there is a cost, and where there is another, it is no less
+pub record IsNearer (cost rival : Option ℕ) : Type 0 where
+  pub value : ℕ
+  pub is : cost ≡ Some value
+  pub least : (other : ℕ) → rival ≡ Some other → value ≤ other
+
+-- the exit leads to h, and over the other one v is no nearer
+abbrev pub LeadsOver : Exit → Exit → ℕ → ℕ → Type 0
+LeadsOver exit other v h = IsNearer (cost_over exit v) (cost_over other v) × (exit.to ≡ h)
+
+-- v isn't the root, and one of the exits does
 pub record LeadsOut (exits : TwoExits) (v h : ℕ) : Type 0 where
-  pub distance : ℕ
-  pub away : distance_at exits.own.now v ≡ Some distance
-  pub over : LeadsOver exits.one v distance h ⊎ LeadsOver exits.other v distance h
+  pub apart : v ≢ exits.root
+  pub over : LeadsOver exits.one exits.other v h ⊎ LeadsOver exits.other exits.one v h
 
 -- the list of two numbers, of which either may be missing
 abbrev pub list_of_two : Option ℕ → Option ℕ → List ℕ
