@@ -2,13 +2,14 @@ ghost use Rattle.std.specs.Prelude.{◌≡◌, ◌<◌, length, IfOk, OnOk};
 ghost use Rattle.walk_core.specs.steps.Cheapest.{IsCheapestCost};
 ghost use Rattle.walk_core.specs.steps.SegmentWalks.{AreEnds, AreWalksFrom, IsLan, JoinsNearest, KnowsBeyond, beyond_port, reach_at};
 
+use crate::OutOfMemory;
 use crate::distance::{Distance, nearer_of};
+use crate::found::Found;
 use crate::number_lists::NumberLists;
 use crate::outlets::is_lan;
 use crate::rows::{Distances, row_distance};
 use crate::segment::{Port, Segment, ports_at};
 use crate::union::put_in_order;
-use crate::{LeastWalks, OutOfMemory};
 use std::alloc::Global;
 
 /// The least walks that begin on each LAN, by the distances from the vertices.
@@ -17,7 +18,7 @@ pub fn all_beyond(
     segments: &[Segment],
     rows: &[Distances],
     count: u32,
-) -> Result<Vec<LeastWalks>, OutOfMemory>
+) -> Result<Vec<Found>, OutOfMemory>
     ensures { IfOk result (λ beyond. KnowsBeyond (record { count = count; segments = segments.now; rows = rows.now; beyond = beyond.items }) (length segments.now)) }
 {
     let mut beyond = Vec::with_capacity(alloc, segments.len())?;
@@ -28,7 +29,7 @@ pub fn all_beyond(
 }
 
 /// The least walks that begin on the segment of a place.
-pub fn walks_at(beyond: &[LeastWalks], place: usize) -> &LeastWalks
+pub fn walks_at(beyond: &[Found], place: usize) -> &Found
     requires { place < length beyond.now }
     ensures { result.now ≡ reach_at beyond.now place }
 {
@@ -42,11 +43,11 @@ fn walks_beyond(
     ports: &[Port],
     rows: &[Distances],
     count: u32,
-) -> Result<LeastWalks, OutOfMemory>
+) -> Result<Found, OutOfMemory>
     ensures { IfOk result (λ walks. IsLan ports.now → AreWalksFrom rows.now ports.now count walks) }
 {
     if !is_lan(ports) {
-        return Ok(LeastWalks::none(alloc));
+        return Ok(Found::none(alloc));
     }
     let mut distances = Vec::with_capacity(alloc, count as usize)?;
     let mut hops = NumberLists::with_room(alloc, count as usize)?;
@@ -57,10 +58,7 @@ fn walks_beyond(
         distances.push(distance)?;
         hops.push(ends.as_slice())?;
     }
-    Ok(LeastWalks {
-        distances: Distances::from_vec(distances),
-        hops,
-    })
+    Ok(Found::of(Distances::from_vec(distances), hops))
 }
 
 /// Finds how far v is from the nearest vertex of a segment, and which vertices of the segment are that near.

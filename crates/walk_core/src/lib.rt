@@ -9,7 +9,7 @@
 //! | File | What it holds |
 //! |---|---|
 //! | `graph`, `segment` | the two kinds of graphs |
-//! | `walks`, `offers`, `number_lists`, `long_lists` | what is known of the walks from a root, and the best of offers |
+//! | `walks`, `offers`, `found`, `number_lists`, `long_lists` | what is known of the walks from a root, and the best of offers |
 //! | `distance`, `rows` | a distance in 8 bytes, and a row of those from one vertex |
 //! | `relax`, `hops` | over arcs: distances by relaxing, and first hops by the distances from where arcs lead |
 //! | `flood`, `outlets`, `over_segments` | over segments: distances, from stale vertices, and onto a LAN at once |
@@ -35,6 +35,7 @@ mod segment;
 
 // what is known of the walks from a root
 mod distance;
+mod found;
 mod long_lists;
 mod number_lists;
 mod offers;

@@ -38,7 +38,7 @@ impl Model for NumberLists {
 }
 
 impl NumberLists {
-    ghost use Rattle.std.specs.Prelude.{◌≡◌, ◌++◌, ◌∷◌, [], IfOk, OnOk, slice_index_or, slice_set};
+    ghost use Rattle.std.specs.Prelude.{◌≡◌, ◌↔◌, ◌++◌, ◌∷◌, [], IfOk, IsTrue, OnOk, slice_index_or, slice_set};
 
     /// No lists.
     pub fn none(alloc: Global) -> NumberLists
@@ -58,6 +58,13 @@ impl NumberLists {
             all: Vec::with_capacity(alloc, count)?,
             long: LongLists::none(alloc),
         })
+    }
+
+    /// Whether there are no lists.
+    pub fn is_empty(&self) -> bool
+        ensures { IsTrue result ↔ (self.now ≡ []) }
+    {
+        self.all.is_empty()
     }
 
     /// Adds a list behind the others.

@@ -33,7 +33,7 @@ pub fn segment_walks(
     let mut all = walks_below(alloc, segments, &outlets[..end as usize], end)?;
     all.reserve((count - end) as usize)?;
     for root in end..count {
-        all.push(LeastWalks::of_lone(alloc, root))?;
+        all.push(LeastWalks::of_lone(root))?;
     }
     Ok(all)
 }
@@ -69,7 +69,8 @@ fn walks_below(
     for root in 0..count {
         let hops = take_hops(alloc, &mut lists, root);
         let distances = take_row(alloc, &mut rows, root);
-        all.push(LeastWalks { distances, hops })?;
+        let walks = LeastWalks::of(alloc, distances, hops)?;
+        all.push(walks)?;
     }
     Ok(all)
 }

@@ -63,6 +63,16 @@ impl Distances {
         }
     }
 
+    /// The vertex that reaches itself alone, if these are its distances.
+    pub fn lone(&self) -> Option<u32>
+        ensures { IfSome result (λ root. self.now ≡ lone_row root) }
+    {
+        match &self.kept {
+            Kept::Lone(root) => Some(*root),
+            Kept::Row(_) => None,
+        }
+    }
+
     /// The distances as a slice, unless they are those of a vertex that reaches itself alone.
     pub fn whole(&self) -> Option<&[Distance]>
         ensures { IfSome result (λ row. row.now ≡ self.now) }
@@ -94,7 +104,8 @@ impl Distances {
 }
 
 /// The distance of v from a vertex that reaches itself alone.
-fn distance_to_lone(root: u32, v: u32) -> Distance
+#[inline(always)]
+pub fn distance_to_lone(root: u32, v: u32) -> Distance
     ensures { result ≡ distance_at (lone_row root) v }
 {
     if v == root {

@@ -2,30 +2,38 @@ ghost use Rattle.std.specs.Prelude.{◌≡◌, ◌<◌, ◌⊎◌, length, IfOk}
 ghost use Rattle.walk_core.specs.Distances.{IsDistanceRow, KnowsEnds};
 ghost use Rattle.walk_core.specs.Reach.{AreLeastWalks, AreNear};
 
+use crate::found::Found;
 use crate::hops::{Departure, departures_from, find_first_hops};
 use crate::number_lists::NumberLists;
 use crate::relax::distances_from;
-use crate::rows::{Distances, rows_beyond};
+use crate::rows::{Distances, distance_to_lone, rows_beyond};
 use crate::{CostGraph, OutOfMemory};
 use std::alloc::Global;
 use std::marker::Model;
 
 /// The least-cost walks from one vertex of a graph, the root: how far each vertex is, and with
-/// which first hops one goes there.
+/// which first hops one goes there. Those of a vertex that reaches itself alone take no memory.
 #[derive(Debug, Drop)]
 pub struct LeastWalks {
-    pub(crate) distances: Distances,
-    pub(crate) hops: NumberLists,
+    known: Known,
+}
+
+/// What is known of the walks from a root.
+#[derive(Debug, Drop)]
+pub enum Known {
+    /// This is the root, which reaches itself alone.
+    Lone(u32),
+    /// How far the vertices are, and their first hops.
+    Far(Box<Found>),
 }
 
 impl Model for LeastWalks {
-    ghost use Rattle.walk_core.specs.Reach.{Reach, AreAscending};
+    ghost use Rattle.walk_core.specs.Reach.{Reach};
+    ghost use Rattle.walk_core.specs.steps.Rows.{reach_known};
 
     ghost Value = { Reach };
 
-    ghost view = { λ w. record { distances = w.distances; hops = w.hops } };
-
-    ghost invariant = { λ w. AreAscending w.hops };
+    ghost view = { λ w. reach_known w.known };
 }
 
 /// The least-cost walks from the root, over walks of any length. In the graph
@@ -75,7 +83,7 @@ fn walks_over<G: CostGraph>(
         find_first_hops(&mut found, departures.as_slice(), rows, v, distances.at(v))?;
         hops.push(found.as_slice())?;
     }
-    Ok(LeastWalks { distances, hops })
+    LeastWalks::of(alloc, distances, hops)
 }
 
 /// How many of the vertices may have a first hop: all of them, and none where no arc leaves the root.
@@ -86,35 +94,38 @@ fn most_ends(departures: &[Departure], vertices: u32) -> u32
 }
 
 impl LeastWalks {
-    ghost use Rattle.std.specs.Prelude.{◌≡◌, ◌↔◌, [], IfOk, IsTrue, slice_set};
+    ghost use Rattle.std.specs.Prelude.{◌≡◌, ◌↔◌, [], IfOk, IsTrue};
     ghost use Rattle.std.specs.List.Sorted.{IsStrictlyIncreasing};
     ghost use Rattle.walk_core.specs.Reach.{AreAscending, distance_of, listed_hops_of, HasHop};
     ghost use Rattle.walk_core.specs.steps.Rows.{lone_row};
 
-    /// Nothing known, of no vertex.
-    pub(crate) fn none(alloc: Global) -> LeastWalks {
-        LeastWalks {
-            distances: Distances::none(alloc),
-            hops: NumberLists::none(alloc),
+    /// These distances, and these lists of first hops.
+    pub(crate) fn of(
+        alloc: Global,
+        distances: Distances,
+        hops: NumberLists,
+    ) -> Result<LeastWalks, OutOfMemory>
+        requires { AreAscending hops }
+        ensures { IfOk result (λ walks. walks ≡ (record { distances = distances; hops = hops })) }
+    {
+        if hops.is_empty() {
+            if let Some(root) = distances.lone() {
+                return Ok(LeastWalks::of_lone(root));
+            }
         }
+        let found = Box::new(alloc, Found::of(distances, hops))?;
+        Ok(LeastWalks {
+            known: Known::Far(found),
+        })
     }
 
     /// Those from a vertex that reaches itself alone.
-    pub(crate) fn of_lone(alloc: Global, root: u32) -> LeastWalks
+    pub(crate) fn of_lone(root: u32) -> LeastWalks
         ensures { result ≡ (record { distances = lone_row root; hops = [] }) }
     {
         LeastWalks {
-            distances: Distances::of_lone(root),
-            hops: NumberLists::none(alloc),
+            known: Known::Lone(root),
         }
-    }
-
-    /// A copy of the lists of first hops, but for an empty one towards v.
-    pub(crate) fn hops_without(&self, alloc: Global, v: u32) -> Result<NumberLists, OutOfMemory>
-        ensures lists { IfOk result (λ lists. lists ≡ slice_set self.now.hops v []) }
-        ensures ascending { AreAscending self.now.hops }
-    {
-        self.hops.copy_without(alloc, v as usize)
     }
 
     /// The least cost of a walk from the root to v, and None where no walk leads there.
@@ -122,7 +133,10 @@ impl LeastWalks {
     pub fn distance(&self, v: u32) -> Option<u64>
         ensures { result ≡ distance_of self.now v }
     {
-        self.distances.at(v)
+        match &self.known {
+            Known::Lone(root) => distance_to_lone(*root, v).get(),
+            Known::Far(found) => found.distance(v),
+        }
     }
 
     /// Whether some least-cost walk to v begins with the leg from the root to h. Equal-cost walks
@@ -140,6 +154,9 @@ impl LeastWalks {
         ensures hops { result.now ≡ listed_hops_of self.now v }
         ensures ascending { IsStrictlyIncreasing result.now }
     {
-        self.hops.at(v as usize)
+        match &self.known {
+            Known::Lone(_) => &[],
+            Known::Far(found) => found.hops_to(v),
+        }
     }
 }

@@ -4,12 +4,12 @@ ghost use Rattle.walk_core.specs.steps.SegmentWalks.{IsBehind};
 use crate::OutOfMemory;
 use crate::beyond::walks_at;
 use crate::exits::{TwoExits, push_exits, two_exits};
+use crate::found::Found;
 use crate::number_lists::NumberLists;
 use crate::outlets::{Outlet, is_lone, only_lan};
 use crate::rows::{Distances, distance_between};
 use crate::segment::Segment;
 use crate::union::{add_behind, put_in_order};
-use crate::walks::LeastWalks;
 use std::alloc::Global;
 use std::marker::Model;
 
@@ -26,7 +26,7 @@ pub struct Ways<'a> {
     count: u32,
     segments: &'a [Segment],
     rows: &'a [Distances],
-    beyond: &'a [LeastWalks],
+    beyond: &'a [Found],
 }
 
 impl<'a> Model for Ways<'a> {
@@ -57,7 +57,7 @@ impl<'a> Ways<'a> {
         count: u32,
         segments: &'a [Segment],
         rows: &'a [Distances],
-        beyond: &'a [LeastWalks],
+        beyond: &'a [Found],
     ) -> Ways<'a>
         requires { IsMesh (record { count = count; segments = segments.now; rows = rows.now; beyond = beyond.now }) }
         ensures { result ≡ (record { count = count; segments = segments.now; rows = rows.now; beyond = beyond.now }) }
@@ -94,7 +94,7 @@ impl<'a> Ways<'a> {
     }
 
     /// The walks that begin on the segment of a place, if it is a LAN.
-    fn walks(&self, place: usize) -> &LeastWalks
+    fn walks(&self, place: usize) -> &Found
         requires { place < length self.now.segments }
         ensures { IsLan (segment_at self.now.segments place) →
             AreWalksFrom self.now.rows (segment_at self.now.segments place) self.now.count result.now }

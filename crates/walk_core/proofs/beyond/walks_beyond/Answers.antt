@@ -1,4 +1,5 @@
 use Rattle.std.proofs.Common.{◌≡◌, ◌++◌, ◌∷◌, [], ◌+◌, ℕ, List, Option, ap, sym, subst, ◌∙◌, arith}
+use Rattle.walk_core.specs.Reach.{Reach}
 use Rattle.walk_core.specs.steps.SegmentWalks.{AreWalksFrom}
 use Rattle.walk_core.proofs.NearestLaws.{ends_ordered}
 use Rattle.walk_core.proofs.SegmentSteps.{KnowsBelow, knows_more}
@@ -25,8 +26,9 @@ pub returns : goal.returns
 returns c =
     let knows = c.loop-v.invariant in
     let all : c.loop-v.v ≡ c.args.count = omega arith in
-    let P : List (Option ℕ) → Type 0 = λ ds. AreWalksFrom c.args.rows.now c.args.ports.now c.args.count (record { distances = ds; hops = c.loop-v.hops }) in
-    λ lan. subst P (sym c.from_vec.ensures) (record {
+    let known : Reach = record { distances = c.loop-v.distances.items; hops = c.loop-v.hops } in
+    let same : c.of.result ≡ known = c.of.ensures ∙ ap (λ (ds : List (Option ℕ)). record { distances = ds; hops = c.loop-v.hops }) c.from_vec.ensures in
+    λ lan. subst (λ (r : Reach). AreWalksFrom c.args.rows.now c.args.ports.now c.args.count r) (sym same) (record {
       distances = λ w below. knows.nearest w (omega (arith, all, below));
       ends = λ w below. knows.lists w (omega (arith, all, below));
       within = omega (arith, knows.many, all);

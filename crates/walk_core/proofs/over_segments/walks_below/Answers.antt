@@ -1,4 +1,4 @@
-use Rattle.std.proofs.Common.{◌+◌, ℕ, List, [], Option, length, length-set, get_or, refl, ap, sym, subst, ◌∙◌, arith}
+use Rattle.std.proofs.Common.{◌+◌, ◌++◌, ◌∷◌, ℕ, List, [], Option, length, length-set, get_or, refl, ap, sym, subst, ◌∙◌, arith}
 use Rattle.std.proofs.lemmas.Option.{slice_get_within}
 use Rattle.walk_core.specs.Distances.{IsDistanceRow}
 use Rattle.walk_core.specs.Reach.{Reach, AreAscending, AreWalksBelow}
@@ -44,7 +44,8 @@ loop-root-preserved c =
     let hops : ListFirstHops arc root reach.hops =
     subst (λ (l : List (List ℕ)). ListFirstHops arc root l) (sym c.take_hops-hops.ensures.taken) (is.exact root (omega arith) c.loop-root-test.true) in
     record {
-      walks = subst (λ (l : List Reach). AreWalksBelow arc count (root + 1) l) (sym c.in_ok-push.ensures.items)
+      walks = subst (λ (l : List Reach). AreWalksBelow arc count (root + 1) l)
+          (sym (c.in_ok-push.ensures.items ∙ ap (λ (r : Reach). c.loop-root.all.items ++ r ∷ []) c.in_ok-walks.ensures))
           (walks_more arc count root c.loop-root.all.items reach is.walks row hops);
       long = ap (λ (l : List (List (Option ℕ))). length l) c.take_row-distances.ensures.others ∙ length-set rows root [] ∙ is.long;
       many = ap (λ (l : List (List (List ℕ))). length l) c.take_hops-hops.ensures.others ∙ length-set lists root [] ∙ is.many;

@@ -1,5 +1,7 @@
 use Rattle.std.proofs.Common.{◌≡◌, ℕ, [], ◌∷◌, ◌+◌, ◌++◌, ◌⊎◌, inl, inr, List, Option, length, arith, sym, ap, subst, ◌∙◌, ◌↔◌, Contains}
 use Rattle.walk_core.specs.declared.hops.Departure.{Departure}
+use Rattle.std.proofs.lemmas.Result.{IfOk-weaker}
+use Rattle.walk_core.specs.Reach.{Reach, AreLeastWalks}
 use Rattle.walk_core.specs.Walks.{FirstHop}
 use Rattle.walk_core.specs.steps.Departures.{BeginsAt}
 use Rattle.walk_core.specs.steps.FirstHops.{AreFirstHops}
@@ -46,8 +48,8 @@ returns-clause-least g c =
           let among = (c.in_ok-departures.ensures.every v cost over).among in
           omega (arith, among.1, none, ap (λ (l : List Departure). length l) c.as_slice.ensures.value))
     ] in
-    record {
+    IfOk-weaker c.of.result _ _ (λ (walks : Reach) same. subst (AreLeastWalks arc c.args.root) (sym same) (record {
       distances = c.requires.row.least.least;
       unreached = c.requires.row.least.none;
       hops = lists_of_all arc c.args.root count c.loop-v.v c.args.distances c.loop-v.hops c.requires.row c.loop-v.invariant all;
-    }
+    })) c.of.ensures
