@@ -11,8 +11,9 @@ use Rattle.route_core.specs.Tables.{AreLinkedHops}
 use Rattle.route_core.specs.declared.entry.Entry.{Entry}
 use Rattle.route_core.specs.declared.entry.Entry.TheVariants.{Discard, Via}
 use Rattle.route_core.proofs.RowLaws.{row_is, row_is_there, table_rows}
-use Rattle.route_tables.specs.Entries.{AreAlikeFor, AreSameEntries, IsLawful, IsTableOf, AreTablesBelow, AreJoined, AreJoinedBy}
+use Rattle.route_tables.specs.Entries.{AreSameEntries, IsLawful, IsTableOf, AreTablesBelow, AreJoined, AreJoinedBy}
 use Rattle.route_tables.specs.Prefixes.{AreDistinctPrefixes, prefix_at}
+use Rattle.route_tables.specs.Protocols.{AreAlikeInLane, ProtocolRoutes}
 use Rattle.route_tables.specs.Tables.{AreLawful, AreRoutes, AreSourceTables, prefixes_of_first}
 use Rattle.route_tables.specs.declared.table.RouterNumbers.{RouterNumbers}
 use Rattle.route_tables.specs.steps.Kinds.{AreKinds, first_prefix_of}
@@ -46,9 +47,9 @@ listed_of_kept kept p e is =
 -- The table of a router's numbers
 
 -- kinds in a lane are kinds for each of its routers
-pub kinds_for : (router : ℕ → Type 0) (entry : ℕ → Block → Entry → Type 0) (dests : List Block) (k : ℕ) (kinds firsts : List ℕ) (u : ℕ) → router u →
-    AreKinds (AreAlikeFor router entry) dests k kinds firsts → AreKinds (AreSameEntries (entry u)) dests k kinds firsts
-kinds_for router entry dests k kinds firsts u is are = record {
+pub kinds_for : (routes : ProtocolRoutes) (lane : ℕ) (dests : List Block) (k : ℕ) (kinds firsts : List ℕ) (u : ℕ) → routes.in_lane lane u →
+    AreKinds (AreAlikeInLane routes lane) dests k kinds firsts → AreKinds (AreSameEntries (routes.entry u)) dests k kinds firsts
+kinds_for routes lane dests k kinds firsts u is are = record {
   count = are.count;
   below = are.below;
   places = are.places;

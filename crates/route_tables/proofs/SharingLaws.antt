@@ -6,6 +6,7 @@ use Rattle.std.proofs.lemmas.Option.{same_Some}
 use Rattle.walk_core.specs.Reach.{Reach}
 use Rattle.route_core.specs.declared.entry.Entry.{Entry}
 use Rattle.route_core.specs.declared.entry.Entry.TheVariants.{Via, Discard}
+use Rattle.route_tables.specs.Protocols.{ProtocolRoutes}
 use Rattle.route_tables.specs.Routings.{IsEntryTo}
 use Rattle.route_tables.specs.steps.Sharing.{AreKnown, AreNumbers, AreOverOne, AreShared, HasNumber, IsNumberOf, Keeps, KeepsMore}
 use Rattle.route_tables.specs.declared.pool.Known.{Known}
@@ -76,24 +77,24 @@ known_more reach n entries all at noted are is v known there = elim (cases_eq v 
 -- Entries that come
 
 -- what is known stays so
-pub shared_kept : (reach : ℕ → Reach) (n : ℕ) (old new : Pool) (more : List Entry) → new.entries.items ≡ old.entries.items ++ more →
-    new.known.items ≡ old.known.items → AreShared reach n old → AreShared reach n new
-shared_kept reach n old new more entries known are = record {
-  known = subst (λ (l : List Entry). AreKnown reach n l new.known.items) (sym entries)
-      (λ at one is. number_kept (IsEntryTo (reach one.zone) at n) old.entries.items more one.number
+pub shared_kept : (routes : ProtocolRoutes) (u : ℕ) (old new : Pool) (more : List Entry) → new.entries.items ≡ old.entries.items ++ more →
+    new.known.items ≡ old.known.items → AreShared routes u old → AreShared routes u new
+shared_kept routes u old new more entries known are = record {
+  known = subst (λ (l : List Entry). AreKnown (routes.reach u) routes.routers l new.known.items) (sym entries)
+      (λ at one is. number_kept (IsEntryTo (routes.reach u one.zone) at routes.routers) old.entries.items more one.number
       (are.known at one (subst (λ (l : List (Option Known)). get_or l at None ≡ Some one) known is)));
-  single = subst (AreOverOne n) (sym entries) (over_one_kept n old.entries.items more are.single);
+  single = subst (AreOverOne routes.routers) (sym entries) (over_one_kept routes.routers old.entries.items more are.single);
 }
 
-pub shared_where_kept : {E : Type 0} (reach : ℕ → Reach) (n : ℕ) (old new : Pool) (entry : Entry) (r : Result ℕ E) → IfOk r (Keeps old new entry) →
-    AreShared reach n old → OnOk r (AreShared reach n new)
-shared_where_kept reach n old new entry (Ok number) keeps are = shared_kept reach n old new (entry ∷ []) keeps.entries keeps.known are
-shared_where_kept reach n old new entry (Err e) keeps are = keeps
+pub shared_where_kept : {E : Type 0} (routes : ProtocolRoutes) (u : ℕ) (old new : Pool) (entry : Entry) (r : Result ℕ E) → IfOk r (Keeps old new entry) →
+    AreShared routes u old → OnOk r (AreShared routes u new)
+shared_where_kept routes u old new entry (Ok number) keeps are = shared_kept routes u old new (entry ∷ []) keeps.entries keeps.known are
+shared_where_kept routes u old new entry (Err e) keeps are = keeps
 
-pub shared_where_more : {E : Type 0} (reach : ℕ → Reach) (n : ℕ) (old new : Pool) (r : Result ℕ E) → OnOk r (KeepsMore old new) →
-    OnOk r (new.known.items ≡ old.known.items) → AreShared reach n old → OnOk r (AreShared reach n new)
-shared_where_more reach n old new (Ok number) kept known are = shared_kept reach n old new kept.more kept.entries known are
-shared_where_more reach n old new (Err e) kept known are = kept
+pub shared_where_more : {E : Type 0} (routes : ProtocolRoutes) (u : ℕ) (old new : Pool) (r : Result ℕ E) → OnOk r (KeepsMore old new) →
+    OnOk r (new.known.items ≡ old.known.items) → AreShared routes u old → OnOk r (AreShared routes u new)
+shared_where_more routes u old new (Ok number) kept known are = shared_kept routes u old new kept.more kept.entries known are
+shared_where_more routes u old new (Err e) kept known are = kept
 
 -- more and more entries
 pub more_kept : (old mid new : Pool) → KeepsMore old mid → KeepsMore mid new → KeepsMore old new

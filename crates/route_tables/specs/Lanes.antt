@@ -6,7 +6,7 @@ use Rattle.walk_core.specs.BestOffers.{AreInRange}
 use Rattle.walk_core.specs.declared.offers.Offer.{Offer}
 use Rattle.route_core.specs.declared.entry.Entry.{Entry}
 use Rattle.route_tables.specs.BestRoutes.{IsBestTarget}
-use Rattle.route_tables.specs.Routings.{IsRouteFor}
+use Rattle.route_tables.specs.Protocols.{IsRouteOf, ProtocolRoutes}
 use Rattle.route_tables.specs.declared.lane.Decision.{Decision}
 use Rattle.route_tables.specs.declared.lane.Decision.TheVariants.{Nothing, One, Two, Unknown}
 use Rattle.route_tables.specs.declared.route.Route.{Route}
@@ -25,17 +25,8 @@ DecidesRoute u entry lead (One at) = u ≢ at → lead (record { at = at; asks =
 DecidesRoute u entry lead (Two one other) = u ≢ one.at → u ≢ other.at → lead (one ∷ other ∷ [])
 DecidesRoute u entry lead Unknown = Unit {0}
 
--- a lane: what a protocol gives its routers, and the zone that the offers are reached over
-pub record LaneRoutes : Type 1 where
-  pub routers : ℕ
-  pub zones : ℕ
-  pub entry : ℕ → Block → Entry → Type 0
-  pub reach : ℕ → ℕ → Reach
-  pub in_lane : ℕ → Type 0
-  pub zone : ℕ
-
 -- what decides the routes of the routers of a lane for a prefix
-abbrev pub DecidesFor : LaneRoutes → Block → Decision → Type 0
-DecidesFor lane p decision = (u : ℕ) → lane.in_lane u →
-    DecidesRoute u (lane.entry u p) (LeadToBest (lane.reach u lane.zone) lane.zone lane.routers
-    (IsRouteFor (lane.reach u) lane.zones lane.routers (lane.entry u p))) decision
+abbrev pub DecidesFor : ProtocolRoutes → ℕ → Block → Decision → Type 0
+DecidesFor routes lane p decision = (u : ℕ) → routes.in_lane lane u →
+    let zone = routes.lane_zone lane in
+    DecidesRoute u (routes.entry u p) (LeadToBest (routes.reach u zone) zone routes.routers (IsRouteOf routes u p)) decision

@@ -3,7 +3,8 @@ pub mod Prefixes
 pub mod Routings
 pub mod BestRoutes
 pub mod AlikeOffers
-pub mod Lanes
 pub mod Entries
+pub mod Protocols
+pub mod Lanes
 pub mod Tables
 pub mod steps

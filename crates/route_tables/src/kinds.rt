@@ -1,5 +1,6 @@
 ghost use Rattle.std.specs.Prelude.{◌+◌, ◌<◌, ◌++◌, ◌∷◌, [], All, length, IfOk};
-ghost use Rattle.route_tables.specs.Entries.{AreAlikeFor};
+ghost use Rattle.route_tables.specs.Lanes.{DecidesFor};
+ghost use Rattle.route_tables.specs.Protocols.{AreAlikeInLane};
 ghost use Rattle.route_tables.specs.steps.Kinds.{AreDecided, AreKinds, AreLanesBelow, IsLane};
 
 use crate::OutOfMemory;
@@ -25,16 +26,7 @@ pub(crate) fn all_kinds<P: Protocol>(
     alloc: Global,
     protocol: &P,
 ) -> Result<Vec<LaneKinds>, OutOfMemory>
-    ensures { IfOk result (λ all. AreLanesBelow (λ lane. AreAlikeFor (P.in_lane protocol.now lane) (P.entry protocol.now))
-        (λ lane. record {
-          routers = P.routers protocol.now;
-          zones = P.zones protocol.now;
-          entry = P.entry protocol.now;
-          reach = P.reach protocol.now;
-          in_lane = P.in_lane protocol.now lane;
-          zone = P.lane_zone protocol.now lane;
-        })
-        (P.candidates protocol.now) (P.lanes protocol.now) all.items) }
+    ensures { IfOk result (λ all. AreLanesBelow (P.routes protocol.now) (P.candidates protocol.now) (P.lanes protocol.now) all.items) }
 {
     let mut all = Vec::with_capacity(alloc, protocol.lanes())?;
     for lane in 0..protocol.lanes() {
@@ -46,15 +38,7 @@ pub(crate) fn all_kinds<P: Protocol>(
 /// The kinds of the prefixes in a lane.
 fn kinds_in<P: Protocol>(alloc: Global, protocol: &P, lane: usize) -> Result<LaneKinds, OutOfMemory>
     requires { lane < P.lanes protocol.now }
-    ensures { IfOk result (IsLane (AreAlikeFor (P.in_lane protocol.now lane) (P.entry protocol.now))
-        (record {
-          routers = P.routers protocol.now;
-          zones = P.zones protocol.now;
-          entry = P.entry protocol.now;
-          reach = P.reach protocol.now;
-          in_lane = P.in_lane protocol.now lane;
-          zone = P.lane_zone protocol.now lane;
-        }) (P.candidates protocol.now)) }
+    ensures { IfOk result (IsLane (P.routes protocol.now) lane (P.candidates protocol.now)) }
 {
     let Ok(count) = u32::try_from(protocol.candidates()) else {
         return Err(OutOfMemory);
@@ -83,15 +67,7 @@ fn decisions_at<P: Protocol>(
 ) -> Result<Vec<Decision>, OutOfMemory>
     requires lane { lane < P.lanes protocol.now }
     requires places { All (λ place. place < length (P.candidates protocol.now)) places.now }
-    ensures { IfOk result (λ decisions. AreDecided (record {
-      routers = P.routers protocol.now;
-      zones = P.zones protocol.now;
-      entry = P.entry protocol.now;
-      reach = P.reach protocol.now;
-      in_lane = P.in_lane protocol.now lane;
-      zone = P.lane_zone protocol.now lane;
-    })
-        (P.candidates protocol.now) places.now (length places.now) decisions.items) }
+    ensures { IfOk result (λ decisions. AreDecided (DecidesFor (P.routes protocol.now) lane) (P.candidates protocol.now) places.now (length places.now) decisions.items) }
 {
     let mut decisions = Vec::with_capacity(alloc, places.len())?;
     for place in places {
@@ -111,9 +87,9 @@ fn kind_at<P: Protocol>(
 ) -> Result<u32, OutOfMemory>
     requires lane { lane < P.lanes protocol.now }
     requires place { place < length (P.candidates protocol.now) }
-    requires kinds { AreKinds (AreAlikeFor (P.in_lane protocol.now lane) (P.entry protocol.now)) (P.candidates protocol.now)
+    requires kinds { AreKinds (AreAlikeInLane (P.routes protocol.now) lane) (P.candidates protocol.now)
         place kinds.now firsts.old.items }
-    ensures { IfOk result (λ kind. AreKinds (AreAlikeFor (P.in_lane protocol.now lane) (P.entry protocol.now)) (P.candidates protocol.now)
+    ensures { IfOk result (λ kind. AreKinds (AreAlikeInLane (P.routes protocol.now) lane) (P.candidates protocol.now)
         (place + 1) (kinds.now ++ kind ∷ []) firsts.new.items) }
 {
     if let Some(earlier) = protocol.alike(lane, place as usize) {

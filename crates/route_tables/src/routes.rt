@@ -31,7 +31,7 @@ impl Model for RouteTables {
 impl RouteTables {
     /// The tables of all routers.
     pub fn build<P: Protocol>(alloc: Global, protocol: &P) -> Result<RouteTables, OutOfMemory>
-        ensures { IfOk result (AreRoutes (P.routers protocol.now) (P.entry protocol.now) (P.neighbor protocol.now)) }
+        ensures { IfOk result (AreRoutes (P.routes protocol.now).routers (P.routes protocol.now).entry (P.neighbor protocol.now)) }
     {
         let tables = all_tables(alloc, protocol)?;
         let segments = protocol.segments(alloc)?;

@@ -1,4 +1,5 @@
 ghost use Rattle.std.specs.Prelude.{◌≡◌, ◌<◌, IfOk, IfSome, OnOk, length};
+ghost use Rattle.route_tables.specs.Lanes.{DecidesFor};
 ghost use Rattle.route_tables.specs.Prefixes.{prefix_at};
 ghost use Rattle.route_tables.specs.Routings.{AreHopsTo, HasZoneTarget, IsEntryTo, IsReached, IsZoneTarget, Makes};
 ghost use Rattle.route_tables.specs.steps.Kinds.{IsToldLane, first_prefix_of};
@@ -33,18 +34,11 @@ pub(crate) fn router_lane<'a, P: Protocol>(
     lane: usize,
     own: &'a LaneKinds,
 ) -> RouterLane<'a>
-    requires router { router < P.routers protocol.now }
+    requires router { router < (P.routes protocol.now).routers }
     requires lane { lane < P.lanes protocol.now }
-    requires in_lane { P.in_lane protocol.now lane router }
-    requires told { IsToldLane (record {
-      routers = P.routers protocol.now;
-      zones = P.zones protocol.now;
-      entry = P.entry protocol.now;
-      reach = P.reach protocol.now;
-      in_lane = P.in_lane protocol.now lane;
-      zone = P.lane_zone protocol.now lane;
-    }) (P.candidates protocol.now) own.now }
-    ensures lane { IsRouterLane (P.routers protocol.now) router (P.entry protocol.now router) (P.candidates protocol.now) result }
+    requires in_lane { (P.routes protocol.now).in_lane lane router }
+    requires told { IsToldLane (DecidesFor (P.routes protocol.now) lane) (P.candidates protocol.now) own.now }
+    ensures lane { IsRouterLane (P.routes protocol.now) router (P.candidates protocol.now) result }
     ensures firsts { result.firsts.now ≡ own.now.firsts.items }
 {
     RouterLane {
@@ -56,9 +50,9 @@ pub(crate) fn router_lane<'a, P: Protocol>(
 
 /// The least walks of a router in the zone of its lane, where what decides is known there.
 fn lane_walks<P: Protocol>(protocol: &P, router: u32, lane: usize) -> Option<&LeastWalks>
-    requires router { router < P.routers protocol.now }
+    requires router { router < (P.routes protocol.now).routers }
     requires lane { lane < P.lanes protocol.now }
-    ensures { IfSome result (λ walks. walks.now ≡ P.reach protocol.now router (P.lane_zone protocol.now lane)) }
+    ensures { IfSome result (λ walks. walks.now ≡ (P.routes protocol.now).reach router ((P.routes protocol.now).lane_zone lane)) }
 {
     let zone = protocol.zone_of_lane(lane)?;
     Some(protocol.walks(router, zone))
@@ -73,8 +67,8 @@ pub(crate) fn sure_at<P: Protocol>(
     kind: usize,
 ) -> Sure
     requires kind { kind < length lane.firsts.now }
-    requires lane { IsRouterLane (P.routers protocol.now) router (P.entry protocol.now router) (P.candidates protocol.now) lane }
-    ensures { IsSure (P.routers protocol.now) (P.entry protocol.now router (first_prefix_of (P.candidates protocol.now) lane.entry.firsts.now kind)) result }
+    requires lane { IsRouterLane (P.routes protocol.now) router (P.candidates protocol.now) lane }
+    ensures { IsSure (P.routes protocol.now).routers ((P.routes protocol.now).entry router (first_prefix_of (P.candidates protocol.now) lane.entry.firsts.now kind)) result }
 {
     let Some(walks) = lane.walks else {
         return Sure::Unknown;
@@ -95,12 +89,12 @@ pub(crate) fn number_asked<P: Protocol>(
     pool: &mut Pool,
     place: usize,
 ) -> Result<Number, OutOfMemory>
-    requires router { router < P.routers protocol.now }
+    requires router { router < (P.routes protocol.now).routers }
     requires place { place < length (P.candidates protocol.now) }
-    requires known { AreShared (P.reach protocol.now router) (P.routers protocol.now) pool.old }
-    ensures known { OnOk result (AreShared (P.reach protocol.now router) (P.routers protocol.now) pool.new) }
+    requires known { AreShared (P.routes protocol.now) router pool.old }
+    ensures known { OnOk result (AreShared (P.routes protocol.now) router pool.new) }
     ensures kept { OnOk result (KeepsMore pool.old pool.new) }
-    ensures number { IfOk result (IsNumberOf (P.entry protocol.now router (prefix_at (P.candidates protocol.now) place)) pool.new.entries.items) }
+    ensures number { IfOk result (IsNumberOf ((P.routes protocol.now).entry router (prefix_at (P.candidates protocol.now) place)) pool.new.entries.items) }
 {
     if let Some(target) = protocol.target(place, router) {
         let number = number_towards(alloc, protocol, router, pool, target)?;
@@ -121,12 +115,12 @@ fn number_of<P: Protocol>(
     pool: &mut Pool,
     route: Route,
 ) -> Result<u32, OutOfMemory>
-    requires router { router < P.routers protocol.now }
-    requires target { HasZoneTarget (P.reach protocol.now router) (P.zones protocol.now) route }
-    requires known { AreShared (P.reach protocol.now router) (P.routers protocol.now) pool.old }
-    ensures known { OnOk result (AreShared (P.reach protocol.now router) (P.routers protocol.now) pool.new) }
+    requires router { router < (P.routes protocol.now).routers }
+    requires target { HasZoneTarget ((P.routes protocol.now).reach router) (P.routes protocol.now).zones route }
+    requires known { AreShared (P.routes protocol.now) router pool.old }
+    ensures known { OnOk result (AreShared (P.routes protocol.now) router pool.new) }
     ensures kept { OnOk result (KeepsMore pool.old pool.new) }
-    ensures number { IfOk result (HasNumber (Makes (P.reach protocol.now router) (P.routers protocol.now) route) pool.new.entries.items) }
+    ensures number { IfOk result (HasNumber (Makes ((P.routes protocol.now).reach router) (P.routes protocol.now).routers route) pool.new.entries.items) }
 {
     match route {
         Route::Drops => pool.keep(Entry::Discard),
@@ -144,12 +138,12 @@ fn number_towards<P: Protocol>(
     pool: &mut Pool,
     target: Target,
 ) -> Result<u32, OutOfMemory>
-    requires router { router < P.routers protocol.now }
-    requires target { IsZoneTarget (P.reach protocol.now router) (P.zones protocol.now) target }
-    requires known { AreShared (P.reach protocol.now router) (P.routers protocol.now) pool.old }
-    ensures known { OnOk result (AreShared (P.reach protocol.now router) (P.routers protocol.now) pool.new) }
+    requires router { router < (P.routes protocol.now).routers }
+    requires target { IsZoneTarget ((P.routes protocol.now).reach router) (P.routes protocol.now).zones target }
+    requires known { AreShared (P.routes protocol.now) router pool.old }
+    ensures known { OnOk result (AreShared (P.routes protocol.now) router pool.new) }
     ensures kept { OnOk result (KeepsMore pool.old pool.new) }
-    ensures number { IfOk result (HasNumber (IsEntryTo (P.reach protocol.now router target.zone) target.at (P.routers protocol.now)) pool.new.entries.items) }
+    ensures number { IfOk result (HasNumber (IsEntryTo ((P.routes protocol.now).reach router target.zone) target.at (P.routes protocol.now).routers) pool.new.entries.items) }
 {
     match only_hop(protocol.walks(router, target.zone), target.at) {
         Some(hop) if hop < protocol.routers() => Ok(hop),
@@ -167,12 +161,12 @@ fn number_over<P: Protocol>(
     pool: &mut Pool,
     target: Target,
 ) -> Result<u32, OutOfMemory>
-    requires router { router < P.routers protocol.now }
-    requires target { IsZoneTarget (P.reach protocol.now router) (P.zones protocol.now) target }
-    requires known { AreShared (P.reach protocol.now router) (P.routers protocol.now) pool.old }
-    ensures known { OnOk result (AreShared (P.reach protocol.now router) (P.routers protocol.now) pool.new) }
+    requires router { router < (P.routes protocol.now).routers }
+    requires target { IsZoneTarget ((P.routes protocol.now).reach router) (P.routes protocol.now).zones target }
+    requires known { AreShared (P.routes protocol.now) router pool.old }
+    ensures known { OnOk result (AreShared (P.routes protocol.now) router pool.new) }
     ensures kept { OnOk result (KeepsMore pool.old pool.new) }
-    ensures number { IfOk result (HasNumber (IsEntryTo (P.reach protocol.now router target.zone) target.at (P.routers protocol.now)) pool.new.entries.items) }
+    ensures number { IfOk result (HasNumber (IsEntryTo ((P.routes protocol.now).reach router target.zone) target.at (P.routes protocol.now).routers) pool.new.entries.items) }
 {
     if let Some(number) = pool.known_number(target) {
         return Ok(number);

@@ -3,6 +3,7 @@ ghost use Rattle.net_addr.specs.Addresses.{Block};
 ghost use Rattle.route_core.specs.declared.entry.Entry.{Entry as EntryValue};
 ghost use Rattle.route_core.specs.Rows.{IsTable, listed};
 ghost use Rattle.route_tables.specs.Entries.{AreSameEntries, AreTablesBelow, IsLawful};
+ghost use Rattle.route_tables.specs.Lanes.{DecidesFor};
 ghost use Rattle.route_tables.specs.Prefixes.{AreDistinctPrefixes};
 ghost use Rattle.route_tables.specs.steps.Kinds.{AreLaneKinds, IsToldLane, first_prefix_of};
 ghost use Rattle.route_tables.specs.steps.Sharing.{AreNumbers, AreOverOne, AreRouterNumbers, AreShared, IsNumberOf, IsRouterLane, KeepsMore, kept_with};
@@ -28,9 +29,9 @@ struct RouterNumbers {
 
 /// The tables of all routers.
 pub fn all_tables<P: Protocol>(alloc: Global, protocol: &P) -> Result<Vec<Table>, OutOfMemory>
-    ensures tables { IfOk result (λ tables. AreTablesBelow (P.entry protocol.now) (P.routers protocol.now) (map listed tables.items)) }
+    ensures tables { IfOk result (λ tables. AreTablesBelow (P.routes protocol.now).entry (P.routes protocol.now).routers (map listed tables.items)) }
     ensures prefixes { IfOk result (λ tables. All (λ kept. kept.prefixes ≡ P.candidates protocol.now) tables.items) }
-    ensures lawful { IsLawful (P.routers protocol.now) (P.entry protocol.now) (P.neighbor protocol.now) }
+    ensures lawful { IsLawful (P.routes protocol.now).routers (P.routes protocol.now).entry (P.neighbor protocol.now) }
 {
     let routers = protocol.routers();
     let prefixes = prefixes_of(alloc, protocol)?;
@@ -49,7 +50,7 @@ pub fn all_tables<P: Protocol>(alloc: Global, protocol: &P) -> Result<Vec<Table>
 fn prefixes_of<P: Protocol>(alloc: Global, protocol: &P) -> Result<Vec<Prefix>, OutOfMemory>
     ensures prefixes { IfOk result (λ prefixes. prefixes.items ≡ P.candidates protocol.now) }
     ensures distinct { AreDistinctPrefixes (P.candidates protocol.now) }
-    ensures every { (u : ℕ) (p : Block) (e : EntryValue) → u < P.routers protocol.now → P.entry protocol.now u p e → Contains (P.candidates protocol.now) p }
+    ensures every { (u : ℕ) (p : Block) (e : EntryValue) → u < (P.routes protocol.now).routers → (P.routes protocol.now).entry u p e → Contains (P.candidates protocol.now) p }
 {
     let mut prefixes = Vec::with_capacity(alloc, protocol.candidates())?;
     for place in 0..protocol.candidates() {
@@ -89,21 +90,14 @@ fn router_numbers<P: Protocol>(
     own: &LaneKinds,
     pool: &mut Pool,
 ) -> Result<RouterNumbers, OutOfMemory>
-    requires router { router < P.routers protocol.now }
+    requires router { router < (P.routes protocol.now).routers }
     requires lane { lane < P.lanes protocol.now }
-    requires in_lane { P.in_lane protocol.now lane router }
-    requires kinds { AreLaneKinds (AreSameEntries (P.entry protocol.now router)) (P.candidates protocol.now) own.now }
-    requires told { IsToldLane (record {
-      routers = P.routers protocol.now;
-      zones = P.zones protocol.now;
-      entry = P.entry protocol.now;
-      reach = P.reach protocol.now;
-      in_lane = P.in_lane protocol.now lane;
-      zone = P.lane_zone protocol.now lane;
-    }) (P.candidates protocol.now) own.now }
-    requires single { AreOverOne (P.routers protocol.now) pool.old.entries.items }
+    requires in_lane { (P.routes protocol.now).in_lane lane router }
+    requires kinds { AreLaneKinds (AreSameEntries ((P.routes protocol.now).entry router)) (P.candidates protocol.now) own.now }
+    requires told { IsToldLane (DecidesFor (P.routes protocol.now) lane) (P.candidates protocol.now) own.now }
+    requires single { AreOverOne (P.routes protocol.now).routers pool.old.entries.items }
     ensures kept { OnOk result (KeepsMore pool.old pool.new) }
-    ensures numbers { IfOk result (AreRouterNumbers (P.entry protocol.now router) (P.candidates protocol.now) pool.new.entries.items) }
+    ensures numbers { IfOk result (AreRouterNumbers ((P.routes protocol.now).entry router) (P.candidates protocol.now) pool.new.entries.items) }
 {
     let kinds = own.kinds.clone()?;
     let lane = router_lane(protocol, router, lane, own);
@@ -121,12 +115,12 @@ fn numbers_at<P: Protocol>(
     lane: RouterLane<'_>,
     pool: &mut Pool,
 ) -> Result<Vec<Number>, OutOfMemory>
-    requires router { router < P.routers protocol.now }
+    requires router { router < (P.routes protocol.now).routers }
     requires places { All (λ place. place < length (P.candidates protocol.now)) lane.firsts.now }
-    requires lane { IsRouterLane (P.routers protocol.now) router (P.entry protocol.now router) (P.candidates protocol.now) lane }
-    requires single { AreOverOne (P.routers protocol.now) pool.old.entries.items }
+    requires lane { IsRouterLane (P.routes protocol.now) router (P.candidates protocol.now) lane }
+    requires single { AreOverOne (P.routes protocol.now).routers pool.old.entries.items }
     ensures kept { OnOk result (KeepsMore pool.old pool.new) }
-    ensures numbers { IfOk result (λ numbers. AreNumbers (λ kind. P.entry protocol.now router (first_prefix_of (P.candidates protocol.now) lane.entry.firsts.now kind))
+    ensures numbers { IfOk result (λ numbers. AreNumbers (λ kind. (P.routes protocol.now).entry router (first_prefix_of (P.candidates protocol.now) lane.entry.firsts.now kind))
         (length lane.entry.firsts.now) pool.new.entries.items numbers.items) }
 {
     pool.begin_table(alloc, protocol.routers())?;
@@ -149,14 +143,14 @@ fn number_at<P: Protocol>(
     pool: &mut Pool,
     kind: usize,
 ) -> Result<Number, OutOfMemory>
-    requires router { router < P.routers protocol.now }
+    requires router { router < (P.routes protocol.now).routers }
     requires kind { kind < length lane.firsts.now }
     requires places { All (λ place. place < length (P.candidates protocol.now)) lane.firsts.now }
-    requires lane { IsRouterLane (P.routers protocol.now) router (P.entry protocol.now router) (P.candidates protocol.now) lane }
-    requires known { AreShared (P.reach protocol.now router) (P.routers protocol.now) pool.old }
-    ensures known { OnOk result (AreShared (P.reach protocol.now router) (P.routers protocol.now) pool.new) }
+    requires lane { IsRouterLane (P.routes protocol.now) router (P.candidates protocol.now) lane }
+    requires known { AreShared (P.routes protocol.now) router pool.old }
+    ensures known { OnOk result (AreShared (P.routes protocol.now) router pool.new) }
     ensures kept { OnOk result (KeepsMore pool.old pool.new) }
-    ensures number { IfOk result (IsNumberOf (P.entry protocol.now router (first_prefix_of (P.candidates protocol.now) lane.entry.firsts.now kind)) pool.new.entries.items) }
+    ensures number { IfOk result (IsNumberOf ((P.routes protocol.now).entry router (first_prefix_of (P.candidates protocol.now) lane.entry.firsts.now kind)) pool.new.entries.items) }
 {
     match sure_at(protocol, router, lane, kind) {
         Sure::Nothing => Ok(Number::none()),

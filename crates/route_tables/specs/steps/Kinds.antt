@@ -1,8 +1,9 @@
 -- Kinds of prefixes: those of one kind have the same entries as the first of them.
 use Rattle.std.specs.Prelude.{◌≡◌, ◌<◌, ℕ, List, length, All, slice_index_or}
 use Rattle.net_addr.specs.Addresses.{Block}
-use Rattle.route_tables.specs.Lanes.{DecidesFor, LaneRoutes}
+use Rattle.route_tables.specs.Lanes.{DecidesFor}
 use Rattle.route_tables.specs.Prefixes.{prefix_at}
+use Rattle.route_tables.specs.Protocols.{AreAlikeInLane, ProtocolRoutes}
 use Rattle.route_tables.specs.declared.kinds.LaneKinds.{LaneKinds}
 use Rattle.route_tables.specs.declared.lane.Decision.{Decision}
 use Rattle.route_tables.specs.declared.lane.Decision.TheVariants.{Unknown}
@@ -22,21 +23,21 @@ pub record AreKinds (alike : Block → Block → Type 0) (dests : List Block) (k
 abbrev pub AreLaneKinds : (Block → Block → Type 0) → List Block → LaneKinds → Type 0
 AreLaneKinds alike dests own = AreKinds alike dests (length dests) own.kinds.value.items own.firsts.items
 
--- what decides in a lane for the first prefixes of the kinds below k
-pub record AreDecided (lane : LaneRoutes) (dests : List Block) (firsts : List ℕ) (k : ℕ) (decisions : List Decision) : Type 0 where
+-- what decides for the first prefixes of the kinds below k
+pub record AreDecided (decides : Block → Decision → Type 0) (dests : List Block) (firsts : List ℕ) (k : ℕ) (decisions : List Decision) : Type 0 where
   pub count : length decisions ≡ k
-  pub each : (kind : ℕ) → kind < k → DecidesFor lane (first_prefix_of dests firsts kind) (slice_index_or decisions kind Unknown)
+  pub each : (kind : ℕ) → kind < k → decides (first_prefix_of dests firsts kind) (slice_index_or decisions kind Unknown)
 
 -- what decides for the first prefix of each kind
-abbrev pub IsToldLane : LaneRoutes → List Block → LaneKinds → Type 0
-IsToldLane lane dests own = AreDecided lane dests own.firsts.items (length own.firsts.items) own.decisions.items
+abbrev pub IsToldLane : (Block → Decision → Type 0) → List Block → LaneKinds → Type 0
+IsToldLane decides dests own = AreDecided decides dests own.firsts.items (length own.firsts.items) own.decisions.items
 
 -- the kinds of all prefixes in a lane, and what decides for each
-pub record IsLane (alike : Block → Block → Type 0) (told : LaneRoutes) (dests : List Block) (own : LaneKinds) : Type 0 where
-  pub kinds : AreLaneKinds alike dests own
-  pub decided : IsToldLane told dests own
+pub record IsLane (routes : ProtocolRoutes) (lane : ℕ) (dests : List Block) (own : LaneKinds) : Type 0 where
+  pub kinds : AreLaneKinds (AreAlikeInLane routes lane) dests own
+  pub decided : IsToldLane (DecidesFor routes lane) dests own
 
 -- each of so many lanes is so
-pub record AreLanesBelow (alike : ℕ → Block → Block → Type 0) (told : ℕ → LaneRoutes) (dests : List Block) (lanes : ℕ) (all : List LaneKinds) : Type 0 where
+pub record AreLanesBelow (routes : ProtocolRoutes) (dests : List Block) (lanes : ℕ) (all : List LaneKinds) : Type 0 where
   pub count : length all ≡ lanes
-  pub each : (lane : ℕ) (own : LaneKinds) → lane < lanes → IsLane (alike lane) (told lane) dests (slice_index_or all lane own)
+  pub each : (lane : ℕ) (own : LaneKinds) → lane < lanes → IsLane routes lane dests (slice_index_or all lane own)

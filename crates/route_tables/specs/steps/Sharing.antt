@@ -6,6 +6,7 @@ use Rattle.route_core.specs.Rows.{KeptTable}
 use Rattle.route_core.specs.declared.entry.Entry.{Entry}
 use Rattle.route_core.specs.declared.entry.Entry.TheVariants.{Via, Discard}
 use Rattle.route_tables.specs.Entries.{AreSameEntries}
+use Rattle.route_tables.specs.Protocols.{ProtocolRoutes}
 use Rattle.route_tables.specs.Routings.{IsEntryTo}
 use Rattle.route_tables.specs.declared.lane.Decision.TheVariants.{Unknown}
 use Rattle.route_tables.specs.declared.pool.Known.{Known}
@@ -34,10 +35,10 @@ abbrev pub AreKnown : (ℕ → Reach) → ℕ → List Entry → List (Option Kn
 AreKnown reach n entries all =
     (at : ℕ) (known : Known) → slice_index_or all at None ≡ Some known → HasNumber (IsEntryTo (reach known.zone) at n) entries known.number
 
--- the numbers of entries that a table knows, towards vertices and over one hop
-pub record AreShared (reach : ℕ → Reach) (n : ℕ) (pool : Pool) : Type 0 where
-  pub known : AreKnown reach n pool.entries.items pool.known.items
-  pub single : AreOverOne n pool.entries.items
+-- the numbers of entries that the table of router u knows, towards vertices and over one hop
+pub record AreShared (routes : ProtocolRoutes) (u : ℕ) (pool : Pool) : Type 0 where
+  pub known : AreKnown (routes.reach u) routes.routers pool.entries.items pool.known.items
+  pub single : AreOverOne routes.routers pool.entries.items
 
 -- these are the numbers of the entries that are wanted for the kinds below k
 pub record AreNumbers (wanted : ℕ → Entry → Type 0) (k : ℕ) (entries : List Entry) (numbers : List (Option ℕ)) : Type 0 where
@@ -55,10 +56,11 @@ pub record Keeps (old new : Pool) (entry : Entry) (number : ℕ) : Type 0 where
   pub entries : new.entries.items ≡ old.entries.items ++ entry ∷ []
   pub known : new.known.items ≡ old.known.items
 
--- what the lane tells of router u, with hops below n, is so of the router's entries for the first prefix of each kind
-abbrev pub IsRouterLane : ℕ → ℕ → (Block → Entry → Type 0) → List Block → RouterLane → Type 0
-IsRouterLane n u entry dests lane = IfSome lane.walks (λ walks. (kind : ℕ) (sure : Sure) → kind < length lane.firsts.now →
-    Tells walks.now n u (slice_index_or lane.decisions.now kind Unknown) sure → IsSure n (entry (first_prefix_of dests lane.firsts.now kind)) sure)
+-- what the lane tells of router u is so of the router's entries for the first prefix of each kind
+abbrev pub IsRouterLane : ProtocolRoutes → ℕ → List Block → RouterLane → Type 0
+IsRouterLane routes u dests lane = IfSome lane.walks (λ walks. (kind : ℕ) (sure : Sure) → kind < length lane.firsts.now →
+    Tells walks.now routes.routers u (slice_index_or lane.decisions.now kind Unknown) sure →
+    IsSure routes.routers (routes.entry u (first_prefix_of dests lane.firsts.now kind)) sure)
 
 -- these are the numbers of a router's entries, for kinds of prefixes that are alike for it
 pub record AreRouterNumbers (entry : Block → Entry → Type 0) (dests : List Block) (entries : List Entry) (own : RouterNumbers) : Type 0 where

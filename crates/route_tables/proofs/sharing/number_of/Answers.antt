@@ -4,10 +4,10 @@ use Rattle.route_tables.proofs.sharing.number_of.Goals as goal
 
 pub returns-in-Drops-clause-known : goal.returns-in-Drops-clause-known
 returns-in-Drops-clause-known g c =
-    shared_where_kept (g.P.Protocol.reach c.args.protocol.now c.args.router) (g.P.Protocol.routers c.args.protocol.now) c.args.pool.now _ Discard
+    shared_where_kept (g.P.Protocol.routes c.args.protocol.now) c.args.router c.args.pool.now _ Discard
     c.keep.result c.keep.ensures c.requires.known
 
 pub returns-in-Through-clause-known : goal.returns-in-Through-clause-known
 returns-in-Through-clause-known g c =
-    shared_where_more (g.P.Protocol.reach c.args.protocol.now c.args.router) (g.P.Protocol.routers c.args.protocol.now) c.args.pool.now
+    shared_where_more (g.P.Protocol.routes c.args.protocol.now) c.args.router c.args.pool.now
     c.number_through.new.pool c.number_through.result c.number_through.ensures.kept c.number_through.ensures.known c.requires.known

@@ -1,6 +1,7 @@
 use Rattle.std.proofs.Common.{ℕ, List, sym, subst}
 use Rattle.walk_core.specs.Reach.{Reach}
 use Rattle.route_core.specs.declared.entry.Entry.{Entry}
+use Rattle.route_tables.specs.Protocols.{ProtocolRoutes}
 use Rattle.route_tables.specs.Routings.{AreHopsTo, IsEntryTo}
 use Rattle.route_tables.specs.declared.pool.Known.{Known}
 use Rattle.route_tables.specs.steps.Sharing.{AreKnown, AreOverOne, AreShared, HasNumber}
@@ -13,13 +14,15 @@ returns-in-Some-clause-number g c =
 
 pub returns-clause-known : goal.returns-clause-known
 returns-clause-known g c =
-    let reach : ℕ → Reach = g.P.Protocol.reach c.args.protocol.now c.args.router in
-    let n : ℕ = g.P.Protocol.routers c.args.protocol.now in
+    let routes : ProtocolRoutes = g.P.Protocol.routes c.args.protocol.now in
+    let u : ℕ = c.args.router in
+    let reach : ℕ → Reach = routes.reach u in
+    let n : ℕ = routes.routers in
     let target = c.args.target in
     let mid = c.number_through.new.pool in
     let through = c.in_ok-number.ensures in
     let hops = c.in_ok-hops.hops in
-    let shared : AreShared reach n mid = shared_kept reach n c.args.pool.now mid through.kept.more through.kept.entries through.known c.requires.known in
+    let shared : AreShared routes u mid = shared_kept routes u c.args.pool.now mid through.kept.more through.kept.entries through.known c.requires.known in
     let known : Known = record { zone = target.zone; number = c.in_ok-number.number } in
     let has : HasNumber (IsEntryTo (reach target.zone) target.at n) mid.entries.items known.number = record {
       below = through.number.below;

@@ -4,10 +4,11 @@ use Rattle.std.proofs.lemmas.Result.{IfOk-weaker}
 use Rattle.net_addr.specs.Addresses.{Block}
 use Rattle.route_core.specs.Rows.{IsTable, KeptTable, listed}
 use Rattle.route_core.specs.declared.entry.Entry.{Entry}
-use Rattle.route_tables.specs.Entries.{AreAlikeFor, AreTablesBelow}
+use Rattle.route_tables.specs.Entries.{AreTablesBelow}
 use Rattle.route_tables.specs.declared.kinds.LaneKinds.{LaneKinds}
 use Rattle.route_tables.specs.declared.table.RouterNumbers.{RouterNumbers}
-use Rattle.route_tables.specs.Lanes.{LaneRoutes}
+use Rattle.route_tables.specs.Lanes.{DecidesFor}
+use Rattle.route_tables.specs.Protocols.{AreAlikeInLane, ProtocolRoutes}
 use Rattle.route_tables.specs.steps.Kinds.{AreLaneKinds, IsToldLane}
 use Rattle.route_tables.specs.steps.Sharing.{AreOverOne, AreRouterNumbers, AreRouterNumbersBelow, kept_with}
 use Rattle.route_tables.proofs.SharingLaws.{over_one_kept}
@@ -16,30 +17,19 @@ use Rattle.route_tables.proofs.table.all_tables.Goals as goal
 
 pub router_numbers-requires-clause-kinds : goal.router_numbers-requires-clause-kinds
 router_numbers-requires-clause-kinds g c =
-    let protocol = c.args.protocol.now in
-    let entry : ℕ → Block → Entry → Type 0 = g.P.Protocol.entry protocol in
-    let dests : List Block = g.P.Protocol.candidates protocol in
+    let routes : ProtocolRoutes = g.P.Protocol.routes c.args.protocol.now in
+    let dests : List Block = g.P.Protocol.candidates c.args.protocol.now in
     let lane : ℕ = c.lane-lane.result in
     let own : LaneKinds = c.index.result.now in
     let are = (c.in_ok-lanes.ensures.each lane own c.lane-lane.ensures.below).kinds in
-    kinds_for (g.P.Protocol.in_lane protocol lane) entry dests (length dests) own.kinds.value.items own.firsts.items c.loop-router.router c.lane-lane.ensures.is
-    (subst (AreLaneKinds (AreAlikeFor (g.P.Protocol.in_lane protocol lane) entry) dests) (sym c.index.ensures) are)
+    kinds_for routes lane dests (length dests) own.kinds.value.items own.firsts.items c.loop-router.router c.lane-lane.ensures.is
+    (subst (AreLaneKinds (AreAlikeInLane routes lane) dests) (sym c.index.ensures) are)
 
 pub router_numbers-requires-clause-told : goal.router_numbers-requires-clause-told
 router_numbers-requires-clause-told g c =
-    let protocol = c.args.protocol.now in
     let lane : ℕ = c.lane-lane.result in
-    let own : LaneKinds = c.index.result.now in
-    let told : LaneRoutes = record {
-      routers = g.P.Protocol.routers protocol;
-      zones = g.P.Protocol.zones protocol;
-      entry = g.P.Protocol.entry protocol;
-      reach = g.P.Protocol.reach protocol;
-      in_lane = g.P.Protocol.in_lane protocol lane;
-      zone = g.P.Protocol.lane_zone protocol lane;
-    } in
-    subst (IsToldLane told (g.P.Protocol.candidates protocol)) (sym c.index.ensures)
-    (c.in_ok-lanes.ensures.each lane own c.lane-lane.ensures.below).decided
+    subst (IsToldLane (DecidesFor (g.P.Protocol.routes c.args.protocol.now) lane) (g.P.Protocol.candidates c.args.protocol.now)) (sym c.index.ensures)
+    (c.in_ok-lanes.ensures.each lane c.index.result.now c.lane-lane.ensures.below).decided
 
 pub loop-router-init : goal.loop-router-init
 loop-router-init g c = record {
@@ -50,11 +40,11 @@ loop-router-init g c = record {
 pub loop-router-preserved : goal.loop-router-preserved
 loop-router-preserved g c =
     let protocol = c.args.protocol.now in
-    let entry : ℕ → Block → Entry → Type 0 = g.P.Protocol.entry protocol in
+    let entry : ℕ → Block → Entry → Type 0 = (g.P.Protocol.routes protocol).entry in
     let dests : List Block = g.P.Protocol.candidates protocol in
     let before = c.loop-router in
     let router : ℕ = before.router in
-    let n : ℕ = g.P.Protocol.routers protocol in
+    let n : ℕ = (g.P.Protocol.routes protocol).routers in
     let own : RouterNumbers = c.in_ok-numbers.numbers in
     let kept = c.in_ok-numbers.ensures.kept in
     let old : List Entry = before.pool.entries.items in
@@ -71,15 +61,15 @@ tables_over-requires g c =
     let last = c.loop-router in
     let entries : List Entry = last.pool.entries.items in
     subst (λ (l : List Block). All (λ (own : RouterNumbers). IsTable (kept_with l entries own)) last.all.items) (sym c.in_ok-prefixes.ensures.prefixes)
-    (all_are_tables last.router (g.P.Protocol.entry c.args.protocol.now) (g.P.Protocol.candidates c.args.protocol.now) entries last.all.items
+    (all_are_tables last.router (g.P.Protocol.routes c.args.protocol.now).entry (g.P.Protocol.candidates c.args.protocol.now) entries last.all.items
     c.prefixes_of.ensures.distinct last.invariant.numbers)
 
 pub returns-clause-tables : goal.returns-clause-tables
 returns-clause-tables g c =
     let protocol = c.args.protocol.now in
-    let entry : ℕ → Block → Entry → Type 0 = g.P.Protocol.entry protocol in
+    let entry : ℕ → Block → Entry → Type 0 = (g.P.Protocol.routes protocol).entry in
     let dests : List Block = g.P.Protocol.candidates protocol in
-    let n : ℕ = g.P.Protocol.routers protocol in
+    let n : ℕ = (g.P.Protocol.routes protocol).routers in
     let last = c.loop-router in
     let entries : List Entry = last.pool.entries.items in
     let count : last.router ≡ n = omega (arith, last.auto.router-end, c.routers-routers.ensures.count) in

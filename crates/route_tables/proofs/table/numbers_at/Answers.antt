@@ -9,7 +9,7 @@ pub loop-kind-preserved : goal.loop-kind-preserved
 loop-kind-preserved g c =
     let protocol = c.args.protocol.now in
     let wanted : ℕ → Entry → Type 0 =
-    λ kind. g.P.Protocol.entry protocol c.args.router (first_prefix_of (g.P.Protocol.candidates protocol) c.args.lane.firsts.now kind) in
+    λ kind. (g.P.Protocol.routes protocol).entry c.args.router (first_prefix_of (g.P.Protocol.candidates protocol) c.args.lane.firsts.now kind) in
     let before = c.loop-kind in
     let i : ℕ = before.kind in
     let number : Option ℕ = c.in_ok-number.number in

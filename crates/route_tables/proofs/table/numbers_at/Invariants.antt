@@ -6,10 +6,10 @@ use Rattle.route_tables.proofs.table.numbers_at.Given as goal
 
 abbrev pub invariant-loop-kind : goal.invariant-loop-kind
 invariant-loop-kind g l = record {
-  numbers : AreNumbers (λ (kind : ℕ). g.P.Protocol.entry l.protocol l.router
+  numbers : AreNumbers (λ (kind : ℕ). (g.P.Protocol.routes l.protocol).entry l.router
       (first_prefix_of (g.P.Protocol.candidates l.protocol) l.lane.firsts.now kind)) l.kind
       l.pool.entries.items l.numbers.items;
-  known : AreShared (g.P.Protocol.reach l.protocol l.router) (g.P.Protocol.routers l.protocol) l.pool;
+  known : AreShared (g.P.Protocol.routes l.protocol) l.router l.pool;
   room : length l.lane.firsts.now ≤ vec_capacity l.numbers;
   kept : KeepsMore l.initial.pool l.pool;
 }
