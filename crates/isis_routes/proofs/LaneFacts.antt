@@ -7,7 +7,7 @@ use Rattle.net_model.specs.Network.{Connected}
 use Rattle.walk_core.specs.declared.offers.Offer.{Offer}
 use Rattle.route_core.specs.declared.entry.Entry.{Entry}
 use Rattle.igp_theory.specs.Isis.{HasDownRoute, HasLevelOneRoute, HasLevelTwoRoute, IsisEntry}
-use Rattle.route_tables.specs.Lanes.{DecidesRoute, LeadToBest}
+use Rattle.route_tables.specs.Lanes.{DecidesAt, DecidesRoute, LeadToBest}
 use Rattle.route_tables.specs.declared.lane.Decision.{Decision}
 use Rattle.route_tables.specs.declared.lane.Decision.TheVariants.{Nothing, One as OneOffer, Two as TwoOffers, Unknown}
 use Rattle.route_tables.specs.declared.route.Route.TheVariants.{Towards}
@@ -15,11 +15,11 @@ use Rattle.route_tables.proofs.ListFacts.{any_in_one, any_in_two, the_one}
 use Rattle.isis_routes.specs.steps.Destinations.{HasAnnouncements}
 use Rattle.isis_routes.specs.steps.Domain.{IsisDomain, IsKnown}
 use Rattle.isis_routes.specs.steps.Homes.{AreRoutersAt}
-use Rattle.isis_routes.specs.steps.Lanes.{DecidesIn, IsDecisionAmong, IsDecisionBy, IsDecisionOf, IsInLane, MakesOne, made_at_homes, left_open, of_one, of_down, of_two, of_none}
+use Rattle.isis_routes.specs.steps.Lanes.{IsDecisionAmong, IsDecisionBy, IsDecisionOf, IsInLane, MakesOne, made_at_homes, left_open, of_one, of_down, of_two, of_none}
 use Rattle.isis_routes.specs.steps.LevelReach.{level_reach}
 use Rattle.isis_routes.specs.steps.Levels.{zone_number}
 use Rattle.isis_routes.specs.steps.Offered.{AreSmall}
-use Rattle.isis_routes.specs.steps.Routes.{IsIsisRoute, LeadIn}
+use Rattle.isis_routes.specs.steps.Routes.{IsIsisRoute, LeadIn, given_by_isis}
 use Rattle.isis_routes.specs.declared.destinations.Destination.{Destination}
 use Rattle.isis_routes.specs.declared.level.Level.{Level}
 use Rattle.isis_routes.specs.declared.level.Level.TheVariants.{One, Two}
@@ -59,8 +59,8 @@ decided u offers entry lead Unknown law is = tt
 decided_by : (domain : IsisDomain) (level : Level) (u : ℕ) (p : Block) (none : Type 0) (homes : List ℕ) (offers : List Offer) (decision : Decision) →
     AreRoutersAt domain.net p homes → IsDecisionBy homes offers decision →
     ((Connected domain.net u p → ⊥) → (given : List Offer) → AreAsGood given offers → LeadIn domain level u p none given) →
-    DecidesIn domain (zone_number level) u p decision
-decided_by domain level u p none homes offers decision are (left_open is) law = subst (DecidesIn domain (zone_number level) u p) (sym is) tt
+    DecidesAt (given_by_isis domain) (zone_number level) u p decision
+decided_by domain level u p none homes offers decision are (left_open is) law = subst (DecidesAt (given_by_isis domain) (zone_number level) u p) (sym is) tt
 decided_by domain level u p none homes offers decision are (made_at_homes at_home is) law =
     decided u offers (IsisEntry domain.net u p)
     (LeadToBest (level_reach domain.walks u (zone_number level)) (zone_number level) (length domain.net) (IsIsisRoute domain u p)) decision
@@ -70,7 +70,8 @@ decided_by domain level u p none homes offers decision are (made_at_homes at_hom
 
 -- a destination's decision decides the routes of the routers of the lane
 pub lane_decides : (domain : IsisDomain) (level : Level) (u : ℕ) (d : Destination) (decision : Decision) → IsKnown domain → HasAnnouncements domain.net d →
-    u < length domain.net → IsInLane domain.net level u → IsDecisionOf level d decision → DecidesIn domain (zone_number level) u d.one.dest decision
+    u < length domain.net → IsInLane domain.net level u → IsDecisionOf level d decision →
+    DecidesAt (given_by_isis domain) (zone_number level) u d.one.dest decision
 lane_decides domain One u d decision known has within lane (of_one _ by) =
     decided_by domain One u d.one.dest (HasLevelOneRoute domain.net d.one.dest u → ⊥) d.one.homes.items d.one.offers.items decision has.one.homes by
     (λ away given good. one_leads domain u d given known has within away lane.0 good)
@@ -85,7 +86,7 @@ lane_decides domain One u d decision is has within lane (of_two wrong empty by) 
 lane_decides domain Two u d decision is has within lane (of_one wrong by) = absurd (let no : Two ≡ One = wrong in cc)
 lane_decides domain Two u d decision is has within lane (of_down wrong empty by) = absurd (let no : Two ≡ One = wrong in cc)
 lane_decides domain level u d decision is has within lane (of_none open_is) =
-    subst (DecidesIn domain (zone_number level) u d.one.dest) (sym open_is) tt
+    subst (DecidesAt (given_by_isis domain) (zone_number level) u d.one.dest) (sym open_is) tt
 
 -- Decisions in the making
 

@@ -10,13 +10,14 @@ ghost use Rattle.isis_routes.specs.steps.LevelReach.{level_reach};
 ghost use Rattle.isis_routes.specs.steps.Levels.{zone_in, zone_number};
 ghost use Rattle.isis_routes.specs.steps.Offered.{AreSmall, HoldsOffers};
 ghost use Rattle.isis_routes.specs.steps.Routes.{IsBestIn};
-ghost use Rattle.isis_routes.specs.steps.Routing.{RunsBothLevels};
+ghost use Rattle.isis_routes.specs.steps.Routing.{AreLevelSegments, RunsBothLevels};
 
 use crate::OutOfMemory;
 use crate::attached::attached_routers;
 use crate::level::Level;
 use crate::level_walks::LevelWalks;
 use crate::runs::{leaking_routers, routers_of_both_levels, runs_level_one, runs_level_two};
+use crate::segments::LevelSegments;
 use net_model::Net;
 use route_tables::{Route, Target, best_route, best_target};
 use std::alloc::Global;
@@ -45,11 +46,16 @@ impl<'a> Model for Domain<'a> {
 }
 
 impl<'a> Domain<'a> {
-    /// What the routers of the network know.
-    pub fn build(alloc: Global, net: &'a Net) -> Result<Domain<'a>, OutOfMemory>
+    /// What the routers of the network know, which has these segments.
+    pub fn build(
+        alloc: Global,
+        net: &'a Net,
+        segments: &LevelSegments,
+    ) -> Result<Domain<'a>, OutOfMemory>
+        requires { AreLevelSegments net.now segments.now }
         ensures { IfOk result (λ domain. domain.net ≡ net.now) }
     {
-        let walks = LevelWalks::build(alloc, net)?;
+        let walks = LevelWalks::over(alloc, net, segments)?;
         let both = routers_of_both_levels(alloc, net)?;
         let leaking = leaking_routers(alloc, net)?;
         let attached = attached_routers(alloc, net, &walks.two, both.as_slice())?;

@@ -1,9 +1,10 @@
 ghost use Rattle.std.specs.Prelude.{◌≡◌, ◌<◌, length, IfOk};
 ghost use Rattle.isis_routes.specs.steps.LevelReach.{level_reach};
-ghost use Rattle.isis_routes.specs.steps.Routing.{AreLevelWalks};
+ghost use Rattle.isis_routes.specs.steps.Routing.{AreLevelSegments, AreLevelWalks};
 
 use crate::OutOfMemory;
-use net_model::{Net, Zone};
+use crate::segments::LevelSegments;
+use net_model::Net;
 use std::alloc::Global;
 use walk_core::LeastWalks;
 use zone_graph::ZoneWalks;
@@ -24,12 +25,17 @@ pub struct LevelWalks {
 }
 
 impl LevelWalks {
-    /// The least walks of the network in both levels.
-    pub fn build(alloc: Global, net: &Net) -> Result<LevelWalks, OutOfMemory>
-        ensures { IfOk result (λ walks. AreLevelWalks net.now walks) }
+    /// The least walks of the network in both levels, over the segments of these.
+    pub fn over(
+        alloc: Global,
+        net: &Net,
+        segments: &LevelSegments,
+    ) -> Result<LevelWalks, OutOfMemory>
+        requires { AreLevelSegments net.now segments.now }
+        ensures { IfOk result (AreLevelWalks net.now) }
     {
-        let one = ZoneWalks::build(alloc, net, Zone::One)?;
-        let two = ZoneWalks::build(alloc, net, Zone::Two)?;
+        let one = ZoneWalks::over(alloc, net, segments.one.as_slice())?;
+        let two = ZoneWalks::over(alloc, net, segments.two.as_slice())?;
         Ok(LevelWalks { one, two })
     }
 

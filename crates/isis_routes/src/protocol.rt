@@ -2,6 +2,7 @@ ghost use Rattle.std.specs.Prelude.{◌≡◌, ◌<◌, length, IfOk};
 ghost use Rattle.route_tables.specs.Prefixes.{prefix_at};
 ghost use Rattle.isis_routes.specs.steps.Destinations.{AreIsisDestinations, HasAnnouncements, isis_prefixes};
 ghost use Rattle.isis_routes.specs.steps.Domain.{IsKnown};
+ghost use Rattle.isis_routes.specs.steps.Routing.{AreLevelSegments};
 
 use crate::OutOfMemory;
 use crate::alike::{earlier_alike, named_at};
@@ -9,14 +10,14 @@ use crate::destinations::{Destination, destinations};
 use crate::domain::Domain;
 use crate::entry::route_of;
 use crate::lanes::{LANES, decision_of, lane_of_level, level_of_lane, router_level};
-use crate::segments::level_segments;
+use crate::segments::LevelSegments;
 use crate::target::target_of;
 use net_addr::Prefix;
 use net_model::Net;
 use route_tables::{Decision, Protocol, Route, Target};
 use std::alloc::Global;
 use std::marker::Model;
-use walk_core::{LeastWalks, Segment};
+use walk_core::LeastWalks;
 
 /// IS-IS on a network: what its routers know, also of each prefix that may have entries, and for each an earlier one with the
 /// same routes, where one is known.
@@ -38,11 +39,16 @@ impl<'a> Model for Isis<'a> {
 }
 
 impl<'a> Isis<'a> {
-    /// IS-IS on this network.
-    pub fn build(alloc: Global, net: &'a Net) -> Result<Isis<'a>, OutOfMemory>
+    /// IS-IS on this network, which has these segments.
+    pub fn build(
+        alloc: Global,
+        net: &'a Net,
+        segments: &LevelSegments,
+    ) -> Result<Isis<'a>, OutOfMemory>
+        requires { AreLevelSegments net.now segments.now }
         ensures { IfOk result (λ isis. isis.domain.net ≡ net.now) }
     {
-        let domain = Domain::build(alloc, net)?;
+        let domain = Domain::build(alloc, net, segments)?;
         let destinations = destinations(alloc, &domain)?;
         let earlier = earlier_alike(alloc, destinations.as_slice(), domain.net().routers())?;
         Ok(Isis {
@@ -80,29 +86,17 @@ impl<'a> Isis<'a> {
 }
 
 impl<'a> Protocol for Isis<'a> {
-    ghost use Rattle.igp_theory.specs.Isis.{IsisEntry};
     ghost use Rattle.igp_theory.specs.Laws.{IsIsisNeighbor};
     ghost use Rattle.isis_routes.specs.declared.lanes.TheConstants.{LANES};
-    ghost use Rattle.isis_routes.specs.steps.Lanes.{IsOfIsisLane};
-    ghost use Rattle.isis_routes.specs.steps.LevelReach.{level_reach};
+    ghost use Rattle.isis_routes.specs.steps.Routes.{given_by_isis};
 
-    ghost routers = { λ isis. length isis.domain.net };
-
-    ghost entry = { λ isis. IsisEntry isis.domain.net };
+    ghost routes = { λ isis. given_by_isis isis.domain };
 
     ghost neighbor = { λ isis. IsIsisNeighbor isis.domain.net };
 
     ghost candidates = { λ isis. isis_prefixes isis.destinations };
 
-    ghost zones = { λ _. 2 };
-
-    ghost reach = { λ isis. level_reach isis.domain.walks };
-
     ghost lanes = { λ _. LANES };
-
-    ghost in_lane = { λ isis. IsOfIsisLane isis.domain.net };
-
-    ghost lane_zone = { λ _ lane. lane };
 
     fn routers(&self) -> u32 {
         self.domain().net().routers()
@@ -156,9 +150,5 @@ impl<'a> Protocol for Isis<'a> {
 
     fn walks(&self, router: u32, zone: usize) -> &LeastWalks {
         self.domain().walks(router, zone)
-    }
-
-    fn segments(&self, alloc: Global) -> Result<Vec<Segment>, OutOfMemory> {
-        level_segments(alloc, self.domain().net())
     }
 }

@@ -3,6 +3,7 @@ ghost use Rattle.isis_routes.specs.RouteTables.{AreIsisRoutes};
 
 use crate::OutOfMemory;
 use crate::protocol::Isis;
+use crate::segments::LevelSegments;
 use net_model::Net;
 use route_core::{RouteSource, Table};
 use route_tables::RouteTables;
@@ -33,8 +34,9 @@ impl IsisRoutes {
     pub fn build(alloc: Global, net: &Net) -> Result<IsisRoutes, OutOfMemory>
         ensures { IfOk result (AreIsisRoutes net.now) }
     {
-        let isis = Isis::build(alloc, net)?;
-        let all = RouteTables::build(alloc, &isis)?;
+        let segments = LevelSegments::build(alloc, net)?;
+        let isis = Isis::build(alloc, net, &segments)?;
+        let all = RouteTables::build(alloc, &isis, segments.joined()?)?;
         Ok(IsisRoutes { all })
     }
 }

@@ -14,13 +14,16 @@ use Rattle.net_model.specs.Refusals.{IsNetwork}
 use Rattle.net_model.specs.declared.interface.Interface.{Interface}
 use Rattle.net_model.specs.declared.zone.Zone.TheVariants.{Area}
 use Rattle.walk_core.specs.Reach.{Reach}
+use Rattle.walk_core.specs.declared.segment.Port.{Port}
+use Rattle.zone_graph.specs.Segments.{AreZoneSegments}
 use Rattle.zone_graph.specs.Walks.{AreZoneWalks}
 use Rattle.igp_theory.specs.Ospf.{ListensTo, backbone, one_area}
-use Rattle.ospf_routes.specs.steps.Areas.{RunsOther, HasArea, IsAreaAt, AreNumbered, AreAreas, IsListener, IsListenerAt, IsReach}
+use Rattle.ospf_routes.specs.steps.Areas.{RunsOther, HasArea, IsAreaAt, AreAreas, AreJoinedAreas, IsArea, IsListener, IsListenerAt, IsReach}
 use Rattle.ospf_routes.specs.steps.Members.{AreMembersBelow, IsBorderIn, IsMember}
 use Rattle.ospf_routes.specs.Lists.{Adds, Exactly}
 use Rattle.ospf_routes.specs.declared.areas.AreaWalks.{AreaWalks}
 use Rattle.route_tables.proofs.ListFacts.{any_of, any_in}
+use Rattle.ospf_routes.proofs.SegmentFacts.{joined_more}
 use Rattle.std.specs.List.{slice_get}
 use Rattle.std.specs.Option.{IfNone, IfSome}
 
@@ -45,26 +48,23 @@ inside_is net u n config given router are = (
 has_area_left : (areas : List AreaWalks) (a : AreaWalks) (n : ℕ) → HasArea areas n → HasArea (areas ++ a ∷ []) n
 has_area_left areas a n has = record { area = has.area; among = Contains-append_left areas (a ∷ []) has.area has.among; number = has.number }
 
-pub numbered_more : (net : Network) (numbers : List ℕ) (areas : List AreaWalks) (a : AreaWalks) → AreNumbered net numbers areas →
-    AreZoneWalks net (Area a.number) a.walks → AreMembersBelow net a.number (length net) a.members → Exactly (IsBorderIn net a.number) a.borders →
-    AreNumbered net (numbers ++ a.number ∷ []) (areas ++ a ∷ [])
-numbered_more net numbers areas a before walks members borders = record {
-  walks = All-push (λ (x : AreaWalks). AreZoneWalks net (Area x.number) x.walks) areas a before.walks walks;
-  members = All-push (λ (x : AreaWalks). AreMembersBelow net x.number (length net) x.members) areas a before.members members;
-  borders = All-push (λ (x : AreaWalks). Exactly (IsBorderIn net x.number) x.borders) areas a before.borders borders;
+pub areas_more : (net : Network) (numbers : List ℕ) (areas : List AreaWalks) (a : AreaWalks) (segments own : List (List Port)) →
+    AreJoinedAreas net numbers areas segments → IsArea net a → AreZoneSegments net (Area a.number) own →
+    AreJoinedAreas net (numbers ++ a.number ∷ []) (areas ++ a ∷ []) (segments ++ own)
+areas_more net numbers areas a segments own before is are = record {
+  each = All-push (IsArea net) areas a before.each is;
   every = λ n has. ⊎_elim
       (λ earlier. has_area_left areas a n (before.every n earlier))
       (λ same. record { area = a; among = Contains-push areas a; number = same })
       (Contains-push_cases numbers a.number n has);
+  join = joined_more net areas a segments own before.join are;
 }
 
-pub areas_of_numbers : (net : Network) (numbers given : List ℕ) (areas : List AreaWalks) → IsNetwork net → given ≡ numbers → Contains numbers 0 →
-    ((u n : ℕ) → InArea net u n → Contains numbers n) → AreNumbered net given areas → AreAreas net areas
-areas_of_numbers net numbers given areas network same zero every are = record {
+pub areas_of_numbers : (net : Network) (numbers given : List ℕ) (areas : List AreaWalks) (segments : List (List Port)) → IsNetwork net → given ≡ numbers →
+    Contains numbers 0 → ((u n : ℕ) → InArea net u n → Contains numbers n) → AreJoinedAreas net given areas segments → AreAreas net areas
+areas_of_numbers net numbers given areas segments network same zero every are = record {
   network = network;
-  walks = are.walks;
-  members = are.members;
-  borders = are.borders;
+  each = are.each;
   backbone = are.every 0 (subst (λ (l : List ℕ). Contains l 0) (sym same) zero);
   every = λ u n inside. are.every n (subst (λ (l : List ℕ). Contains l n) (sym same) (every u n inside));
 }
@@ -159,35 +159,32 @@ pub number_at : (areas : List AreaWalks) (n zone : ℕ) (a : AreaWalks) → IsAr
 number_at areas n zone a at here =
     ap (λ (x : AreaWalks). x.number) (here ∙ get_or_default areas zone a at.area at.within ∙ sym at.here) ∙ at.number
 
+pub area_is : (net : Network) (areas : List AreaWalks) (zone : ℕ) (a : AreaWalks) → AreAreas net areas → zone < length areas → a ≡ get_or areas zone a →
+    IsArea net a
+area_is net areas zone a are within here = subst (IsArea net) (sym here) (are.each zone a within)
+
 pub borders_at : (net : Network) (areas : List AreaWalks) (n zone : ℕ) (a : AreaWalks) → AreAreas net areas → IsAreaAt areas n zone →
     a ≡ get_or areas zone a → Exactly (IsBorderIn net n) a.borders
 borders_at net areas n zone a are at here =
-    subst (λ (m : ℕ). Exactly (IsBorderIn net m) a.borders) (number_at areas n zone a at here)
-    (subst (λ (x : AreaWalks). Exactly (IsBorderIn net x.number) x.borders) (sym here) (are.borders zone a at.within))
-
--- its walks
-walks_at : (net : Network) (areas : List AreaWalks) (zone : ℕ) (a : AreaWalks) → AreAreas net areas → zone < length areas → a ≡ get_or areas zone a →
-    AreZoneWalks net (Area a.number) a.walks
-walks_at net areas zone a are within here =
-    subst (λ (x : AreaWalks). AreZoneWalks net (Area x.number) x.walks) (sym here) (are.walks zone a within)
+    subst (λ (m : ℕ). Exactly (IsBorderIn net m) a.borders) (number_at areas n zone a at here) (area_is net areas zone a are at.within here).borders
 
 -- as many walks as routers
 pub reach_within : (net : Network) (areas : List AreaWalks) (u zone : ℕ) (a : AreaWalks) → AreAreas net areas → zone < length areas →
     a ≡ get_or areas zone a → u < length net → u < length a.walks
-reach_within net areas u zone a are within here below = let walks = walks_at net areas zone a are within here in omega (arith, walks.routers)
+reach_within net areas u zone a are within here below = let walks = (area_is net areas zone a are within here).walks in omega (arith, walks.routers)
 
 pub reach_is : (net : Network) (areas : List AreaWalks) (n u zone : ℕ) (a : AreaWalks) (reach : Reach) → AreAreas net areas → IsAreaAt areas n zone →
     a ≡ get_or areas zone a → slice_get a.walks u ≡ Some reach → IsReach net n u reach
 reach_is net areas n u zone a reach are at here read =
     let walks : AreZoneWalks net (Area n) a.walks =
-    subst (λ (m : ℕ). AreZoneWalks net (Area m) a.walks) (number_at areas n zone a at here) (walks_at net areas zone a are at.within here) in
+    subst (λ (m : ℕ). AreZoneWalks net (Area m) a.walks) (number_at areas n zone a at here) (area_is net areas zone a are at.within here).walks in
     record { least = walks.least u reach read; near = walks.near u reach read }
 
 pub member_at : (net : Network) (areas : List AreaWalks) (n u zone : ℕ) (a : AreaWalks) → AreAreas net areas → IsAreaAt areas n zone →
     a ≡ get_or areas zone a → u < length net → IsMember a.members u ↔ InArea net u n
 member_at net areas n u zone a are at here below =
     subst (λ (m : ℕ). IsMember a.members u ↔ InArea net u m) (number_at areas n zone a at here)
-    ((subst (λ (x : AreaWalks). AreMembersBelow net x.number (length net) x.members) (sym here) (are.members zone a at.within)).each u below)
+    ((area_is net areas zone a are at.within here).members.each u below)
 
 -- Other areas
 

@@ -18,7 +18,7 @@ use Rattle.zone_graph.specs.Walks.{AreZoneWalks}
 use Rattle.igp_theory.specs.Ospf.{OffersSubnet, IntraAreaCost, RangeCost, stated, least, greatest, BackboneSummary, AreaSummary, BorderCost, Summary}
 use Rattle.igp_theory.specs.Ospf.{into_backbone, into_area}
 use Rattle.net_model.specs.declared.area.Range.{Range}
-use Rattle.ospf_routes.specs.steps.Areas.{AreAreas, HasArea}
+use Rattle.ospf_routes.specs.steps.Areas.{AreAreas, HasArea, IsArea}
 use Rattle.route_tables.proofs.BestRoutes.{offers_in_range}
 use Rattle.ospf_routes.specs.steps.Offered.{AreOffers}
 use Rattle.ospf_routes.specs.declared.areas.AreaWalks.{AreaWalks}
@@ -45,9 +45,8 @@ no_walks = record { distances = []; hops = [] }
 pub walk_is_near : (net : Network) (areas : List AreaWalks) (n u v d : ℕ) → AreAreas net areas → HasArea areas n → u < length net →
     LeastCost (Adjacent net (Area n)) u v d → d < 200 * 2 ^ 32
 walk_is_near net areas n u v d are has within far =
-    let all : AreZoneWalks net (Area has.area.number) has.area.walks = All-contains (λ (a : AreaWalks). AreZoneWalks net (Area a.number) a.walks)
-    areas has.area are.walks has.among in
-    let of_n : AreZoneWalks net (Area n) has.area.walks = subst (λ (m : ℕ). AreZoneWalks net (Area m) has.area.walks) has.number all in
+    let of_n : AreZoneWalks net (Area n) has.area.walks =
+    subst (λ (m : ℕ). AreZoneWalks net (Area m) has.area.walks) has.number (All-contains (IsArea net) areas has.area are.each has.among).walks in
     let inside : u < length has.area.walks = omega (arith, of_n.routers) in
     let reach : Reach = get_or has.area.walks u no_walks in
     let here = slice_get-get_or has.area.walks u no_walks inside in

@@ -1,9 +1,9 @@
 mod PlaceFacts
+mod SegmentFacts
 mod AreaFacts
 mod CandidateLists
 mod CostBounds
 mod SubnetFacts
-mod SegmentFacts
 mod IntraFacts
 mod RangeFacts
 mod SummaryFacts

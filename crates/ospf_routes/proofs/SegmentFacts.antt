@@ -3,7 +3,7 @@ use Rattle.std.proofs.Common.{ℕ, inl, inr, List, [], ◌∷◌, ◌++◌, subs
 use Rattle.std.specs.List.{Any}
 use Rattle.std.proofs.lemmas.List.Quantifiers.{Any-push}
 use Rattle.net_model.proofs.NetworkFacts.{Adjacent-in_area}
-use Rattle.net_model.specs.Network.{Network, Adjacent}
+use Rattle.net_model.specs.Network.{Network, Adjacent, InArea}
 use Rattle.net_model.specs.declared.zone.Zone.TheVariants.{Area}
 use Rattle.walk_core.specs.declared.segment.Port.{Port}
 use Rattle.zone_graph.specs.Segments.{AreZoneSegments}
@@ -11,17 +11,8 @@ use Rattle.igp_theory.specs.Laws.{IsOspfNeighbor}
 use Rattle.route_tables.specs.Entries.{AreJoinedBy}
 use Rattle.route_tables.proofs.JoinedLaws.{joined_both}
 use Rattle.route_tables.proofs.ListFacts.{any_cases, any_in, any_left, any_of}
-use Rattle.ospf_routes.specs.steps.Areas.{AreAreas, HasArea}
+use Rattle.ospf_routes.specs.steps.Areas.{HasArea, IsAdjacentIn, JoinAreas}
 use Rattle.ospf_routes.specs.declared.areas.AreaWalks.{AreaWalks}
-
--- u is adjacent to v in the area
-pub record IsAdjacentIn (net : Network) (u v : ℕ) (area : AreaWalks) : Type 0 where
-  pub cost : ℕ
-  pub adjacent : Adjacent net (Area area.number) u v cost
-
--- the segments join the routers that are adjacent in one of these areas
-abbrev pub JoinAreas : Network → List AreaWalks → List (List Port) → Type 0
-JoinAreas net areas segments = AreJoinedBy (λ u v. Any (IsAdjacentIn net u v) areas) segments
 
 pub joined_none : (net : Network) → JoinAreas net [] []
 joined_none net u v = (λ joined. absurd (omega (arith, joined.sends.over.among.1)), λ any. absurd (omega (arith, any.2)))
@@ -41,14 +32,14 @@ joined_more net areas a segments own before are u v = (
 )
 
 -- all areas
-pub joined_all : (net : Network) (areas : List AreaWalks) (segments : List (List Port)) → AreAreas net areas → JoinAreas net areas segments →
-    AreJoinedBy (IsOspfNeighbor net) segments
-joined_all net areas segments are join u v = (
+pub joined_all : (net : Network) (areas : List AreaWalks) (segments : List (List Port)) → ((u n : ℕ) → InArea net u n → HasArea areas n) →
+    JoinAreas net areas segments → AreJoinedBy (IsOspfNeighbor net) segments
+joined_all net areas segments every join u v = (
   λ joined.
       let f = any_in (IsAdjacentIn net u v) areas ((join u v).0 joined) in
       record { area = f.item.number; cost = f.holds.cost; adjacent = f.holds.adjacent },
   λ is.
-      let has : HasArea areas is.area = are.every u is.area (Adjacent-in_area net is.area u v is.cost is.adjacent).0 in
+      let has : HasArea areas is.area = every u is.area (Adjacent-in_area net is.area u v is.cost is.adjacent).0 in
       (join u v).1 (any_of (IsAdjacentIn net u v) areas has.area has.among
       (record { cost = is.cost; adjacent = subst (λ (n : ℕ). Adjacent net (Area n) u v is.cost) (sym has.number) is.adjacent })),
 )

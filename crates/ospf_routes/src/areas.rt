@@ -1,7 +1,11 @@
 ghost use Rattle.std.specs.Prelude.{◌≡◌, ◌<◌, ◌↔◌, ℕ, length, Some, Any, Contains, IfOk, IfNone, IfSome, IsTrue, OnOk, MatchOption};
 ghost use Rattle.net_model.specs.Network.{InArea, IsBorderRouter, RunsArea};
 ghost use Rattle.net_model.specs.Refusals.{IsNetwork};
-ghost use Rattle.ospf_routes.specs.steps.Areas.{AreAreas, AreNumbered, HasArea, IsAreaAt, IsListener, RunsOther};
+ghost use Rattle.net_model.specs.declared.zone.Zone.TheVariants.{Area};
+ghost use Rattle.igp_theory.specs.Laws.{IsOspfNeighbor};
+ghost use Rattle.route_tables.specs.Entries.{AreJoinedBy};
+ghost use Rattle.zone_graph.specs.Segments.{AreZoneSegments};
+ghost use Rattle.ospf_routes.specs.steps.Areas.{AreAreas, AreJoinedAreas, HasArea, IsArea, IsAreaAt, IsListener, RunsOther};
 ghost use Rattle.ospf_routes.specs.Lists.{Adds};
 
 use crate::OutOfMemory;
@@ -9,7 +13,8 @@ use crate::members::{Borders, Members};
 use net_model::{Interface, Net, Zone};
 use route_tables::push_option;
 use std::alloc::Global;
-use zone_graph::ZoneWalks;
+use walk_core::Segment;
+use zone_graph::{ZoneWalks, zone_segments};
 
 /// An area with its least walks, its routers and its border routers.
 #[derive(Debug, Drop)]
@@ -24,30 +29,58 @@ pub struct AreaWalks {
     pub borders: Borders,
 }
 
-/// The backbone and every area that a router is in, each with its least walks, its routers and its border routers.
-pub fn all_areas(alloc: Global, net: &Net) -> Result<Vec<AreaWalks>, OutOfMemory>
-    ensures { IfOk result (λ areas. AreAreas net.now areas.items) }
-{
-    let numbers = area_numbers(alloc, net)?;
-    walks_of_areas(alloc, net, numbers.as_slice())
+/// The areas of a network, and the segments of all of them.
+#[derive(Debug, Drop)]
+pub struct JoinedAreas {
+    /// The areas.
+    pub areas: Vec<AreaWalks>,
+    /// The segments, which join each router and its neighbors.
+    pub segments: Vec<Segment>,
 }
 
-/// The least walks, the routers and the border routers of each of these areas.
-fn walks_of_areas(alloc: Global, net: &Net, numbers: &[u32]) -> Result<Vec<AreaWalks>, OutOfMemory>
-    ensures { IfOk result (λ areas. AreNumbered net.now numbers.now areas.items) }
+/// The backbone and every area that a router is in, each with its least walks, its routers and its border routers.
+pub fn all_areas(alloc: Global, net: &Net) -> Result<JoinedAreas, OutOfMemory>
+    ensures areas { IfOk result (λ all. AreAreas net.now all.areas.items) }
+    ensures segments { IfOk result (λ all. AreJoinedBy (IsOspfNeighbor net.now) all.segments.items) }
+{
+    let numbers = area_numbers(alloc, net)?;
+    areas_of(alloc, net, numbers.as_slice())
+}
+
+/// The areas of these numbers, with the segments that their least walks go over.
+fn areas_of(alloc: Global, net: &Net, numbers: &[u32]) -> Result<JoinedAreas, OutOfMemory>
+    ensures { IfOk result (λ all. AreJoinedAreas net.now numbers.now all.areas.items all.segments.items) }
 {
     let mut areas = Vec::new(alloc);
+    let mut segments = Vec::new(alloc);
     for number in numbers {
-        let members = Members::of_area(alloc, net, *number)?;
-        let borders = Borders::of_area(alloc, net, *number, &members)?;
-        areas.push(AreaWalks {
-            number: *number,
-            walks: ZoneWalks::build(alloc, net, Zone::Area(*number))?,
-            members,
-            borders,
-        })?;
+        let mut own = zone_segments(alloc, net, Zone::Area(*number))?;
+        areas.push(area_over(alloc, net, *number, own.as_slice())?)?;
+        segments.append(&mut own)?;
     }
-    Ok(areas)
+    Ok(JoinedAreas { areas, segments })
+}
+
+/// The area of this number, with the least walks over its segments.
+fn area_over(
+    alloc: Global,
+    net: &Net,
+    number: u32,
+    segments: &[Segment],
+) -> Result<AreaWalks, OutOfMemory>
+    requires { AreZoneSegments net.now (Area number) segments.now }
+    ensures number { IfOk result (λ area. area.number ≡ number) }
+    ensures area { IfOk result (IsArea net.now) }
+{
+    let walks = ZoneWalks::over(alloc, net, segments)?;
+    let members = Members::of_area(alloc, net, number)?;
+    let borders = Borders::of_area(alloc, net, number, &members)?;
+    Ok(AreaWalks {
+        number,
+        walks,
+        members,
+        borders,
+    })
 }
 
 /// The numbers of the backbone and of every area that a router is in, each once.

@@ -5,7 +5,7 @@ ghost use Rattle.ospf_routes.specs.steps.AreaReach.{IsThisBorder, area_reach};
 ghost use Rattle.ospf_routes.specs.steps.Areas.{AreAreas, AreListeners, HasArea, IsAreaAt, IsListenerAt, IsReach};
 
 use crate::OutOfMemory;
-use crate::areas::{AreaWalks, all_areas, is_border, listens_to, place_of};
+use crate::areas::{AreaWalks, is_border, listens_to, place_of};
 use net_model::{Config, Net};
 use route_tables::push_option;
 use std::alloc::Global;
@@ -32,11 +32,11 @@ impl<'a> Model for Domain<'a> {
 
 impl<'a> Domain<'a> {
     /// The network with its areas.
-    pub fn build(alloc: Global, net: &'a Net) -> Result<Domain<'a>, OutOfMemory>
-        ensures { IfOk result (λ domain. domain.net ≡ net.now) }
+    pub fn new(net: &'a Net, areas: Vec<AreaWalks>) -> Domain<'a>
+        requires { AreAreas net.now areas.items }
+        ensures { result.net ≡ net.now }
     {
-        let areas = all_areas(alloc, net)?;
-        Ok(Domain { net, areas })
+        Domain { net, areas }
     }
 
     /// The network.

@@ -36,7 +36,6 @@ mod destinations;
 mod domain;
 mod intra_area;
 mod members;
-mod segments;
 mod subnets;
 
 // Between areas

@@ -1,7 +1,8 @@
 ghost use Rattle.std.specs.Prelude.{◌≡◌, ◌+◌, ◌<◌, length, IfOk};
 ghost use Rattle.route_tables.specs.Prefixes.{prefix_at};
 ghost use Rattle.ospf_routes.specs.steps.Asked.{IsQuestion};
-ghost use Rattle.ospf_routes.specs.steps.Destinations.{ospf_prefixes};
+ghost use Rattle.ospf_routes.specs.steps.Destinations.{IsDestinationIn, ospf_prefixes};
+ghost use Rattle.ospf_routes.specs.steps.Heard.{AreHeardAt};
 ghost use Rattle.ospf_routes.specs.steps.Lanes.{DecidesLane};
 ghost use Rattle.ospf_routes.specs.steps.Networks.{AreEarlierIn, lane_in};
 
@@ -14,15 +15,13 @@ use crate::intra_area::Destination;
 use crate::lane_twins::{LaneTwins, all_lane_twins};
 use crate::lanes::decision;
 use crate::ranges::{ActiveRanges, all_ranges};
-use crate::segments::segments_of_areas;
 use crate::summaries::Summaries;
 use crate::twins::all_twins;
 use net_addr::Prefix;
-use net_model::Net;
 use route_tables::{Decision, Protocol, Route, Target};
 use std::alloc::Global;
 use std::marker::Model;
-use walk_core::{LeastWalks, Segment};
+use walk_core::{LeastWalks, Offer};
 
 /// OSPF on a network, with what its routers know, the places of the areas that they listen to, the active ranges of border
 /// routers, what these announce of each prefix, and which prefixes have the same routes, everywhere and within areas.
@@ -50,10 +49,9 @@ impl<'a> Model for Ospf<'a> {
 impl<'a> Ospf<'a> {
     /// OSPF on this network (RFC 2328): the areas and what they offer (section 16.1), the active ranges (12.4.3, 11.1), and
     /// what border routers announce (12.4.3, 16.2, 3.6).
-    pub fn build(alloc: Global, net: &'a Net) -> Result<Ospf<'a>, OutOfMemory>
-        ensures { IfOk result (λ ospf. ospf.domain.net ≡ net.now) }
+    pub fn build(alloc: Global, domain: Domain<'a>) -> Result<Ospf<'a>, OutOfMemory>
+        ensures { IfOk result (λ ospf. ospf.domain ≡ domain) }
     {
-        let domain = Domain::build(alloc, net)?;
         let destinations = destinations(alloc, &domain)?;
         let known = destinations.as_slice();
         let listens = domain.listens(alloc)?;
@@ -90,14 +88,33 @@ impl<'a> Ospf<'a> {
         self.lane_twins[lane].as_slice()
     }
 
+    /// What is known of the prefix at a place.
+    #[inline(always)]
+    fn destination(&self, place: usize) -> &Destination
+        requires { place < length (ospf_prefixes self.now.destinations) }
+        ensures known { IsDestinationIn self.now.domain.net self.now.domain.areas result.now }
+        ensures dest { result.now.dest ≡ prefix_at (ospf_prefixes self.now.destinations) place }
+    {
+        &self.destinations[place]
+    }
+
+    /// What is announced of the prefix at a place into the area at another.
+    fn heard(&self, place: usize, zone: usize) -> &[Offer]
+        requires place { place < length (ospf_prefixes self.now.destinations) }
+        requires zone { zone < length self.now.domain.areas }
+        ensures { AreHeardAt self.now.domain.net self.now.domain.areas (prefix_at (ospf_prefixes self.now.destinations) place) zone result.now }
+    {
+        self.summaries.into_area(place, zone)
+    }
+
     /// What decides the routes for the prefix at a place of the routers that are in the area at another place alone.
     fn decision_in(&self, zone: usize, place: usize) -> Decision
         requires zone { zone < length self.now.domain.areas }
         requires place { place < length (ospf_prefixes self.now.destinations) }
         ensures { DecidesLane (lane_in self.now zone) (prefix_at (ospf_prefixes self.now.destinations) place) result }
     {
-        let destination = &self.destinations[place];
-        let heard = self.summaries.into_area(place, zone);
+        let destination = self.destination(place);
+        let heard = self.heard(place, zone);
         let listens = self.listens.as_slice();
         decision(&self.domain, listens, zone, destination, heard)
     }
@@ -114,7 +131,7 @@ impl<'a> Ospf<'a> {
     {
         let listens = self.listens[router as usize];
         let ranges = &self.ranges[router as usize];
-        let destination = &self.destinations[place];
+        let destination = self.destination(place);
         let heard = self.summaries.into_some_area(place, listens);
         Asked {
             domain: &self.domain,
@@ -129,30 +146,17 @@ impl<'a> Ospf<'a> {
 
 impl<'a> Protocol for Ospf<'a> {
     ghost use Rattle.std.specs.Prelude.{◌+◌, length};
-    ghost use Rattle.igp_theory.specs.Ospf.{OspfEntry};
     ghost use Rattle.igp_theory.specs.Laws.{IsOspfNeighbor};
-    ghost use Rattle.ospf_routes.specs.steps.AreaReach.{area_reach};
     ghost use Rattle.ospf_routes.specs.steps.Destinations.{ospf_prefixes};
-    ghost use Rattle.ospf_routes.specs.steps.Lanes.{IsOfOspfLane};
-    ghost use Rattle.ospf_routes.specs.steps.Networks.{lane_in};
+    ghost use Rattle.ospf_routes.specs.steps.Lanes.{given_by_ospf};
 
-    ghost routers = { λ ospf. length ospf.domain.net };
-
-    ghost entry = { λ ospf. OspfEntry ospf.domain.net };
+    ghost routes = { λ ospf. given_by_ospf ospf.domain ospf.listens };
 
     ghost neighbor = { λ ospf. IsOspfNeighbor ospf.domain.net };
 
     ghost candidates = { λ ospf. ospf_prefixes ospf.destinations };
 
-    ghost zones = { λ ospf. length ospf.domain.areas };
-
-    ghost reach = { λ ospf. area_reach ospf.domain.areas };
-
     ghost lanes = { λ ospf. length ospf.domain.areas + 1 };
-
-    ghost in_lane = { λ ospf lane. IsOfOspfLane (lane_in ospf lane) };
-
-    ghost lane_zone = { λ _ lane. lane };
 
     fn routers(&self) -> u32 {
         self.domain.routers()
@@ -212,9 +216,5 @@ impl<'a> Protocol for Ospf<'a> {
 
     fn walks(&self, router: u32, zone: usize) -> &LeastWalks {
         self.domain.walks(zone, router)
-    }
-
-    fn segments(&self, alloc: Global) -> Result<Vec<Segment>, OutOfMemory> {
-        segments_of_areas(alloc, &self.domain)
     }
 }

@@ -2,6 +2,8 @@ ghost use Rattle.std.specs.Prelude.{IfOk};
 ghost use Rattle.ospf_routes.specs.RouteTables.{AreOspfRoutes};
 
 use crate::OutOfMemory;
+use crate::areas::{JoinedAreas, all_areas};
+use crate::domain::Domain;
 use crate::protocol::Ospf;
 use net_model::Net;
 use route_core::{RouteSource, Table};
@@ -34,8 +36,9 @@ impl OspfRoutes {
     pub fn build(alloc: Global, net: &Net) -> Result<OspfRoutes, OutOfMemory>
         ensures { IfOk result (AreOspfRoutes net.now) }
     {
-        let ospf = Ospf::build(alloc, net)?;
-        let all = RouteTables::build(alloc, &ospf)?;
+        let JoinedAreas { areas, segments } = all_areas(alloc, net)?;
+        let ospf = Ospf::build(alloc, Domain::new(net, areas))?;
+        let all = RouteTables::build(alloc, &ospf, segments)?;
         Ok(OspfRoutes { all })
     }
 }

@@ -25,8 +25,10 @@ DecidesRoute u entry lead (One at) = u ≢ at → lead (record { at = at; asks =
 DecidesRoute u entry lead (Two one other) = u ≢ one.at → u ≢ other.at → lead (one ∷ other ∷ [])
 DecidesRoute u entry lead Unknown = Unit {0}
 
+-- what decides router u's route for p by offers that are reached over this zone
+abbrev pub DecidesAt : ProtocolRoutes → ℕ → ℕ → Block → Decision → Type 0
+DecidesAt routes zone u p = DecidesRoute u (routes.entry u p) (LeadToBest (routes.reach u zone) zone routes.routers (IsRouteOf routes u p))
+
 -- what decides the routes of the routers of a lane for a prefix
 abbrev pub DecidesFor : ProtocolRoutes → ℕ → Block → Decision → Type 0
-DecidesFor routes lane p decision = (u : ℕ) → routes.in_lane lane u →
-    let zone = routes.lane_zone lane in
-    DecidesRoute u (routes.entry u p) (LeadToBest (routes.reach u zone) zone routes.routers (IsRouteOf routes u p)) decision
+DecidesFor routes lane p decision = (u : ℕ) → routes.in_lane lane u → DecidesAt routes (routes.lane_zone lane) u p decision

@@ -1,7 +1,7 @@
 ghost use Rattle.std.specs.Prelude.{◌≡◌, ◌<◌, ℕ, List, length, Contains, IfOk, IfSome, MatchOption};
 ghost use Rattle.net_addr.specs.Addresses.{Block};
 ghost use Rattle.route_core.specs.declared.entry.Entry.{Entry};
-ghost use Rattle.route_tables.specs.Entries.{AreJoinedBy, IsLawful};
+ghost use Rattle.route_tables.specs.Entries.{IsLawful};
 ghost use Rattle.route_tables.specs.Lanes.{DecidesFor};
 ghost use Rattle.route_tables.specs.Prefixes.{AreDistinctPrefixes, prefix_at};
 ghost use Rattle.route_tables.specs.Protocols.{AreAlikeInLane, IsRouteOf, ProtocolRoutes};
@@ -12,7 +12,7 @@ use crate::lane::Decision;
 use crate::route::{Route, Target};
 use net_addr::Prefix;
 use std::alloc::Global;
-use walk_core::{LeastWalks, Segment};
+use walk_core::LeastWalks;
 
 /// A routing protocol on a network: what it gives each router.
 ///
@@ -95,8 +95,4 @@ pub trait Protocol {
         requires router { router < (routes self.now).routers }
         requires zone { zone < (routes self.now).zones }
         ensures { result.now ≡ (routes self.now).reach router zone };
-
-    /// Segments that join each router and its neighbors, and no others.
-    fn segments(&self, alloc: Global) -> Result<Vec<Segment>, OutOfMemory>
-        ensures { IfOk result (λ segments. AreJoinedBy (neighbor self.now) segments.items) };
 }

@@ -1,4 +1,5 @@
 ghost use Rattle.std.specs.Prelude.{IfOk};
+ghost use Rattle.route_tables.specs.Entries.{AreJoinedBy};
 ghost use Rattle.route_tables.specs.Tables.{AreRoutes};
 
 use crate::OutOfMemory;
@@ -29,12 +30,16 @@ impl Model for RouteTables {
 }
 
 impl RouteTables {
-    /// The tables of all routers.
-    pub fn build<P: Protocol>(alloc: Global, protocol: &P) -> Result<RouteTables, OutOfMemory>
+    /// The tables of all routers, with segments that join each router and its neighbors, and no others.
+    pub fn build<P: Protocol>(
+        alloc: Global,
+        protocol: &P,
+        segments: Vec<Segment>,
+    ) -> Result<RouteTables, OutOfMemory>
+        requires { AreJoinedBy (P.neighbor protocol.now) segments.items }
         ensures { IfOk result (AreRoutes (P.routes protocol.now).routers (P.routes protocol.now).entry (P.neighbor protocol.now)) }
     {
         let tables = all_tables(alloc, protocol)?;
-        let segments = protocol.segments(alloc)?;
         Ok(RouteTables { tables, segments })
     }
 }

@@ -1,4 +1,7 @@
 ghost use Rattle.std.specs.Prelude.{◌≡◌, ◌<◌, length, IfOk, slice_get, Some};
+ghost use Rattle.net_model.specs.declared.zone.Zone.{Zone as ZoneValue};
+ghost use Rattle.walk_core.specs.Segments.{AreSegments};
+ghost use Rattle.zone_graph.specs.Segments.{AreZoneSegments};
 ghost use Rattle.zone_graph.specs.Walks.{AreZoneWalks};
 
 use crate::OutOfMemory;
@@ -6,7 +9,7 @@ use crate::segments::zone_segments;
 use net_model::{Net, Zone};
 use std::alloc::Global;
 use std::marker::Model;
-use walk_core::{LeastWalks, segment_walks};
+use walk_core::{LeastWalks, Segment, segment_walks};
 
 /// The least walks of one zone of a network, from every router.
 #[derive(Debug, Drop)]
@@ -29,7 +32,15 @@ impl ZoneWalks {
         ensures { IfOk result (AreZoneWalks net.now zone) }
     {
         let segments = zone_segments(alloc, net, zone)?;
-        let all = segment_walks(alloc, segments.as_slice(), net.routers())?;
+        ZoneWalks::over(alloc, net, segments.as_slice())
+    }
+
+    /// The least walks over segments. Over those of a zone they are the zone's.
+    pub fn over(alloc: Global, net: &Net, segments: &[Segment]) -> Result<ZoneWalks, OutOfMemory>
+        requires { AreSegments (length net.now) segments.now }
+        ensures { IfOk result (λ walks. (zone : ZoneValue) → AreZoneSegments net.now zone segments.now → AreZoneWalks net.now zone walks) }
+    {
+        let all = segment_walks(alloc, segments, net.routers())?;
         Ok(ZoneWalks { all })
     }
 

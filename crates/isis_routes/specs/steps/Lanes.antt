@@ -1,16 +1,11 @@
 -- What decides the routes of all routers that take theirs from the same level first.
 use Rattle.std.specs.Prelude.{◌≡◌, ◌<◌, ◌∷◌, ℕ, List, [], Any, All, length}
-use Rattle.net_addr.specs.Addresses.{Block}
 use Rattle.net_model.specs.Network.{Network}
 use Rattle.walk_core.specs.declared.offers.Offer.{Offer}
-use Rattle.igp_theory.specs.Isis.{IsisEntry, RunsLevelOne, RunsLevelTwo}
-use Rattle.route_tables.specs.Lanes.{DecidesRoute, LeadToBest}
+use Rattle.igp_theory.specs.Isis.{RunsLevelOne, RunsLevelTwo}
 use Rattle.route_tables.specs.declared.lane.Decision.{Decision}
 use Rattle.route_tables.specs.declared.lane.Decision.TheVariants.{Nothing, One as OneOffer, Two as TwoOffers, Unknown}
-use Rattle.isis_routes.specs.steps.Domain.{IsisDomain}
-use Rattle.isis_routes.specs.steps.LevelReach.{level_reach}
 use Rattle.isis_routes.specs.steps.Levels.{zone_number}
-use Rattle.isis_routes.specs.steps.Routes.{IsIsisRoute}
 use Rattle.isis_routes.specs.declared.destinations.Destination.{Destination}
 use Rattle.isis_routes.specs.declared.level.Level.{Level}
 use Rattle.isis_routes.specs.declared.level.Level.TheVariants.{One, Two}
@@ -24,11 +19,6 @@ IsInLane net Two u = RunsLevelTwo net u
 pub record IsOfIsisLane (net : Network) (lane u : ℕ) : Type 0 where
   pub below : u < length net
   pub of_level : (level : Level) → zone_number level ≡ lane → IsInLane net level u
-
--- over a zone's least walks this decides router u's route for p
-abbrev pub DecidesIn : IsisDomain → ℕ → ℕ → Block → Decision → Type 0
-DecidesIn domain zone u p decision =
-    DecidesRoute u (IsisEntry domain.net u p) (LeadToBest (level_reach domain.walks u zone) zone (length domain.net) (IsIsisRoute domain u p)) decision
 
 -- the decision names all of the offers
 abbrev pub IsDecisionAmong : List Offer → Decision → Type 0

@@ -5,16 +5,28 @@ use Rattle.walk_core.specs.BestOffers.{AreInRange, NoneTotals}
 use Rattle.walk_core.specs.declared.offers.Offer.{Offer}
 use Rattle.igp_theory.specs.Isis.{IsisEntry}
 use Rattle.route_tables.specs.BestRoutes.{IsBestRoute}
-use Rattle.route_tables.specs.Routings.{IsRouteFor}
+use Rattle.route_tables.specs.Protocols.{IsRouteOf, ProtocolRoutes}
 use Rattle.route_tables.specs.declared.route.Route.{Route}
 use Rattle.isis_routes.specs.steps.Domain.{IsisDomain}
+use Rattle.isis_routes.specs.steps.Lanes.{IsOfIsisLane}
 use Rattle.isis_routes.specs.steps.LevelReach.{level_reach}
 use Rattle.isis_routes.specs.steps.Levels.{zone_number}
 use Rattle.isis_routes.specs.declared.level.Level.{Level}
 
+-- what IS-IS gives the routers of a network, whose levels are the zones
+abbrev pub given_by_isis : IsisDomain → ProtocolRoutes
+given_by_isis domain = record {
+  routers = length domain.net;
+  entry = IsisEntry domain.net;
+  zones = 2;
+  reach = level_reach domain.walks;
+  in_lane = IsOfIsisLane domain.net;
+  lane_zone = λ lane. lane;
+}
+
 -- the route makes router u's entry for p
 abbrev pub IsIsisRoute : IsisDomain → ℕ → Block → Route → Type 0
-IsIsisRoute domain u p route = IsRouteFor (level_reach domain.walks u) 2 (length domain.net) (IsisEntry domain.net u p) route
+IsIsisRoute domain = IsRouteOf (given_by_isis domain)
 
 -- over a level's least walks from router u this is the route to the best of the offers, and none where none is reached
 abbrev pub IsBestIn : IsisDomain → Level → ℕ → List Offer → Option Route → Type 0

@@ -7,8 +7,15 @@ use Rattle.route_core.specs.Hops.{AreHops}
 use Rattle.walk_core.specs.Walks.{Arcs}
 use Rattle.walk_core.specs.Offers.{Offers, BestCost, BestHop}
 use Rattle.igp_theory.specs.Isis.{RunsLevelOne, RunsLevelTwo, DefaultCost}
+use Rattle.zone_graph.specs.Segments.{AreZoneSegments}
 use Rattle.zone_graph.specs.Walks.{AreZoneWalks}
 use Rattle.isis_routes.specs.declared.level_walks.LevelWalks.{LevelWalks}
+use Rattle.isis_routes.specs.declared.segments.LevelSegments.{LevelSegments}
+
+-- the segments of both levels
+pub record AreLevelSegments (net : Network) (segments : LevelSegments) : Type 0 where
+  pub one : AreZoneSegments net One segments.one.items
+  pub two : AreZoneSegments net Two segments.two.items
 
 -- the least walks of both levels
 pub record AreLevelWalks (net : Network) (walks : LevelWalks) : Type 0 where

@@ -1,5 +1,5 @@
 -- The areas of a network, each with its least walks.
-use Rattle.std.specs.Prelude.{◌≡◌, ◌≢◌, ◌<◌, ℕ, List, length, Option, None, MatchOption, All, Contains, slice_index_or}
+use Rattle.std.specs.Prelude.{◌≡◌, ◌≢◌, ◌<◌, ℕ, List, length, Option, None, MatchOption, All, Any, Contains, slice_index_or}
 use Rattle.net_model.specs.Network.{Network, InArea, RunsArea, Adjacent}
 use Rattle.net_model.specs.Refusals.{IsNetwork}
 use Rattle.net_model.specs.declared.bounds.TheConstants.{MOST_ROUTERS}
@@ -7,6 +7,8 @@ use Rattle.net_model.specs.declared.interface.Interface.{Interface}
 use Rattle.net_model.specs.declared.zone.Zone.TheVariants.{Area}
 use Rattle.igp_theory.specs.Ospf.{ListensTo}
 use Rattle.walk_core.specs.Reach.{Reach, AreLeastWalks, AreNear}
+use Rattle.walk_core.specs.declared.segment.Port.{Port}
+use Rattle.route_tables.specs.Entries.{AreJoinedBy}
 use Rattle.zone_graph.specs.Walks.{AreZoneWalks}
 use Rattle.ospf_routes.specs.Lists.{Exactly}
 use Rattle.ospf_routes.specs.steps.Places.{AreEach}
@@ -32,31 +34,31 @@ pub record IsAreaAt (areas : List AreaWalks) (n zone : ℕ) : Type 0 where
   pub here : area ≡ slice_index_or areas zone area
   pub number : area.number ≡ n
 
--- each area has its least walks
-abbrev pub HaveWalks : Network → List AreaWalks → Type 0
-HaveWalks net areas = All (λ (a : AreaWalks). AreZoneWalks net (Area a.number) a.walks) areas
+-- the area has its least walks, its routers and its border routers
+pub record IsArea (net : Network) (area : AreaWalks) : Type 0 where
+  pub walks : AreZoneWalks net (Area area.number) area.walks
+  pub members : AreMembersBelow net area.number (length net) area.members
+  pub borders : Exactly (IsBorderIn net area.number) area.borders
 
--- each area has its routers
-abbrev pub HaveMembers : Network → List AreaWalks → Type 0
-HaveMembers net areas = All (λ (a : AreaWalks). AreMembersBelow net a.number (length net) a.members) areas
+-- u is adjacent to v in the area
+pub record IsAdjacentIn (net : Network) (u v : ℕ) (area : AreaWalks) : Type 0 where
+  pub cost : ℕ
+  pub adjacent : Adjacent net (Area area.number) u v cost
 
--- each area has its border routers
-abbrev pub HaveBorders : Network → List AreaWalks → Type 0
-HaveBorders net areas = All (λ (a : AreaWalks). Exactly (IsBorderIn net a.number) a.borders) areas
+-- the segments join the routers that are adjacent in one of these areas
+abbrev pub JoinAreas : Network → List AreaWalks → List (List Port) → Type 0
+JoinAreas net areas segments = AreJoinedBy (λ u v. Any (IsAdjacentIn net u v) areas) segments
 
--- the areas of these numbers have their least walks, their routers and their border routers
-pub record AreNumbered (net : Network) (numbers : List ℕ) (areas : List AreaWalks) : Type 0 where
-  pub walks : HaveWalks net areas
-  pub members : HaveMembers net areas
-  pub borders : HaveBorders net areas
+-- the areas of these numbers, with their segments
+pub record AreJoinedAreas (net : Network) (numbers : List ℕ) (areas : List AreaWalks) (segments : List (List Port)) : Type 0 where
+  pub each : All (IsArea net) areas
   pub every : (n : ℕ) → Contains numbers n → HasArea areas n
+  pub join : JoinAreas net areas segments
 
 -- the areas of a network have their least walks, their routers and their border routers, and are the backbone and every area that a router is in
 pub record AreAreas (net : Network) (areas : List AreaWalks) : Type 0 where
   pub network : IsNetwork net
-  pub walks : HaveWalks net areas
-  pub members : HaveMembers net areas
-  pub borders : HaveBorders net areas
+  pub each : All (IsArea net) areas
   pub backbone : HasArea areas 0
   pub every : (u n : ℕ) → InArea net u n → HasArea areas n
 

@@ -4,8 +4,8 @@ use Rattle.net_addr.specs.Addresses.{Block}
 use Rattle.net_model.specs.Network.{Network, IsBorderRouter}
 use Rattle.igp_theory.specs.Ospf.{OspfEntry}
 use Rattle.walk_core.specs.declared.offers.Offer.{Offer}
-use Rattle.route_tables.specs.Lanes.{DecidesRoute, LeadToBest}
-use Rattle.route_tables.specs.Routings.{IsRouteFor}
+use Rattle.route_tables.specs.Lanes.{DecidesAt, LeadToBest}
+use Rattle.route_tables.specs.Protocols.{IsRouteOf, ProtocolRoutes}
 use Rattle.route_tables.specs.declared.lane.Decision.{Decision}
 use Rattle.route_tables.specs.declared.lane.Decision.TheVariants.{Nothing, One, Two, Unknown}
 use Rattle.ospf_routes.specs.steps.AreaReach.{area_reach}
@@ -27,15 +27,26 @@ pub record IsOfOspfLane (l : LaneOf) (u : ℕ) : Type 0 where
   pub below : u < length l.domain.net
   pub inner : l.zone < length l.domain.areas → IsInner l.domain.net l.listens l.zone u
 
+-- what OSPF gives the routers of a network, which listen to areas at these places: the areas are the zones
+abbrev pub given_by_ospf : OspfDomain → List (Option ℕ) → ProtocolRoutes
+given_by_ospf domain listens = record {
+  routers = length domain.net;
+  entry = OspfEntry domain.net;
+  zones = length domain.areas;
+  reach = area_reach domain.areas;
+  in_lane = λ lane. IsOfOspfLane (record { domain = domain; listens = listens; zone = lane });
+  lane_zone = λ lane. lane;
+}
+
 -- offers of which this holds decide router u's route for p
 abbrev pub LeadsLane : LaneOf → ℕ → Block → List Offer → Type 0
 LeadsLane l u p = LeadToBest (area_reach l.domain.areas u l.zone) l.zone (length l.domain.net)
-    (IsRouteFor (area_reach l.domain.areas u) (length l.domain.areas) (length l.domain.net) (OspfEntry l.domain.net u p))
+    (IsRouteOf (given_by_ospf l.domain l.listens) u p)
 
 -- what decides the route for p of each router that is in this area alone
 abbrev pub DecidesLane : LaneOf → Block → Decision → Type 0
 DecidesLane l p d = (u : ℕ) → u < length l.domain.net → IsInner l.domain.net l.listens l.zone u →
-    DecidesRoute u (OspfEntry l.domain.net u p) (LeadsLane l u p) d
+    DecidesAt (given_by_ospf l.domain l.listens) l.zone u p d
 
 -- the decision is one or two offers, which are all of these
 abbrev pub IsOfFew : List Offer → Decision → Type 0

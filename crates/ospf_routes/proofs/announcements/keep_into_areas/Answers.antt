@@ -6,18 +6,19 @@ use Rattle.ospf_routes.specs.steps.Members.{AreMembersBelow, IsBorderIn}
 use Rattle.ospf_routes.specs.steps.Offered.{AreOffers}
 use Rattle.ospf_routes.specs.steps.Summarized.{IsHeard}
 use Rattle.ospf_routes.specs.declared.areas.AreaWalks.{AreaWalks}
+use Rattle.ospf_routes.proofs.AreaFacts.{area_is}
 use Rattle.ospf_routes.proofs.HeardFacts.{heard_here, row_more, row_none}
 use Rattle.ospf_routes.proofs.announcements.keep_into_areas.Goals as goal
 
 pub put_summaries-requires-clause-members : goal.put_summaries-requires-clause-members
 put_summaries-requires-clause-members c =
-    subst (λ (a : AreaWalks). AreMembersBelow c.args.domain.now.net a.number (length c.args.domain.now.net) a.members) (sym c.area.ensures.is)
-    (c.area.ensures.known.members c.loop-zone.zone c.area.result.now (omega (arith, c.loop-zone-test.true, c.zones-zone-end.ensures.count)))
+    (area_is c.args.domain.now.net c.args.domain.now.areas c.loop-zone.zone c.area.result.now c.area.ensures.known
+    (omega (arith, c.loop-zone-test.true, c.zones-zone-end.ensures.count)) c.area.ensures.is).members
 
 pub put_summaries-requires-clause-borders : goal.put_summaries-requires-clause-borders
 put_summaries-requires-clause-borders c =
-    subst (λ (a : AreaWalks). Exactly (IsBorderIn c.args.domain.now.net a.number) a.borders) (sym c.area.ensures.is)
-    (c.area.ensures.known.borders c.loop-zone.zone c.area.result.now (omega (arith, c.loop-zone-test.true, c.zones-zone-end.ensures.count)))
+    (area_is c.args.domain.now.net c.args.domain.now.areas c.loop-zone.zone c.area.result.now c.area.ensures.known
+    (omega (arith, c.loop-zone-test.true, c.zones-zone-end.ensures.count)) c.area.ensures.is).borders
 
 pub loop-zone-init : goal.loop-zone-init
 loop-zone-init c = row_none c.args.domain.now.net c.args.domain.now.areas c.args.destination.now.dest c.args.summaries.now

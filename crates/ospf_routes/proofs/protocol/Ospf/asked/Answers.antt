@@ -37,6 +37,8 @@ returns-clause-asked c =
     let within : c.args.place < length (ospf_prefixes ds) =
     subst (λ (ospf : OspfNetwork). c.args.place < length (ospf_prefixes ospf.destinations)) (sym c.self.view_is) c.requires.place in
     let long = length-map ds (λ (d : Destination). d.dest) in
+    let d : Destination = c.destination.result.now in
+    let same = sym (subst (λ (ospf : OspfNetwork). d.dest ≡ prefix_at (ospf_prefixes ospf.destinations) c.args.place) (sym c.self.view_is) c.destination.ensures.dest) in
     record {
       router = below;
       listens = place_read (IsListenerAt net areas) None (length net) c.self.inside.listens.items c.args.router c.index-listens.result.now
@@ -44,21 +46,13 @@ returns-clause-asked c =
           c.index-listens.ensures;
       ranges = place_read (AreActiveRanges net) [] (length net) c.self.inside.ranges.items c.args.router c.index-ranges.result.now c.self.invariant.ranges
           below c.index-ranges.ensures;
-      destination = element_at (λ (d : Destination). d.dest) (IsDestinationIn net areas) ds c.args.place c.index-destination.result.now
-          c.self.invariant.destinations.each within c.index-destination.ensures;
+      destination = subst (λ (ospf : OspfNetwork). IsDestinationIn ospf.domain.net ospf.domain.areas d) (sym c.self.view_is) c.destination.ensures.known;
       heard = λ zone is.
           let inside : zone < length areas =
           listened_inside net areas c.self.inside.listens.items c.args.router zone c.index-listens.result.now c.self.invariant.listeners below
           c.index-listens.ensures is in
-          subst (AreHeardAt net areas c.index-destination.result.now.dest zone) (sym (c.into_some_area-heard.ensures zone is))
-          (heard_of domain ds c.self.inside.summaries c.args.place c.index-destination.result.now c.self.invariant.announced
-          (omega (arith, long, within)) c.index-destination.ensures zone inside);
+          subst (AreHeardAt net areas d.dest zone) (sym (c.into_some_area-heard.ensures zone is))
+          (subst (λ (p : Block). AreHeardAt net areas p zone (heard_into c.self.inside.summaries c.args.place zone)) same
+          (c.self.invariant.announced.each c.args.place zone (omega (arith, long, within))
+          (subst (λ (n : ℕ). zone < n) (sym c.self.invariant.announced.areas_are) inside)));
     }
-
-pub returns-clause-dest : goal.returns-clause-dest
-returns-clause-dest c =
-    let ds : List Destination = c.self.inside.destinations.items in
-    let within : c.args.place < length (ospf_prefixes ds) =
-    subst (λ (ospf : OspfNetwork). c.args.place < length (ospf_prefixes ospf.destinations)) (sym c.self.view_is) c.requires.place in
-    subst (λ (ospf : OspfNetwork). c.index-destination.result.now.dest ≡ prefix_at (ospf_prefixes ospf.destinations) c.args.place) c.self.view_is
-    (prefix_is (λ (d : Destination). d.dest) ds c.args.place c.index-destination.result.now within c.index-destination.ensures)

@@ -7,11 +7,11 @@ use Rattle.route_tables.proofs.routes.RouteTables.build.Goals as goal
 pub invariant_of-result : goal.invariant_of-result
 invariant_of-result g c =
     are_source_tables (g.P.Protocol.routes c.args.protocol.now).routers (g.P.Protocol.routes c.args.protocol.now).entry (g.P.Protocol.neighbor c.args.protocol.now)
-    (g.P.Protocol.candidates c.args.protocol.now) c.in_ok-tables.tables.items c.in_ok-segments.segments.items c.all_tables.ensures.lawful
-    c.in_ok-tables.ensures.tables c.in_ok-tables.ensures.prefixes c.in_ok-segments.ensures
+    (g.P.Protocol.candidates c.args.protocol.now) c.in_ok-tables.tables.items c.args.segments.items c.all_tables.ensures.lawful
+    c.in_ok-tables.ensures.tables c.in_ok-tables.ensures.prefixes c.requires
 
 pub returns : goal.returns
 returns g c =
     are_routes (g.P.Protocol.routes c.args.protocol.now).routers (g.P.Protocol.routes c.args.protocol.now).entry (g.P.Protocol.neighbor c.args.protocol.now)
     (prefixes_of_first c.in_ok-tables.tables.items) (map listed c.in_ok-tables.tables.items)
-    c.in_ok-segments.segments.items c.in_ok-tables.ensures.tables c.in_ok-segments.ensures
+    c.args.segments.items c.in_ok-tables.ensures.tables c.requires
