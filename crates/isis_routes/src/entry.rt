@@ -3,13 +3,13 @@ ghost use Rattle.net_model.specs.Network.{Connected};
 ghost use Rattle.igp_theory.specs.Isis.{HasLevelOneRoute, HasLevelTwoRoute, HasDownRoute, IsisEntry};
 ghost use Rattle.route_core.specs.declared.entry.Entry.{Entry};
 ghost use Rattle.isis_routes.specs.steps.Destinations.{HasAnnouncements};
-ghost use Rattle.isis_routes.specs.steps.Routes.{IsIsisRoute};
+ghost use Rattle.isis_routes.specs.steps.Routes.{HasRouteBefore, HasRouteIn, IsIsisRoute};
 ghost use Rattle.isis_routes.specs.steps.Routing.{NoDefaultRoute};
 
 use crate::OutOfMemory;
 use crate::destinations::Destination;
 use crate::domain::Domain;
-use crate::leading::{level_one_offers, level_two_offers};
+use crate::leading::leading_offers;
 use crate::level::Level;
 use net_addr::Prefix;
 use route_tables::{Route, is_all_addresses};
@@ -49,10 +49,10 @@ fn route_away(
         ((e : Entry) → IsisEntry domain.now.net router destination.now.one.dest e → ⊥)
         (IsIsisRoute domain.now router destination.now.one.dest)) }
 {
-    if let Some(route) = level_one_route(alloc, domain, destination, router)? {
+    if let Some(route) = level_route(alloc, domain, destination, Level::One, router)? {
         return Ok(Some(route));
     }
-    if let Some(route) = level_two_route(alloc, domain, destination, router)? {
+    if let Some(route) = level_route(alloc, domain, destination, Level::Two, router)? {
         return Ok(Some(route));
     }
     if let Some(route) = down_route(alloc, domain, destination, router)? {
@@ -64,43 +64,24 @@ fn route_away(
     Ok(None)
 }
 
-/// The level 1 route.
-fn level_one_route(
+/// The route in a level, where there is none in a level that comes first.
+fn level_route(
     alloc: Global,
     domain: &Domain<'_>,
     destination: &Destination,
+    level: Level,
     router: u32,
 ) -> Result<Option<Route>, OutOfMemory>
     requires router { router < length domain.now.net }
     requires announced { HasAnnouncements domain.now.net destination.now }
     requires away { Connected domain.now.net router destination.now.one.dest → ⊥ }
+    requires first { HasRouteBefore domain.now.net destination.now.one.dest router level → ⊥ }
     ensures { IfOk result (λ found. MatchOption found
-        (HasLevelOneRoute domain.now.net destination.now.one.dest router → ⊥)
+        (HasRouteIn domain.now.net destination.now.one.dest router level → ⊥)
         (IsIsisRoute domain.now router destination.now.one.dest)) }
 {
-    match level_one_offers(domain, destination, router) {
-        Some(offers) => domain.best_route(alloc, Level::One, offers, router),
-        None => Ok(None),
-    }
-}
-
-/// The level 2 route.
-fn level_two_route(
-    alloc: Global,
-    domain: &Domain<'_>,
-    destination: &Destination,
-    router: u32,
-) -> Result<Option<Route>, OutOfMemory>
-    requires router { router < length domain.now.net }
-    requires announced { HasAnnouncements domain.now.net destination.now }
-    requires away { Connected domain.now.net router destination.now.one.dest → ⊥ }
-    requires without_level_one { HasLevelOneRoute domain.now.net destination.now.one.dest router → ⊥ }
-    ensures { IfOk result (λ found. MatchOption found
-        (HasLevelTwoRoute domain.now.net destination.now.one.dest router → ⊥)
-        (IsIsisRoute domain.now router destination.now.one.dest)) }
-{
-    match level_two_offers(domain, destination, router) {
-        Some(offers) => domain.best_route(alloc, Level::Two, offers, router),
+    match leading_offers(domain, destination, level, router) {
+        Some(offers) => domain.best_route(alloc, level, offers, router),
         None => Ok(None),
     }
 }

@@ -1,13 +1,12 @@
 ghost use Rattle.std.specs.Prelude.{◌<◌, length, IfSome};
 ghost use Rattle.net_model.specs.Network.{Connected};
-ghost use Rattle.igp_theory.specs.Isis.{HasLevelOneRoute};
 ghost use Rattle.route_tables.specs.declared.route.Route.TheVariants.{Towards};
 ghost use Rattle.isis_routes.specs.steps.Destinations.{HasAnnouncements};
-ghost use Rattle.isis_routes.specs.steps.Routes.{IsIsisRoute};
+ghost use Rattle.isis_routes.specs.steps.Routes.{HasRouteBefore, IsIsisRoute};
 
 use crate::destinations::Destination;
 use crate::domain::Domain;
-use crate::leading::{level_one_offers, level_two_offers};
+use crate::leading::leading_offers;
 use crate::level::Level;
 use route_tables::Target;
 
@@ -23,7 +22,7 @@ pub fn target_of(domain: &Domain<'_>, destination: &Destination, router: u32) ->
         return None;
     }
     if destination.one.offers.as_slice().is_empty() {
-        return level_two_target(domain, destination, router);
+        return level_target(domain, destination, Level::Two, router);
     }
     target_by_levels(domain, destination, router)
 }
@@ -36,42 +35,29 @@ fn target_by_levels(domain: &Domain<'_>, destination: &Destination, router: u32)
     requires away { Connected domain.now.net router destination.now.one.dest → ⊥ }
     ensures { IfSome result (λ target. IsIsisRoute domain.now router destination.now.one.dest (Towards target)) }
 {
-    if let Some(target) = level_one_target(domain, destination, router) {
+    if let Some(target) = level_target(domain, destination, Level::One, router) {
         return Some(target);
     }
     if destination.one.cost(domain, router).is_some() {
         return None;
     }
-    level_two_target(domain, destination, router)
+    level_target(domain, destination, Level::Two, router)
 }
 
-/// Where the level 1 route leads.
+/// Where the route in a level leads, where there is none in a level that comes first.
 #[inline(always)]
-fn level_one_target(domain: &Domain<'_>, destination: &Destination, router: u32) -> Option<Target>
+fn level_target(
+    domain: &Domain<'_>,
+    destination: &Destination,
+    level: Level,
+    router: u32,
+) -> Option<Target>
     requires router { router < length domain.now.net }
     requires announced { HasAnnouncements domain.now.net destination.now }
     requires away { Connected domain.now.net router destination.now.one.dest → ⊥ }
+    requires first { HasRouteBefore domain.now.net destination.now.one.dest router level → ⊥ }
     ensures { IfSome result (λ target. IsIsisRoute domain.now router destination.now.one.dest (Towards target)) }
 {
-    domain.best_target(
-        Level::One,
-        level_one_offers(domain, destination, router)?,
-        router,
-    )
-}
-
-/// Where the level 2 route leads.
-#[inline(always)]
-fn level_two_target(domain: &Domain<'_>, destination: &Destination, router: u32) -> Option<Target>
-    requires router { router < length domain.now.net }
-    requires announced { HasAnnouncements domain.now.net destination.now }
-    requires away { Connected domain.now.net router destination.now.one.dest → ⊥ }
-    requires without_level_one { HasLevelOneRoute domain.now.net destination.now.one.dest router → ⊥ }
-    ensures { IfSome result (λ target. IsIsisRoute domain.now router destination.now.one.dest (Towards target)) }
-{
-    domain.best_target(
-        Level::Two,
-        level_two_offers(domain, destination, router)?,
-        router,
-    )
+    let offers = leading_offers(domain, destination, level, router)?;
+    domain.best_target(level, offers, router)
 }

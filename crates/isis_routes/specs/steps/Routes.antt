@@ -1,9 +1,10 @@
 -- Routes of a router for a prefix.
 use Rattle.std.specs.Prelude.{ℕ, List, length, Option, MatchOption}
 use Rattle.net_addr.specs.Addresses.{Block}
+use Rattle.net_model.specs.Network.{Network}
 use Rattle.walk_core.specs.BestOffers.{AreInRange, NoneTotals}
 use Rattle.walk_core.specs.declared.offers.Offer.{Offer}
-use Rattle.igp_theory.specs.Isis.{IsisEntry}
+use Rattle.igp_theory.specs.Isis.{HasLevelOneRoute, HasLevelTwoRoute, IsisEntry}
 use Rattle.route_tables.specs.BestRoutes.{IsBestRoute}
 use Rattle.route_tables.specs.Protocols.{IsRouteOf, ProtocolRoutes}
 use Rattle.route_tables.specs.declared.route.Route.{Route}
@@ -12,6 +13,7 @@ use Rattle.isis_routes.specs.steps.Lanes.{IsOfIsisLane}
 use Rattle.isis_routes.specs.steps.LevelReach.{level_reach}
 use Rattle.isis_routes.specs.steps.Levels.{zone_number}
 use Rattle.isis_routes.specs.declared.level.Level.{Level}
+use Rattle.isis_routes.specs.declared.level.Level.TheVariants.{One, Two}
 
 -- what IS-IS gives the routers of a network, whose levels are the zones
 abbrev pub given_by_isis : IsisDomain → ProtocolRoutes
@@ -27,6 +29,16 @@ given_by_isis domain = record {
 -- the route makes router u's entry for p
 abbrev pub IsIsisRoute : IsisDomain → ℕ → Block → Route → Type 0
 IsIsisRoute domain = IsRouteOf (given_by_isis domain)
+
+-- router u has a route for p in the level
+abbrev pub HasRouteIn : Network → Block → ℕ → Level → Type 0
+HasRouteIn net p u One = HasLevelOneRoute net p u
+HasRouteIn net p u Two = HasLevelTwoRoute net p u
+
+-- it has one in a level that comes first
+abbrev pub HasRouteBefore : Network → Block → ℕ → Level → Type 0
+HasRouteBefore net p u One = ⊥
+HasRouteBefore net p u Two = HasLevelOneRoute net p u
 
 -- over a level's least walks from router u this is the route to the best of the offers, and none where none is reached
 abbrev pub IsBestIn : IsisDomain → Level → ℕ → List Offer → Option Route → Type 0

@@ -1,7 +1,7 @@
 use Rattle.isis_routes.proofs.entry.route_away.Goals as goal
 
-pub level_two_route-requires-clause-without_level_one : goal.level_two_route-requires-clause-without_level_one
-level_two_route-requires-clause-without_level_one c = rw c.in_default.is at c.in_ok-route.ensures
+pub level_route-requires-2-clause-first : goal.level_route-requires-2-clause-first
+level_route-requires-2-clause-first c = rw c.in_default.is at c.in_ok-route.ensures
 
 pub down_route-requires-clause-without_level_one : goal.down_route-requires-clause-without_level_one
 down_route-requires-clause-without_level_one c = rw c.in_default.is at c.in_ok-route.ensures

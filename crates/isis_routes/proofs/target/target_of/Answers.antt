@@ -3,11 +3,11 @@ use Rattle.std.proofs.lemmas.Bool.{false≢true}
 use Rattle.isis_routes.proofs.EntryFacts.{unoffered}
 use Rattle.isis_routes.proofs.target.target_of.Goals as goal
 
-pub level_two_target-requires-clause-away : goal.level_two_target-requires-clause-away
-level_two_target-requires-clause-away c = λ is. false≢true (c.if-is_connected.ensures.1 ((c.requires.announced.one.homes c.args.router).1 is))
+pub level_target-requires-clause-away : goal.level_target-requires-clause-away
+level_target-requires-clause-away c = λ is. false≢true (c.if-is_connected.ensures.1 ((c.requires.announced.one.homes c.args.router).1 is))
 
-pub level_two_target-requires-clause-without_level_one : goal.level_two_target-requires-clause-without_level_one
-level_two_target-requires-clause-without_level_one c =
+pub level_target-requires-clause-first : goal.level_target-requires-clause-first
+level_target-requires-clause-first c =
     let one = c.args.destination.now.one in
     unoffered c.args.domain.now.net one.dest c.args.router one.offers.items c.requires.announced.one.offers
     (sym (ap length c.as_slice.ensures.value) ∙ eqb-true (length c.as_slice.result.now) 0 (sym c.is_empty.ensures ∙ c.if-is_empty.true))
