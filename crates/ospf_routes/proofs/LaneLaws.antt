@@ -156,7 +156,8 @@ few_decide l u p offers Nothing few told lead = absurd few
 few_decide l u p offers (One at) (asks, same) told lead = λ other.
     let o : Offer = record { at = at; asks = asks } in
     free_leads l u p o (subst (LeadsLane l u p) same (lead (λ is.
-    ⊎_elim (λ (wrong : One at ≡ Unknown). cc) (λ any. other (sym (any_in_one (λ (x : Offer). x.at ≡ u) o (subst (Any (λ (x : Offer). x.at ≡ u)) same any)))) (told is))))
+    ⊎_elim (λ (wrong : One at ≡ Unknown). cc)
+    (λ any. other (sym (any_in_one (λ (x : Offer). x.at ≡ u) o (subst (Any (λ (x : Offer). x.at ≡ u)) same any)))) (told is))))
 few_decide l u p offers (Two one two) same told lead = λ first second.
     subst (LeadsLane l u p) same (lead (λ is.
     ⊎_elim (λ (wrong : Two one two ≡ Unknown). cc) (λ any. ⊎_elim (λ is. first (sym is)) (λ is. second (sym is))

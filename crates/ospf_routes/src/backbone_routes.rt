@@ -18,8 +18,9 @@ use crate::stub_areas::is_totally_stubby;
 use route_tables::push_option;
 use walk_core::Offer;
 
-/// Adds the prefix with its inter-area cost at each border router of the area that has one (RFC 2328, section 16.2), and
-/// announces more than the default route into the area. None has one where nothing is announced into the backbone.
+/// Adds what border routers of the area reach over the backbone: the prefix with its inter-area cost at each of them that has
+/// one (RFC 2328, section 16.2) and announces more than the default route into the area. None has one where nothing is
+/// announced into the backbone.
 pub fn push_reached(
     offers: &mut Vec<Offer>,
     domain: &Domain<'_>,

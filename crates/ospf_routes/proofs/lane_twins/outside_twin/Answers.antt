@@ -30,21 +30,15 @@ returns-then-not-is_outside-clause-latest c =
 
 pub returns-in_err-earlier-clause-latest : goal.returns-in_err-earlier-clause-latest
 returns-in_err-earlier-clause-latest c =
-    outside_noted (record { domain = c.args.domain.now; listens = c.args.listens.now; zone = c.args.zone }) c.args.destinations.now c.args.place
-    c.index-destinations-place.result c.args.latest.now c.replace.new.self c.number_of_announcer.result c.requires.latest c.index-destinations-place.is (c.if-not-is_outside.ensures refl)
-    c.replace.ensures.noted
+    outside_noted _ _ _ _ _ _ _ c.requires.latest c.index-destinations-place.is (c.if-not-is_outside.ensures refl) c.replace.ensures.noted
 
 pub returns-else-are_alike-clause-latest : goal.returns-else-are_alike-clause-latest
 returns-else-are_alike-clause-latest c =
-    outside_noted (record { domain = c.args.domain.now; listens = c.args.listens.now; zone = c.args.zone }) c.args.destinations.now c.args.place
-    c.index-destinations-place.result c.args.latest.now c.replace.new.self c.number_of_announcer.result c.requires.latest c.index-destinations-place.is (c.if-not-is_outside.ensures refl)
-    c.replace.ensures.noted
+    outside_noted _ _ _ _ _ _ _ c.requires.latest c.index-destinations-place.is (c.if-not-is_outside.ensures refl) c.replace.ensures.noted
 
 pub returns-then-are_alike-clause-latest : goal.returns-then-are_alike-clause-latest
 returns-then-are_alike-clause-latest c =
-    outside_noted (record { domain = c.args.domain.now; listens = c.args.listens.now; zone = c.args.zone }) c.args.destinations.now c.args.place
-    c.index-destinations-place.result c.args.latest.now c.replace.new.self c.number_of_announcer.result c.requires.latest c.index-destinations-place.is (c.if-not-is_outside.ensures refl)
-    c.replace.ensures.noted
+    outside_noted _ _ _ _ _ _ _ c.requires.latest c.index-destinations-place.is (c.if-not-is_outside.ensures refl) c.replace.ensures.noted
 
 pub returns-then-are_alike-clause-twin : goal.returns-then-are_alike-clause-twin
 returns-then-are_alike-clause-twin c =
