@@ -248,12 +248,3 @@ pub homes_within : (net : Network) (d : Destination) → IsDestination net d →
 homes_within net d is k e below =
     let connected = (is.homes (get_or d.homes.items k e)).0 (Contains-get_or d.homes.items k e below) in
     slice_get_within net (get_or d.homes.items k e) connected.up.config connected.up.router
-
--- a router that listens to the area at a place, and is no border router, is in that area alone
-pub inner_at : (net : Network) (areas : List AreaWalks) (listens : List (Option ℕ)) (u zone : ℕ) (heard : Option ℕ) →
-    AreListeners net areas (length net) listens → u < length net → (IsBorderRouter net u → ⊥) → heard ≡ get_or listens u heard → heard ≡ Some zone →
-    (zone < length areas) × IsInner net listens zone u
-inner_at net areas listens u zone heard listeners below alone heard_is some =
-    let inner : IsInner net listens zone u =
-    record { at = get_or_default listens u None heard (omega (arith, below, listeners.count)) ∙ sym heard_is ∙ some; alone = alone } in
-    ((inner_place net areas listens zone u listeners below inner).at.within, inner)

@@ -42,10 +42,6 @@ list_stays old new Nothing grows kept = refl
 list_stays old new (One number) grows kept = refl
 list_stays old new (More place) grows kept = grows.same place (kept place refl)
 
--- so do all, and one more list comes behind them
-pub kept_more : (old new : List (List ℕ)) (all : List Numbers) → Grows old new → All (IsLongListKept old) all → All (IsLongListKept new) all
-kept_more old new all grows = All-weaker (IsLongListKept old) (IsLongListKept new) (λ numbers kept place is. omega (arith, kept place is, grows.within)) all
-
 all_stay : (old new : List (List ℕ)) (all : List Numbers) → Grows old new → All (IsLongListKept old) all → map (list_of new) all ≡ map (list_of old) all
 all_stay old new [] grows kept = refl
 all_stay old new (numbers ∷ all) grows kept =

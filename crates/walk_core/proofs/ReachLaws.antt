@@ -24,14 +24,6 @@ each_at_more {X} d P xs n x long before last =
     subst (λ (y : X). P w y) (sym (get_or_append_left xs (x ∷ []) d w near)) (before w below))
     (subst (λ (y : X). P n y) (sym (get_or_push xs x d n long)) last)
 
--- the distances from one more vertex
-pub rows_more : (arc : Arcs) (count n : ℕ) (rows : List (List (Option ℕ))) (row : List (Option ℕ)) → AreDistanceRows arc count n rows →
-    IsDistanceRow arc count n row → AreDistanceRows arc count (n + 1) (rows ++ row ∷ [])
-rows_more arc count n rows row are is = record {
-  long = omega (arith, length-append rows (row ∷ []), are.long);
-  each = each_at_more [] (IsDistanceRow arc count) rows n row are.long are.each is;
-}
-
 -- the rows of the first ends, and of one more
 pub known_more : (arc : Arcs) (ends : ℕ → ℕ × ℕ) (rows : List (List (Option ℕ))) (i to : ℕ) (row : List (Option ℕ)) → to < length rows → to ≡ (ends i).0 →
     ((j : ℕ) → j < i → AreLeastDistances arc (ends j).0 (get_or rows (ends j).0 [])) → AreLeastDistances arc to row →

@@ -12,7 +12,7 @@ use Rattle.walk_core.specs.steps.Ends.{IsShortRow}
 use Rattle.walk_core.specs.steps.Flooding.{segment_at}
 use Rattle.walk_core.specs.Walks.{Arcs}
 use Rattle.walk_core.specs.steps.Relaxing.{AreWalked, IsTightFrom}
-use Rattle.walk_core.specs.steps.Rows.{lone_row}
+use Rattle.walk_core.specs.Known.{lone_row}
 use Rattle.walk_core.specs.steps.SegmentWalks.{AreAllOutlets, AreOutlets, HasOutlet, IsJoinedEnd}
 use Rattle.walk_core.proofs.FloodLaws.{sends_at_place, sends_below}
 use Rattle.walk_core.proofs.ReachLaws.{lists_of_all, no_hops_listed, walks_more}

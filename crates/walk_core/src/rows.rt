@@ -1,6 +1,6 @@
 ghost use Rattle.std.specs.Prelude.{◌≡◌, ◌<◌, length, IfOk};
 ghost use Rattle.walk_core.specs.Distances.{distance_at, distance_between, KnowsEnds};
-ghost use Rattle.walk_core.specs.steps.Rows.{lone_row};
+ghost use Rattle.walk_core.specs.Known.{lone_row};
 
 use crate::distance::Distance;
 use crate::relax::{distance_in, distances_from};
@@ -36,7 +36,7 @@ impl Model for Distances {
 impl Distances {
     ghost use Rattle.std.specs.Prelude.{◌≡◌, [], IfSome};
     ghost use Rattle.walk_core.specs.Distances.{distance_at};
-    ghost use Rattle.walk_core.specs.steps.Rows.{lone_row};
+    ghost use Rattle.walk_core.specs.Known.{lone_row};
 
     /// No distances.
     pub fn none(alloc: Global) -> Distances

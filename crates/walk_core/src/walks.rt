@@ -29,7 +29,7 @@ pub enum Known {
 
 impl Model for LeastWalks {
     ghost use Rattle.walk_core.specs.Reach.{Reach};
-    ghost use Rattle.walk_core.specs.steps.Rows.{reach_known};
+    ghost use Rattle.walk_core.specs.Known.{reach_known};
 
     ghost Value = { Reach };
 
@@ -97,7 +97,7 @@ impl LeastWalks {
     ghost use Rattle.std.specs.Prelude.{◌≡◌, ◌↔◌, [], IfOk, IsTrue};
     ghost use Rattle.std.specs.List.Sorted.{IsStrictlyIncreasing};
     ghost use Rattle.walk_core.specs.Reach.{AreAscending, distance_of, listed_hops_of, HasHop};
-    ghost use Rattle.walk_core.specs.steps.Rows.{lone_row};
+    ghost use Rattle.walk_core.specs.Known.{lone_row};
 
     /// These distances, and these lists of first hops.
     pub(crate) fn of(
