@@ -1,5 +1,5 @@
 -- What stands behind the waves of an order file: nothing, a chain of them, or a faulty line.
-use Rattle.std.proofs.Common.{◌≡◌, ℕ, ◌+◌, ◌<◌, ◌≤◌, Some, None, List, [], ◌∷◌, ◌++◌, length, get_or, take, Contains, refl}
+use Rattle.std.proofs.Common.{◌≡◌, ◌≢◌, ℕ, ◌+◌, ◌<◌, Some, None, List, [], ◌∷◌, ◌++◌, length, get_or, take, Contains, refl}
 use Rattle.std.proofs.Common.{sym, ap, subst, ◌∙◌, arith}
 use Rattle.std.specs.List.{AllZip}
 use Rattle.std.proofs.lemmas.List.{take_more, take_all, length-append}
@@ -31,7 +31,7 @@ of_each net (wave ∷ waves) (seat ∷ seats) [] named each = absurd each
 of_each net (wave ∷ waves) (seat ∷ seats) (name ∷ names) named each =
     let one = each.0 in
     let its = zip_item (IsNamed net) wave seat one.router [] named.0 one.among in
-    (subst (Contains wave) (same_name net its.item name one.router its.related one.named) its.among, of_each net waves seats names named.1 each.1)
+    (subst (Contains wave) (same_name net its.1 name one.router its.4 one.named) (its.0, its.2, its.3), of_each net waves seats names named.1 each.1)
 
 -- and the other way round
 to_each : (net : Network) (waves : List (List (List ℕ))) (seats names : List (List ℕ)) → AllZip (AllZip (IsNamed net)) waves seats →
@@ -42,14 +42,17 @@ to_each net (wave ∷ waves) [] names named each = absurd named
 to_each net (wave ∷ waves) (seat ∷ seats) [] named each = absurd each
 to_each net (wave ∷ waves) (seat ∷ seats) (name ∷ names) named each =
     let its = zip_partner (IsNamed net) wave seat name 0 named.0 each.0 in
-    (record { router = its.partner; named = its.related; among = its.among }, to_each net waves seats names named.1 each.1)
+    (record { router = its.1; named = its.4; among = (its.0, its.2, its.3) }, to_each net waves seats names named.1 each.1)
 
 module _ (net : Network) (network : NamesAscend net) (version : Version) (text : List ℕ) (entries : List Line) (are : AreFileEntries version text entries)
     (seats : List (List ℕ)) (first : AreFirstWaves net version (bytes_of_lines text entries) seats) (waves : ℕ) (same : waves ≡ length seats) where
   front_read : AreWavesRead net version (take waves (bytes_of_lines text entries)) seats
   front_read = subst (λ n. AreWavesRead net version (take n (bytes_of_lines text entries)) seats) (sym same) first.read
 
-  module _ (d : Line) (left : waves < length entries) where
+  module _ (d : Line) (apart : waves ≢ length entries) where
+    left : waves < length entries
+    left = omega (arith, apart, first.few, same, long net network version text entries are)
+
     no_wave : wave_on version (bytes_of text (get_or entries waves d).span) ≡ None
     no_wave = subst (λ t. wave_on version t ≡ None) (text_at net network version text entries are waves d left)
         (subst (λ n. wave_on version (get_or (bytes_of_lines text entries) n []) ≡ None) (sym same)
@@ -87,7 +90,7 @@ module _ (net : Network) (network : NamesAscend net) (version : Version) (text :
         }
 
         -- a chain at the end
-        pub chain_last : length entries ≤ waves + 1 → AreEntriesRead net version (bytes_of_lines text entries) seats
+        pub chain_last : waves + 1 ≡ length entries → AreEntriesRead net version (bytes_of_lines text entries) seats
         chain_last done =
             let all = take_all (waves + 1) (bytes_of_lines text entries) (omega (arith, done, long net network version text entries are)) in
             subst (λ l. AreEntriesRead net version l seats) all chain_read
@@ -101,8 +104,8 @@ module _ (net : Network) (network : NamesAscend net) (version : Version) (text :
             omega (arith, ap length parts, ap length one, length-append (chains_on version front) (chains_on version (last ∷ [])))
 
         -- a line behind the chain
-        pub behind_chain : (e : Line) → waves + 1 < length entries → IsLeastFaultyLine net text (get_or entries (waves + 1) e).number Wave
+        pub behind_chain : (e : Line) → waves + 1 ≢ length entries → IsLeastFaultyLine net text (get_or entries (waves + 1) e).number Wave
         behind_chain e more =
-            least_at net network version text entries are (waves + 1) e seats more chain_read Wave
+            least_at net network version text entries are (waves + 1) e seats (omega (arith, left, more)) chain_read Wave
             (lowest_behind_chain net network version (take (waves + 1) (bytes_of_lines text entries)) (bytes_of text (get_or entries (waves + 1) e).span)
             some_chain)

@@ -8,6 +8,7 @@ use Rattle.net_addr.specs.Lines.{line_texts}
 use Rattle.net_model.specs.Lookups.{IsNamed}
 use Rattle.net_model.specs.Network.{Network}
 use Rattle.net_model.specs.Refusals.{NamesAscend}
+use Rattle.net_model.proofs.NetworkFacts.{IsNamed-unique}
 use Rattle.step_scripts.specs.WaveLines.{header_of, wave_on, chain_on, waves_on, chains_on}
 use Rattle.step_scripts.specs.WaveFiles.{all_in, AreOfEach}
 use Rattle.step_scripts.specs.FaultyLines.{FileEntry, file_entry, HasHeader, IsFaultBehind, IsFaultyLine, IsLeastFaultyLine, IsWaveBehind, HasFaultyEntry}
@@ -16,11 +17,10 @@ use Rattle.step_scripts.specs.steps.ReadWaves.{AreWavesRead, AreEntriesRead, IsU
 use Rattle.step_scripts.specs.declared.version.Version.{Version}
 use Rattle.step_scripts.specs.declared.kind.OrderKind.{OrderKind}
 use Rattle.step_scripts.specs.declared.kind.OrderKind.TheVariants.{Header, NotInNetwork, Twice, Missing, Wave, Chain}
-use Rattle.step_scripts.proofs.Routers.{same_router, same_name, has_name}
+use Rattle.step_scripts.proofs.Routers.{same_name, has_name}
 use Rattle.step_scripts.proofs.Zips.{zip_at, zip_append, zip_flat, zip_take, zip_partner, zip_item}
 use Rattle.step_scripts.proofs.Splits.{split_at, one_split}
 use Rattle.step_scripts.proofs.WaveLineFacts.{Says, one_header, chain_no_wave, waves_of, no_chains}
-use Rattle.step_scripts.proofs.WaveLists.{seat_of}
 use Rattle.step_scripts.proofs.ReadFacts.{no_fault_in, waves_read}
 
 -- a line that is faulty with this kind by what stands before it, and with no lower one
@@ -35,23 +35,24 @@ first_header text version entries lines = subst (λ l. slice_get l 0 ≡ Some (h
 module _ (net : Network) (network : NamesAscend net) (text : List ℕ) (version : Version) where
   -- the entries of a text, in whichever version they are told
   module _ (entries : List (List ℕ)) (lines : line_texts text ≡ header_of version ∷ entries) where
-    same_version : (its : Version) (others : List (List ℕ)) → line_texts text ≡ header_of its ∷ others → its ≡ version
-    same_version its others is = let both : header_of its ≡ header_of version = cc (is, lines) in one_header its version both
+    same_text : (its : Version) (others : List (List ℕ)) → line_texts text ≡ header_of its ∷ others → (its ≡ version) × (others ≡ entries)
+    same_text its others is = (let both : header_of its ≡ header_of version = cc (is, lines) in one_header its version both, cc (is, lines))
 
-    same_entries : (its : Version) (others : List (List ℕ)) → line_texts text ≡ header_of its ∷ others → others ≡ entries
-    same_entries its others is = cc (is, lines)
+    -- and those around a faulty line
+    same_around : (number : ℕ) (kind : OrderKind) (f : HasFaultyEntry net text number kind) →
+        (f.at.version ≡ version) × (f.at.before ++ f.at.line ∷ f.after ≡ entries)
+    same_around number kind f = same_text f.at.version (f.at.before ++ f.at.line ∷ f.after) f.lines
 
   -- a faulty line stands behind what was read
   behind_entry : (entries rest seats : List (List ℕ)) → line_texts text ≡ header_of version ∷ (entries ++ rest) →
       AreEntriesRead net version entries seats →
       (number : ℕ) (kind : OrderKind) → HasFaultyEntry net text number kind → length entries + 2 ≤ number
   behind_entry entries rest seats lines read number kind f =
-      let same = same_entries (entries ++ rest) lines f.at.version (f.at.before ++ f.at.line ∷ f.after) f.lines in
-      elim (split_at f.at.before f.at.line f.after entries rest (sym same)) [
+      let same = same_around (entries ++ rest) lines number kind f in
+      elim (split_at f.at.before f.at.line f.after entries rest (sym same.1)) [
         | inl here ↦
-            let its = same_version (entries ++ rest) lines f.at.version (f.at.before ++ f.at.line ∷ f.after) f.lines in
             absurd (no_fault_in net network version entries seats read f.at.before f.at.line here.0 here.1 kind
-            (subst (λ v. IsFaultBehind net (file_entry v f.at.before f.at.line) kind) its f.fault))
+            (subst (λ v. IsFaultBehind net (file_entry v f.at.before f.at.line) kind) same.0 f.fault))
         | inr behind ↦ omega (arith, f.number_is, ap length behind.1, length-append entries behind.0)
       ]
 
@@ -60,35 +61,31 @@ module _ (net : Network) (network : NamesAscend net) (text : List ℕ) (version 
       (number : ℕ) (kind : OrderKind) → IsFaultyLine net text number kind → length entries + 2 ≤ number
   behind_read entries rest seats lines read number Header f = absurd (f.1 version (first_header text version (entries ++ rest) lines))
   behind_read entries rest seats lines read number Missing f =
-      let same = same_entries (entries ++ rest) lines f.version f.entries f.lines in
-      omega (arith, f.number_is, ap length same, length-append entries rest)
+      let same = same_text (entries ++ rest) lines f.version f.entries f.lines in
+      omega (arith, f.number_is, ap length same.1, length-append entries rest)
   behind_read entries rest seats lines read number kind f = behind_entry entries rest seats lines read number kind f
 
   -- the line behind what was read
   module _ (entries : List (List ℕ)) (line : List ℕ) (more seats : List (List ℕ)) (lines : line_texts text ≡ header_of version
       ∷ (entries ++ line ∷ more)) where
-    here_entry : (kind : OrderKind) → IsFaultBehind net (file_entry version entries line) kind → HasFaultyEntry net text (length entries + 2) kind
-    here_entry kind fault = record { at = file_entry version entries line; after = more; lines = lines; number_is = refl; fault = fault }
-
     faulty_here : (kind : OrderKind) → IsFaultBehind net (file_entry version entries line) kind → IsFaultyLine net text (length entries + 2) kind
     faulty_here Header fault = absurd fault
     faulty_here Missing fault = absurd fault
-    faulty_here kind fault = here_entry kind fault
+    faulty_here kind fault = record { at = file_entry version entries line; after = more; lines = lines; number_is = refl; fault = fault }
 
     entry_here : (kind : OrderKind) → HasFaultyEntry net text (length entries + 2) kind → IsFaultBehind net (file_entry version entries line) kind
     entry_here kind f =
-        let same = same_entries (entries ++ line ∷ more) lines f.at.version (f.at.before ++ f.at.line ∷ f.after) f.lines in
-        let its = same_version (entries ++ line ∷ more) lines f.at.version (f.at.before ++ f.at.line ∷ f.after) f.lines in
-        let split = one_split f.at.before f.at.line f.after entries line more (omega (arith, f.number_is)) same in
-        let one : f.at ≡ file_entry version entries line = λ i. file_entry (its i) (split.0 i) (split.1 i) in
+        let same = same_around (entries ++ line ∷ more) lines (length entries + 2) kind f in
+        let split = one_split f.at.before f.at.line f.after entries line more (omega (arith, f.number_is)) same.1 in
+        let one : f.at ≡ file_entry version entries line = λ i. file_entry (same.0 i) (split.0 i) (split.1 i) in
         subst (λ e. IsFaultBehind net e kind) one f.fault
 
     lowest_here : (kind : OrderKind) → IsLowestBehind net (file_entry version entries line) kind → (its : OrderKind) →
         IsFaultyLine net text (length entries + 2) its → order_kind_rank kind ≤ order_kind_rank its
     lowest_here kind is Header f = absurd (omega (arith, f.0))
     lowest_here kind is Missing f =
-        let same = same_entries (entries ++ line ∷ more) lines f.version f.entries f.lines in
-        absurd (omega (arith, f.number_is, ap length same, length-append entries (line ∷ more)))
+        let same = same_text (entries ++ line ∷ more) lines f.version f.entries f.lines in
+        absurd (omega (arith, f.number_is, ap length same.1, length-append entries (line ∷ more)))
     lowest_here kind is its f = is.lowest its (entry_here its f)
 
     pub least_here : AreEntriesRead net version entries seats → (kind : OrderKind) → IsLowestBehind net (file_entry version entries line) kind →
@@ -104,8 +101,8 @@ module _ (net : Network) (network : NamesAscend net) (text : List ℕ) (version 
     where
       not_behind : (kind : OrderKind) → HasFaultyEntry net text (length entries + 2) kind → ⊥
       not_behind kind f =
-          let same = same_entries entries lines f.at.version (f.at.before ++ f.at.line ∷ f.after) f.lines in
-          omega (arith, f.number_is, ap length same, length-append f.at.before (f.at.line ∷ f.after))
+          let same = same_around entries lines (length entries + 2) kind f in
+          omega (arith, f.number_is, ap length same.1, length-append f.at.before (f.at.line ∷ f.after))
 
       lowest_behind : (its : OrderKind) → IsFaultyLine net text (length entries + 2) its → 4 ≤ order_kind_rank its
       lowest_behind Header f = absurd (omega (arith, f.0))
@@ -119,7 +116,7 @@ module _ (net : Network) (network : NamesAscend net) (text : List ℕ) (version 
           let among = subst (λ l. Contains (all_in l) name) waves c in
           let its =
           zip_partner (IsNamed net) (all_in read.read.waves) (all_in seats) name 0 (zip_flat (IsNamed net) read.read.waves seats read.read.named) among in
-          subst (Contains (all_in seats)) (same_router net network name its.partner u its.related named) its.among
+          subst (Contains (all_in seats)) (IsNamed-unique net name its.1 u network its.4 named) (its.0, its.2, its.3)
 
       pub least_behind : HasUnseated (length net) seats → IsLeastFaultyLine net text (length entries + 2) Missing
       least_behind missing =
@@ -131,9 +128,9 @@ module _ (net : Network) (network : NamesAscend net) (text : List ℕ) (version 
               lines = lines;
               number_is = refl;
               router = missing.router;
-              name = its.name;
-              named = its.named;
-              absent = λ c. missing.absent (seat_of seats missing.router (absent missing.router its.name its.named c));
+              name = its.0;
+              named = its.1;
+              absent = λ c. missing.absent (absent missing.router its.0 its.1 c);
             };
             least = behind_read entries [] seats (lines ∙ ap (λ l. header_of version ∷ l) (sym (append-nil entries))) read;
             lowest = lowest_behind;
@@ -213,9 +210,9 @@ module _ (net : Network) (network : NamesAscend net) (version : Version) where
         let its = zip_item (IsNamed net) (all_in waves ++ take place names) (all_in seats ++ take place is.routers) (get_or is.routers place 0) []
         zipped is.repeat.stood in
         let here = zip_at (IsNamed net) names is.routers place [] 0 is.named (inside is) in
-        let same = same_name net its.item (get_or names place []) (get_or is.routers place 0) its.related here in
+        let same = same_name net its.1 (get_or names place []) (get_or is.routers place 0) its.4 here in
         subst (λ l. Contains (all_in l ++ take place names) (get_or names place [])) (sym (waves_of version lines waves read.each))
-        (subst (Contains (all_in waves ++ take place names)) same its.among)
+        (subst (Contains (all_in waves ++ take place names)) same (its.0, its.2, its.3))
 
     lowest_repeat : Says version line names → NamesRepeat net names seats → IsLowestBehind net (file_entry version lines line) Twice
     lowest_repeat says is = record {
@@ -228,7 +225,7 @@ module _ (net : Network) (network : NamesAscend net) (version : Version) where
         lowest NotInNetwork f =
             let same : f.names ≡ names = cc (f.wave.wave, says) in
             let its = zip_partner (IsNamed net) names is.routers f.name 0 is.named (subst (λ l. Contains l f.name) same f.among) in
-            absurd (f.unknown its.partner its.related)
+            absurd (f.unknown its.1 its.4)
         lowest its f = omega arith
 
     -- names that are no further wave

@@ -1,7 +1,6 @@
 pub mod Zips
 pub mod Splits
 pub mod Routers
-pub mod LineNumbers
 pub mod WaveLineFacts
 pub mod WaveLists
 pub mod NamesOnLines

@@ -29,20 +29,24 @@ one_alone wave u v long c d =
 one_name : (line : List ℕ) (wave : List (List ℕ)) → Says One line wave → length wave ≡ 1
 one_name line wave says = let same : line ∷ [] ≡ wave = cc in sym (ap length same)
 
-module _ (net : Network) (version : Version) (lines seats : List (List ℕ)) (read : AreWavesRead net version lines seats) (ranks : List ℕ)
+-- entries that were read, where each router has a seat
+module _ (net : Network) (version : Version) (entries seats : List (List ℕ)) (all : AreEntriesRead net version entries seats) (ranks : List ℕ)
     (is : AreRanksOf (length net) seats ranks) where
+  abbrev read : AreWavesRead net version all.lines seats
+  read = all.read
+
   -- a router of the waves is one of the network
   below : (u : ℕ) → Contains (all_in seats) u → u < length net
   below u c =
       let its = zip_item (IsNamed net) (all_in read.waves) (all_in seats) u [] (zip_flat (IsNamed net) read.waves seats read.named) c in
-      named_within net its.item u its.related
+      named_within net its.1 u its.4
 
   rank_is : (w u : ℕ) → Contains (wave_at seats w) u → rank_of ranks u ≡ w
   rank_is w u c =
       let its = is.is_in u (below u (in_all seats w u c)) in
       one_wave seats u (rank_of ranks u) w read.once its.among c
 
-  pub are_waves : AreWaves net read.waves ranks
+  are_waves : AreWaves net read.waves ranks
   are_waves = record {
     routers = seats;
     named = read.named;
@@ -52,11 +56,11 @@ module _ (net : Network) (version : Version) (lines seats : List (List ℕ)) (re
   }
 
   -- the wave on a line, and how many names it has
-  on_line : (w : ℕ) → w < length seats → Says version (get_or lines w []) (get_or read.waves w [])
+  on_line : (w : ℕ) → w < length seats → Says version (get_or all.lines w []) (get_or read.waves w [])
   on_line w within =
-      let one = AllZip-long (Says version) lines read.waves read.each in
+      let one = AllZip-long (Says version) all.lines read.waves read.each in
       let two = AllZip-long (AllZip (IsNamed net)) read.waves seats read.named in
-      zip_at (Says version) lines read.waves w [] [] read.each (omega (arith, one, two, within))
+      zip_at (Says version) all.lines read.waves w [] [] read.each (omega (arith, one, two, within))
 
   as_long : (w : ℕ) → w < length seats → length (wave_at seats w) ≡ length (get_or read.waves w [])
   as_long w within =
@@ -66,7 +70,7 @@ module _ (net : Network) (version : Version) (lines seats : List (List ℕ)) (re
 
   has_rank : (w : ℕ) → w < length seats → Contains ranks w
   has_rank w within =
-      let some = wave_some version (get_or lines w []) (get_or read.waves w []) (on_line w within) in
+      let some = wave_some version (get_or all.lines w []) (get_or read.waves w []) (on_line w within) in
       let long = as_long w within in
       let u = get_or (wave_at seats w) 0 0 in
       let among = Contains-get_or (wave_at seats w) 0 0 (omega (arith, some, long)) in
@@ -91,28 +95,19 @@ module _ (net : Network) (version : Version) (lines seats : List (List ℕ)) (re
       let two = is.is_in j v in
       let ranks_same : rank_of ranks j ≡ rank_of ranks i =
       get_or_default ranks j 0 d within ∙ sym same ∙ get_or_default ranks i d 0 (omega (arith, before, within)) in
-      let says = subst (λ some. Says some (get_or lines (rank_of ranks i) []) (get_or read.waves (rank_of ranks i) [])) first
+      let says = subst (λ some. Says some (get_or all.lines (rank_of ranks i) []) (get_or read.waves (rank_of ranks i) [])) first
       (on_line (rank_of ranks i) one.within) in
-      let long = as_long (rank_of ranks i) one.within ∙ one_name (get_or lines (rank_of ranks i) []) (get_or read.waves (rank_of ranks i) []) says in
+      let long = as_long (rank_of ranks i) one.within ∙ one_name (get_or all.lines (rank_of ranks i) []) (get_or read.waves (rank_of ranks i) []) says in
       let alone = one_alone (wave_at seats (rank_of ranks i)) i j long one.among (subst (λ w. Contains (wave_at seats w) j) ranks_same two.among) in
       omega (arith, before, alone)
 
--- entries that were read, where each router has a seat
-module _ (net : Network) (version : Version) (text : List ℕ) (entries seats : List (List ℕ)) (lines : line_texts text ≡ header_of version ∷ entries)
-    (read : AreEntriesRead net version entries seats) (ranks : List ℕ) (is : AreRanksOf (length net) seats ranks) where
-  pub names_waves : NamesWaves net text version ranks
-  names_waves = record {
-    lines = read.lines;
-    ending = read.ending;
-    whole = lines ∙ ap (λ l. header_of version ∷ l) read.parts;
-    waves = read.read.waves;
-    each = read.read.each;
-    ends = read.ends;
-    are = are_waves net version read.lines seats read.read ranks is;
+  pub names_waves : (text : List ℕ) → line_texts text ≡ header_of version ∷ entries → NamesWaves net text version ranks
+  names_waves text is_text = record {
+    lines = all.lines;
+    ending = all.ending;
+    whole = is_text ∙ ap (λ l. header_of version ∷ l) all.parts;
+    waves = read.waves;
+    each = read.each;
+    ends = all.ends;
+    are = are_waves;
   }
-
-  pub ranking_read : IsRanking (length ranks) ranks
-  ranking_read = ranking net version read.lines seats read.read ranks is
-
-  pub ones_read : version ≡ One → AreDistinct ranks
-  ones_read = ones net version read.lines seats read.read ranks is

@@ -5,7 +5,7 @@ use Rattle.std.proofs.lemmas.List.{get_or-map, length-map, map_more}
 use Rattle.std.proofs.lemmas.List.Elements.{Contains-get_or}
 use Rattle.net_model.specs.Lookups.{IsNamed}
 use Rattle.net_model.specs.Network.{Network}
-use Rattle.step_scripts.specs.steps.ReadWaves.{HasUnknown, NamesOneOf}
+use Rattle.step_scripts.specs.steps.ReadWaves.{HasUnknown}
 use Rattle.std.proofs.lemmas.Slice.Zip.{all_zipped_more}
 
 -- what names point to
@@ -29,7 +29,3 @@ pub named_more : (net : Network) (names : List (Bor (List ℕ))) (i : ℕ) (d : 
 named_more net names i d routers u l before here =
     subst (λ some. AllZip (IsNamed net) some (routers ++ u ∷ [])) (sym (map_more (λ (name : Bor (List ℕ)). name.now) names i d l))
     (all_zipped_more (IsNamed net) (bytes_all (take i names)) routers (get_or names i d).now u before here)
-
-pub one_of_at : (net : Network) (wave : List ℕ) (names : List (Bor (List ℕ))) (i : ℕ) (d : Bor (List ℕ)) → i < length names →
-    NamesOneOf net wave (get_or (bytes_all names) i []) → NamesOneOf net wave (get_or names i d).now
-one_of_at net wave names i d l is = subst (NamesOneOf net wave) (get_or-map (λ (name : Bor (List ℕ)). name.now) names i d [] l) is

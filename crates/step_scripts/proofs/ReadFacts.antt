@@ -3,23 +3,26 @@ use Rattle.std.proofs.Common.{◌≡◌, ℕ, ◌+◌, ◌<◌, List, [], ◌∷
 use Rattle.std.proofs.Common.{⊎_elim, inl, inr, arith}
 use Rattle.std.specs.List.{AllZip}
 use Rattle.std.proofs.lemmas.Grind.{flat_map-append}
-use Rattle.std.proofs.lemmas.List.{append-nil, append_assoc, append_cancel_left, drop_more, take-append-drop}
+use Rattle.std.proofs.lemmas.List.{append-nil, append_assoc, append_cancel_left, length-append}
+use Rattle.std.proofs.Math.Seq.{get_or-append_seam, take-append_seam}
 use Rattle.std.proofs.lemmas.List.Elements.{filter_map-append}
 use Rattle.std.proofs.lemmas.Slice.Zip.{AllZip-long}
 use Rattle.net_model.specs.Lookups.{IsNamed}
 use Rattle.net_model.specs.Network.{Network}
 use Rattle.net_model.specs.Refusals.{NamesAscend}
 use Rattle.order_core.specs.Orders.{AreDistinct}
-use Rattle.step_scripts.specs.WaveLines.{wave_on, waves_on, chains_on}
+use Rattle.step_scripts.specs.WaveLines.{wave_on, waves_on}
 use Rattle.step_scripts.specs.WaveFiles.{all_in, MayFollowWaves, IsChainOf, AreOfEach}
 use Rattle.step_scripts.specs.FaultyLines.{file_entry, IsFaultBehind, NamesNoRouter}
 use Rattle.step_scripts.specs.steps.ReadWaves.{AreWavesRead, AreEntriesRead}
 use Rattle.step_scripts.specs.declared.version.Version.{Version}
 use Rattle.step_scripts.specs.declared.kind.OrderKind.{OrderKind}
 use Rattle.step_scripts.specs.declared.kind.OrderKind.TheVariants.{NotInNetwork, Twice, Wave, Chain}
-use Rattle.step_scripts.proofs.Routers.{same_router}
-use Rattle.step_scripts.proofs.Zips.{IsSplit, zip_at, zip_append, zip_flat, zip_take, zip_split, zip_partner}
-use Rattle.step_scripts.proofs.Splits.{split_of, split_at, not_before}
+use Rattle.net_model.proofs.Members.{Contains-first}
+use Rattle.net_model.proofs.NetworkFacts.{IsNamed-unique}
+use Rattle.step_scripts.proofs.Zips.{zip_at, zip_append, zip_flat, zip_take, zip_partner}
+use Rattle.step_scripts.proofs.Splits.{at_place, split_at}
+use Rattle.step_scripts.proofs.WaveLists.{in_one}
 use Rattle.step_scripts.proofs.WaveLineFacts.{Says, chain_no_wave, wave_no_chain, waves_of, no_chains, end_no_wave}
 
 pub all_in-append : {A : Type 0} (xs ys : List (List A)) → all_in (xs ++ ys) ≡ all_in xs ++ all_in ys
@@ -33,7 +36,7 @@ module _ (net : Network) (network : NamesAscend net) (version : Version) where
       let same : f.names ≡ wave = cc (f.wave.wave, says) in
       let among = subst (λ l. Contains l f.name) same f.among in
       let its = zip_partner (IsNamed net) wave seat f.name 0 named among in
-      f.unknown its.partner its.related
+      f.unknown its.1 its.4
 
   -- and none that stood before
   fresh : (front : List (List (List ℕ))) (seats_front : List (List ℕ)) (wave : List (List ℕ)) (seat : List ℕ) (behind : List (List ℕ)) →
@@ -46,17 +49,17 @@ module _ (net : Network) (network : NamesAscend net) (version : Version) where
       (zip_flat (IsNamed net) front seats_front named) (zip_take (IsNamed net) place wave seat here) in
       let its = zip_partner (IsNamed net) (all_in front ++ take place wave) (all_in seats_front ++ take place seat) (get_or wave place []) 0 zipped stood in
       let own = zip_at (IsNamed net) wave seat place [] 0 here within in
-      let same = same_router net network (get_or wave place []) its.partner (get_or seat place 0) its.related own in
-      let parts : seat ≡ take place seat ++ get_or seat place 0 ∷ drop (place + 1) seat =
-      sym (take-append-drop place seat) ∙ ap (λ l. take place seat ++ l) (drop_more seat place 0 inside) in
+      let same = IsNamed-unique net (get_or wave place []) its.1 (get_or seat place 0) network its.4 own in
       let whole : all_in (seats_front ++ seat ∷ behind) ≡ (all_in seats_front ++ take place seat) ++ get_or seat place 0
       ∷ (drop (place + 1) seat ++ all_in behind) =
       all_in-append seats_front (seat ∷ behind)
-      ∙ ap (λ l. all_in seats_front ++ (l ++ all_in behind)) parts
+      ∙ ap (λ l. all_in seats_front ++ (l ++ all_in behind)) (at_place seat place 0 inside)
       ∙ ap (λ l. all_in seats_front ++ l) (append_assoc (take place seat) (get_or seat place 0 ∷ drop (place + 1) seat) (all_in behind))
       ∙ sym (append_assoc (all_in seats_front) (take place seat) (get_or seat place 0 ∷ (drop (place + 1) seat ++ all_in behind))) in
-      not_before (all_in seats_front ++ take place seat) (get_or seat place 0) (drop (place + 1) seat ++ all_in behind)
-      (subst AreDistinct whole once) (subst (λ v. Contains (all_in seats_front ++ take place seat) v) same its.among)
+      let x = get_or seat place 0 in
+      let back = drop (place + 1) seat ++ all_in behind in
+      in_one (all_in seats_front ++ take place seat) (x ∷ back) x (subst AreDistinct whole once)
+      (subst (Contains (all_in seats_front ++ take place seat)) same (its.0, its.2, its.3)) (Contains-first x back)
 
   -- a line among waves that were read isn't faulty
   no_wave_fault : (lines seats : List (List ℕ)) → AreWavesRead net version lines seats →
@@ -65,31 +68,44 @@ module _ (net : Network) (network : NamesAscend net) (version : Version) where
   no_wave_fault lines seats read before line after parts kind fault =
       by_kind kind fault
     where
+      place : ℕ
+      place = length before
+
+      front : List (List (List ℕ))
+      front = take place read.waves
+
       each : AllZip (Says version) (before ++ line ∷ after) read.waves
       each = subst (λ l. AllZip (Says version) l read.waves) parts read.each
 
-      here : IsSplit (Says version) (split_of before line after) read.waves
-      here = zip_split (Says version) before line after read.waves each
+      before_each : AllZip (Says version) before front
+      before_each = subst (λ l. AllZip (Says version) l front) (take-append_seam before (line ∷ after))
+          (zip_take (Says version) place (before ++ line ∷ after) read.waves each)
 
-      seat : IsSplit (AllZip (IsNamed net)) (split_of here.front here.partner here.back) seats
-      seat =
-          zip_split (AllZip (IsNamed net)) here.front here.partner here.back seats (subst (λ l. AllZip (AllZip (IsNamed net)) l seats) here.parts read.named)
+      wave : List (List ℕ)
+      wave = get_or read.waves place []
 
-      none : chains_on version before ≡ []
-      none = no_chains version before here.front here.before_zip
+      says : Says version line wave
+      says = subst (λ l. Says version l wave) (get_or-append_seam before line after [])
+          (zip_at (Says version) (before ++ line ∷ after) read.waves place [] [] each (omega (arith, length-append before (line ∷ after))))
+
+      within : place < length read.waves
+      within = omega (arith, AllZip-long (Says version) (before ++ line ∷ after) read.waves each, length-append before (line ∷ after))
+
+      seat : AllZip (IsNamed net) wave (get_or seats place [])
+      seat = zip_at (AllZip (IsNamed net)) read.waves seats place [] [] read.named within
 
       by_kind : (kind : OrderKind) → IsFaultBehind net (file_entry version before line) kind → ⊥
-      by_kind NotInNetwork f = known line here.partner seat.partner here.here seat.here before f
+      by_kind NotInNetwork f = known line wave (get_or seats place []) says seat before f
       by_kind Twice f =
-          let same : f.names ≡ here.partner = cc (f.wave.wave, here.here) in
-          let waves = waves_of version before here.front here.before_zip in
-          fresh here.front seat.front here.partner seat.partner seat.back seat.before_zip seat.here (subst (λ l. AreDistinct (all_in l)) seat.parts read.once)
-          f.place
-          (subst (λ l. f.place < length l) same f.within)
-          (subst (λ l. Contains (all_in l ++ take f.place here.partner) (get_or here.partner f.place [])) waves
+          let same : f.names ≡ wave = cc (f.wave.wave, says) in
+          let inside : place < length seats = omega (arith, AllZip-long (AllZip (IsNamed net)) read.waves seats read.named, within) in
+          fresh front (take place seats) wave (get_or seats place []) (drop (place + 1) seats)
+          (zip_take (AllZip (IsNamed net)) place read.waves seats read.named) seat
+          (subst (λ l. AreDistinct (all_in l)) (at_place seats place [] inside) read.once) f.place (subst (λ l. f.place < length l) same f.within)
+          (subst (λ l. Contains (all_in l ++ take f.place wave) (get_or wave f.place [])) (waves_of version before front before_each)
           (subst (λ l. Contains (all_in (waves_on version before) ++ take f.place l) (get_or l f.place [])) same f.stood))
-      by_kind Wave f = ⊎_elim (λ no. let says = here.here in let wave = no.0 in absurd cc) (λ some. some none) f
-      by_kind Chain f = let no = wave_no_chain version line here.partner here.here in let chain = f.chain in absurd cc
+      by_kind Wave f = ⊎_elim (λ no. let its = says in let none = no.0 in absurd cc) (λ some. some (no_chains version before front before_each)) f
+      by_kind Chain f = let no = wave_no_chain version line wave says in let chain = f.chain in absurd cc
       by_kind kind f = f
 
   -- a chain that was read isn't faulty

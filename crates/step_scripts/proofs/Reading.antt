@@ -1,8 +1,8 @@
 -- How far the lines after the header have been read.
-use Rattle.std.proofs.Common.{◌≡◌, Bool, true, false, cond, eqb, ℕ, suc, ◌+◌, ◌<◌, ◌≤◌, None, List, [], ◌∷◌, ◌++◌, length}
-use Rattle.std.proofs.Common.{get_or, take, drop, refl, sym, ap, subst, ◌∙◌, arith}
+use Rattle.std.proofs.Common.{◌≡◌, Bool, true, false, cond, eqb, ℕ, zero, suc, ◌+◌, ◌<◌, ◌≤◌, None, List, [], ◌∷◌, ◌++◌, length}
+use Rattle.std.proofs.Common.{get_or, take, drop, sym, ap, subst, ◌∙◌, arith}
 use Rattle.std.specs.List.{All, AllZip, slice_split}
-use Rattle.std.proofs.lemmas.List.{append-nil, get_or_default, take_more, drop_more, take-append-drop, get_or-map, length-map, length-take-le}
+use Rattle.std.proofs.lemmas.List.{append-nil, get_or_default, take_more, get_or-map, length-map, length-take-le}
 use Rattle.std.proofs.lemmas.List.Elements.{All-tail}
 use Rattle.std.proofs.lemmas.List.Splits.{length-slice_split}
 use Rattle.std.proofs.lemmas.List.Sums.{count_by-le-length}
@@ -10,6 +10,7 @@ use Rattle.std.proofs.lemmas.Slice.Zip.{AllZip-long}
 use Rattle.net_addr.specs.Lines.{is_line_feed, line_pieces, line_texts, lines_of, text_lines, without_empty_last}
 use Rattle.net_addr.specs.Spans.{bytes_of, LiesIn}
 use Rattle.net_addr.specs.declared.line.Line.{Line}
+use Rattle.net_addr.proofs.JoinedFacts.{lines_of-length}
 use Rattle.net_model.specs.Lookups.{IsNamed}
 use Rattle.net_model.specs.Network.{Network}
 use Rattle.net_model.specs.Refusals.{NamesAscend}
@@ -21,10 +22,22 @@ use Rattle.step_scripts.specs.steps.ReadWaves.{bytes_of_lines, AreFileEntries, A
 use Rattle.step_scripts.specs.declared.version.Version.{Version}
 use Rattle.step_scripts.specs.declared.kind.OrderKind.{OrderKind}
 use Rattle.step_scripts.proofs.LeastFaults.{IsLowestBehind, least_here, lowest_unfit}
-use Rattle.step_scripts.proofs.LineNumbers.{numbered}
 use Rattle.step_scripts.proofs.ReadFacts.{all_in-append, without_end}
+use Rattle.step_scripts.proofs.Splits.{at_place}
 use Rattle.step_scripts.proofs.WaveLineFacts.{Says}
 use Rattle.std.proofs.lemmas.Slice.Zip.{all_zipped_more}
+
+numbered_from : (number start : ℕ) (pieces : List (List ℕ)) (k : ℕ) (d : Line) → k < length (lines_of number start pieces) →
+    (get_or (lines_of number start pieces) k d).number ≡ number + k
+numbered_from number start [] k d l = absurd (omega (arith, l))
+numbered_from number start (piece ∷ more) zero d l = omega arith
+numbered_from number start (piece ∷ more) (suc k) d l =
+    let step = numbered_from (number + 1) (start + length piece + 1) more k d (omega (arith, l)) in
+    omega (arith, step)
+
+-- lines are numbered from 1
+numbered : (text : List ℕ) (k : ℕ) (d : Line) → k < length (text_lines text) → (get_or (text_lines text) k d).number ≡ k + 1
+numbered text k d l = let step = numbered_from 1 0 (line_pieces text) k d l in omega (arith, step)
 
 one_few : (empty : Bool) (piece : List ℕ) → length (cond empty [] (piece ∷ [])) ≤ 1
 one_few true piece = omega arith
@@ -35,16 +48,13 @@ pieces_few [] = omega arith
 pieces_few (piece ∷ []) = one_few (eqb (length piece) 0) piece
 pieces_few (piece ∷ next ∷ more) = omega (arith, pieces_few (next ∷ more))
 
-lines_many : (number start : ℕ) (pieces : List (List ℕ)) → length (lines_of number start pieces) ≡ length pieces
-lines_many number start [] = refl
-lines_many number start (piece ∷ more) = ap suc (lines_many (number + 1) (start + length piece + 1) more)
-
 -- a text has no more lines than bytes, and one
-pub lines_few : (text : List ℕ) → length (text_lines text) ≤ length text + 1
-lines_few text =
+pub lines_few : (text : List ℕ) (lines : List Line) → lines ≡ text_lines text → length lines ≤ length text + 1
+lines_few text lines are =
     omega (
       arith,
-      lines_many 1 0 (line_pieces text),
+      ap length are,
+      lines_of-length 1 0 (line_pieces text),
       pieces_few (slice_split is_line_feed text),
       length-slice_split is_line_feed text,
       count_by-le-length is_line_feed text,
@@ -83,9 +93,8 @@ module _ (net : Network) (network : NamesAscend net) (version : Version) (text :
   parts_at : (i : ℕ) (d : Line) → i < length entries → bytes_of_lines text entries ≡ take i (bytes_of_lines text entries) ++ bytes_of text
       (get_or entries i d).span ∷ drop (i + 1) (bytes_of_lines text entries)
   parts_at i d l =
-      sym (take-append-drop i (bytes_of_lines text entries))
-      ∙ ap (λ l. take i (bytes_of_lines text entries) ++ l) (drop_more (bytes_of_lines text entries) i [] (omega (arith, long, l))
-      ∙ ap (λ h. h ∷ drop (i + 1) (bytes_of_lines text entries)) (text_at i d l))
+      at_place (bytes_of_lines text entries) i [] (omega (arith, long, l))
+      ∙ ap (λ h. take i (bytes_of_lines text entries) ++ h ∷ drop (i + 1) (bytes_of_lines text entries)) (text_at i d l)
 
   -- a line behind what was read that is faulty is the least faulty one
   pub least_at : (i : ℕ) (d : Line) (seats : List (List ℕ)) → i < length entries → AreEntriesRead net version (take i (bytes_of_lines text entries))
@@ -128,11 +137,8 @@ module _ (net : Network) (network : NamesAscend net) (version : Version) (text :
             (all_zipped_more (AllZip (IsNamed net)) read.waves old names takes.routers read.named takes.named);
         once =
             subst (λ s. AreDistinct (all_in s)) (sym takes.added)
-            (subst AreDistinct (sym (all_in-append old (takes.routers ∷ []) ∙ ap (λ l. all_in old ++ l) (one_wave_in takes.routers))) takes.once);
+            (subst AreDistinct (sym (all_in-append old (takes.routers ∷ []) ∙ ap (λ l. all_in old ++ l) (append-nil takes.routers))) takes.once);
       }
-    where
-      one_wave_in : (wave : List ℕ) → all_in (wave ∷ []) ≡ wave
-      one_wave_in wave = append-nil wave
 
   -- as many seats as lines
   pub seats_long : (i : ℕ) (seats : List (List ℕ)) → i ≤ length entries → AreWavesRead net version (take i (bytes_of_lines text entries)) seats →

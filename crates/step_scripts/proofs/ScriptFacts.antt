@@ -84,18 +84,14 @@ plain_process : (process : Option ℕ) → filter plain (ospf_change_lines proce
 plain_process None = refl
 plain_process (Some process) = refl
 
+plain_by : (f : Configuration → List (List ℕ)) → ((c : Configuration) → filter plain (f c) ≡ f c) → (o : Option Configuration) →
+    filter plain (by_configuration f o) ≡ by_configuration f o
+plain_by f each None = refl
+plain_by f each (Some c) = each c
+
 plain_change : (net : Network) (c : Change) → filter plain (change_lines net c) ≡ change_lines net c
-plain_change net (first u) = by_router (slice_get net u)
-  where
-    by_router : (o : Option Configuration) → filter plain (by_configuration isis_change_lines o) ≡ by_configuration isis_change_lines o
-    by_router None = refl
-    by_router (Some c) = plain_isis c
-plain_change net (second u) = by_router (slice_get net u)
-  where
-    by_router : (o : Option Configuration) → filter plain (by_configuration (λ (c : Configuration). ospf_change_lines c.process) o) ≡ by_configuration
-        (λ (c : Configuration). ospf_change_lines c.process) o
-    by_router None = refl
-    by_router (Some c) = plain_process c.process
+plain_change net (first u) = plain_by isis_change_lines plain_isis (slice_get net u)
+plain_change net (second u) = plain_by (λ c. ospf_change_lines c.process) (λ c. plain_process c.process) (slice_get net u)
 
 plain_wave : (version : Version) (ranks : List ℕ) (c : Change) (more : List (List ℕ)) →
     filter plain (wave_comments version ranks c ++ more) ≡ filter plain more

@@ -1,20 +1,12 @@
 -- Lists that are split at an item.
-use Rattle.std.proofs.Common.{◌≡◌, ◌≢◌, ℕ, suc, ◌+◌, ◌-◌, ◌⊎◌, inl, inr, List, ◌∷◌, ◌++◌, length, take, drop, Contains, refl, sym, ap, ◌∙◌, arith}
-use Rattle.std.specs.List.{AllPairs}
+use Rattle.std.proofs.Common.{◌≡◌, ℕ, suc, ◌+◌, ◌-◌, ◌<◌, ◌⊎◌, inl, inr, List, ◌∷◌, ◌++◌, length, get_or, take, drop, sym, ap, ◌∙◌, arith}
 use Rattle.std.proofs.lemmas.Bool.{cases_lt}
-use Rattle.std.proofs.lemmas.List.{append_cancel_left, take-append-drop, take-append-le}
-use Rattle.net_model.proofs.Members.{Contains-first}
-use Rattle.igp_theory.proofs.OrderedLists.{pairs_across}
+use Rattle.std.proofs.lemmas.List.{append_cancel_left, drop_more, take-append-drop, take-append-le}
 use Rattle.std.proofs.Math.Seq.{take-append_seam, take-append-add}
 
--- a list at one of its items: what stands before it, the item, what stands behind it
-pub record Split (A : Type 0) : Type 0 where
-  pub before : List A
-  pub item : A
-  pub after : List A
-
-abbrev pub split_of : {A : Type 0} → List A → A → List A → Split A
-split_of before item after = record { before = before; item = item; after = after }
+-- a list is what stands before a place, the item there, and what stands behind it
+pub at_place : {A : Type 0} (xs : List A) (k : ℕ) (d : A) → k < length xs → xs ≡ take k xs ++ get_or xs k d ∷ drop (k + 1) xs
+at_place xs k d l = sym (take-append-drop k xs) ∙ ap (λ ys. take k xs ++ ys) (drop_more xs k d l)
 
 -- a list of two parts that is split at an item has the item in the first part, or behind it
 pub split_at : {A : Type 0} (before : List A) (x : A) (after first second : List A) → first ++ second ≡ before ++ x ∷ after →
@@ -42,7 +34,3 @@ one_split before x after others y rest long same =
     ∙ ap (λ k. take k (others ++ y ∷ rest)) long ∙ take-append_seam others (y ∷ rest) in
     let backs : x ∷ after ≡ y ∷ rest = append_cancel_left others (x ∷ after) (y ∷ rest) (ap (λ l. l ++ x ∷ after) (sym fronts) ∙ same) in
     (fronts, cc)
-
--- in a list of distinct numbers, an item doesn't stand before itself
-pub not_before : (front : List ℕ) (x : ℕ) (rest : List ℕ) → AllPairs (λ u v. u ≢ v) (front ++ x ∷ rest) → Contains front x → ⊥
-not_before front x rest once c = pairs_across (λ (u v : ℕ). u ≢ v) front (x ∷ rest) once x x c (Contains-first x rest) refl

@@ -3,7 +3,7 @@ use Rattle.std.proofs.Common.{◌≡◌, ◌≢◌, ℕ, ◌+◌, ◌<◌, Bool,
 use Rattle.std.proofs.Common.{map, Contains, refl, sym, ap, subst, ◌∙◌, ⊎_elim, arith, append-nil}
 use Rattle.std.specs.Prelude.{codes, bytes_eq, nat_lt}
 use Rattle.std.specs.List.{All, AllZip, list_all, slice_split}
-use Rattle.std.proofs.lemmas.Bool.{and_from, and_parts, cases_lt, lt-ltb, ltb-true}
+use Rattle.std.proofs.lemmas.Bool.{and_from, cases_lt, lt-ltb, ltb-true}
 use Rattle.std.proofs.lemmas.Bool.Decides.{nat_tests}
 use Rattle.std.proofs.lemmas.Grind.{flat_map-append}
 use Rattle.std.proofs.lemmas.List.{append_assoc, get_or-map, get_or_past, length-map, map_push}
@@ -13,12 +13,15 @@ use Rattle.std.proofs.lemmas.List.Elements.{All-append, All-cons, All-contains, 
 use Rattle.std.proofs.lemmas.List.Folds.{flat_map-map}
 use Rattle.std.proofs.lemmas.List.FromFn.{length-range_with_len, get_or-range_with_len}
 use Rattle.std.proofs.lemmas.List.Splits.{slice_split_at, slice_split_none}
+use Rattle.std.proofs.lemmas.List.Sums.{AllPass-from_list_all, list_all-from_AllPass}
 use Rattle.net_addr.specs.Blanks.{is_blank}
 use Rattle.net_model.specs.Configuration.{Configuration, IsConfiguration, IsNameByte}
 use Rattle.net_model.specs.Lookups.{IsNamed}
 use Rattle.net_model.specs.Network.{Network}
 use Rattle.net_model.specs.Refusals.{IsNetwork}
 use Rattle.net_model.specs.RouterNames.{names_of}
+use Rattle.net_model.proofs.Names.{named_from}
+use Rattle.net_model.proofs.Members.{Contains-in_map, Contains-none}
 use Rattle.order_core.specs.Orders.{IsOrder}
 use Rattle.order_core.specs.Rankings.{IsRanking, rank_of, wave_count, wave_of, numbers_below, flat_of}
 use Rattle.order_core.proofs.WaveLists.{flat_is_order, numbers_more, wave_routers, wave_some}
@@ -32,6 +35,7 @@ use Rattle.step_scripts.specs.WavesTexts.{waves_in, AreOneOfEach, names_at, name
 use Rattle.step_scripts.specs.declared.version.Version.TheVariants.{Two}
 use Rattle.step_scripts.proofs.Routers.{has_name}
 use Rattle.step_scripts.proofs.WaveLineFacts.{Says}
+use Rattle.step_scripts.proofs.Zips.{zip_at}
 
 no_blank : (b : ℕ) → IsWordByte b → is_blank b ≡ false
 no_blank b byte =
@@ -52,15 +56,11 @@ pieces_are word (next ∷ more) fine others =
     (All-tail IsPrintedWord next more others))
 
 -- words that are printed are names
-all_some : (words : List (List ℕ)) → All IsPrintedWord words → list_all (λ name. nat_lt 0 (length name)) words ≡ true
-all_some [] fine = refl
-all_some (word ∷ words) fine =
-    and_from (nat_lt 0 (length word)) (list_all (λ name. nat_lt 0 (length name)) words)
-    (lt-ltb 0 (length word) (All-head IsPrintedWord word words fine).some) (all_some words (All-tail IsPrintedWord word words fine))
-
 names_are : (words : List (List ℕ)) → 0 < length words → All IsPrintedWord words → are_names words ≡ true
 names_are words some fine =
-    and_from (nat_lt 0 (length words)) (list_all (λ name. nat_lt 0 (length name)) words) (lt-ltb 0 (length words) some) (all_some words fine)
+    and_from (nat_lt 0 (length words)) (list_all (λ name. nat_lt 0 (length name)) words) (lt-ltb 0 (length words) some)
+    (list_all-from_AllPass (λ name. nat_lt 0 (length name)) words
+    (All-weaker IsPrintedWord (λ word. nat_lt 0 (length word) ≡ true) (λ word its. lt-ltb 0 (length word) its.some) words fine))
 
 -- a word and names, joined by one blank each, have these names behind this word
 behind_joined : (word : List ℕ) (names : List (List ℕ)) → bytes_eq word word ≡ true → IsPrintedWord word → 0 < length names →
@@ -72,22 +72,15 @@ behind_joined word names same fine some words =
 
 -- a word of bytes above the blanks can be printed
 above_blanks : (b : ℕ) → 32 < b → IsWordByte b
-above_blanks b l = record {
-  no_space = λ e. omega (arith, e, l);
-  no_tab = λ e. omega (arith, e, l);
-  no_feed = λ e. omega (arith, e, l);
-  no_return =
-      λ e. omega (arith, e, l);
-}
+above_blanks b l =
+    record { no_space = λ e. omega (arith, e, l); no_tab = λ e. omega (arith, e, l); no_feed = λ e. omega (arith, e, l); no_return = λ e. omega (arith, e, l) }
 
 pub plain_word : (word : List ℕ) → 0 < length word → list_all (λ b. nat_lt 32 b) word ≡ true → IsPrintedWord word
-plain_word word some all = record { some = some; bytes = each word all }
-  where
-    each : (word : List ℕ) → list_all (λ b. nat_lt 32 b) word ≡ true → All IsWordByte word
-    each [] all = All-nil IsWordByte
-    each (b ∷ word) all =
-        let both = and_parts (nat_lt 32 b) (list_all (λ b. nat_lt 32 b) word) all in
-        All-cons IsWordByte b word (above_blanks b (ltb-true 32 b both.0)) (each word both.1)
+plain_word word some all = record {
+  some = some;
+  bytes = All-weaker (λ b. nat_lt 32 b ≡ true) IsWordByte (λ b above. above_blanks b (ltb-true 32 b above)) word
+      (AllPass-from_list_all (λ b. nat_lt 32 b) word all);
+}
 
 name_byte : (b : ℕ) → IsNameByte b → IsWordByte b
 name_byte b is = above_blanks b (omega (arith, is))
@@ -128,11 +121,8 @@ wave_rank : (ranks : List ℕ) (w u : ℕ) → Contains (wave_at (waves_in ranks
 wave_rank ranks w u c =
     ⊎_elim
     (λ below. ((wave_routers ranks w u).0 (subst (λ l. Contains l u) (wave_there ranks w below) c)).1)
-    (λ past. absurd (none_there (subst (λ l. Contains l u) (get_or_past (waves_in ranks) w [] (omega (arith, past, waves_long ranks))) c)))
+    (λ past. absurd (Contains-none u (subst (λ l. Contains l u) (get_or_past (waves_in ranks) w [] (omega (arith, past, waves_long ranks))) c)))
     (cases_lt w (wave_count ranks))
-  where
-    none_there : Contains {X = ℕ} [] u → ⊥
-    none_there c = omega (arith, c.1)
 
 -- the waves, end to end, are the flat run
 waves_flat : (ranks : List ℕ) → all_in (waves_in ranks) ≡ flat_of ranks
@@ -148,18 +138,13 @@ wave_below ranks w n each =
     All-weaker (Contains (wave_of ranks w)) (λ u. u < n) (λ u c. subst (λ m. u < m) each ((wave_routers ranks w u).0 c).0) (wave_of ranks w)
     (All-contains_itself (wave_of ranks w))
 
-chain_below : (n : ℕ) (waves : List (List ℕ)) (chain : List ℕ) → AllZip (λ (wave : List ℕ) (u : ℕ). Contains wave u) waves chain →
-    All (All (λ u. u < n)) waves → All (λ u. u < n) chain
-chain_below n [] [] each below = All-nil (λ u. u < n)
-chain_below n [] (u ∷ chain) each below = absurd each
-chain_below n (wave ∷ waves) [] each below = absurd each
-chain_below n (wave ∷ waves) (u ∷ chain) each below =
-    All-cons (λ u. u < n) u chain (All-contains (λ u. u < n) wave u (All-head (All (λ u. u < n)) wave waves below) each.0)
-    (chain_below n waves chain each.1 (All-tail (All (λ u. u < n)) wave waves below))
-
 -- and so are those of a chain
 pub chain_routers : (ranks chain : List ℕ) (n : ℕ) → length ranks ≡ n → AreOneOfEach ranks chain → All (λ u. u < n) chain
-chain_routers ranks chain n long each = chain_below n (waves_in ranks) chain each (each_wave ranks (All (λ u. u < n)) (λ w _. wave_below ranks w n long))
+chain_routers ranks chain n long each k d l =
+    let waves = waves_in ranks in
+    let within : k < length waves = omega (arith, l, AllZip-long (λ (wave : List ℕ) (u : ℕ). Contains wave u) waves chain each) in
+    All-contains (λ u. u < n) (get_or waves k []) (get_or chain k d) (each_wave ranks (All (λ u. u < n)) (λ w _. wave_below ranks w n long) k [] within)
+    (zip_at (λ (wave : List ℕ) (u : ℕ). Contains wave u) waves chain k [] d each within)
 
 -- the text with one more wave
 pub text_more : (names : List (List ℕ)) (ranks : List ℕ) (w : ℕ) →
@@ -184,10 +169,8 @@ module _ (net : Network) (network : IsNetwork net) where
   -- the name of a router stands for it
   own_name : (u : ℕ) → u < length net → IsNamed net (get_or (names_of net) u []) u
   own_name u l =
-      let its = (has_name net u l).named in
-      let at = get_or-map (λ (c : Configuration). c.name) net u its.config [] l in
-      let same = get_or_from_slice_get net u its.config its.config its.router in
-      record { config = its.config; router = its.router; name_is = sym (at ∙ ap (λ (c : Configuration). c.name) same) }
+      let d = (has_name net u l).1.config in
+      named_from net (get_or (names_of net) u []) u d l (sym (get_or-map (λ (c : Configuration). c.name) net u d [] l))
 
   -- and is a word
   name_word : (u : ℕ) → u < length net → IsPrintedWord (get_or (names_of net) u [])
@@ -238,15 +221,8 @@ module _ (net : Network) (network : IsNetwork net) where
   chain_each [] [] each = tt
   chain_each [] (u ∷ chain) each = absurd each
   chain_each (wave ∷ waves) [] each = absurd each
-  chain_each (wave ∷ waves) (u ∷ chain) each = (
-    (
-      each.0.0,
-      subst (λ n. each.0.0 < n) (sym (length-map wave (λ (v : ℕ). get_or (names_of net) v []))) each.0.1,
-      get_or-map (λ (v : ℕ). get_or (names_of net) v []) wave each.0.0 u (get_or (names_of net) u []) each.0.1
-          ∙ ap (λ v. get_or (names_of net) v []) each.0.2,
-    ),
-    chain_each waves chain each.1,
-  )
+  chain_each (wave ∷ waves) (u ∷ chain) each =
+      (Contains-in_map (λ (v : ℕ). get_or (names_of net) v []) wave u each.0, chain_each waves chain each.1)
 
   module _ (ranks : List ℕ) (ranking : IsRanking (length net) ranks) where
     waves_below : All (All Below) (waves_in ranks)

@@ -7,6 +7,7 @@ use Rattle.net_model.specs.Lookups.{IsNamed}
 use Rattle.net_model.specs.Network.{Network}
 use Rattle.net_model.specs.Refusals.{NamesAscend}
 use Rattle.net_model.proofs.Names.{named_within}
+use Rattle.net_model.proofs.NetworkFacts.{IsNamed-unique}
 use Rattle.step_scripts.specs.WaveLines.{header_of, waves_on}
 use Rattle.step_scripts.specs.WaveFiles.{all_in, wave_at, AreWaves, NamesWaves}
 use Rattle.step_scripts.specs.FaultyLines.{IsFaultyLine, IsLeastFaultyLine, HasFaultyEntry, RefusesWaves, order_kind_rank}
@@ -16,7 +17,7 @@ use Rattle.step_scripts.specs.declared.kind.OrderKind.{OrderKind}
 use Rattle.step_scripts.specs.declared.kind.OrderKind.TheVariants.{Header, NotInNetwork, Twice, Missing, Wave, Chain}
 use Rattle.step_scripts.specs.declared.kind.OrderRefusal.{OrderRefusal}
 use Rattle.step_scripts.specs.declared.kind.OrderRefusal.TheVariants.{Bad, OutOfMemory}
-use Rattle.step_scripts.proofs.Routers.{same_router, same_name}
+use Rattle.step_scripts.proofs.Routers.{same_name}
 use Rattle.step_scripts.proofs.Zips.{zip_flat, zip_item, zip_unique}
 use Rattle.step_scripts.proofs.WaveLineFacts.{one_header}
 use Rattle.step_scripts.proofs.WaveLists.{seat_of}
@@ -53,10 +54,11 @@ one_ranks net network waves one other a b =
     let lt : k < length net = subst (λ n. k < n) a.each within in
     let in_other : k < length other = subst (λ n. k < n) (sym b.each) lt in
     let its = seat_of a.routers k ((a.once.all k).1 lt) in
-    let routers : a.routers ≡ b.routers = zip_unique (AllZip (IsNamed net)) (λ names us vs. zip_unique (IsNamed net) (same_router net network) names us vs)
+    let routers : a.routers ≡ b.routers =
+    zip_unique (AllZip (IsNamed net)) (zip_unique (IsNamed net) (λ name u v. IsNamed-unique net name u v network))
     waves a.routers b.routers a.named b.named in
-    let there = subst (λ l. Contains (wave_at l its.wave) k) routers its.is_in.among in
-    get_or_default one k d 0 within ∙ a.seats its.wave k its.is_in.among ∙ sym (b.seats its.wave k there) ∙ get_or_default other k 0 d in_other)
+    let there = subst (λ l. Contains (wave_at l its.0) k) routers its.1.among in
+    get_or_default one k d 0 within ∙ a.seats its.0 k its.1.among ∙ sym (b.seats its.0 k there) ∙ get_or_default other k 0 d in_other)
 
 pub one_wave_list : (net : Network) (text : List ℕ) (version its : Version) (one other : List ℕ) → NamesAscend net →
     NamesWaves net text version one → NamesWaves net text its other → (version ≡ its) × (one ≡ other)
@@ -80,8 +82,8 @@ no_fault net text version ranks number Missing network n f =
     sym (waves_all net text version ranks n network) ∙ ap (λ v. waves_on v (n.lines ++ n.ending)) its ∙ ap (waves_on f.version) entries in
     let among = (n.are.once.all f.router).1 (named_within net f.name f.router f.named) in
     let item = zip_item (IsNamed net) (all_in n.waves) (all_in n.are.routers) f.router [] (zip_flat (IsNamed net) n.waves n.are.routers n.are.named) among in
-    let same = same_name net item.item f.name f.router item.related f.named in
-    f.absent (subst (λ w. Contains (all_in w) f.name) waves (subst (Contains (all_in n.waves)) same item.among))
+    let same = same_name net item.1 f.name f.router item.4 f.named in
+    f.absent (subst (λ w. Contains (all_in w) f.name) waves (subst (Contains (all_in n.waves)) same (item.0, item.2, item.3)))
 no_fault net text version ranks number kind network n f = no_entry net text version ranks n network number kind f
 
 -- the kind at a place among the kinds

@@ -1,16 +1,18 @@
 -- Waves of distinct routers: in which one a router stands.
 use Rattle.std.proofs.Common.{◌≡◌, ◌≢◌, ℕ, zero, suc, ◌+◌, ◌<◌, List, [], ◌∷◌, ◌++◌, length, length-set, get_or, set, take, Contains, refl, sym}
 use Rattle.std.proofs.Common.{Option, Some, None, MatchOption, ap, subst, ◌∙◌, inl, inr, ⊎_elim, arith}
-use Rattle.std.proofs.lemmas.Bool.{cases_eq, cases_lt}
+use Rattle.std.proofs.lemmas.Bool.{cases_eq}
+use Rattle.std.proofs.lemmas.Grind.{flat_map-append}
 use Rattle.std.proofs.lemmas.List.Quantifiers.{all_pairs_push}
-use Rattle.std.proofs.lemmas.List.{take_more, get_or_default, get_or_append_left, get_or_push, get_or-set_same, get_or-set_other, length_push, append_assoc}
+use Rattle.std.proofs.lemmas.List.{take_more, get_or_default, get_or_append_left, get_or_push, get_or-set_same, get_or-set_other}
+use Rattle.std.proofs.lemmas.List.{length_push, append-nil, append_assoc}
 use Rattle.std.proofs.lemmas.List.Elements.{Contains-append_left, Contains-append_right, Contains-append_cases, Contains-push, Contains-push_cases}
-use Rattle.net_model.proofs.Members.{Contains-none}
+use Rattle.net_model.proofs.Members.{Contains-flat_map, Contains-none}
 use Rattle.order_core.specs.Orders.{AreDistinct}
 use Rattle.order_core.proofs.DistinctLists.{back_distinct}
 use Rattle.igp_theory.proofs.OrderedLists.{pairs_across}
 use Rattle.step_scripts.specs.WaveFiles.{all_in, wave_at}
-use Rattle.step_scripts.specs.steps.ReadWaves.{AreNoted, HasSeat, IsIn, IsNoted, KnowPlaces}
+use Rattle.step_scripts.specs.steps.ReadWaves.{AreNoted, IsIn, IsNoted, KnowPlaces}
 
 -- a router of a wave stands among all
 pub in_all : (seats : List (List ℕ)) (w u : ℕ) → Contains (wave_at seats w) u → Contains (all_in seats) u
@@ -18,22 +20,16 @@ in_all [] w u c = absurd (Contains-none u c)
 in_all (wave ∷ seats) zero u c = Contains-append_left wave (all_in seats) u c
 in_all (wave ∷ seats) (suc w) u c = Contains-append_right wave (all_in seats) u (in_all seats w u c)
 
-pub seat_of : (seats : List (List ℕ)) (u : ℕ) → Contains (all_in seats) u → HasSeat seats u
-seat_of [] u c = absurd (Contains-none u c)
-seat_of (wave ∷ seats) u c =
-    ⊎_elim
-    (λ here. record { wave = 0; is_in = record { within = omega arith; among = here } })
-    (λ behind. let rest = seat_of seats u behind in record {
-      wave = suc rest.wave;
-      is_in = record {
-        within = omega (arith, rest.is_in.within);
-        among = rest.is_in.among;
-      };
-    })
-    (Contains-append_cases wave (all_in seats) u c)
+-- and a router that stands among all is in a wave
+pub seat_of : (seats : List (List ℕ)) (u : ℕ) → Contains (all_in seats) u → (w : ℕ) × IsIn seats u w
+seat_of seats u c =
+    let its = Contains-flat_map (λ wave. wave) seats u c in
+    let w = its.among.0 in
+    let wave : wave_at seats w ≡ its.item = get_or_default seats w [] its.item its.among.1 ∙ its.among.2 in
+    (w, record { within = its.among.1; among = subst (λ l. Contains l u) (sym wave) its.inside })
 
 -- nothing is in both
-in_one : (front back : List ℕ) (u : ℕ) → AreDistinct (front ++ back) → Contains front u → Contains back u → ⊥
+pub in_one : (front back : List ℕ) (u : ℕ) → AreDistinct (front ++ back) → Contains front u → Contains back u → ⊥
 in_one front back u once c d = pairs_across (λ (v w : ℕ). v ≢ w) front back once u u c d refl
 
 -- a router stands in one wave
@@ -95,21 +91,6 @@ in_more seats wave u w is = record {
   among = subst (λ (l : List ℕ). Contains l u) (sym (get_or_append_left seats (wave ∷ []) [] w is.within)) is.among;
 }
 
--- who isn't in the last wave is in one before it
-seat_before : (seats : List (List ℕ)) (wave : List ℕ) (u : ℕ) → (Contains wave u → ⊥) → HasSeat (seats ++ wave ∷ []) u → HasSeat seats u
-seat_before seats wave u none has = elim (cases_lt has.wave (length seats)) [
-  | inl before ↦ record {
-    wave = has.wave;
-    is_in = record {
-      within = before;
-      among = subst (λ (l : List ℕ). Contains l u) (get_or_append_left seats (wave ∷ []) [] has.wave before) has.is_in.among;
-    };
-  }
-  | inr past ↦
-      let last : length seats ≡ has.wave = omega (arith, past, length_push seats wave, has.is_in.within) in
-      absurd (none (subst (λ (l : List ℕ). Contains l u) (get_or_push seats wave [] has.wave last) has.is_in.among))
-]
-
 -- places are known of one more wave, once its routers are noted
 pub places_more : (seats : List (List ℕ)) (wave : List ℕ) (before after : List (Option ℕ)) → KnowPlaces seats before →
     AreNoted wave (length seats) (record { before = before; after = after }) → KnowPlaces (seats ++ wave ∷ []) after
@@ -123,8 +104,10 @@ places_more seats wave before after known noted u within =
     (noted.each u within)
   where
     place_of : Option ℕ → Type 0
-    place_of found = MatchOption found (HasSeat (seats ++ wave ∷ []) u → ⊥) (IsIn (seats ++ wave ∷ []) u)
+    place_of found = MatchOption found (Contains (all_in (seats ++ wave ∷ [])) u → ⊥) (IsIn (seats ++ wave ∷ []) u)
 
-    as_before : (found : Option ℕ) → (Contains wave u → ⊥) → MatchOption found (HasSeat seats u → ⊥) (IsIn seats u) → place_of found
-    as_before None none is = λ has. is (seat_before seats wave u none has)
+    as_before : (found : Option ℕ) → (Contains wave u → ⊥) → MatchOption found (Contains (all_in seats) u → ⊥) (IsIn seats u) → place_of found
+    as_before None none is = λ has.
+        ⊎_elim is (λ last. none (subst (λ l. Contains l u) (append-nil wave) last))
+        (Contains-append_cases (all_in seats) (wave ++ []) u (subst (λ l. Contains l u) (flat_map-append (λ l. l) seats (wave ∷ [])) has))
     as_before (Some w) none is = in_more seats wave u w is

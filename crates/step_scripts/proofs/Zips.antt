@@ -1,11 +1,10 @@
 -- Two lists whose items are related place by place.
-use Rattle.std.proofs.Common.{◌≡◌, ℕ, zero, suc, ◌<◌, List, [], ◌∷◌, ◌++◌, length, get_or, take, Contains, refl, ap, subst, ◌∙◌}
+use Rattle.std.proofs.Common.{◌≡◌, ℕ, zero, suc, ◌<◌, List, [], ◌∷◌, ◌++◌, length, get_or, take, Any, Contains, refl, ap, subst, ◌∙◌}
 use Rattle.std.proofs.Common.{arith}
 use Rattle.std.specs.List.{AllZip}
-use Rattle.std.proofs.lemmas.List.Elements.{Contains-get_or}
+use Rattle.std.proofs.lemmas.List.{get_or_default}
 use Rattle.std.proofs.lemmas.Slice.Zip.{AllZip-long}
 use Rattle.step_scripts.specs.WaveFiles.{all_in}
-use Rattle.step_scripts.proofs.Splits.{Split, split_of}
 
 pub zip_at : {A B : Type 0} (R : A → B → Type 0) (xs : List A) (ys : List B) (k : ℕ) (d : A) (e : B) → AllZip R xs ys → k < length xs →
     R (get_or xs k d) (get_or ys k e)
@@ -47,63 +46,19 @@ zip_take R (suc k) [] (y ∷ ys) h = absurd h
 zip_take R (suc k) (x ∷ xs) [] h = absurd h
 zip_take R (suc k) (x ∷ xs) (y ∷ ys) h = (h.0, zip_take R k xs ys h.1)
 
--- what stands before, at and behind the partner of an item
-pub record IsSplit {A B : Type 0} (R : A → B → Type 0) (s : Split A) (ys : List B) : Type 0 where
-  pub front : List B
-  pub partner : B
-  pub back : List B
-  pub parts : ys ≡ front ++ partner ∷ back
-  pub before_zip : AllZip R s.before front
-  pub here : R s.item partner
-  pub after_zip : AllZip R s.after back
-
-pub zip_split : {A B : Type 0} (R : A → B → Type 0) (before : List A) (x : A) (after : List A) (ys : List B) → AllZip R (before ++ x ∷ after) ys →
-    IsSplit R (split_of before x after) ys
-zip_split R [] x after [] h = absurd h
-zip_split R [] x after (y ∷ ys) h = record { front = []; partner = y; back = ys; parts = refl; before_zip = tt; here = h.0; after_zip = h.1 }
-zip_split R (b ∷ before) x after [] h = absurd h
-zip_split R (b ∷ before) x after (y ∷ ys) h =
-    let rest = zip_split R before x after ys h.1 in
-    record {
-      front = y ∷ rest.front;
-      partner = rest.partner;
-      back = rest.back;
-      parts = ap (λ l. y ∷ l) rest.parts;
-      before_zip = (h.0, rest.before_zip);
-      here = rest.here;
-      after_zip = rest.after_zip;
-    }
-
 -- an item of the one list has a partner in the other
-pub record HasPartner {A B : Type 0} (R : A → B → Type 0) (ys : List B) (x : A) : Type 0 where
-  pub partner : B
-  pub among : Contains ys partner
-  pub related : R x partner
-
-pub zip_partner : {A B : Type 0} (R : A → B → Type 0) (xs : List A) (ys : List B) (x : A) (e : B) → AllZip R xs ys →
-    Contains xs x → HasPartner R ys x
+pub zip_partner : {A B : Type 0} (R : A → B → Type 0) (xs : List A) (ys : List B) (x : A) (e : B) → AllZip R xs ys → Contains xs x → Any (R x) ys
 zip_partner R xs ys x e h c =
     let within : c.0 < length ys = omega (arith, c.1, AllZip-long R xs ys h) in
-    record {
-      partner = get_or ys c.0 e;
-      among = Contains-get_or ys c.0 e within;
-      related = subst (λ v. R v (get_or ys c.0 e)) c.2 (zip_at R xs ys c.0 x e h c.1);
-    }
+    let y = get_or ys c.0 e in
+    (c.0, y, within, get_or_default ys c.0 y e within, subst (λ v. R v y) c.2 (zip_at R xs ys c.0 x e h c.1))
 
 -- and the other way round
-pub record IsPartner {A B : Type 0} (R : A → B → Type 0) (xs : List A) (y : B) : Type 0 where
-  pub item : A
-  pub among : Contains xs item
-  pub related : R item y
-
-pub zip_item : {A B : Type 0} (R : A → B → Type 0) (xs : List A) (ys : List B) (y : B) (d : A) → AllZip R xs ys → Contains ys y → IsPartner R xs y
+pub zip_item : {A B : Type 0} (R : A → B → Type 0) (xs : List A) (ys : List B) (y : B) (d : A) → AllZip R xs ys → Contains ys y → Any (λ x. R x y) xs
 zip_item R xs ys y d h c =
     let within : c.0 < length xs = omega (arith, c.1, AllZip-long R xs ys h) in
-    record {
-      item = get_or xs c.0 d;
-      among = Contains-get_or xs c.0 d within;
-      related = subst (λ v. R (get_or xs c.0 d) v) c.2 (zip_at R xs ys c.0 d y h within);
-    }
+    let x = get_or xs c.0 d in
+    (c.0, x, within, get_or_default xs c.0 x d within, subst (R x) c.2 (zip_at R xs ys c.0 d y h within))
 
 -- lists of one length whose items are related place by place
 pub zip_from : {A B : Type 0} (R : A → B → Type 0) (xs : List A) (ys : List B) (d : A) (e : B) → length xs ≡ length ys →

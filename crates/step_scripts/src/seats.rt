@@ -1,6 +1,6 @@
 ghost use Rattle.std.specs.Prelude.{◌≡◌, ◌<◌, ◌++◌, ◌∷◌, [], ◌↔◌, ℕ, length, slice_set, Contains, Some, IfOk, IsTrue, MatchOption, OnOk};
-ghost use Rattle.step_scripts.specs.steps.ReadWaves.{AreNoted, HasSeat, IsIn};
-ghost use Rattle.step_scripts.specs.WaveFiles.{wave_at};
+ghost use Rattle.step_scripts.specs.steps.ReadWaves.{AreNoted, IsIn};
+ghost use Rattle.step_scripts.specs.WaveFiles.{all_in, wave_at};
 
 use std::alloc::{AllocError, Global};
 use std::marker::Model;
@@ -62,7 +62,7 @@ impl Seats {
 
     /// A wave that a router is in. It is looked up for the routers of the network.
     pub fn wave_with(&self, router: u32) -> Option<usize>
-        ensures { MatchOption result (HasSeat self.now router → ⊥) (IsIn self.now router) }
+        ensures { MatchOption result (Contains (all_in self.now) router → ⊥) (IsIn self.now router) }
     {
         match self.places.get(router as usize) {
             Some(place) => *place,
@@ -72,7 +72,7 @@ impl Seats {
 
     /// The first wave that a router is in.
     fn wave_among(&self, router: u32) -> Option<usize>
-        ensures { MatchOption result (HasSeat self.now router → ⊥) (IsIn self.now router) }
+        ensures { MatchOption result (Contains (all_in self.now) router → ⊥) (IsIn self.now router) }
     {
         for wave in 0..self.count() {
             if self.has(wave, router) {

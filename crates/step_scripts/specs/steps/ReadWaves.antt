@@ -85,14 +85,10 @@ pub record IsIn (seats : List (List ℕ)) (u w : ℕ) : Type 0 where
   pub within : w < length seats
   pub among : Contains (wave_at seats w) u
 
--- a router is in some wave
-pub record HasSeat (seats : List (List ℕ)) (u : ℕ) : Type 0 where
-  pub wave : ℕ
-  pub is_in : IsIn seats u wave
-
 -- of each router a wave that it is in, where there is one
 abbrev pub KnowPlaces : List (List ℕ) → List (Option ℕ) → Type 0
-KnowPlaces seats places = (u : ℕ) → u < length places → MatchOption (slice_index_or places u None) (HasSeat seats u → ⊥) (IsIn seats u)
+KnowPlaces seats places =
+    (u : ℕ) → u < length places → MatchOption (slice_index_or places u None) (Contains (all_in seats) u → ⊥) (IsIn seats u)
 
 -- what is known of routers before and after something is noted
 pub record Noted : Type 0 where
@@ -114,7 +110,7 @@ pub record AreNoted (routers : List ℕ) (w : ℕ) (noted : Noted) : Type 0 wher
 pub record HasUnseated (count : ℕ) (seats : List (List ℕ)) : Type 0 where
   pub router : ℕ
   pub below : router < count
-  pub absent : HasSeat seats router → ⊥
+  pub absent : Contains (all_in seats) router → ⊥
 
 -- the rank of each router is that of its wave
 pub record AreRanksOf (count : ℕ) (seats : List (List ℕ)) (ranks : List ℕ) : Type 0 where

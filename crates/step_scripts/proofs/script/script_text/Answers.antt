@@ -32,8 +32,7 @@ loop-place-preserved c =
     let m : Scripted = scripted c.args.version c.args.net.now c.args.waves.now in
     let place = c.loop-place.place in
     let u : ℕ = get_or c.flat-router-items.result.now place 0 in
-    let within : place < length (flat_of m.ranks) =
-    let test = c.loop-place-test.true in let long = ap length c.flat-router-items.ensures in omega (arith, test, long) in
+    let within : place < length (flat_of m.ranks) = omega (arith, c.loop-place-test.true, ap length c.flat-router-items.ensures) in
     c.in_ok-text-2.ensures
     ∙ ap (λ (t : List ℕ). t ++ text_of (change_part m (2 * place + 2) (second u)))
     (c.in_ok-text.ensures ∙ ap (λ (t : List ℕ). t ++ text_of (change_part m (2 * place + 1) (first u))) c.loop-place.invariant)

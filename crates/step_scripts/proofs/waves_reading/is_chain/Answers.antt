@@ -1,10 +1,10 @@
-use Rattle.std.proofs.Common.{◌∙◌, ◌<◌, [], length, refl, sym, arith}
+use Rattle.std.proofs.Common.{◌∙◌, ◌<◌, [], length, refl, sym, subst, arith}
 use Rattle.std.proofs.lemmas.Bool.{false≢true}
-use Rattle.std.proofs.lemmas.List.{length-map}
+use Rattle.std.proofs.lemmas.List.{get_or-map, length-map}
 use Rattle.std.specs.Borrow.{Bor}
 use Rattle.std.specs.Prelude.{ℕ, List}
 use Rattle.step_scripts.specs.steps.ReadWaves.{NamesOneOf}
-use Rattle.step_scripts.proofs.NamesOnLines.{bytes_all, one_of_at}
+use Rattle.step_scripts.proofs.NamesOnLines.{bytes_all}
 use Rattle.step_scripts.proofs.Zips.{zip_at, zip_from}
 use Rattle.step_scripts.proofs.waves_reading.is_chain.Goals as goal
 
@@ -15,7 +15,8 @@ returns-then-not-names_one_of c = (
       let within : c.loop-place.place < length c.args.seats.now = omega (arith, c.loop-place-test.true, c.if-names-count.false, c.count.ensures) in
       let here = zip_at (NamesOneOf c.args.net.now) c.args.seats.now (bytes_all c.args.names.now) c.loop-place.place [] [] each within in
       absurd (false≢true (sym c.if-not-names_one_of.true
-      ∙ c.names_one_of.ensures.1 (one_of_at c.args.net.now _ c.args.names.now c.loop-place.place _ c.loop-place-test.true here))),
+      ∙ c.names_one_of.ensures.1 (subst (NamesOneOf c.args.net.now _)
+      (get_or-map (λ (name : Bor (List ℕ)). name.now) c.args.names.now c.loop-place.place _ [] c.loop-place-test.true) here))),
 )
 
 pub returns : goal.returns

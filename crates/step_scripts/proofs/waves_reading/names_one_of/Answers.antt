@@ -1,7 +1,7 @@
 use Rattle.std.proofs.Common.{Contains, subst}
 use Rattle.std.proofs.lemmas.Bool.{false≢true}
 use Rattle.step_scripts.specs.WaveFiles.{wave_at}
-use Rattle.step_scripts.proofs.Routers.{same_router}
+use Rattle.net_model.proofs.NetworkFacts.{IsNamed-unique}
 use Rattle.step_scripts.proofs.waves_reading.names_one_of.Goals as goal
 
 pub returns-in-None : goal.returns-in-None
@@ -11,6 +11,6 @@ pub returns-in-Some : goal.returns-in-Some
 returns-in-Some c = (
   λ has. record { router = c.in-Some.router; named = c.in-Some.ensures; among = c.has.ensures.0 has },
   λ is. c.has.ensures.1
-      (subst (Contains (wave_at c.args.seats.now c.args.wave)) (same_router c.args.net.now c.requires.network.ascending c.args.name.now is.router
-      c.in-Some.router is.named c.in-Some.ensures) is.among),
+      (subst (Contains (wave_at c.args.seats.now c.args.wave)) (IsNamed-unique c.args.net.now c.args.name.now is.router
+      c.in-Some.router c.requires.network.ascending is.named c.in-Some.ensures) is.among),
 )

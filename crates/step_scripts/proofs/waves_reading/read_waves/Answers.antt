@@ -7,28 +7,23 @@ use Rattle.step_scripts.specs.WaveFiles.{NamesWaves}
 use Rattle.step_scripts.specs.steps.ReadWaves.{bytes_of_lines}
 use Rattle.step_scripts.specs.declared.kind.OrderKind.TheVariants.{Missing}
 use Rattle.step_scripts.proofs.LeastFaults.{least_behind}
-use Rattle.step_scripts.proofs.NamedWaves.{names_waves, ones_read, ranking_read}
+use Rattle.step_scripts.proofs.NamedWaves.{names_waves, ones, ranking}
 use Rattle.step_scripts.proofs.Reading.{count_lines, lines_few}
 use Rattle.step_scripts.proofs.waves_reading.read_waves.Goals as goal
 
 pub ranks_of-requires : goal.ranks_of-requires
 ranks_of-requires c =
-    let few = lines_few c.args.text.now in
-    let all = ap (λ (l : List Line). length l) c.in_ok-all.ensures.exact in
+    let few = lines_few c.args.text.now c.in_ok-all.all c.in_ok-all.ensures.exact in
     let count = count_lines c.args.text.now c.in-Some.version c.in_ok-all.all c.in-Some.entries.now c.in_ok-all.ensures.texts c.in-Some.ensures.some in
-    omega (arith, few, all, count, c.in_ok-seats.ensures.ok.few, c.requires.short)
+    omega (arith, few, count, c.in_ok-seats.ensures.ok.few, c.requires.short)
 
 pub overflow_cast-result : goal.overflow_cast-result
 overflow_cast-result c =
-    let few = lines_few c.args.text.now in
-    let all = ap (λ (l : List Line). length l) (c.as_slice-in_default-2.ensures ∙ c.in_ok-all.ensures.exact) in
-    omega (arith, few, all, c.requires.short)
+    omega (arith, lines_few c.args.text.now _ (c.as_slice-in_default-2.ensures ∙ c.in_ok-all.ensures.exact), c.requires.short)
 
 pub overflow_add-result : goal.overflow_add-result
 overflow_add-result c =
-    let few = lines_few c.args.text.now in
-    let all = ap (λ (l : List Line). length l) (c.as_slice-in_default-2.ensures ∙ c.in_ok-all.ensures.exact) in
-    omega (arith, few, all, c.requires.short)
+    omega (arith, lines_few c.args.text.now _ (c.as_slice-in_default-2.ensures ∙ c.in_ok-all.ensures.exact), c.requires.short)
 
 pub returns-in_default-2-clause-err : goal.returns-in_default-2-clause-err
 returns-in_default-2-clause-err c =
@@ -45,8 +40,7 @@ pub from_ranks-requires-clause-ranking : goal.from_ranks-requires-clause-ranking
 from_ranks-requires-clause-ranking c =
     let ranks = rw (c.in-Some-2.is, c.routers-routers.ensures.count) at c.in_ok-ranks.ensures in
     subst (λ l. IsRanking (length l) l) (sym c.as_slice-2.ensures.value)
-    (ranking_read c.args.net.now c.in-Some.version c.args.text.now (bytes_of_lines c.args.text.now c.in-Some.entries.now) c.in_ok-seats.seats
-    c.in-Some.ensures.some.lines
+    (ranking c.args.net.now c.in-Some.version (bytes_of_lines c.args.text.now c.in-Some.entries.now) c.in_ok-seats.seats
     c.in_ok-check_ending.ensures.ok c.in-Some-2.ranks.items ranks)
 
 pub invariant_of-result : goal.invariant_of-result
@@ -54,8 +48,7 @@ invariant_of-result c =
     let ranks = rw (c.in-Some-2.is, c.routers-routers.ensures.count) at c.in_ok-ranks.ensures in
     record {
       ones = λ one. subst AreDistinct (sym (c.in_ok-waves.ensures ∙ c.as_slice-2.ensures.value))
-          (ones_read c.args.net.now c.in-Some.version c.args.text.now (bytes_of_lines c.args.text.now c.in-Some.entries.now) c.in_ok-seats.seats
-          c.in-Some.ensures.some.lines
+          (ones c.args.net.now c.in-Some.version (bytes_of_lines c.args.text.now c.in-Some.entries.now) c.in_ok-seats.seats
           c.in_ok-check_ending.ensures.ok c.in-Some-2.ranks.items ranks one);
     }
 
@@ -63,6 +56,5 @@ pub returns-clause-ok : goal.returns-clause-ok
 returns-clause-ok c =
     let ranks = rw (c.in-Some-2.is, c.routers-routers.ensures.count) at c.in_ok-ranks.ensures in
     subst (NamesWaves c.args.net.now c.args.text.now c.in-Some.version) (sym (c.in_ok-waves.ensures ∙ c.as_slice-2.ensures.value))
-    (names_waves c.args.net.now c.in-Some.version c.args.text.now (bytes_of_lines c.args.text.now c.in-Some.entries.now) c.in_ok-seats.seats
-    c.in-Some.ensures.some.lines
-    c.in_ok-check_ending.ensures.ok c.in-Some-2.ranks.items ranks)
+    (names_waves c.args.net.now c.in-Some.version (bytes_of_lines c.args.text.now c.in-Some.entries.now) c.in_ok-seats.seats
+    c.in_ok-check_ending.ensures.ok c.in-Some-2.ranks.items ranks c.args.text.now c.in-Some.ensures.some.lines)

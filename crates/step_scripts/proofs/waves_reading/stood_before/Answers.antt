@@ -1,7 +1,7 @@
 use Rattle.std.proofs.Common.{refl, ⊎_elim}
 use Rattle.std.proofs.lemmas.List.Elements.{Contains-append_cases, Contains-append_left, Contains-append_right}
 use Rattle.step_scripts.specs.WaveFiles.{all_in}
-use Rattle.step_scripts.proofs.WaveLists.{in_all, seat_of}
+use Rattle.step_scripts.proofs.WaveLists.{in_all}
 use Rattle.step_scripts.proofs.waves_reading.stood_before.Goals as goal
 
 pub returns-in-Some : goal.returns-in-Some
@@ -14,6 +14,6 @@ pub returns-in-None : goal.returns-in-None
 returns-in-None c = (
   λ has. Contains-append_right (all_in c.args.seats.now) c.args.before.now c.args.router (c.is_listed.ensures.0 has),
   λ has.
-      ⊎_elim (λ seated. absurd (c.in-None.ensures (seat_of c.args.seats.now c.args.router seated))) (λ before. c.is_listed.ensures.1 before)
+      ⊎_elim (λ seated. absurd (c.in-None.ensures seated)) (λ before. c.is_listed.ensures.1 before)
       (Contains-append_cases (all_in c.args.seats.now) c.args.before.now c.args.router has),
 )
