@@ -2,22 +2,22 @@
 //! towards attached routers (RFC 1195).
 //!
 //! `IsisRoutes::build` (`routes.rt`) makes the tables of `Isis` (`protocol.rt`). Steps 1 to 6 are `Isis::build`, of which 2 to 5
-//! are `destinations.rt`; step 7 is `Isis::decision` where this tells the route, else step 9 `Isis::target`, else `Isis::route`:
+//! are `destinations.rt`; step 7 is `Isis::decision` where this tells the route, else step 8 `Isis::target`, else `Isis::route`:
 //!
-//! 1. `domain.rt`: what is known before any prefix: the least walks of both levels (`level_walks.rt`), the routers that
-//!    run both levels and those that leak (`runs.rt`), and the attached routers (`attached.rt`; RFC 1195, section 3.2).
+//! 1. `domain.rt`: what is known before any prefix: the least walks of both levels (`level_walks.rt`) over their segments
+//!    (`segments.rt`), by which the tables know who is adjacent to whom, the routers that run both levels and those that
+//!    leak (`runs.rt`), and the attached routers (`attached.rt`; RFC 1195, section 3.2).
 //! 2. `candidates.rt`, `homes.rt`: the prefixes, and the routers at which each is connected.
 //! 3. `level_one.rt`, `offers.rt`: what level 1 offers of each prefix.
 //! 4. `announcements.rt`: what is announced into level 2 (RFC 1195, section 3.2).
 //! 5. `leaked.rt`: what is announced into level 1, marked down (RFC 5302).
 //! 6. `alike.rt`: prefixes with the same routes.
 //! 7. `lanes.rt`: the lanes of routers, and what decides the routes of all that run level 2, and of all that run level 1 alone.
-//! 8. `segments.rt`: who is adjacent to whom.
-//! 9. `entry.rt`: the level 1 route, else the level 2 route, else the down route, else the default; `target.rt`: where
+//! 8. `entry.rt`: the level 1 route, else the level 2 route, else the down route, else the default; `target.rt`: where
 //!    the first two lead, where that is known without hops of their own; `leading.rt`: the offers that lead them.
 //!
 //! Steps 2 to 7 take time of the connected prefixes of all routers, and of prefixes times the routers that run both
-//! levels; step 9 of routers times prefixes that aren't alike, and that no lane decides, times the offers of a prefix.
+//! levels; step 8 of routers times prefixes that aren't alike, and that no lane decides, times the offers of a prefix.
 #![tactic(auto)]
 
 mod alike;

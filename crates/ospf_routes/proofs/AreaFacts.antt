@@ -19,7 +19,7 @@ use Rattle.zone_graph.specs.Segments.{AreZoneSegments}
 use Rattle.zone_graph.specs.Walks.{AreZoneWalks}
 use Rattle.igp_theory.specs.Ospf.{ListensTo, backbone, one_area}
 use Rattle.ospf_routes.specs.steps.Areas.{RunsOther, HasArea, IsAreaAt, AreAreas, AreJoinedAreas, IsArea, IsListener, IsListenerAt, IsReach}
-use Rattle.ospf_routes.specs.steps.Members.{AreMembersBelow, IsBorderIn, IsMember}
+use Rattle.ospf_routes.specs.steps.Members.{IsBorderIn, IsMember}
 use Rattle.ospf_routes.specs.Lists.{Adds, Exactly}
 use Rattle.ospf_routes.specs.declared.areas.AreaWalks.{AreaWalks}
 use Rattle.route_tables.proofs.ListFacts.{any_of, any_in}

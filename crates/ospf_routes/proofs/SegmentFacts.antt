@@ -1,6 +1,5 @@
 -- The segments of all areas join the routers that are adjacent in some area.
 use Rattle.std.proofs.Common.{ℕ, inl, inr, List, [], ◌∷◌, ◌++◌, subst, sym, arith}
-use Rattle.std.specs.List.{Any}
 use Rattle.std.proofs.lemmas.List.Quantifiers.{Any-push}
 use Rattle.net_model.proofs.NetworkFacts.{Adjacent-in_area}
 use Rattle.net_model.specs.Network.{Network, Adjacent, InArea}

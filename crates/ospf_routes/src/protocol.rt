@@ -1,5 +1,6 @@
 ghost use Rattle.std.specs.Prelude.{◌≡◌, ◌+◌, ◌<◌, length, IfOk};
 ghost use Rattle.route_tables.specs.Prefixes.{prefix_at};
+ghost use Rattle.ospf_routes.specs.steps.Areas.{AreAreas};
 ghost use Rattle.ospf_routes.specs.steps.Asked.{IsQuestion};
 ghost use Rattle.ospf_routes.specs.steps.Destinations.{IsDestinationIn, ospf_prefixes};
 ghost use Rattle.ospf_routes.specs.steps.Heard.{AreHeardAt};
@@ -8,6 +9,7 @@ ghost use Rattle.ospf_routes.specs.steps.Networks.{AreEarlierIn, lane_in};
 
 use crate::OutOfMemory;
 use crate::announcements::all_summaries;
+use crate::areas::AreaWalks;
 use crate::destinations::destinations;
 use crate::domain::Domain;
 use crate::entry::{Asked, route_of, target_of};
@@ -18,6 +20,7 @@ use crate::ranges::{ActiveRanges, all_ranges};
 use crate::summaries::Summaries;
 use crate::twins::all_twins;
 use net_addr::Prefix;
+use net_model::Net;
 use route_tables::{Decision, Protocol, Route, Target};
 use std::alloc::Global;
 use std::marker::Model;
@@ -49,9 +52,15 @@ impl<'a> Model for Ospf<'a> {
 impl<'a> Ospf<'a> {
     /// OSPF on this network (RFC 2328): the areas and what they offer (section 16.1), the active ranges (12.4.3, 11.1), and
     /// what border routers announce (12.4.3, 16.2, 3.6).
-    pub fn build(alloc: Global, domain: Domain<'a>) -> Result<Ospf<'a>, OutOfMemory>
-        ensures { IfOk result (λ ospf. ospf.domain ≡ domain) }
+    pub fn build(
+        alloc: Global,
+        net: &'a Net,
+        areas: Vec<AreaWalks>,
+    ) -> Result<Ospf<'a>, OutOfMemory>
+        requires { AreAreas net.now areas.items }
+        ensures { IfOk result (λ ospf. ospf.domain.net ≡ net.now) }
     {
+        let domain = Domain::new(net, areas);
         let destinations = destinations(alloc, &domain)?;
         let known = destinations.as_slice();
         let listens = domain.listens(alloc)?;

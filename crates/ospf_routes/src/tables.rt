@@ -3,7 +3,6 @@ ghost use Rattle.ospf_routes.specs.RouteTables.{AreOspfRoutes};
 
 use crate::OutOfMemory;
 use crate::areas::{JoinedAreas, all_areas};
-use crate::domain::Domain;
 use crate::protocol::Ospf;
 use net_model::Net;
 use route_core::{RouteSource, Table};
@@ -37,7 +36,7 @@ impl OspfRoutes {
         ensures { IfOk result (AreOspfRoutes net.now) }
     {
         let JoinedAreas { areas, segments } = all_areas(alloc, net)?;
-        let ospf = Ospf::build(alloc, Domain::new(net, areas))?;
+        let ospf = Ospf::build(alloc, net, areas)?;
         let all = RouteTables::build(alloc, &ospf, segments)?;
         Ok(OspfRoutes { all })
     }

@@ -1,8 +1,6 @@
 use Rattle.std.proofs.Common.{◌≡◌, ℕ, arith, length, subst, sym}
 use Rattle.net_addr.specs.Addresses.{Block}
-use Rattle.ospf_routes.specs.Lists.{Exactly}
 use Rattle.ospf_routes.specs.steps.Heard.{AddsRow}
-use Rattle.ospf_routes.specs.steps.Members.{AreMembersBelow, IsBorderIn}
 use Rattle.ospf_routes.specs.steps.Offered.{AreOffers}
 use Rattle.ospf_routes.specs.steps.Summarized.{IsHeard}
 use Rattle.ospf_routes.specs.declared.areas.AreaWalks.{AreaWalks}

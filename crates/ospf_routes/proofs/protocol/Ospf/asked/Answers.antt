@@ -1,14 +1,15 @@
-use Rattle.std.proofs.Common.{None, [], ◌≡◌, ◌<◌, List, length, arith, sym, subst}
+use Rattle.std.proofs.Common.{ℕ, None, [], ◌≡◌, ◌<◌, List, length, arith, sym, subst}
 use Rattle.std.proofs.lemmas.List.{length-map}
+use Rattle.net_addr.specs.Addresses.{Block}
 use Rattle.route_tables.specs.Prefixes.{prefix_at}
-use Rattle.route_tables.proofs.DestinationLists.{element_at, prefix_is}
 use Rattle.ospf_routes.specs.steps.Destinations.{IsDestinationIn, ospf_prefixes}
 use Rattle.ospf_routes.specs.steps.Networks.{OspfNetwork}
 use Rattle.ospf_routes.specs.steps.Heard.{AreHeardAt}
+use Rattle.ospf_routes.specs.steps.OfferLists.{heard_into}
 use Rattle.ospf_routes.specs.declared.areas.AreaWalks.{AreaWalks}
 use Rattle.ospf_routes.specs.declared.intra_area.Destination.{Destination}
 use Rattle.ospf_routes.specs.steps.Areas.{IsListenerAt}
-use Rattle.ospf_routes.proofs.HeardFacts.{announced_within, heard_of, listened_inside}
+use Rattle.ospf_routes.proofs.HeardFacts.{announced_within, listened_inside}
 use Rattle.ospf_routes.proofs.PlaceFacts.{place_read}
 use Rattle.ospf_routes.specs.steps.Ranges.{AreActiveRanges}
 use Rattle.ospf_routes.proofs.protocol.Ospf.asked.Goals as goal
@@ -37,8 +38,9 @@ returns-clause-asked c =
     let within : c.args.place < length (ospf_prefixes ds) =
     subst (λ (ospf : OspfNetwork). c.args.place < length (ospf_prefixes ospf.destinations)) (sym c.self.view_is) c.requires.place in
     let long = length-map ds (λ (d : Destination). d.dest) in
-    let d : Destination = c.destination.result.now in
-    let same = sym (subst (λ (ospf : OspfNetwork). d.dest ≡ prefix_at (ospf_prefixes ospf.destinations) c.args.place) (sym c.self.view_is) c.destination.ensures.dest) in
+    let d : Destination = c.destination-destination.result.now in
+    let same = sym (subst (λ (ospf : OspfNetwork). d.dest ≡ prefix_at (ospf_prefixes ospf.destinations) c.args.place) (sym c.self.view_is)
+    c.destination-destination.ensures.dest) in
     record {
       router = below;
       listens = place_read (IsListenerAt net areas) None (length net) c.self.inside.listens.items c.args.router c.index-listens.result.now
@@ -46,7 +48,8 @@ returns-clause-asked c =
           c.index-listens.ensures;
       ranges = place_read (AreActiveRanges net) [] (length net) c.self.inside.ranges.items c.args.router c.index-ranges.result.now c.self.invariant.ranges
           below c.index-ranges.ensures;
-      destination = subst (λ (ospf : OspfNetwork). IsDestinationIn ospf.domain.net ospf.domain.areas d) (sym c.self.view_is) c.destination.ensures.known;
+      destination = subst (λ (ospf : OspfNetwork). IsDestinationIn ospf.domain.net ospf.domain.areas d) (sym c.self.view_is)
+          c.destination-destination.ensures.known;
       heard = λ zone is.
           let inside : zone < length areas =
           listened_inside net areas c.self.inside.listens.items c.args.router zone c.index-listens.result.now c.self.invariant.listeners below
