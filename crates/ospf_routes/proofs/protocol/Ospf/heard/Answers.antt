@@ -20,8 +20,7 @@ listed {own} {ospf} place zone same is within below =
     let long = length-map own.destinations (λ (d : Destination). d.dest) in
     let here = subst (λ (o : OspfNetwork). place < length (ospf_prefixes o.destinations)) (sym same) within in
     let inside : place < length own.destinations = omega (arith, long, here) in
-    let known = subst (λ (o : OspfNetwork). zone < length o.domain.areas) (sym same) below in
-    (
+    let known = subst (λ (o : OspfNetwork). zone < length o.domain.areas) (sym same) below in (
       announced_within own.domain own.destinations own.summaries place zone is.announced inside known,
       subst Heard same (is.announced.each place zone inside (subst (λ (n : ℕ). zone < n) (sym is.announced.areas_are) known)),
     )
