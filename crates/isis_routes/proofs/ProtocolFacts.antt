@@ -1,5 +1,5 @@
 -- What IS-IS gives routers keeps what every protocol keeps.
-use Rattle.std.proofs.Common.{ℕ, ◌<◌, ◌≤◌, inl, inr, List, ◌++◌, length, get_or, arith}
+use Rattle.std.proofs.Common.{◌≡◌, subst, ℕ, ◌<◌, ◌≤◌, inl, inr, List, ◌++◌, length, get_or, arith}
 use Rattle.std.specs.List.{Contains}
 use Rattle.std.specs.List.Sorted.{IsStrictlyIncreasing}
 use Rattle.std.proofs.lemmas.List.Elements.{Contains-get_or}
@@ -16,6 +16,7 @@ use Rattle.route_tables.specs.Entries.{AreJoinedBy, IsLawful}
 use Rattle.route_tables.proofs.JoinedLaws.{joined_both}
 use Rattle.walk_core.specs.declared.segment.Port.{Port}
 use Rattle.zone_graph.specs.Segments.{AreZoneSegments}
+use Rattle.isis_routes.specs.steps.Domain.{IsisDomain}
 
 -- Neighbors
 
@@ -66,3 +67,9 @@ isis_is_lawful net small = record {
   hops = linked_hops net;
   within = neighbor_is_router net;
 }
+
+-- What is asked for
+
+-- what is so of the domain and the prefix that are read is so of those that are meant
+pub asked_as : (P : IsisDomain → Block → Type 0) {read domain : IsisDomain} {p q : Block} → read ≡ domain → p ≡ q → P read p → P domain q
+asked_as P {read} {domain} {p} {q} same dest is = subst (λ (d : IsisDomain). P d q) same (subst (P read) dest is)

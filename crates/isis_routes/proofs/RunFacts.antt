@@ -1,11 +1,9 @@
 -- The routers of which something holds, router by router.
 use Rattle.std.proofs.Common.{◌≡◌, ℕ, ◌<◌, ◌↔◌, List, length, Option, Some, Bool, IsTrue, sym, subst, refl}
-use Rattle.net_model.proofs.NetworkFacts.{HasConfiguration-within}
 use Rattle.net_model.specs.Network.{Network}
-use Rattle.igp_theory.specs.Isis.{Leaks}
 use Rattle.route_tables.specs.Lists.{Adds}
 use Rattle.route_tables.proofs.ListFacts.{AnyBelow, adds_same}
-use Rattle.isis_routes.specs.steps.Routing.{RunsBothLevels, IsThisRouter}
+use Rattle.isis_routes.specs.steps.Routing.{IsThisRouter}
 
 -- one more router, where it is so
 pub where_added : (holds : ℕ → Type 0) (u : ℕ) (so : Bool) (found : Option ℕ) (old new : List ℕ) → IsTrue so ↔ holds u →
@@ -20,16 +18,7 @@ where_added holds u so found old new said is adds =
 pub this_holds : (holds : ℕ → Type 0) (u v : ℕ) → IsThisRouter holds u v → holds v
 this_holds holds u v is = subst holds (sym is.this) is.holds_of
 
-pub both_below : (net : Network) (n : ℕ) → length net ≡ n → (u : ℕ) → RunsBothLevels net u → AnyBelow (IsThisRouter (RunsBothLevels net)) n u
-both_below net n count u runs = record {
-  source = u;
-  below = subst (λ (m : ℕ). u < m) count (HasConfiguration-within net u runs.one.config runs.one.router);
-  given = record { this = refl; holds_of = runs };
-}
-
-pub leaking_below : (net : Network) (n : ℕ) → length net ≡ n → (u : ℕ) → Leaks net u → AnyBelow (IsThisRouter (Leaks net)) n u
-leaking_below net n count u leaks = record {
-  source = u;
-  below = subst (λ (m : ℕ). u < m) count (HasConfiguration-within net u leaks.config leaks.router);
-  given = record { this = refl; holds_of = leaks };
-}
+-- a router of the network of which it holds is one of those below n
+pub router_below : (net : Network) (holds : ℕ → Type 0) (n u : ℕ) → length net ≡ n → u < length net → holds u → AnyBelow (IsThisRouter holds) n u
+router_below net holds n u count inside is =
+    record { source = u; below = subst (λ (m : ℕ). u < m) count inside; given = record { this = refl; holds_of = is } }

@@ -55,7 +55,7 @@ impl<'a> Domain<'a> {
         requires { AreLevelSegments net.now segments.now }
         ensures { IfOk result (λ domain. domain.net ≡ net.now) }
     {
-        let walks = LevelWalks::over(alloc, net, segments)?;
+        let walks = LevelWalks::over(alloc, net, segments.one.as_slice(), segments.two.as_slice())?;
         let both = routers_of_both_levels(alloc, net)?;
         let leaking = leaking_routers(alloc, net)?;
         let attached = attached_routers(alloc, net, &walks.two, both.as_slice())?;

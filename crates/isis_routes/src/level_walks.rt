@@ -1,12 +1,13 @@
 ghost use Rattle.std.specs.Prelude.{◌≡◌, ◌<◌, length, IfOk};
 ghost use Rattle.isis_routes.specs.steps.LevelReach.{level_reach};
-ghost use Rattle.isis_routes.specs.steps.Routing.{AreLevelSegments, AreLevelWalks};
+ghost use Rattle.net_model.specs.declared.zone.Zone.TheVariants.{One as ZoneOne, Two as ZoneTwo};
+ghost use Rattle.zone_graph.specs.Segments.{AreZoneSegments};
+ghost use Rattle.isis_routes.specs.steps.Routing.{AreLevelWalks};
 
 use crate::OutOfMemory;
-use crate::segments::LevelSegments;
 use net_model::Net;
 use std::alloc::Global;
-use walk_core::LeastWalks;
+use walk_core::{LeastWalks, Segment};
 use zone_graph::ZoneWalks;
 
 /// The number of level 1 among the zones of routes.
@@ -29,13 +30,15 @@ impl LevelWalks {
     pub fn over(
         alloc: Global,
         net: &Net,
-        segments: &LevelSegments,
+        one: &[Segment],
+        two: &[Segment],
     ) -> Result<LevelWalks, OutOfMemory>
-        requires { AreLevelSegments net.now segments.now }
+        requires one { AreZoneSegments net.now ZoneOne one.now }
+        requires two { AreZoneSegments net.now ZoneTwo two.now }
         ensures { IfOk result (AreLevelWalks net.now) }
     {
-        let one = ZoneWalks::over(alloc, net, segments.one.as_slice())?;
-        let two = ZoneWalks::over(alloc, net, segments.two.as_slice())?;
+        let one = ZoneWalks::over(alloc, net, one)?;
+        let two = ZoneWalks::over(alloc, net, two)?;
         Ok(LevelWalks { one, two })
     }
 

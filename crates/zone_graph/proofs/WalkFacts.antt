@@ -1,5 +1,5 @@
 -- Walks over the segments of a zone are walks over its adjacencies.
-use Rattle.std.proofs.Common.{◌≤◌, List, length, arith}
+use Rattle.std.proofs.Common.{List, length, arith}
 use Rattle.net_model.specs.Network.{Network, Adjacent}
 use Rattle.net_model.specs.Refusals.{IsNetwork}
 use Rattle.net_model.specs.declared.zone.Zone.{Zone}
@@ -10,14 +10,10 @@ use Rattle.walk_core.proofs.WalkLaws.{least_walks_over}
 use Rattle.zone_graph.specs.Segments.{AreZoneSegments}
 use Rattle.zone_graph.specs.Walks.{AreZoneWalks}
 
--- walks over the segments of a zone are walks over its adjacencies
 pub are_zone_walks : (net : Network) (z : Zone) (segments : List (List Port)) (walks : List Reach) → IsNetwork net → AreZoneSegments net z segments →
     AreWalksBelow (SendsAcross segments) (length net) (length net) walks → AreZoneWalks net z walks
 are_zone_walks net z segments walks kept are below = record {
   routers = below.long;
   least = λ u reach at. least_walks_over {arc = SendsAcross segments} {other = Adjacent net z} {root = u} {reach = reach} are.exact (below.least u reach at);
-  near = λ u reach at v d is.
-      let few : length net ≤ 200 = kept.limits.routers in
-      let close = below.near u reach at v d is in
-      omega (arith, few, close);
+  near = λ u reach at v d is. omega (arith, kept.limits.routers, below.near u reach at v d is);
 }

@@ -1,8 +1,9 @@
 use Rattle.std.proofs.Common.{arith}
+use Rattle.net_model.proofs.NetworkFacts.{HasConfiguration-within}
 use Rattle.route_tables.proofs.ListFacts.{below_start, below_step, exactly_below}
 use Rattle.igp_theory.specs.Isis.{Leaks}
 use Rattle.isis_routes.specs.steps.Routing.{IsThisRouter}
-use Rattle.isis_routes.proofs.RunFacts.{leaking_below, this_holds, where_added}
+use Rattle.isis_routes.proofs.RunFacts.{router_below, this_holds, where_added}
 use Rattle.isis_routes.proofs.runs.leaking_routers.Goals as goal
 
 pub loop-u-init : goal.loop-u-init
@@ -19,4 +20,5 @@ pub returns : goal.returns
 returns c =
     exactly_below (IsThisRouter (Leaks c.args.net.now)) (Leaks c.args.net.now) c.new-routers.result.items c.loop-u.routers.items c.loop-u.u
     c.new-routers.ensures.items c.loop-u.invariant
-    (leaking_below c.args.net.now c.loop-u.u (omega (arith, c.routers-u-end.ensures.count))) (this_holds (Leaks c.args.net.now))
+    (λ u is. router_below c.args.net.now (Leaks c.args.net.now) c.loop-u.u u (omega (arith, c.routers-u-end.ensures.count))
+    (HasConfiguration-within c.args.net.now u is.config is.router) is) (this_holds (Leaks c.args.net.now))

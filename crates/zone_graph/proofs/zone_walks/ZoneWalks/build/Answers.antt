@@ -4,8 +4,7 @@ use Rattle.zone_graph.specs.Segments.{AreZoneSegments}
 use Rattle.zone_graph.proofs.zone_walks.ZoneWalks.build.Goals as goal
 
 pub over-requires : goal.over-requires
-over-requires c =
-    (subst (AreZoneSegments c.args.net.now c.args.zone) (sym c.as_slice.ensures.value) c.in_ok-segments.ensures).ports
+over-requires c = (subst (AreZoneSegments c.args.net.now c.args.zone) (sym c.as_slice.ensures.value) c.in_ok-segments.ensures).ports
 
 pub returns : goal.returns
 returns c =
