@@ -3,10 +3,11 @@
 //! `OspfRoutes::build` (`tables.rt`) makes the tables of `Ospf` (`protocol.rt`). Steps 1 to 3 are `Ospf::build`, which also
 //! finds twins, step 4 is `Ospf::decision` where this tells the route, else `Ospf::target`, else `Ospf::route`:
 //!
-//! 1. `domain.rt`: a network and its areas (`areas.rt`, `members.rt`) with their least walks (section 16.1), whose segments
-//!    the tables keep, and routers, border routers (3.3), whom a router listens to (16.2). Its facts are known wherever one has it. `destinations.rt`: what the
-//!    routers know of each prefix before anything is summarized. `candidates.rt`, `subnets.rt`, `intra_area.rt`: the prefixes,
-//!    where each is connected, what the interfaces of each area offer of it, and what it costs within an area.
+//! 1. `domain.rt`: a network and its areas (`areas.rt`, `members.rt`) with their least walks (section 16.1), whose segments the
+//!    tables keep, and routers, border routers (3.3), whom a router listens to (16.2). Its facts are known wherever one has it.
+//!    `destinations.rt`: what the routers know of each prefix before anything is summarized. `candidates.rt`, `subnets.rt`,
+//!    `intra_area.rt`: the prefixes, where each is connected, what the interfaces of each area offer of it, and what it costs
+//!    within an area.
 //! 2. `ranges.rt`: the active ranges of border routers (12.4.3, 11.1), and what they cost.
 //! 3. `all_summaries` (`announcements.rt`, 12.4.3): what the border routers of each area announce of a prefix into it, for all
 //!    prefixes and areas in one vector (`summaries.rt`). `summarized_routes.rt` has what they summarize out of whichever area,
@@ -23,8 +24,7 @@
 //!
 //! `twins.rt` finds prefixes that have the same routes at every router, by what is offered and announced of them, and
 //! `lane_twins.rt` those of which this is so at every router in one area alone, each by the latest prefix that the same router
-//! announces first (`latest.rt`). Step 1 takes the time of the areas' least
-//! walks, steps 2 and 3 of prefixes times border routers, their ranges and areas; step 4 of routers times the kinds of prefixes
+//! announces first (`latest.rt`). Step 1 takes the time of the areas' least walks, steps 2 and 3 of prefixes times border routers, their ranges and areas; step 4 of routers times the kinds of prefixes
 //! in their lanes times the offers of a prefix in one area. Lane twins keep one value for each area and prefix.
 #![tactic(auto)]
 

@@ -107,13 +107,17 @@ fn all_subnets(alloc: Global, net: &Net) -> Result<Vec<Subnet>, OutOfMemory>
 {
     let mut all = Vec::new(alloc);
     for w in 0..net.routers() {
-        push_subnets(&mut all, net.config(w).interfaces.as_slice(), w)?;
+        push_router_subnets(&mut all, net.config(w).interfaces.as_slice(), w)?;
     }
     Ok(all)
 }
 
 /// Adds the subnets of the interfaces of router `w`.
-fn push_subnets(all: &mut Vec<Subnet>, interfaces: &[Interface], w: u32) -> Result<(), OutOfMemory>
+fn push_router_subnets(
+    all: &mut Vec<Subnet>,
+    interfaces: &[Interface],
+    w: u32,
+) -> Result<(), OutOfMemory>
     ensures { OnOk result (Adds all.old.items all.new.items (λ s. Any (λ i. IsInterfaceSubnet w i s) interfaces.now)) }
 {
     for interface in interfaces {

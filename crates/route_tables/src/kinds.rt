@@ -26,7 +26,8 @@ pub(crate) fn all_kinds<P: Protocol>(
     alloc: Global,
     protocol: &P,
 ) -> Result<Vec<LaneKinds>, OutOfMemory>
-    ensures { IfOk result (λ all. AreLanesBelow (P.routes protocol.now) (P.candidates protocol.now) (P.lanes protocol.now) all.items) }
+    ensures { IfOk result (λ all. AreLanesBelow (P.routes protocol.now) (P.candidates protocol.now)
+        (P.lanes protocol.now) all.items) }
 {
     let mut all = Vec::with_capacity(alloc, protocol.lanes())?;
     for lane in 0..protocol.lanes() {
@@ -67,7 +68,8 @@ fn decisions_at<P: Protocol>(
 ) -> Result<Vec<Decision>, OutOfMemory>
     requires lane { lane < P.lanes protocol.now }
     requires places { All (λ place. place < length (P.candidates protocol.now)) places.now }
-    ensures { IfOk result (λ decisions. AreDecided (DecidesFor (P.routes protocol.now) lane) (P.candidates protocol.now) places.now (length places.now) decisions.items) }
+    ensures { IfOk result (λ decisions. AreDecided (DecidesFor (P.routes protocol.now) lane)
+        (P.candidates protocol.now) places.now (length places.now) decisions.items) }
 {
     let mut decisions = Vec::with_capacity(alloc, places.len())?;
     for place in places {
@@ -89,7 +91,8 @@ fn kind_at<P: Protocol>(
     requires place { place < length (P.candidates protocol.now) }
     requires kinds { AreKinds (AreAlikeInLane (P.routes protocol.now) lane) (P.candidates protocol.now)
         place kinds.now firsts.old.items }
-    ensures { IfOk result (λ kind. AreKinds (AreAlikeInLane (P.routes protocol.now) lane) (P.candidates protocol.now)
+    ensures { IfOk result (λ kind. AreKinds (AreAlikeInLane (P.routes protocol.now) lane)
+        (P.candidates protocol.now)
         (place + 1) (kinds.now ++ kind ∷ []) firsts.new.items) }
 {
     if let Some(earlier) = protocol.alike(lane, place as usize) {

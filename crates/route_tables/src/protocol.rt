@@ -39,7 +39,8 @@ pub trait Protocol {
     fn candidates(&self) -> usize
         ensures count { result ≡ length (candidates self.now) }
         ensures distinct { AreDistinctPrefixes (candidates self.now) }
-        ensures every { (router : ℕ) (p : Block) (e : Entry) → router < (routes self.now).routers → (routes self.now).entry router p e → Contains (candidates self.now) p };
+        ensures every { (router : ℕ) (p : Block) (e : Entry) → router < (routes self.now).routers →
+            (routes self.now).entry router p e → Contains (candidates self.now) p };
 
     /// The prefix of this number.
     fn candidate(&self, place: usize) -> Prefix
@@ -80,7 +81,8 @@ pub trait Protocol {
     fn target(&self, place: usize, router: u32) -> Option<Target>
         requires place { place < length (candidates self.now) }
         requires router { router < (routes self.now).routers }
-        ensures { IfSome result (λ target. IsRouteOf (routes self.now) router (prefix_at (candidates self.now) place) (Towards target)) };
+        ensures { IfSome result (λ target. IsRouteOf (routes self.now) router
+            (prefix_at (candidates self.now) place) (Towards target)) };
 
     /// The route that it gives a router for the prefix of this number.
     fn route(&self, alloc: Global, place: usize, router: u32) -> Result<Option<Route>, OutOfMemory>

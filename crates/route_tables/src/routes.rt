@@ -37,7 +37,8 @@ impl RouteTables {
         segments: Vec<Segment>,
     ) -> Result<RouteTables, OutOfMemory>
         requires { AreJoinedBy (P.neighbor protocol.now) segments.items }
-        ensures { IfOk result (AreRoutes (P.routes protocol.now).routers (P.routes protocol.now).entry (P.neighbor protocol.now)) }
+        ensures { IfOk result (AreRoutes (P.routes protocol.now).routers (P.routes protocol.now).entry
+            (P.neighbor protocol.now)) }
     {
         let tables = all_tables(alloc, protocol)?;
         Ok(RouteTables { tables, segments })

@@ -52,7 +52,8 @@ pub(crate) fn router_lane<'a, P: Protocol>(
 fn lane_walks<P: Protocol>(protocol: &P, router: u32, lane: usize) -> Option<&LeastWalks>
     requires router { router < (P.routes protocol.now).routers }
     requires lane { lane < P.lanes protocol.now }
-    ensures { IfSome result (λ walks. walks.now ≡ (P.routes protocol.now).reach router ((P.routes protocol.now).lane_zone lane)) }
+    ensures { IfSome result (λ walks. walks.now ≡ (P.routes protocol.now).reach router
+        ((P.routes protocol.now).lane_zone lane)) }
 {
     let zone = protocol.zone_of_lane(lane)?;
     Some(protocol.walks(router, zone))
@@ -68,7 +69,8 @@ pub(crate) fn sure_at<P: Protocol>(
 ) -> Sure
     requires kind { kind < length lane.firsts.now }
     requires lane { IsRouterLane (P.routes protocol.now) router (P.candidates protocol.now) lane }
-    ensures { IsSure (P.routes protocol.now).routers ((P.routes protocol.now).entry router (first_prefix_of (P.candidates protocol.now) lane.entry.firsts.now kind)) result }
+    ensures { IsSure (P.routes protocol.now).routers ((P.routes protocol.now).entry router
+        (first_prefix_of (P.candidates protocol.now) lane.entry.firsts.now kind)) result }
 {
     let Some(walks) = lane.walks else {
         return Sure::Unknown;
@@ -94,7 +96,8 @@ pub(crate) fn number_asked<P: Protocol>(
     requires known { AreShared (P.routes protocol.now) router pool.old }
     ensures known { OnOk result (AreShared (P.routes protocol.now) router pool.new) }
     ensures kept { OnOk result (KeepsMore pool.old pool.new) }
-    ensures number { IfOk result (IsNumberOf ((P.routes protocol.now).entry router (prefix_at (P.candidates protocol.now) place)) pool.new.entries.items) }
+    ensures number { IfOk result (IsNumberOf ((P.routes protocol.now).entry router
+        (prefix_at (P.candidates protocol.now) place)) pool.new.entries.items) }
 {
     if let Some(target) = protocol.target(place, router) {
         let number = number_towards(alloc, protocol, router, pool, target)?;
@@ -120,7 +123,8 @@ fn number_of<P: Protocol>(
     requires known { AreShared (P.routes protocol.now) router pool.old }
     ensures known { OnOk result (AreShared (P.routes protocol.now) router pool.new) }
     ensures kept { OnOk result (KeepsMore pool.old pool.new) }
-    ensures number { IfOk result (HasNumber (Makes ((P.routes protocol.now).reach router) (P.routes protocol.now).routers route) pool.new.entries.items) }
+    ensures number { IfOk result (HasNumber (Makes ((P.routes protocol.now).reach router)
+        (P.routes protocol.now).routers route) pool.new.entries.items) }
 {
     match route {
         Route::Drops => pool.keep(Entry::Discard),
@@ -143,7 +147,8 @@ fn number_towards<P: Protocol>(
     requires known { AreShared (P.routes protocol.now) router pool.old }
     ensures known { OnOk result (AreShared (P.routes protocol.now) router pool.new) }
     ensures kept { OnOk result (KeepsMore pool.old pool.new) }
-    ensures number { IfOk result (HasNumber (IsEntryTo ((P.routes protocol.now).reach router target.zone) target.at (P.routes protocol.now).routers) pool.new.entries.items) }
+    ensures number { IfOk result (HasNumber (IsEntryTo ((P.routes protocol.now).reach router target.zone)
+        target.at (P.routes protocol.now).routers) pool.new.entries.items) }
 {
     match only_hop(protocol.walks(router, target.zone), target.at) {
         Some(hop) if hop < protocol.routers() => Ok(hop),
@@ -166,7 +171,8 @@ fn number_over<P: Protocol>(
     requires known { AreShared (P.routes protocol.now) router pool.old }
     ensures known { OnOk result (AreShared (P.routes protocol.now) router pool.new) }
     ensures kept { OnOk result (KeepsMore pool.old pool.new) }
-    ensures number { IfOk result (HasNumber (IsEntryTo ((P.routes protocol.now).reach router target.zone) target.at (P.routes protocol.now).routers) pool.new.entries.items) }
+    ensures number { IfOk result (HasNumber (IsEntryTo ((P.routes protocol.now).reach router target.zone)
+        target.at (P.routes protocol.now).routers) pool.new.entries.items) }
 {
     if let Some(number) = pool.known_number(target) {
         return Ok(number);

@@ -29,9 +29,11 @@ struct RouterNumbers {
 
 /// The tables of all routers.
 pub fn all_tables<P: Protocol>(alloc: Global, protocol: &P) -> Result<Vec<Table>, OutOfMemory>
-    ensures tables { IfOk result (λ tables. AreTablesBelow (P.routes protocol.now).entry (P.routes protocol.now).routers (map listed tables.items)) }
+    ensures tables { IfOk result (λ tables. AreTablesBelow (P.routes protocol.now).entry
+        (P.routes protocol.now).routers (map listed tables.items)) }
     ensures prefixes { IfOk result (λ tables. All (λ kept. kept.prefixes ≡ P.candidates protocol.now) tables.items) }
-    ensures lawful { IsLawful (P.routes protocol.now).routers (P.routes protocol.now).entry (P.neighbor protocol.now) }
+    ensures lawful { IsLawful (P.routes protocol.now).routers (P.routes protocol.now).entry
+        (P.neighbor protocol.now) }
 {
     let routers = protocol.routers();
     let prefixes = prefixes_of(alloc, protocol)?;
@@ -50,7 +52,8 @@ pub fn all_tables<P: Protocol>(alloc: Global, protocol: &P) -> Result<Vec<Table>
 fn prefixes_of<P: Protocol>(alloc: Global, protocol: &P) -> Result<Vec<Prefix>, OutOfMemory>
     ensures prefixes { IfOk result (λ prefixes. prefixes.items ≡ P.candidates protocol.now) }
     ensures distinct { AreDistinctPrefixes (P.candidates protocol.now) }
-    ensures every { (u : ℕ) (p : Block) (e : EntryValue) → u < (P.routes protocol.now).routers → (P.routes protocol.now).entry u p e → Contains (P.candidates protocol.now) p }
+    ensures every { (u : ℕ) (p : Block) (e : EntryValue) → u < (P.routes protocol.now).routers →
+        (P.routes protocol.now).entry u p e → Contains (P.candidates protocol.now) p }
 {
     let mut prefixes = Vec::with_capacity(alloc, protocol.candidates())?;
     for place in 0..protocol.candidates() {
@@ -93,11 +96,13 @@ fn router_numbers<P: Protocol>(
     requires router { router < (P.routes protocol.now).routers }
     requires lane { lane < P.lanes protocol.now }
     requires in_lane { (P.routes protocol.now).in_lane lane router }
-    requires kinds { AreLaneKinds (AreSameEntries ((P.routes protocol.now).entry router)) (P.candidates protocol.now) own.now }
+    requires kinds { AreLaneKinds (AreSameEntries ((P.routes protocol.now).entry router))
+        (P.candidates protocol.now) own.now }
     requires told { IsToldLane (DecidesFor (P.routes protocol.now) lane) (P.candidates protocol.now) own.now }
     requires single { AreOverOne (P.routes protocol.now).routers pool.old.entries.items }
     ensures kept { OnOk result (KeepsMore pool.old pool.new) }
-    ensures numbers { IfOk result (AreRouterNumbers ((P.routes protocol.now).entry router) (P.candidates protocol.now) pool.new.entries.items) }
+    ensures numbers { IfOk result (AreRouterNumbers ((P.routes protocol.now).entry router)
+        (P.candidates protocol.now) pool.new.entries.items) }
 {
     let kinds = own.kinds.clone()?;
     let lane = router_lane(protocol, router, lane, own);
@@ -120,7 +125,8 @@ fn numbers_at<P: Protocol>(
     requires lane { IsRouterLane (P.routes protocol.now) router (P.candidates protocol.now) lane }
     requires single { AreOverOne (P.routes protocol.now).routers pool.old.entries.items }
     ensures kept { OnOk result (KeepsMore pool.old pool.new) }
-    ensures numbers { IfOk result (λ numbers. AreNumbers (λ kind. (P.routes protocol.now).entry router (first_prefix_of (P.candidates protocol.now) lane.entry.firsts.now kind))
+    ensures numbers { IfOk result (λ numbers. AreNumbers (λ kind. (P.routes protocol.now).entry router
+        (first_prefix_of (P.candidates protocol.now) lane.entry.firsts.now kind))
         (length lane.entry.firsts.now) pool.new.entries.items numbers.items) }
 {
     pool.begin_table(alloc, protocol.routers())?;
@@ -150,7 +156,8 @@ fn number_at<P: Protocol>(
     requires known { AreShared (P.routes protocol.now) router pool.old }
     ensures known { OnOk result (AreShared (P.routes protocol.now) router pool.new) }
     ensures kept { OnOk result (KeepsMore pool.old pool.new) }
-    ensures number { IfOk result (IsNumberOf ((P.routes protocol.now).entry router (first_prefix_of (P.candidates protocol.now) lane.entry.firsts.now kind)) pool.new.entries.items) }
+    ensures number { IfOk result (IsNumberOf ((P.routes protocol.now).entry router
+        (first_prefix_of (P.candidates protocol.now) lane.entry.firsts.now kind)) pool.new.entries.items) }
 {
     match sure_at(protocol, router, lane, kind) {
         Sure::Nothing => Ok(Number::none()),

@@ -38,7 +38,8 @@ impl ZoneWalks {
     /// The least walks over segments. Over those of a zone they are the zone's.
     pub fn over(alloc: Global, net: &Net, segments: &[Segment]) -> Result<ZoneWalks, OutOfMemory>
         requires { AreSegments (length net.now) segments.now }
-        ensures { IfOk result (λ walks. (zone : ZoneValue) → AreZoneSegments net.now zone segments.now → AreZoneWalks net.now zone walks) }
+        ensures { IfOk result (λ walks. (zone : ZoneValue) → AreZoneSegments net.now zone segments.now →
+            AreZoneWalks net.now zone walks) }
     {
         let all = segment_walks(alloc, segments, net.routers())?;
         Ok(ZoneWalks { all })

@@ -14,10 +14,10 @@ loop-w-init c = below_start (RouterSubnet c.args.net.now) c.new-all.result.items
 pub loop-w-preserved : goal.loop-w-preserved
 loop-w-preserved c =
     let net = c.args.net.now in
-    below_step (RouterSubnet net) c.new-all.result.items c.loop-w.all.items c.push_subnets.new.all.items c.loop-w.w c.loop-w.invariant
-    (adds_same c.loop-w.all.items c.push_subnets.new.all.items
+    below_step (RouterSubnet net) c.new-all.result.items c.loop-w.all.items c.push_router_subnets.new.all.items c.loop-w.w c.loop-w.invariant
+    (adds_same c.loop-w.all.items c.push_router_subnets.new.all.items
     (λ (s : Subnet). Any (λ (i : Interface). IsInterfaceSubnet c.loop-w.w i s) c.as_slice.result.now) (RouterSubnet net c.loop-w.w)
-    c.in_ok-push_subnets.ensures
+    c.in_ok-push_router_subnets.ensures
     (router_subnet_is net c.loop-w.w c.config.result.now c.as_slice.result.now c.config.ensures.router
     (c.as_slice.ensures ∙ ap (λ (d : Configuration). d.interfaces) c.behind-net.view_is)))
 

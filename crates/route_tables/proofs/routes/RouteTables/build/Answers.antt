@@ -6,9 +6,9 @@ use Rattle.route_tables.proofs.routes.RouteTables.build.Goals as goal
 
 pub invariant_of-result : goal.invariant_of-result
 invariant_of-result g c =
-    are_source_tables (g.P.Protocol.routes c.args.protocol.now).routers (g.P.Protocol.routes c.args.protocol.now).entry (g.P.Protocol.neighbor c.args.protocol.now)
-    (g.P.Protocol.candidates c.args.protocol.now) c.in_ok-tables.tables.items c.args.segments.items c.all_tables.ensures.lawful
-    c.in_ok-tables.ensures.tables c.in_ok-tables.ensures.prefixes c.requires
+    are_source_tables (g.P.Protocol.routes c.args.protocol.now).routers (g.P.Protocol.routes c.args.protocol.now).entry
+    (g.P.Protocol.neighbor c.args.protocol.now) (g.P.Protocol.candidates c.args.protocol.now) c.in_ok-tables.tables.items c.args.segments.items
+    c.all_tables.ensures.lawful c.in_ok-tables.ensures.tables c.in_ok-tables.ensures.prefixes c.requires
 
 pub returns : goal.returns
 returns g c =
