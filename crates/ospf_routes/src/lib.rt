@@ -24,8 +24,9 @@
 //!
 //! `twins.rt` finds prefixes that have the same routes at every router, by what is offered and announced of them, and
 //! `lane_twins.rt` those of which this is so at every router in one area alone, each by the latest prefix that the same router
-//! announces first (`latest.rt`). Step 1 takes the time of the areas' least walks, steps 2 and 3 of prefixes times border routers, their ranges and areas; step 4 of routers times the kinds of prefixes
-//! in their lanes times the offers of a prefix in one area. Lane twins keep one value for each area and prefix.
+//! announces first (`latest.rt`). Step 1 takes the time of the areas' least walks, steps 2 and 3 of prefixes times border
+//! routers, their ranges and areas; step 4 of routers times the kinds of prefixes in their lanes times the offers of a prefix in
+//! one area. Lane twins keep one value for each area and prefix.
 #![tactic(auto)]
 
 // Within areas
