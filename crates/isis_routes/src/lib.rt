@@ -20,25 +20,30 @@
 //! levels; step 8 of routers times prefixes that aren't alike, and that no lane decides, times the offers of a prefix.
 #![tactic(auto)]
 
-mod alike;
-mod announcements;
+// What is known before any prefix.
 mod attached;
-mod candidates;
-mod destinations;
 mod domain;
-mod entry;
-mod homes;
-mod lanes;
-mod leading;
-mod leaked;
 mod level;
-mod level_one;
 mod level_walks;
-mod offers;
-mod protocol;
-mod routes;
 mod runs;
 mod segments;
+
+// What is known of each prefix.
+mod alike;
+mod announcements;
+mod candidates;
+mod destinations;
+mod homes;
+mod leaked;
+mod level_one;
+mod offers;
+
+// The routes of each router.
+mod entry;
+mod lanes;
+mod leading;
+mod protocol;
+mod routes;
 mod target;
 
 pub use route_tables::OutOfMemory;

@@ -48,8 +48,11 @@ impl<'a> Isis<'a> {
         requires { AreLevelSegments net.now segments.now }
         ensures { IfOk result (λ isis. isis.domain.net ≡ net.now) }
     {
+        // 1. Least walks of both levels, and attached routers (RFC 1195, section 3.2).
         let domain = Domain::build(alloc, net, segments)?;
+        // 2 to 5. Prefixes, and what is offered and announced of each in both levels (RFC 1195, section 3.2; RFC 5302).
         let destinations = destinations(alloc, &domain)?;
+        // 6. Prefixes with the same routes.
         let earlier = earlier_alike(alloc, destinations.as_slice(), domain.net().routers())?;
         Ok(Isis {
             domain,

@@ -60,12 +60,16 @@ impl<'a> Ospf<'a> {
         requires { AreAreas net.now areas.items }
         ensures { IfOk result (λ ospf. ospf.domain.net ≡ net.now) }
     {
+        // 1. Areas with their least walks, and what is offered of each prefix within them (section 16.1).
         let domain = Domain::new(net, areas);
         let destinations = destinations(alloc, &domain)?;
         let known = destinations.as_slice();
         let listens = domain.listens(alloc)?;
+        // 2. Active ranges (sections 12.4.3 and 11.1).
         let ranges = all_ranges(alloc, &domain, known)?;
+        // 3. What border routers announce into each area (sections 12.4.3, 16.2 and 3.6).
         let summaries = all_summaries(alloc, &domain, known, ranges.as_slice())?;
+        // Prefixes that have the same entries, at every router and at those of one area.
         let twins = all_twins(alloc, &domain, known, ranges.as_slice(), &summaries)?;
         let lane_twins = all_lane_twins(
             alloc,

@@ -21,17 +21,22 @@
 //! that it asks for. A table has 4 bytes for each kind, a lane 4 for each prefix.
 #![tactic(auto)]
 
+// What a protocol says.
+mod lane;
+mod protocol;
+mod route;
+
+// Prefixes and offers.
 mod alike;
 mod best;
 mod candidates;
 mod distinct;
+mod lists;
+
+// Tables.
 mod joined;
 mod kinds;
-mod lane;
-mod lists;
 mod pool;
-mod protocol;
-mod route;
 mod routes;
 mod sharing;
 mod sure;
