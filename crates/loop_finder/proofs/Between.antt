@@ -1,16 +1,15 @@
 -- The states between two: their steps are those of both.
 use Rattle.std.proofs.Common.{◌≡◌, ℕ, List, ◌∷◌, length, Option, None, Some, IfNone, inl, inr, refl, sym, subst}
-use Rattle.igp_theory.specs.Forwarding.{MustForward, Steps, HasStep}
+use Rattle.igp_theory.specs.Forwarding.{MustForward, HasStep}
 use Rattle.igp_theory.specs.States.{State, StepsIn}
 use Rattle.igp_theory.specs.declared.phase.Phase.{Phase}
-use Rattle.igp_theory.specs.declared.phase.Phase.TheVariants.{Old, New}
 use Rattle.igp_theory.proofs.ForwardingLaws.{every_phase_steps}
 use Rattle.igp_theory.proofs.LoopLaws.{old_or_new_step}
 use Rattle.igp_theory.proofs.SameTables.{follows_over}
 use Rattle.order_core.specs.declared.turn.Turn.{Turn}
 use Rattle.loop_finder.specs.Faults.{state_in}
 use Rattle.loop_finder.specs.ClassSteps.{sample_of, Mix, migration_in}
-use Rattle.loop_finder.specs.steps.ClassSteps.{ClassState, ClassStep, MovesIn, Moves}
+use Rattle.loop_finder.specs.steps.ClassSteps.{ClassState, ClassStep, StepsBy, MovesIn, Moves}
 use Rattle.loop_finder.specs.Verdicts.{SoundAt}
 use Rattle.loop_finder.specs.steps.Verdicts.{IsClassVerdict, IsBetween, IsClearAt}
 use Rattle.loop_finder.specs.declared.fault.Fault.{Fault}
@@ -27,29 +26,24 @@ between_itself n phases u within = inl refl
 pub step_between : (c : ClassState) (state : State) (u h : ℕ) → IsBetween (length c.mixture.net) c.first c.last state
     → StepsIn (migration_in c.mixture) state (sample_of c.mixture.classes c.atom) u h → ClassStep c u h
 step_between c state u h between steps = elim (between u steps.must.router) [
-  | inl same ↦ inl (in_phase (state_in c.first u) same steps)
-  | inr both ↦ elim (old_or_new_step (state u) steps) [
-    | inl one ↦ inl (in_phase (state_in c.first u) (sym both.0) one)
-    | inr other ↦ inr (in_phase (state_in c.last u) (sym both.1) other)
-  ]
+  | inl same ↦ inl (subst In same steps)
+  | inr both ↦ elim (old_or_new_step (state u) steps) [ inl one ↦ inl (subst In (sym both.0) one) | inr other ↦ inr (subst In (sym both.1) other) ]
 ]
   where
-    in_phase : {p : Phase} (q : Phase) → p ≡ q → Steps (migration_in c.mixture) u p (sample_of c.mixture.classes c.atom) h
-        → Steps (migration_in c.mixture) u q (sample_of c.mixture.classes c.atom) h
-    in_phase q same one = subst (λ (x : Phase). Steps (migration_in c.mixture) u x (sample_of c.mixture.classes c.atom) h) same one
+    In : Phase → Type 0
+    In phase = StepsBy c u phase h
 
 -- a router that moves in both moves in each state between them
 pub moves_between : (c : ClassState) (state : State) (u : ℕ) → IsBetween (length c.mixture.net) c.first c.last state → Moves c u
     → MustForward c.mixture.net (sample_of c.mixture.classes c.atom) u → HasStep (migration_in c.mixture) u (state u) (sample_of c.mixture.classes c.atom)
 moves_between c state u between moves must = elim (between u must.router) [
-  | inl same ↦ in_phase (state u) (sym same) (has_step c u (state_in c.first u) moves.0 must)
-  | inr both ↦ every_phase_steps (in_phase Old both.0 (has_step c u (state_in c.first u) moves.0 must))
-      (in_phase New both.1 (has_step c u (state_in c.last u) moves.1 must)) (state u)
+  | inl same ↦ subst In (sym same) (has_step c u (state_in c.first u) moves.0 must)
+  | inr both ↦ every_phase_steps (subst In both.0 (has_step c u (state_in c.first u) moves.0 must))
+      (subst In both.1 (has_step c u (state_in c.last u) moves.1 must)) (state u)
 ]
   where
-    in_phase : {p : Phase} (q : Phase) → p ≡ q → HasStep (migration_in c.mixture) u p (sample_of c.mixture.classes c.atom)
-        → HasStep (migration_in c.mixture) u q (sample_of c.mixture.classes c.atom)
-    in_phase q same has = subst (λ (x : Phase). HasStep (migration_in c.mixture) u x (sample_of c.mixture.classes c.atom)) same has
+    In : Phase → Type 0
+    In phase = HasStep (migration_in c.mixture) u phase (sample_of c.mixture.classes c.atom)
 
 -- where nothing is told of a class, every state between the two is sound for it
 pub clear_told : (m : Mix) (first last : List Phase) (atom : ℕ) (turns : List Turn) → IsClassVerdict m first last atom None turns → (state : State)

@@ -34,10 +34,7 @@ use Rattle.loop_finder.proofs.WaveSteps.{state_between, part_wave_sound, begins_
 
 -- before the first wave nothing is said
 pub IsCalmBefore-zero : (part : ClassPart) (ranks : List ℕ) → IsCalmBefore part ranks 0
-IsCalmBefore-zero part ranks = record {
-  moves = λ some. absurd (omega (arith, some));
-  calm = λ v less. absurd (omega (arith, less));
-}
+IsCalmBefore-zero part ranks = record { moves = λ some. absurd (omega (arith, some)); calm = λ v less. absurd (omega (arith, less)) }
 
 -- what holds before a wave holds before each earlier one
 pub calm_sooner : (part : ClassPart) (ranks : List ℕ) (w v : ℕ) → v ≤ w → IsCalmBefore part ranks w → IsCalmBefore part ranks v

@@ -1,5 +1,5 @@
 -- What is read of a class before its steps are.
-use Rattle.std.proofs.Common.{◌≡◌, ℕ, ◌<◌, ◌↔◌, List, [], length, get_or, Option, Some, None, IfSome, Bool, slice_get, inl, inr, subst}
+use Rattle.std.proofs.Common.{◌≡◌, ℕ, ◌<◌, ◌↔◌, List, [], length, get_or, Contains, Option, Some, None, IfSome, Bool, slice_get, inl, inr, subst}
 use Rattle.std.proofs.lemmas.List.Elements.{All-contains}
 use Rattle.std.proofs.lemmas.Option.{slice_get_within, get_or_from_slice_get}
 use Rattle.net_addr.specs.Addresses.{Block, IsBlock}
@@ -21,11 +21,8 @@ use Rattle.loop_finder.specs.steps.Verdicts.{IsClassVerdict}
 originated_block : (net : Network) (p : Block) → IsNetwork net → IsOriginated net p → IsBlock p
 originated_block net p network o =
     let c : Configuration = o.up.config in
-    let config : IsConfiguration c = All-contains IsConfiguration net c network.configurations (
-      o.router,
-      slice_get_within net o.router c o.up.router,
-      get_or_from_slice_get net o.router c c o.up.router,
-    ) in
+    let among : Contains net c = (o.router, slice_get_within net o.router c o.up.router, get_or_from_slice_get net o.router c c o.up.router) in
+    let config : IsConfiguration c = All-contains IsConfiguration net c network.configurations among in
     let interface : IsInterface o.interface = All-contains IsInterface c.interfaces o.interface config.interfaces o.up.among in
     subst (λ (s : Option Block). IfSome s IsBlock) o.subnet interface.prefix
 

@@ -34,10 +34,10 @@ one_more marks r within bare =
     omega (arith, sum_by-set one marks r true false within, k)
 
 -- fewer routers are reached than there are
-pub reached_short : (goal : ℕ) (marks : List Bool) (reached : List ℕ) (r : ℕ) → AreReached goal marks reached → r < length marks →
+pub reached_short : (marks : List Bool) (reached : List ℕ) (r : ℕ) → length reached ≡ marked_count marks → r < length marks →
     get_or marks r false ≡ false → length reached < length marks
-reached_short goal marks reached r are within bare =
-    omega (arith, are.count, one_more marks r within bare, count_by-le-length (λ (b : Bool). b) (set marks r true), length-set marks r true)
+reached_short marks reached r count within bare =
+    omega (arith, count, one_more marks r within bare, count_by-le-length (λ (b : Bool). b) (set marks r true), length-set marks r true)
 
 -- a router that isn't the goal is reached
 pub AreReached-more : (goal : ℕ) (marks : List Bool) (reached : List ℕ) (r : ℕ) → AreReached goal marks reached → r < length marks →

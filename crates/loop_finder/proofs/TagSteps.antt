@@ -25,9 +25,7 @@ steps_inside c u h (inr steps) = steps.must.router
 -- a router that doesn't step in Old steps in New alone
 pub tagged_new : (c : ClassState) (u h : ℕ) → (StepsBy c u Old h → ⊥) → StepsBy c u Old h ⊎ StepsBy c u New h
     → IsTagged c (record { router = u; tag = tag.New }) h
-tagged_new c u h never some = record {
-  steps = (never, elim some [ inl steps ↦ absurd (never steps) | inr steps ↦ steps ]);
-}
+tagged_new c u h never some = record { steps = (never, elim some [ inl steps ↦ absurd (never steps) | inr steps ↦ steps ]) }
 
 -- each router of a ring steps to the one after it
 pub ring_step : (step : ℕ → ℕ → Type 0) (routers : List ℕ) (place : ℕ) → AroundRing step routers → place < length routers →

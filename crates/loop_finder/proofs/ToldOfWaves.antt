@@ -74,18 +74,10 @@ steps_in_all c ranks w u ends moves must state of_wave = moves_between c state u
 -- a router that is stuck in one of both lacks a step in a state of the wave
 lacks_from : (c : ClassState) (ranks : List ℕ) (w : ℕ) (u : ℕ) → AreEnds (length c.mixture.net) ranks w c.first c.last → IsStuck c u
     → LacksStep (migration_in c.mixture) (IsStateOfWave (length c.mixture.net) ranks w) (sample_of c.mixture.classes c.atom) u
-lacks_from c ranks w u ends (inl one) = record {
-  must = one.must;
-  state = state_in c.first;
-  among = first_of_wave ends;
-  lacks = λ has. one.lacks has.hop has.steps;
-}
-lacks_from c ranks w u ends (inr other) = record {
-  must = other.must;
-  state = state_in c.last;
-  among = last_of_wave ends;
-  lacks = λ has. other.lacks has.hop has.steps;
-}
+lacks_from c ranks w u ends (inl one) =
+    record { must = one.must; state = state_in c.first; among = first_of_wave ends; lacks = λ has. one.lacks has.hop has.steps }
+lacks_from c ranks w u ends (inr other) =
+    record { must = other.must; state = state_in c.last; among = last_of_wave ends; lacks = λ has. other.lacks has.hop has.steps }
 
 -- at a class for which all lower addresses are sound the fault of the wave is told
 abbrev LeastIn : ClassState → List ℕ → ℕ → Type 0

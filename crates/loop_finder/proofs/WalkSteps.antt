@@ -26,13 +26,14 @@ pub record IsOnWay (step : ℕ → ℕ → Type 0) (marks : List Bool) (start : 
   pub last_marked : IsMarked marks last
 
 -- what stands on the way is short of the count of routers
-pub on_way_short : (marks : List Bool) (path : List ℕ) (next : ℕ) → AllPairs (λ u v. u ≢ v) path → All (IsMarked marks) path → IsMarked marks next
-    → ((k : ℕ) → k < length path → get_or path k 0 ≢ next) → length path < length marks
-on_way_short marks path next distinct marked is fresh =
+pub on_way_short : (marks : List Bool) (path shown : List ℕ) (next : ℕ) → AllPairs (λ u v. u ≢ v) path → All (IsMarked marks) path → IsMarked marks next
+    → shown ≡ path → ((k : ℕ) → k < length shown → get_or shown k 0 ≢ next) → length path < length marks
+on_way_short marks path shown next distinct marked is same fresh =
     let below : All (λ u. u < length marks) (path ++ next ∷ []) = All-weaker (IsMarked marks) (λ u. u < length marks) (λ u m. marked_below marks u m)
     (path ++ next ∷ []) (All-push (IsMarked marks) path next marked is) in
     let apart : AllPairs (λ u v. u ≢ v) (path ++ next ∷ []) =
-    all_pairs_push (λ u v. u ≢ v) path next distinct (λ k d within same. fresh k within (get_or_default path k 0 d within ∙ same)) in
+    all_pairs_push (λ u v. u ≢ v) path next distinct (λ k d within at. subst
+    (λ (xs : List ℕ). (k : ℕ) → k < length xs → get_or xs k 0 ≢ next) same fresh k within (get_or_default path k 0 d within ∙ at)) in
     omega (arith, length-le_from_distinct (path ++ next ∷ []) (length marks) apart below, length_push path next)
 
 pub IsOnWay-more : (step : ℕ → ℕ → Type 0) (marks : List Bool) (start : ℕ) (path : List ℕ) (last next : ℕ) → IsOnWay step marks start path last →

@@ -68,21 +68,21 @@ in_wave part ranks w first last rows begins ends u h step =
     let within : u < length ranks = omega (arith, part_inside part first last u h step, rows) in
     elim (cases_order (rank_of ranks u) w) [
       | inl same ↦ elim step [
-        | inl one ↦ inl (omega (arith, same), subst (λ (p : Phase). Contains (part_hops part u p) h) (begins.others u within (omega (arith, same))) one)
-        | inr other ↦ inr (omega (arith, same), subst (λ (p : Phase). Contains (part_hops part u p) h) (ends.switched u within (omega (arith, same))) other)
+        | inl one ↦ inl (omega (arith, same), subst In (begins.others u within (omega (arith, same))) one)
+        | inr other ↦ inr (omega (arith, same), subst In (ends.switched u within (omega (arith, same))) other)
       ]
       | inr (inl before) ↦ elim step [
-        | inl one ↦ inr (omega (arith, before), subst (λ (p : Phase). Contains (part_hops part u p) h) (begins.switched u within before) one)
-        | inr other ↦ inr (
-          omega (arith, before),
-          subst (λ (p : Phase). Contains (part_hops part u p) h) (ends.switched u within (omega (arith, before))) other,
-        )
+        | inl one ↦ inr (omega (arith, before), subst In (begins.switched u within before) one)
+        | inr other ↦ inr (omega (arith, before), subst In (ends.switched u within (omega (arith, before))) other)
       ]
       | inr (inr after) ↦ elim step [
-        | inl one ↦ inl (omega (arith, after), subst (λ (p : Phase). Contains (part_hops part u p) h) (begins.others u within (omega (arith, after))) one)
-        | inr other ↦ inl (omega (arith, after), subst (λ (p : Phase). Contains (part_hops part u p) h) (ends.others u within (omega (arith, after))) other)
+        | inl one ↦ inl (omega (arith, after), subst In (begins.others u within (omega (arith, after))) one)
+        | inr other ↦ inl (omega (arith, after), subst In (ends.others u within (omega (arith, after))) other)
       ]
     ]
+  where
+    In : Phase → Type 0
+    In phase = Contains (part_hops part u phase) h
 
 -- where no walk over the steps of a part in a wave returns to a router of the wave, and the first state of the wave is
 -- sound for its class, each state of the wave is: the routers change one after another

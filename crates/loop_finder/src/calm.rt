@@ -1,9 +1,9 @@
-ghost use Rattle.std.specs.Prelude.{◌≡◌, ◌<◌, ◌≤◌, ◌↔◌, ℕ, List, All, Contains, IfOk, length, slice_index, slice_set};
+ghost use Rattle.std.specs.Prelude.{◌≡◌, ◌<◌, ◌≤◌, ◌↔◌, ℕ, List, [], All, Contains, IfOk, length, slice_index, slice_index_or, slice_set};
 ghost use Rattle.std.specs.Bool.{OnFalse};
 ghost use Rattle.order_core.specs.Rankings.{rank_of};
 ghost use Rattle.loop_finder.specs.Calm.{AreCalm, IsCalmBefore, IsUnstirred, WaveStep};
 ghost use Rattle.loop_finder.specs.steps.Calm.{AreLowered};
-ghost use Rattle.loop_finder.specs.Parts.{part_hops};
+ghost use Rattle.loop_finder.specs.Parts.{ClassPart, part_hops};
 ghost use Rattle.loop_finder.specs.Returns.{NeverReturnsTo};
 ghost use Rattle.loop_finder.specs.Rooms.{HasRoom};
 ghost use Rattle.loop_finder.specs.Watches.{ArePlacesOf, IsWatch};
@@ -122,51 +122,31 @@ pub fn renew(
     ensures room { HasRoom routers room.new }
     ensures ring { room.new.ring.items ≡ room.old.ring.items }
 {
-    take_ranks(parts, watch, ranks, kept, calm);
+    take_ranks(watch, ranks, kept, calm);
     look(parts, routers, kept, calm, room);
 }
 
 /// Takes the ranks of another ranking.
-fn take_ranks(
-    parts: &[Part<'_>],
-    watch: &[Places],
-    ranks: &[u32],
-    kept: &mut [u32],
-    calm: &mut [u32],
-)
-    requires rows { All (λ part. length part.rows ≡ length ranks.now) parts.now }
-    requires watch { IsWatch parts.now (length ranks.now) watch.now }
+fn take_ranks(watch: &[Places], ranks: &[u32], kept: &mut [u32], calm: &mut [u32])
+    requires many { length watch.now ≡ length ranks.now }
+    requires places { (u : ℕ) → u < length ranks.now → All (λ p. p < length calm.old) (slice_index_or watch.now u []) }
     requires kept { length kept.old ≡ length ranks.now }
-    requires calm { AreCalm parts.now kept.old calm.old }
     ensures kept { kept.new ≡ ranks.now }
-    ensures calm { AreCalm parts.now kept.new calm.new }
+    ensures calm { (parts : List ClassPart) → IsWatch parts (length ranks.now) watch.now → AreCalm parts kept.old calm.old →
+        AreCalm parts kept.new calm.new }
 {
     for router in 0..ranks.len() {
-        take_rank(
-            parts,
-            watch[router].as_slice(),
-            router,
-            ranks[router],
-            kept,
-            calm,
-        );
+        take_rank(watch[router].as_slice(), router, ranks[router], kept, calm);
     }
 }
 
 /// Takes the rank of a router.
-fn take_rank(
-    parts: &[Part<'_>],
-    places: &[usize],
-    router: usize,
-    rank: u32,
-    kept: &mut [u32],
-    calm: &mut [u32],
-)
+fn take_rank(places: &[usize], router: usize, rank: u32, kept: &mut [u32], calm: &mut [u32])
     requires router { router < length kept.old }
-    requires places { ArePlacesOf parts.now router places.now }
-    requires calm { AreCalm parts.now kept.old calm.old }
+    requires places { All (λ p. p < length calm.old) places.now }
     ensures kept { kept.new ≡ slice_set kept.old router rank }
-    ensures calm { AreCalm parts.now kept.new calm.new }
+    ensures calm { (parts : List ClassPart) → ArePlacesOf parts router places.now → AreCalm parts kept.old calm.old →
+        AreCalm parts kept.new calm.new }
 {
     let known = kept[router];
     if known == rank {

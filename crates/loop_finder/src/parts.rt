@@ -1,4 +1,4 @@
-ghost use Rattle.std.specs.Prelude.{◌≡◌, ◌+◌, ◌<◌, ◌^◌, All, None, Some, IfOk, OnOk, length};
+ghost use Rattle.std.specs.Prelude.{◌≡◌, ◌+◌, ◌<◌, ◌^◌, ℕ, All, None, Some, IfOk, OnOk, length};
 ghost use Rattle.std.specs.Bool.{OnTrue};
 ghost use Rattle.loop_finder.specs.steps.Targets.{IsTargetIn};
 ghost use Rattle.loop_finder.specs.steps.Making.{IsKnownClass, IsMaking, IsRead};
@@ -142,7 +142,7 @@ fn add_known<'m, O: RouteSource, N: RouteSource>(
     requires parts { AreParts (mix_of O.table N.table mixed.now) parts.old.items atom }
     ensures { OnOk result (AreParts (mix_of O.table N.table mixed.now) parts.new.items (atom + 1)) }
 {
-    let moves = all_move(mixed, atom, target, making);
+    let moves = all_move(mixed, target, making);
     if moves && is_covered(mixed, atom, making, parts.as_slice()) {
         return Ok(());
     }
@@ -155,14 +155,12 @@ fn add_known<'m, O: RouteSource, N: RouteSource>(
 /// Whether every router that has to pass the class's packets on has a step in both networks.
 fn all_move<O: RouteSource, N: RouteSource>(
     mixed: &Mixed<'_, O, N>,
-    atom: u32,
     target: Prefix,
     making: &Making<'_>,
 ) -> bool
-    requires target { IsTargetIn mixed.now.net (sample_of mixed.now.classes atom) target }
-    requires making { IsMaking (length mixed.now.net) making.now }
-    requires read { IsRead (mix_of O.table N.table mixed.now) atom making.now.lists }
-    ensures { OnTrue result (AllMove (mix_of O.table N.table mixed.now) atom) }
+    requires { IsMaking (length mixed.now.net) making.now }
+    ensures { OnTrue result ((atom : ℕ) → IsTargetIn mixed.now.net (sample_of mixed.now.classes atom) target →
+        IsRead (mix_of O.table N.table mixed.now) atom making.now.lists → AllMove (mix_of O.table N.table mixed.now) atom) }
 {
     for router in 0..mixed.net().routers() {
         if !making.lists.moves(router) && !mixed.originates(router, target) {

@@ -1,7 +1,7 @@
 ghost use Rattle.std.specs.Prelude.{◌≡◌, ◌<◌, ◌≤◌, ℕ, Contains, length};
 ghost use Rattle.std.specs.Bool.{OnFalse};
 ghost use Rattle.std.specs.Vec.{vec_capacity};
-ghost use Rattle.order_core.specs.Marks.{IsMarked};
+ghost use Rattle.order_core.specs.Marks.{IsMarked, marked_count};
 ghost use Rattle.loop_finder.specs.Returns.{NeverReturnsTo};
 ghost use Rattle.loop_finder.specs.steps.Returns.{AreReached, ReachesMore};
 
@@ -75,17 +75,17 @@ fn reach(routers: &[u32], goal: u32, seen: &mut [bool], reached: &mut Vec<u32>) 
         if *router == goal {
             return true;
         }
-        reach_one(*router, goal, seen, reached);
+        reach_one(*router, seen, reached);
     }
     false
 }
 
-/// Reaches a router other than the goal, where it wasn't reached before.
-fn reach_one(router: u32, goal: u32, seen: &mut [bool], reached: &mut Vec<u32>)
-    requires apart { ¬ (router ≡ goal) }
-    requires reached { AreReached goal seen.old reached.old.items }
+/// Reaches a router, where it wasn't reached before.
+fn reach_one(router: u32, seen: &mut [bool], reached: &mut Vec<u32>)
+    requires count { length reached.old.items ≡ marked_count seen.old }
     requires room { length seen.old ≤ vec_capacity reached.old }
-    ensures reached { AreReached goal seen.new reached.new.items }
+    ensures reached { (goal : ℕ) → ¬ (router ≡ goal) → AreReached goal seen.old reached.old.items →
+        AreReached goal seen.new reached.new.items }
     ensures more { ReachesMore seen.old reached.old.items seen.new reached.new.items }
     ensures router { router < length seen.old → IsMarked seen.new router }
     ensures capacity { vec_capacity reached.old ≤ vec_capacity reached.new }

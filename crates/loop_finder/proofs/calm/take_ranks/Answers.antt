@@ -1,21 +1,26 @@
-use Rattle.std.proofs.Common.{ℕ, ◌<◌, List, [], length, arith, sym, ◌∙◌, subst}
+use Rattle.std.proofs.Common.{ℕ, ◌<◌, List, [], length, get_or, arith, sym, ◌∙◌, subst, All}
 use Rattle.std.proofs.lemmas.List.{ext_get_or, get_or_default}
 use Rattle.loop_finder.specs.Watches.{ArePlacesOf}
 use Rattle.loop_finder.proofs.CalmLaws.{taken_more}
 use Rattle.loop_finder.proofs.calm.take_ranks.Goals as goal
 
 pub take_rank-requires-clause-places : goal.take_rank-requires-clause-places
-take_rank-requires-clause-places c =
-    let within : c.loop-router.router < length c.args.watch.now = omega (arith, c.requires.watch.many, c.loop-router-test.true) in
-    subst (λ (xs : List ℕ). ArePlacesOf c.args.parts.now c.loop-router.router xs)
+take_rank-requires-clause-places c k d inside =
+    let within : c.loop-router.router < length c.args.watch.now = omega (arith, c.requires.many, c.loop-router-test.true) in
+    let below : get_or c.as_slice.result.now k d < length c.args.calm.now = subst (λ (xs : List ℕ). All (λ (p : ℕ). p < length c.args.calm.now) xs)
     (sym (c.as_slice.ensures ∙ c.index-watch-router.is ∙ get_or_default c.args.watch.now c.loop-router.router c.index-watch-router.result [] within))
-    (c.requires.watch.each c.loop-router.router c.loop-router-test.true)
+    (c.requires.places c.loop-router.router c.loop-router-test.true) k d inside in
+    omega (arith, below, c.loop-router.auto.calm)
 
 pub loop-router-preserved : goal.loop-router-preserved
 loop-router-preserved c = record {
   taken = taken_more c.args.ranks.now c.loop-router.kept c.take_rank.new.kept c.loop-router.router
       (omega (arith, c.loop-router-test.true, c.loop-router.auto.kept, c.requires.kept)) c.take_rank.ensures.kept c.loop-router.invariant.taken;
-  calm = c.take_rank.ensures.calm;
+  calm = λ parts watch calm.
+      let within : c.loop-router.router < length c.args.watch.now = omega (arith, c.requires.many, c.loop-router-test.true) in
+      c.take_rank.ensures.calm parts (subst (λ (xs : List ℕ). ArePlacesOf parts c.loop-router.router xs)
+      (sym (c.as_slice.ensures ∙ c.index-watch-router.is ∙ get_or_default c.args.watch.now c.loop-router.router c.index-watch-router.result [] within))
+      (watch.each c.loop-router.router c.loop-router-test.true)) (c.loop-router.invariant.calm parts watch calm);
 }
 
 pub returns-clause-kept : goal.returns-clause-kept

@@ -9,8 +9,7 @@ use Rattle.loop_finder.proofs.class_fault.steps_fault.Goals as goal
 pub write_ring-requires-clause-around : goal.write_ring-requires-clause-around
 write_ring-requires-clause-around g c =
     subst (λ (xs : List ℕ). AroundRing (ClassStep (state_over g.O.RouteSource.table g.N.RouteSource.table c.args.steps.now)) xs)
-    (sym c.as_slice.ensures.value)
-    (found_goes_round c.if-not-find_ring.ensures.found)
+    (sym c.as_slice.ensures.value) (found_goes_round c.if-not-find_ring.ensures.found)
 
 pub write_ring-requires-clause-room : goal.write_ring-requires-clause-room
 write_ring-requires-clause-room g c =

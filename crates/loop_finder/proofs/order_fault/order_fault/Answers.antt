@@ -38,13 +38,10 @@ change_fault-requires-clause-before g c = subst (λ (state : State). Sound (mix_
     (c.loop-k.invariant.sound c.loop-k.k (omega arith))
 
 pub returns-in-Some-change_fault-clause-within : goal.returns-in-Some-change_fault-clause-within
-returns-in-Some-change_fault-clause-within g c = omega (
-  arith,
-  order_length (length c.args.mixed.now.net) c.args.order.now c.requires.order,
-  c.loop-k-test.true,
-  c.routers-k-end.ensures.count,
-  ap (λ (n : Network). length n) c.net.ensures,
-)
+returns-in-Some-change_fault-clause-within g c =
+    let net = ap (λ (n : Network). length n) c.net.ensures in
+    let many = order_length (length c.args.mixed.now.net) c.args.order.now c.requires.order in
+    omega (arith, many, c.loop-k-test.true, c.routers-k-end.ensures.count, net)
 
 pub returns-in-Some-change_fault-clause-fault : goal.returns-in-Some-change_fault-clause-fault
 returns-in-Some-change_fault-clause-fault g c = record {
@@ -67,11 +64,7 @@ loop-k-preserved g c = record {
 }
 
 pub returns-clause-sound : goal.returns-clause-sound
-returns-clause-sound g c = λ j below. c.loop-k.invariant.sound j (omega (
-  arith,
-  order_length (length c.args.mixed.now.net) c.args.order.now c.requires.order,
-  c.loop-k-test.false,
-  c.routers-k-end.ensures.count,
-  ap (λ (n : Network). length n) c.net.ensures,
-  below,
-))
+returns-clause-sound g c j below =
+    let net = ap (λ (n : Network). length n) c.net.ensures in
+    let many = order_length (length c.args.mixed.now.net) c.args.order.now c.requires.order in
+    c.loop-k.invariant.sound j (omega (arith, many, c.loop-k-test.false, c.routers-k-end.ensures.count, net, below))

@@ -12,14 +12,8 @@ loop-router-preserved g c =
 
 pub returns : goal.returns
 returns g c =
-    let all : c.loop-router.router ≡ length c.args.marks.now = omega (
-      arith,
-      c.requires.marks,
-      c.loop-router-test.false,
-      c.loop-router.auto.router-end,
-      c.routers-router-end.ensures.count,
-      ap (λ (n : Network). length n) c.net.ensures,
-    ) in
+    let net = ap (λ (n : Network). length n) c.net.ensures in
+    let all : c.loop-router.router ≡ length c.args.marks.now =
+    omega (arith, c.requires.marks, c.loop-router-test.false, c.loop-router.auto.router-end, c.routers-router-end.ensures.count, net) in
     subst (λ (n : ℕ). AreFirstRows (mix_of g.O.RouteSource.table g.N.RouteSource.table c.args.mixed.now) c.args.atom c.args.marks.now n
-    c.loop-router.rows.items) all
-    c.loop-router.invariant
+    c.loop-router.rows.items) all c.loop-router.invariant

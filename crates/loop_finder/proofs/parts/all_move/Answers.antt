@@ -5,9 +5,9 @@ use Rattle.loop_finder.specs.ClassSteps.{mix_of}
 use Rattle.loop_finder.proofs.parts.all_move.Goals as goal
 
 pub returns : goal.returns
-returns g c =
+returns g c atom target read =
     let many : c.routers-router-end.result ≡ length c.args.mixed.now.net =
     c.routers-router-end.ensures.count ∙ ap (λ (n : Network). length n) c.net.ensures in
-    all_move_from (mix_of g.O.RouteSource.table g.N.RouteSource.table c.args.mixed.now) c.args.atom c.args.target c.args.making.now.lists
-    c.requires.target.network c.requires.target.target c.requires.read
+    all_move_from (mix_of g.O.RouteSource.table g.N.RouteSource.table c.args.mixed.now) atom c.args.target c.args.making.now.lists
+    target.network target.target read
     (λ u below. c.loop-router.invariant u (omega (arith, below, many, c.loop-router-test.false)))

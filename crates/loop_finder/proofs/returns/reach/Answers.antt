@@ -13,9 +13,12 @@ loop-router-init c = record {
   capacity = omega arith;
 }
 
+pub reach_one-requires-clause-count : goal.reach_one-requires-clause-count
+reach_one-requires-clause-count c = c.loop-router.invariant.reached.count
+
 pub loop-router-preserved : goal.loop-router-preserved
 loop-router-preserved c = record {
-  reached = c.reach_one.ensures.reached;
+  reached = c.reach_one.ensures.reached c.args.goal c.if-router-goal.false c.loop-router.invariant.reached;
   more = ReachesMore-then _ _ _ _ _ _ c.loop-router.invariant.more c.reach_one.ensures.more;
   routers = below_more (λ (k : ℕ). get_or c.args.routers.now k 0 < length c.reach_one.new.seen → IsMarked c.reach_one.new.seen
       (get_or c.args.routers.now k 0))

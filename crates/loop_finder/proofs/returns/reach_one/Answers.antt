@@ -11,14 +11,14 @@ visit-requires c =
     get_or_read c.args.seen.now c.args.router c.in-Some-false.field-0.now within c.in-Some-false.ensures.lookup.1 false in
     let bare : get_or c.args.seen.now c.args.router false ≡ false = cc in
     let few : length c.args.reached.now.items < length c.args.seen.now =
-    reached_short c.args.goal c.args.seen.now c.args.reached.now.items c.args.router c.requires.reached within bare in
+    reached_short c.args.seen.now c.args.reached.now.items c.args.router c.requires.count within bare in
     omega (arith, few, c.requires.room, c.args.reached.now.ok.0)
 
 pub returns-in-Some-false-clause-reached : goal.returns-in-Some-false-clause-reached
-returns-in-Some-false-clause-reached c =
+returns-in-Some-false-clause-reached c goal apart are =
     let within : c.args.router < length c.args.seen.now = c.in-Some-false.ensures.lookup.3.0 in
     let read : c.in-Some-false.field-0.now ≡ get_or c.args.seen.now c.args.router false =
     get_or_read c.args.seen.now c.args.router c.in-Some-false.field-0.now within c.in-Some-false.ensures.lookup.1 false in
     let bare : get_or c.args.seen.now c.args.router false ≡ false = cc in
-    subst (λ (xs : List ℕ). AreReached c.args.goal (set c.args.seen.now c.args.router true) xs) (sym c.visit.ensures.items)
-    (AreReached-more c.args.goal c.args.seen.now c.args.reached.now.items c.args.router c.requires.reached within bare c.requires.apart)
+    subst (λ (xs : List ℕ). AreReached goal (set c.args.seen.now c.args.router true) xs) (sym c.visit.ensures.items)
+    (AreReached-more goal c.args.seen.now c.args.reached.now.items c.args.router are within bare apart)

@@ -13,20 +13,16 @@ returns-in-Some-clause-walk g c =
 
 pub visit-requires-in-loop-place : goal.visit-requires-in-loop-place
 visit-requires-in-loop-place g c =
-    let fresh : (k : ℕ) → k < length c.loop-place.path.items → get_or c.loop-place.path.items k 0 ≢ c.lowest_hop-next.result =
-    subst (λ (xs : List ℕ). (k : ℕ) → k < length xs → get_or xs k 0 ≢ c.lowest_hop-next.result) c.as_slice.ensures.value c.in_default.ensures in
     let short : length c.loop-place.path.items < length c.args.live.now =
-    on_way_short c.args.live.now c.loop-place.path.items c.lowest_hop-next.result c.loop-place.invariant.way.distinct c.loop-place.invariant.way.marked
-    c.lowest_hop-next.ensures.marked fresh in
+    on_way_short c.args.live.now c.loop-place.path.items c.as_slice.result.now c.lowest_hop-next.result c.loop-place.invariant.way.distinct
+    c.loop-place.invariant.way.marked c.lowest_hop-next.ensures.marked c.as_slice.ensures.value c.in_default.ensures in
     omega (arith, short, c.loop-place.path.ok.0, c.loop-place.invariant.room)
 
 pub loop-place-smaller : goal.loop-place-smaller
 loop-place-smaller g c =
-    let fresh : (k : ℕ) → k < length c.loop-place.path.items → get_or c.loop-place.path.items k 0 ≢ c.lowest_hop-next.result =
-    subst (λ (xs : List ℕ). (k : ℕ) → k < length xs → get_or xs k 0 ≢ c.lowest_hop-next.result) c.as_slice.ensures.value c.in_default.ensures in
     let short : length c.loop-place.path.items < length c.args.live.now =
-    on_way_short c.args.live.now c.loop-place.path.items c.lowest_hop-next.result c.loop-place.invariant.way.distinct c.loop-place.invariant.way.marked
-    c.lowest_hop-next.ensures.marked fresh in
+    on_way_short c.args.live.now c.loop-place.path.items c.as_slice.result.now c.lowest_hop-next.result c.loop-place.invariant.way.distinct
+    c.loop-place.invariant.way.marked c.lowest_hop-next.ensures.marked c.as_slice.ensures.value c.in_default.ensures in
     let more : length c.visit-in-loop-place.new.path.items ≡ length c.loop-place.path.items + 1 =
     ap length c.visit-in-loop-place.ensures.items ∙ length_push c.loop-place.path.items c.lowest_hop-next.result in
     omega (arith, short, more, c.loop-place.path.ok.0, c.visit-in-loop-place.new.path.ok.0)

@@ -8,37 +8,28 @@ use Rattle.loop_finder.proofs.tags.write_ring.Goals as goal
 
 pub tag_of-tag-requires-clause-router : goal.tag_of-tag-requires-clause-router
 tag_of-tag-requires-clause-router g c =
-    let step : ClassStep (state_over g.O.RouteSource.table g.N.RouteSource.table c.args.steps.now) (get_or c.args.routers.now c.loop-place.place 0)
-    (next_in c.args.routers.now c.loop-place.place) =
-    ring_step (ClassStep (state_over g.O.RouteSource.table g.N.RouteSource.table c.args.steps.now)) c.args.routers.now c.loop-place.place c.requires.around
-    c.loop-place-test.true in
-    steps_inside (state_over g.O.RouteSource.table g.N.RouteSource.table c.args.steps.now) (get_or c.args.routers.now c.loop-place.place 0)
-    (next_in c.args.routers.now c.loop-place.place) step
+    let s = state_over g.O.RouteSource.table g.N.RouteSource.table c.args.steps.now in
+    steps_inside s (get_or c.args.routers.now c.loop-place.place 0) (next_in c.args.routers.now c.loop-place.place)
+    (ring_step (ClassStep s) c.args.routers.now c.loop-place.place c.requires.around c.loop-place-test.true)
 
 pub tag_of-tag-requires-clause-some : goal.tag_of-tag-requires-clause-some
 tag_of-tag-requires-clause-some g c =
+    let s = state_over g.O.RouteSource.table g.N.RouteSource.table c.args.steps.now in
     let router : ℕ = get_or c.args.routers.now c.loop-place.place 0 in
-    let step : ClassStep (state_over g.O.RouteSource.table g.N.RouteSource.table c.args.steps.now) router (next_in c.args.routers.now c.loop-place.place) =
-    ring_step (ClassStep (state_over g.O.RouteSource.table g.N.RouteSource.table c.args.steps.now)) c.args.routers.now c.loop-place.place c.requires.around
-    c.loop-place-test.true in
-    subst (λ (n : ℕ). StepsBy (state_over g.O.RouteSource.table g.N.RouteSource.table c.args.steps.now) router Old n ⊎
-    StepsBy (state_over g.O.RouteSource.table g.N.RouteSource.table c.args.steps.now) router New n) (sym c.next_router-next.ensures)
-    (old_or_new (state_over g.O.RouteSource.table g.N.RouteSource.table c.args.steps.now) router (next_in c.args.routers.now c.loop-place.place) step)
+    subst (λ (n : ℕ). StepsBy s router Old n ⊎ StepsBy s router New n) (sym c.next_router-next.ensures)
+    (old_or_new s router (next_in c.args.routers.now c.loop-place.place)
+    (ring_step (ClassStep s) c.args.routers.now c.loop-place.place c.requires.around c.loop-place-test.true))
 
 pub loop-place-preserved : goal.loop-place-preserved
 loop-place-preserved g c =
-    let router : ℕ = get_or c.args.routers.now c.loop-place.place 0 in
-    let turn : Turn = record { router = router; tag = c.tag_of-tag.result } in
-    let tagged : IsTagged (state_over g.O.RouteSource.table g.N.RouteSource.table c.args.steps.now) turn (next_in c.args.routers.now c.loop-place.place) =
-    subst (λ (n : ℕ). IsTagged (state_over g.O.RouteSource.table g.N.RouteSource.table c.args.steps.now) turn n) c.next_router-next.ensures
-    c.tag_of-tag.ensures in
+    let s = state_over g.O.RouteSource.table g.N.RouteSource.table c.args.steps.now in
+    let turn : Turn = record { router = get_or c.args.routers.now c.loop-place.place 0; tag = c.tag_of-tag.result } in
+    let tagged : IsTagged s turn (next_in c.args.routers.now c.loop-place.place) =
+    subst (λ (n : ℕ). IsTagged s turn n) c.next_router-next.ensures c.tag_of-tag.ensures in
     record {
-      part = subst (λ (ts : List Turn). IsPartRing (state_over g.O.RouteSource.table g.N.RouteSource.table c.args.steps.now) c.args.routers.now ts
-          (c.loop-place.place + 1))
-          (sym c.add_turn.ensures.items)
-          (IsPartRing-more (state_over g.O.RouteSource.table g.N.RouteSource.table c.args.steps.now) c.args.routers.now c.loop-place.ring.items
-          c.loop-place.place turn
-          c.loop-place-test.true refl tagged c.loop-place.invariant.part);
+      part = subst (λ (ts : List Turn). IsPartRing s c.args.routers.now ts (c.loop-place.place + 1)) (sym c.add_turn.ensures.items)
+          (IsPartRing-more s c.args.routers.now c.loop-place.ring.items c.loop-place.place turn c.loop-place-test.true refl tagged
+          c.loop-place.invariant.part);
       room = omega (arith, c.loop-place.invariant.room, c.add_turn.ensures.capacity);
       capacity = omega (arith, c.loop-place.invariant.capacity, c.add_turn.ensures.capacity);
     }

@@ -31,8 +31,7 @@ loop-place-preserved g c = record {
       (λ k below. c.loop-place.invariant.clear state between k d below)
       (subst (λ (a : ℕ). SoundAt (mix_of g.O.RouteSource.table g.N.RouteSource.table c.args.mixed.now) state (sample_of c.args.mixed.now.classes a)) here
       (clear_told (mix_of g.O.RouteSource.table g.N.RouteSource.table c.args.mixed.now) c.args.first.now c.args.last.now c.atom.result
-      c.class_fault.new.room.ring.items
-      c.in_default.ensures.told state between)) q less;
+      c.class_fault.new.room.ring.items c.in_default.ensures.told state between)) q less;
   room = c.in_default.ensures.room;
   ring = c.in_default.ensures.ring ∙ c.loop-place.invariant.ring;
 }

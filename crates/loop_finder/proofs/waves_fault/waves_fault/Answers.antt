@@ -24,8 +24,7 @@ returns-in-Some-clause-fault g c = record {
 pub loop-wave-preserved : goal.loop-wave-preserved
 loop-wave-preserved g c = record {
   sound = below_more (SoundWave (mix_of g.O.RouteSource.table g.N.RouteSource.table c.args.mixed.now) c.args.ranks.now) c.loop-wave.wave
-      c.loop-wave.invariant.sound
-      c.in_default.ensures.sound;
+      c.loop-wave.invariant.sound c.in_default.ensures.sound;
   room = c.in_default.ensures.room;
   ring = c.in_default.ensures.ring ∙ c.loop-wave.invariant.ring;
 }
@@ -38,16 +37,13 @@ returns-clause-sound g c =
 pub wave_fault-requires-clause-begun : goal.wave_fault-requires-clause-begun
 wave_fault-requires-clause-begun g c = on_true c.begins_sound-known.result c.begins_sound-known.ensures
     (λ known. begins_sound (mix_of g.O.RouteSource.table g.N.RouteSource.table c.args.mixed.now) c.args.ranks.now c.loop-wave.wave c.args.begun
-    c.requires.ranks.each
-    c.requires.begun c.loop-wave.invariant.sound known)
+    c.requires.ranks.each c.requires.begun c.loop-wave.invariant.sound known)
 
 pub loop-wave-init : goal.loop-wave-init
 loop-wave-init g c = record {
   sound = sound_waves_before (mix_of g.O.RouteSource.table g.N.RouteSource.table c.args.mixed.now) c.args.parts.now c.args.ranks.now c.args.calm.now
-      c.args.begun
-      c.first_stirred-start.result c.requires.ranks.each
-      c.requires.parts c.requires.calm c.requires.begun c.first_stirred-start.ensures.begun c.first_stirred-start.ensures.calm
-      c.first_stirred-start.result (omega arith);
+      c.args.begun c.first_stirred-start.result c.requires.ranks.each c.requires.parts c.requires.calm c.requires.begun
+      c.first_stirred-start.ensures.begun c.first_stirred-start.ensures.calm c.first_stirred-start.result (omega arith);
   room = c.requires.room;
   ring = refl;
 }

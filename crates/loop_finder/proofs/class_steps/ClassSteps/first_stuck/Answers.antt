@@ -12,15 +12,10 @@ loop-router-preserved g c =
 
 pub returns : goal.returns
 returns g c u =
+    let net = ap (λ (n : Network). length n) c.net.ensures in
+    let own = ap (λ (x : SourceState g.row.O.Denot g.row.N.Denot). length x.mixture.net) c.self.view_is in
     let below : MustForward c.args.self.now.mixture.net (sample_of c.args.self.now.mixture.classes c.args.self.now.atom) u → u <
     c.loop-router.router = λ must.
     let router : u < length c.args.self.now.mixture.net = must.router in
-    omega (
-      arith,
-      router,
-      c.loop-router-test.false,
-      c.routers-router-end.ensures.count,
-      ap (λ (n : Network). length n) c.net.ensures,
-      ap (λ (x : SourceState g.row.O.Denot g.row.N.Denot). length x.mixture.net) c.self.view_is,
-    ) in
+    omega (arith, router, c.loop-router-test.false, c.routers-router-end.ensures.count, net, own) in
     (λ must. (c.loop-router.invariant u (below must)).0 must, λ must. (c.loop-router.invariant u (below must)).1 must)
