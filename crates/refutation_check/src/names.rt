@@ -105,7 +105,6 @@ fn add_turn(turns: &mut Vec<Turn>, turn: Turn) -> Result<(), OutOfMemory>
 
 /// The router of a name, where it isn't among these.
 fn further_router(net: &Net, name: &[u8], routers: &[u32]) -> Option<u32>
-    requires { IsNetwork net.now }
     ensures { MatchOption result (NamesNoFurtherRouter net.now name.now routers.now) (IsFurtherRouter net.now name.now routers.now) }
 {
     let router = net.number_of(name)?;

@@ -218,7 +218,6 @@ fn check_ending(
 
 /// Whether these are names of routers, one of each wave in their order.
 fn is_chain(net: &Net, names: &[&[u8]], seats: &Seats) -> bool
-    requires { IsNetwork net.now }
     ensures { IsTrue result ↔ AllZip (NamesOneOf net.now) seats.now (map (λ name. name.now) names.now) }
 {
     if names.len() != seats.count() {
@@ -234,8 +233,7 @@ fn is_chain(net: &Net, names: &[&[u8]], seats: &Seats) -> bool
 
 /// Whether this is the name of a router of a wave.
 fn names_one_of(net: &Net, name: &[u8], seats: &Seats, wave: usize) -> bool
-    requires network { IsNetwork net.now }
-    requires wave { wave < length seats.now }
+    requires { wave < length seats.now }
     ensures { IsTrue result ↔ NamesOneOf net.now (wave_at seats.now wave) name.now }
 {
     match net.number_of(name) {
