@@ -15,8 +15,8 @@
 //! | the answers | `specs/Answers.antt` | `read_design`, `settle`, refused by the kinds of `refusal.rt` |
 //! | that there is one answer | `specs/Laws.antt` | `design_laws` |
 //!
-//! `specs/FaultLists.antt` and `specs/NetworkFaultLists.antt` are the order in which the code gathers faults; the laws above say
-//! that what is told doesn't depend on it. `read_design` takes time of the text and of the lengths of its paths. `settle` looks
+//! `specs/steps/FaultLists.antt` and `specs/steps/NetworkFaultLists.antt` are the order in which the code gathers faults; the
+//! laws above say that what is told doesn't depend on it. `read_design` takes time of the text and of the lengths of its paths. `settle` looks
 //! for each router among those of the design, for each of its interfaces among those that the design names of it, and the other
 //! way round, so it takes time of the products of their counts.
 #![tactic(auto)]

@@ -62,7 +62,7 @@ pub record IsActive (net : Network) (u : ℕ) (r : Range) : Type 0 where
   pub cost : ℕ
   pub component : IsComponent net u r dest cost
 
--- router u takes the greatest component cost of a range, as before RFC 1583's rule, or the least
+-- whether router u is compatible with RFC 1583, by which a range costs the least of its components; else it costs the greatest
 pub record IsCompatible (net : Network) (u : ℕ) (compatible : Bool) : Type 0 where
   pub config : Configuration
   pub router : HasConfiguration net u config

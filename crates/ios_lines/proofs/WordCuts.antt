@@ -11,7 +11,8 @@ use Rattle.std.proofs.lemmas.List.Folds.{length-prefix_len}
 use Rattle.std.proofs.lemmas.List.Splits.{slice_split_first}
 use Rattle.net_addr.specs.Blanks.{is_blank, words_in}
 use Rattle.net_addr.proofs.PieceFacts.{no_separator}
-use Rattle.ios_lines.specs.Words.{Word, without_blanks, word_at}
+use Rattle.ios_lines.specs.Words.{Word, word_at}
+use Rattle.ios_lines.specs.steps.Blanks.{without_blanks}
 
 -- the blanks that some bytes begin with are dropped by their count
 blanks_dropped : (bytes : List ℕ) → drop (prefix_len is_blank bytes) bytes ≡ without_blanks bytes

@@ -8,3 +8,4 @@ pub mod Heads
 pub mod HeadLaws
 pub mod Lookups
 pub mod FaultOrder
+pub mod steps

@@ -1,9 +1,8 @@
 -- The words of a line, and what a word stands for.
-use Rattle.std.specs.Prelude.{ℕ, ◌+◌, ◌-◌, ◌*◌, ◌^◌, Bool, List, [], ◌∷◌, ◌&&◌, ◌||◌, Option, Some, None, Result, Ok, Err, length, slice_get, unwrap_or}
+use Rattle.std.specs.Prelude.{ℕ, ◌+◌, ◌-◌, ◌*◌, ◌^◌, Bool, List, [], ◌&&◌, ◌||◌, Option, Some, None, Result, Ok, Err, length, slice_get, unwrap_or}
 use Rattle.std.specs.Prelude.{bytes_eq, nat_eq, nat_le, nat_lt, find, codes, if◌then◌else◌}
 use Rattle.std.specs.List.{list_all, before_first, after_first, range_with_len}
 use Rattle.std.specs.Char.{is_ascii_digit}
-use Rattle.net_addr.specs.Blanks.{is_blank}
 use Rattle.net_addr.specs.Numerals.{decimal_value}
 use Rattle.net_model.specs.declared.config.Levels.{Levels}
 use Rattle.net_model.specs.declared.config.Levels.TheVariants.{One, Two, Both}
@@ -13,11 +12,6 @@ use Rattle.ios_lines.specs.declared.kind.ReadKind.TheVariants.{BadLevel}
 -- a word is its bytes
 abbrev pub Word : Type 0
 Word = List ℕ
-
--- bytes without the blanks that they begin with
-abbrev pub without_blanks : List ℕ → List ℕ
-without_blanks [] = []
-without_blanks (b ∷ bs) = if is_blank b then without_blanks bs else b ∷ bs
 
 -- the word at a place; past the last word it is the empty word, which no word of a line is
 abbrev pub word_at : List Word → ℕ → Word

@@ -12,9 +12,10 @@
 //! | `laws` | which lines at indent 0 say something, as a table; which words are titles, in the words of the standard |
 //! | `kind`, `fault` | why a line is faulty, and which of two faults is told: the earlier line, then the lesser kind |
 //!
-//! What a line says is what its row of `docs/profile.md` says; a line that no row names is skipped. The first five
-//! words of a line are cut off in one pass over its bytes (`Words::of`), and the few lines with more words are gone
-//! through again for each further one. So each reading of a line takes time of its bytes, and memory for names alone.
+//! What a line says is defined in `specs/Heads.antt`, `InterfaceLines`, `OspfLines` and `IsisLines`. A line of no form there is
+//! skipped; `docs/profile.md` tells which of these a router acts on. The first five words of a line are cut off in one pass over
+//! its bytes (`Words::of`), and the few lines with more words are gone through again for each further one. So each reading of
+//! a line takes time of its bytes, and memory for names alone.
 #![tactic(auto)]
 
 // The bounds of numbers, words, and why a line is faulty.

@@ -1,7 +1,8 @@
 ghost use Rattle.std.specs.Prelude.{◌≡◌, ◌+◌, ◌≤◌, drop, length, IfSome, IfOk, bytes_eq};
 ghost use Rattle.std.specs.List.{position_or_len, prefix_len};
 ghost use Rattle.net_addr.specs.Blanks.{is_blank, words_in};
-ghost use Rattle.ios_lines.specs.Words.{without_blanks, word_at, says, begins_with_two, begins_with_three, lacks, number_of, number_from};
+ghost use Rattle.ios_lines.specs.Words.{word_at, says, begins_with_two, begins_with_three, lacks, number_of, number_from};
+ghost use Rattle.ios_lines.specs.steps.Blanks.{without_blanks};
 ghost use Rattle.ios_lines.specs.Words.{address_of, mask_of, area_of, levels_of, is_printable, is_letter};
 
 use crate::OutOfMemory;

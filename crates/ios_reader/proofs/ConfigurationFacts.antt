@@ -8,7 +8,7 @@ use Rattle.ios_sections.specs.Statements.{Statements}
 use Rattle.ios_reader.specs.declared.settings.OspfSettings.{OspfSettings}
 use Rattle.ios_reader.specs.declared.settings.IsisSettings.{IsisSettings}
 use Rattle.ios_reader.specs.Configurations.{configuration_of_settings}
-use Rattle.ios_reader.specs.steps.ByStatements.{ospf_fault_by, isis_fault_by, interfaces_fault_by, fault_by}
+use Rattle.ios_reader.specs.steps.LeastFaults.{ospf_fault_by, isis_fault_by, interfaces_fault_by, fault_by}
 use Rattle.ios_lines.specs.declared.kind.ReadKind.TheVariants.{NoHostname}
 use Rattle.ios_lines.specs.declared.fault.Fault.{Fault}
 

@@ -2,7 +2,8 @@
 use Rattle.std.proofs.Common.{sym, ◌≡◌, ℕ, ◌+◌, ◌<◌, List, [], ◌∷◌, ◌++◌, length, take, get_or, refl, ap, ◌∙◌}
 use Rattle.std.proofs.lemmas.List.{take_more}
 use Rattle.ios_reader.specs.InterfaceFacts.{address_in, shut_said, bandwidth_said, cost_said, area_said, point_to_point_said, isis_said, circuit_said}
-use Rattle.ios_reader.specs.InterfaceFacts.{metric_said, metric1_said, metric2_said, facts_of, noted}
+use Rattle.ios_reader.specs.InterfaceFacts.{metric_said, metric1_said, metric2_said, facts_of}
+use Rattle.ios_reader.specs.steps.Noted.{noted}
 use Rattle.ios_lines.specs.declared.interface_line.InterfaceStatement.{InterfaceStatement}
 use Rattle.ios_lines.proofs.LineLookups.{last_of-push}
 

@@ -19,7 +19,8 @@ use Rattle.ios_lines.specs.declared.ospf_line.OspfStatement.{OspfStatement}
 use Rattle.ios_reader.specs.declared.networks.PlacedNetwork.{PlacedNetwork}
 use Rattle.ios_reader.specs.Routers.{area_taken}
 use Rattle.ios_reader.specs.steps.Networks.{network_said, placed_at, placed_networks, Ascend, takes}
-use Rattle.ios_reader.specs.steps.Networks.{is_block, block_key, same_block, is_of_block, has_wildcard, HasWildcards, AreNetworkTables, earlier_line, first_of_blocks}
+use Rattle.ios_reader.specs.steps.Networks.{is_block, block_key, same_block, is_of_block, has_wildcard, HasWildcards, AreNetworkTables, earlier_line}
+use Rattle.ios_reader.specs.steps.Networks.{first_of_blocks}
 
 -- ---- places ----
 

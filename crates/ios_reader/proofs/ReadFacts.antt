@@ -21,7 +21,7 @@ use Rattle.ios_reader.specs.Routers.{router_of}
 use Rattle.ios_lines.specs.Lookups.{last_of}
 use Rattle.ios_reader.specs.Configurations.{IsNotAfter, IsLeastFault, configuration_by}
 use Rattle.ios_sections.specs.Statements.{Statements, statements_of}
-use Rattle.ios_reader.specs.steps.ByStatements.{ospf_fault_by, isis_fault_by, fault_by}
+use Rattle.ios_reader.specs.steps.LeastFaults.{ospf_fault_by, isis_fault_by, fault_by}
 use Rattle.ios_reader.specs.steps.Parts.{IsMadeOf, Reading, IsReadingOf}
 use Rattle.ios_reader.specs.Texts.{ReadsText, IsRefusedText}
 use Rattle.ios_lines.specs.declared.kind.ReadKind.TheVariants.{NoHostname, NoEnd}

@@ -13,7 +13,7 @@ use Rattle.ios_sections.specs.Statements.{Statements}
 use Rattle.ios_sections.proofs.TellingFacts.{told_part, parts_told, rest_told, begins_told, none_told, statements_told}
 use Rattle.ios_reader.specs.Faults.{part_faults}
 use Rattle.ios_reader.specs.Configurations.{configuration_of, configuration_by}
-use Rattle.ios_reader.specs.steps.ByStatements.{fault_by}
+use Rattle.ios_reader.specs.steps.LeastFaults.{fault_by}
 use Rattle.ios_reader.specs.steps.Parts.{Reading, IsReadingOf}
 use Rattle.ios_reader.proofs.ReadFacts.{fault_is}
 

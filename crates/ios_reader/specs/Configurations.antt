@@ -9,7 +9,8 @@ use Rattle.ios_lines.specs.Words.{Word}
 use Rattle.ios_lines.specs.Lookups.{last_of, value_or}
 use Rattle.ios_sections.specs.TextLines.{TextLine, parts_of}
 use Rattle.ios_sections.specs.Statements.{Statements, statements_of}
-use Rattle.ios_reader.specs.Routers.{router_with, title_said, levels_said, ospf_distance_said, isis_distance_said, leak_said, rfc1583_said, ranges_in, stubs_in}
+use Rattle.ios_reader.specs.Routers.{router_with, title_said, levels_said, ospf_distance_said, isis_distance_said, leak_said, rfc1583_said, ranges_in}
+use Rattle.ios_reader.specs.Routers.{stubs_in}
 use Rattle.ios_reader.specs.InterfacesAsRead.{interface_as_read}
 use Rattle.ios_reader.specs.Faults.{faults_in}
 use Rattle.ios_sections.specs.Sections.{sections_in}

@@ -1,7 +1,7 @@
 -- What the lines of an interface say in the end: of each form the last one.
 use Rattle.std.specs.Prelude.{ℕ, Bool, true, List, Option, Some, None, Result}
 use Rattle.net_model.specs.declared.config.Levels.{Levels}
-use Rattle.ios_lines.specs.Lookups.{later, last_of}
+use Rattle.ios_lines.specs.Lookups.{last_of}
 use Rattle.ios_lines.specs.declared.kind.ReadKind.{ReadKind}
 use Rattle.ios_lines.specs.declared.interface_line.ProcessArea.{ProcessArea}
 use Rattle.ios_lines.specs.declared.interface_line.InterfaceLine.{InterfaceLine}
@@ -87,18 +87,3 @@ facts_of lines = record {
   metric2 = last_of (λ s. metric2_said s.says) lines;
 }
 
--- of each form the last line, with one more line
-abbrev pub noted : InterfaceFacts → InterfaceStatement → InterfaceFacts
-noted facts s = record {
-  address = later facts.address (address_in s);
-  shut = later facts.shut (shut_said s.says);
-  bandwidth = later facts.bandwidth (bandwidth_said s.says);
-  cost = later facts.cost (cost_said s.says);
-  area = later facts.area (area_said s.says);
-  point_to_point = later facts.point_to_point (point_to_point_said s.says);
-  isis = later facts.isis (isis_said s.says);
-  circuit = later facts.circuit (circuit_said s.says);
-  metric = later facts.metric (metric_said s.says);
-  metric1 = later facts.metric1 (metric1_said s.says);
-  metric2 = later facts.metric2 (metric2_said s.says);
-}

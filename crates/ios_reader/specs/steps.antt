@@ -1,6 +1,7 @@
 pub mod Networks
 pub mod ProcessFacts
-pub mod ByStatements
+pub mod LeastFaults
 pub mod Parts
 pub mod Passives
 pub mod Tables
+pub mod Noted

@@ -1,7 +1,7 @@
 ghost use Rattle.std.specs.Prelude.{◌≡◌, IfOk};
 ghost use Rattle.net_model.specs.Configuration.{IsConfiguration};
 ghost use Rattle.ios_reader.specs.Configurations.{interfaces_by, configuration_of_settings, configuration_by};
-ghost use Rattle.ios_reader.specs.steps.ByStatements.{ospf_fault_by, isis_fault_by, interfaces_fault_by, fault_by};
+ghost use Rattle.ios_reader.specs.steps.LeastFaults.{ospf_fault_by, isis_fault_by, interfaces_fault_by, fault_by};
 ghost use Rattle.ios_reader.specs.steps.Parts.{part_at, IsPartRead};
 ghost use Rattle.ios_reader.specs.steps.ProcessFacts.{process_facts_of};
 

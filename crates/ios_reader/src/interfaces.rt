@@ -3,7 +3,7 @@ ghost use Rattle.ios_lines.specs.FaultOrder.{least_fault};
 ghost use Rattle.ios_reader.specs.Faults.{interface_faults};
 ghost use Rattle.ios_reader.specs.InterfacesAsRead.{interface_as_read};
 ghost use Rattle.ios_reader.specs.Configurations.{interfaces_by};
-ghost use Rattle.ios_reader.specs.steps.ByStatements.{interfaces_fault_by};
+ghost use Rattle.ios_reader.specs.steps.LeastFaults.{interfaces_fault_by};
 ghost use Rattle.ios_reader.specs.steps.Passives.{ArePassivesOf};
 ghost use Rattle.ios_reader.specs.steps.ProcessFacts.{process_facts_of};
 

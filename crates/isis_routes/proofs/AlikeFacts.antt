@@ -13,7 +13,8 @@ use Rattle.walk_core.specs.declared.offers.Offer.{Offer}
 use Rattle.route_core.specs.declared.entry.Entry.{Entry}
 use Rattle.route_core.specs.declared.entry.Entry.TheVariants.{Via, Discard}
 use Rattle.igp_theory.specs.Ospf.{OfOthers}
-use Rattle.igp_theory.specs.Isis.{OffersLevelOne, HasLevelOneRoute, LevelOneHop, LevelTwoAnnouncement, HasLevelTwoRoute, LevelTwoHop, DownAnnouncement, HasDownRoute, DownHop, IsisEntry, level_one, level_two, down, default_route}
+use Rattle.igp_theory.specs.Isis.{OffersLevelOne, HasLevelOneRoute, LevelOneHop, LevelTwoAnnouncement, HasLevelTwoRoute, LevelTwoHop, DownAnnouncement}
+use Rattle.igp_theory.specs.Isis.{HasDownRoute, DownHop, IsisEntry, level_one, level_two, down, default_route}
 use Rattle.igp_theory.specs.Routes.{ForwardsTo}
 use Rattle.route_tables.proofs.AlikeRoutes.{AskAlike, alike_among, alike_cost, alike_hop, alike_lists, alike_turned}
 use Rattle.route_tables.specs.AlikeOffers.{AreAlikeOffers}

@@ -8,7 +8,7 @@ use Rattle.net_model.proofs.NetworkFacts.{UpInterface-within}
 use Rattle.net_model.specs.Configuration.{Configuration}
 use Rattle.net_model.specs.Network.{Network, HasConfiguration, UpInterface}
 use Rattle.net_model.specs.declared.interface.Interface.{Interface}
-use Rattle.route_tables.proofs.ListFacts.{any_of}
+use Rattle.net_addr.proofs.SomeElement.{any_of}
 use Rattle.route_tables.specs.Lists.{Adds}
 use Rattle.isis_routes.specs.steps.Candidates.{HasIsisSubnet, IsIsisCandidate}
 

@@ -10,7 +10,8 @@ use Rattle.net_model.specs.declared.zone.Zone.TheVariants.{One as ZoneOne, Two a
 use Rattle.walk_core.specs.Offers.{Offers, BestCost}
 use Rattle.walk_core.specs.Reach.{Reach}
 use Rattle.walk_core.specs.declared.offers.Offer.{Offer}
-use Rattle.igp_theory.specs.Isis.{OffersLevelOne, LevelOneCost, OffersLevelTwo, LevelTwoAnnouncement, own, of_level_one, LevelTwoCost, DownAnnouncement, OffersDefault}
+use Rattle.igp_theory.specs.Isis.{OffersLevelOne, LevelOneCost, OffersLevelTwo, LevelTwoAnnouncement, own, of_level_one, LevelTwoCost, DownAnnouncement}
+use Rattle.igp_theory.specs.Isis.{OffersDefault}
 use Rattle.igp_theory.specs.Ospf.{OfOthers}
 use Rattle.zone_graph.specs.Walks.{AreZoneWalks}
 use Rattle.isis_routes.proofs.LevelRoutes.{reach_of}

@@ -1,5 +1,6 @@
 -- The routers at which a prefix is connected, interface by interface.
-use Rattle.std.proofs.Common.{◌≡◌, ℕ, ◌+◌, ◌-◌, ◌<◌, ◌≤◌, ◌↔◌, inl, inr, List, length, take, drop, get_or, true, false, ltb, leb, ltb-true, ltb-false, leb-true, leb-false, refl, sym, ap, subst, ◌∙◌, arith}
+use Rattle.std.proofs.Common.{◌≡◌, ℕ, ◌+◌, ◌-◌, ◌<◌, ◌≤◌, ◌↔◌, inl, inr, List, length, take, drop, get_or, true, false, ltb, leb, ltb-true, ltb-false}
+use Rattle.std.proofs.Common.{leb-true, leb-false, refl, sym, ap, subst, ◌∙◌, arith}
 use Rattle.std.specs.List.{Contains, Any}
 use Rattle.std.specs.List.Sorted.{IsPartitionPoint}
 use Rattle.std.proofs.lemmas.Bool.{cases_lt}
@@ -12,7 +13,8 @@ use Rattle.net_model.specs.Configuration.{Configuration}
 use Rattle.net_model.specs.Network.{Network, HasConfiguration, Connected}
 use Rattle.net_model.specs.declared.interface.Interface.{Interface}
 use Rattle.route_tables.specs.Lists.{Exactly}
-use Rattle.route_tables.proofs.ListFacts.{AnyBelow, any_of, any_in, exactly_same}
+use Rattle.net_addr.proofs.SomeElement.{any_of, any_in}
+use Rattle.route_tables.proofs.ListFacts.{AnyBelow, exactly_same}
 use Rattle.isis_routes.specs.steps.Homes.{IsOwnSubnet, IsHomeOf, AreHomes, AreRoutersAt}
 use Rattle.isis_routes.specs.steps.Offered.{OffersIn}
 use Rattle.isis_routes.specs.declared.homes.Home.{Home}

@@ -15,7 +15,8 @@ use Rattle.route_tables.proofs.ListFacts.{any_in_one, any_in_two, the_one}
 use Rattle.isis_routes.specs.steps.Destinations.{HasAnnouncements}
 use Rattle.isis_routes.specs.steps.Domain.{IsisDomain, IsKnown}
 use Rattle.isis_routes.specs.steps.Homes.{AreRoutersAt}
-use Rattle.isis_routes.specs.steps.Lanes.{IsDecisionAmong, IsDecisionBy, IsDecisionOf, IsInLane, MakesOne, made_at_homes, left_open, of_one, of_down, of_two, of_none}
+use Rattle.isis_routes.specs.steps.Lanes.{IsDecisionAmong, IsDecisionBy, IsDecisionOf, IsInLane, MakesOne, made_at_homes, left_open, of_one, of_down}
+use Rattle.isis_routes.specs.steps.Lanes.{of_two, of_none}
 use Rattle.isis_routes.specs.steps.LevelReach.{level_reach}
 use Rattle.isis_routes.specs.steps.Levels.{zone_number}
 use Rattle.isis_routes.specs.steps.Offered.{AreSmall}

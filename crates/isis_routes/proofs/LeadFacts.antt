@@ -10,7 +10,8 @@ use Rattle.walk_core.specs.BestOffers.{ListsOffer}
 use Rattle.walk_core.specs.declared.offers.Offer.{Offer}
 use Rattle.route_core.specs.declared.entry.Entry.TheVariants.{Via}
 use Rattle.igp_theory.specs.Ospf.{OfOthers}
-use Rattle.igp_theory.specs.Isis.{DownAnnouncement, HasDownRoute, HasLevelOneRoute, HasLevelTwoRoute, IsisEntry, LevelTwoAnnouncement, OffersDefault, OffersLevelOne, RunsLevelOne, RunsLevelTwo}
+use Rattle.igp_theory.specs.Isis.{DownAnnouncement, HasDownRoute, HasLevelOneRoute, HasLevelTwoRoute, IsisEntry, LevelTwoAnnouncement, OffersDefault}
+use Rattle.igp_theory.specs.Isis.{OffersLevelOne, RunsLevelOne, RunsLevelTwo}
 use Rattle.route_tables.specs.AlikeOffers.{AreAlikeOffers}
 use Rattle.route_tables.specs.Routings.{ForwardsBy, IsRouteFor}
 use Rattle.route_tables.specs.declared.route.Route.{Route}

@@ -10,7 +10,8 @@ use Rattle.net_model.specs.declared.interface.Interface.{Interface}
 use Rattle.walk_core.specs.Offers.{Offers}
 use Rattle.walk_core.specs.declared.offers.Offer.{Offer}
 use Rattle.route_tables.specs.Lists.{Adds, Exactly}
-use Rattle.route_tables.proofs.ListFacts.{Found, adds_end, adds_more, adds_nothing, adds_same, adds_start, any_in, any_of, exactly_added}
+use Rattle.net_addr.proofs.SomeElement.{Found, any_in, any_of}
+use Rattle.route_tables.proofs.ListFacts.{adds_end, adds_more, adds_nothing, adds_same, adds_start, exactly_added}
 use Rattle.isis_routes.specs.steps.Offered.{AsksIn, OffersIn, HoldsOffers, IsOffer, IsOfferOf, AddsOffers}
 use Rattle.isis_routes.specs.declared.level.Level.{Level}
 use Rattle.isis_routes.specs.declared.level.Level.TheVariants.{One, Two}

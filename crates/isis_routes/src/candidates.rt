@@ -1,4 +1,4 @@
-ghost use Rattle.std.specs.Prelude.{◌≡◌, ◌<◌, ◌↔◌, ℕ, length, Some, Any, Contains, IfOk, OnOk};
+ghost use Rattle.std.specs.Prelude.{◌≡◌, ◌<◌, ◌↔◌, Some, Any, Contains, IfOk, OnOk};
 ghost use Rattle.net_addr.specs.Addresses.{Block};
 ghost use Rattle.route_tables.specs.Lists.{Adds};
 ghost use Rattle.isis_routes.specs.steps.Candidates.{HasIsisSubnet, IsIsisCandidate};

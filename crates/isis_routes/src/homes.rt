@@ -1,6 +1,5 @@
-ghost use Rattle.std.specs.Prelude.{◌≡◌, ◌<◌, ◌↔◌, ℕ, length, Some, Any, Contains, IfOk, OnOk};
+ghost use Rattle.std.specs.Prelude.{◌≡◌, ◌<◌, ◌↔◌, ℕ, Some, Any, Contains, IfOk, OnOk};
 ghost use Rattle.std.specs.List.Sorted.{IsNonDecreasingBy};
-ghost use Rattle.net_model.specs.Network.{Connected};
 ghost use Rattle.route_tables.specs.Lists.{Adds, Exactly};
 ghost use Rattle.isis_routes.specs.steps.Homes.{AreHomes, IsHomeOf, IsOwnSubnet};
 ghost use Rattle.isis_routes.specs.declared.homes.Home.{Home as HomeValue};

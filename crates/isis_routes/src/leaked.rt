@@ -1,4 +1,4 @@
-ghost use Rattle.std.specs.Prelude.{◌≡◌, ◌<◌, ◌↔◌, ℕ, length, Some, IfOk};
+ghost use Rattle.std.specs.Prelude.{◌≡◌, ◌<◌, ◌↔◌, ℕ, Some, IfOk};
 ghost use Rattle.igp_theory.specs.Isis.{DownAnnouncement, Leaks, LevelTwoAnnouncement};
 ghost use Rattle.route_tables.specs.Lists.{Exactly};
 ghost use Rattle.isis_routes.specs.steps.Destinations.{IsLevelOne};

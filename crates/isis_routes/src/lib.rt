@@ -1,11 +1,12 @@
 //! The route tables of IS-IS: level 1, level 2 (RFC 1195), what is leaked into level 1 (RFC 5302), and the default
 //! towards attached routers (RFC 1195).
 //!
-//! `IsisRoutes::build` (`routes.rt`) makes the tables of `Isis` (`protocol.rt`). Steps 1 to 6 are `Isis::build`, of which 2 to 5
-//! are `destinations.rt`; step 7 is `Isis::decision` where this tells the route, else step 8 `Isis::target`, else `Isis::route`:
+//! `IsisRoutes::build` (`source.rt`) makes the segments of both levels (`segments.rt`), and then the tables of `Isis`
+//! (`protocol.rt`). Steps 1 to 6 are `Isis::build`, of which 2 to 5 are `destinations.rt`; step 7 is `Isis::decision` where this
+//! tells the route, else step 8 `Isis::target`, else `Isis::route`:
 //!
-//! 1. `domain.rt`: what is known before any prefix: the least walks of both levels (`level_walks.rt`) over their segments
-//!    (`segments.rt`), by which the tables know who is adjacent to whom, the routers that run both levels and those that
+//! 1. `domain.rt`: what is known before any prefix: the least walks of both levels (`level_walks.rt`, by the number of the
+//!    level, `level.rt`) over their segments, by which the tables know who is adjacent to whom, the routers that run both levels and those that
 //!    leak (`runs.rt`), and the attached routers (`attached.rt`; RFC 1195, section 3.2).
 //! 2. `candidates.rt`, `homes.rt`: the prefixes, and the routers at which each is connected.
 //! 3. `level_one.rt`, `offers.rt`: what level 1 offers of each prefix.
@@ -43,8 +44,8 @@ mod entry;
 mod lanes;
 mod leading;
 mod protocol;
-mod routes;
+mod source;
 mod target;
 
 pub use route_tables::OutOfMemory;
-pub use routes::IsisRoutes;
+pub use source::IsisRoutes;

@@ -1,5 +1,4 @@
-ghost use Rattle.std.specs.Prelude.{◌≡◌, ◌<◌, ◌↔◌, ℕ, length, Some, Any, IfOk, OnOk};
-ghost use Rattle.net_model.specs.Network.{Network};
+ghost use Rattle.std.specs.Prelude.{◌≡◌, ◌<◌, ◌↔◌, length, Some, Any, IfOk, OnOk};
 ghost use Rattle.route_tables.specs.Lists.{Adds};
 ghost use Rattle.walk_core.specs.declared.offers.Offer.{Offer as OfferValue};
 ghost use Rattle.isis_routes.specs.steps.Homes.{AreRoutersAt};

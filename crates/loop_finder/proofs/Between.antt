@@ -8,9 +8,9 @@ use Rattle.igp_theory.proofs.LoopLaws.{old_or_new_step}
 use Rattle.igp_theory.proofs.SameTables.{follows_over}
 use Rattle.order_core.specs.declared.turn.Turn.{Turn}
 use Rattle.loop_finder.specs.Faults.{state_in}
-use Rattle.loop_finder.specs.ClassSteps.{sample_of, Mix, migration_in}
+use Rattle.loop_finder.specs.Mixes.{sample_of, Mix, migration_in}
 use Rattle.loop_finder.specs.steps.ClassSteps.{ClassState, ClassStep, StepsBy, MovesIn, Moves}
-use Rattle.loop_finder.specs.Verdicts.{SoundAt}
+use Rattle.loop_finder.specs.Soundness.{SoundAt}
 use Rattle.loop_finder.specs.steps.Verdicts.{IsClassVerdict, IsBetween, IsClearAt}
 use Rattle.loop_finder.specs.declared.fault.Fault.{Fault}
 

@@ -19,8 +19,8 @@ use Rattle.loop_finder.specs.Faults.{state_in}
 use Rattle.loop_finder.specs.Parts.{ClassPart, IsPart, AreParts}
 use Rattle.loop_finder.specs.steps.Parts.{AreSteppers, IsBareIn}
 use Rattle.loop_finder.specs.Returns.{NeverReturnsTo}
-use Rattle.loop_finder.specs.ClassSteps.{sample_of, Mix}
-use Rattle.loop_finder.specs.Verdicts.{SoundAt, Sound}
+use Rattle.loop_finder.specs.Mixes.{sample_of, Mix}
+use Rattle.loop_finder.specs.Soundness.{SoundAt, Sound}
 use Rattle.loop_finder.specs.steps.Verdicts.{IsClearAt, SoundWave, SoundWavesBefore}
 use Rattle.loop_finder.specs.Watches.{IsIdle, ArePlacesOf}
 use Rattle.loop_finder.specs.steps.WaveStarts.{AreSwitchedBefore, AreClearParts, BeginsSound}

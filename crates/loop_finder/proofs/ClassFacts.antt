@@ -10,7 +10,7 @@ use Rattle.rib_mix.specs.Answers.{NextLeadsTo}
 use Rattle.rib_mix.proofs.NextLaws.{steps_to_hops}
 use Rattle.loop_finder.specs.Parts.{StepsOf}
 use Rattle.loop_finder.specs.steps.Making.{IsHopsOf}
-use Rattle.loop_finder.specs.ClassSteps.{sample_of, Mix, migration_in}
+use Rattle.loop_finder.specs.Mixes.{sample_of, Mix, migration_in}
 use Rattle.loop_finder.specs.steps.ClassSteps.{ClassState, StepsBy, IsStuckIn, MovesIn}
 
 -- the hops of what a router does that has to pass packets on

@@ -13,7 +13,7 @@ use Rattle.igp_theory.specs.declared.phase.Phase.{Phase}
 use Rattle.prefix_atoms.specs.Classes.{Classes, AreClasses, IsInClass, HasTarget}
 use Rattle.order_core.specs.Marks.{IsMarked}
 use Rattle.order_core.specs.declared.turn.Turn.{Turn}
-use Rattle.loop_finder.specs.ClassSteps.{sample_of, Mix}
+use Rattle.loop_finder.specs.Mixes.{sample_of, Mix}
 use Rattle.loop_finder.specs.steps.ClassSteps.{ClassState, AreForwarders, ClassStep}
 use Rattle.loop_finder.specs.steps.Verdicts.{IsClassVerdict}
 

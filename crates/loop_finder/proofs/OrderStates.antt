@@ -10,8 +10,8 @@ use Rattle.loop_finder.specs.Faults.{state_in, told_fault}
 use Rattle.order_core.specs.declared.turn.Turn.{Turn}
 use Rattle.loop_finder.specs.Orders.{AreFirstStates}
 use Rattle.loop_finder.specs.steps.Orders.{next_phase, IsStateOf, IsAdvanced}
-use Rattle.loop_finder.specs.ClassSteps.{Mix}
-use Rattle.loop_finder.specs.Verdicts.{Sound}
+use Rattle.loop_finder.specs.Mixes.{Mix}
+use Rattle.loop_finder.specs.Soundness.{Sound}
 use Rattle.loop_finder.specs.steps.Verdicts.{FirstFaulty}
 use Rattle.loop_finder.specs.declared.fault.Fault.{Fault}
 

@@ -18,9 +18,9 @@ use Rattle.loop_finder.specs.steps.Parts.{PartStep, DifferAt}
 use Rattle.loop_finder.specs.Parts.{HaveReturning, NeverUnsound, SoundWith}
 use Rattle.loop_finder.specs.Returns.{NeverReturnsTo}
 use Rattle.loop_finder.specs.steps.Returns.{MarksReturns}
-use Rattle.loop_finder.specs.ClassSteps.{sample_of, Mix, migration_in}
+use Rattle.loop_finder.specs.Mixes.{sample_of, Mix, migration_in}
 use Rattle.loop_finder.specs.steps.ClassSteps.{ClassState}
-use Rattle.loop_finder.specs.Verdicts.{SoundAt}
+use Rattle.loop_finder.specs.Soundness.{SoundAt}
 use Rattle.loop_finder.specs.steps.Verdicts.{IsBetween, IsClearAt}
 use Rattle.loop_finder.specs.steps.Walks.{ReturnsNever}
 use Rattle.loop_finder.proofs.Between.{step_between}

@@ -8,8 +8,8 @@ use Rattle.std.proofs.lemmas.List.Quantifiers.{all_pairs_push}
 use Rattle.igp_theory.specs.States.{State}
 use Rattle.loop_finder.specs.Parts.{ClassPart, AllMove, IsPart, IsCovered, StepsEver, has_part, never_unsound, as_earlier, AreParts}
 use Rattle.loop_finder.specs.steps.PartRows.{HasEarlierHops}
-use Rattle.loop_finder.specs.ClassSteps.{sample_of, Mix}
-use Rattle.loop_finder.specs.Verdicts.{ClassesOf, SoundAt}
+use Rattle.loop_finder.specs.Mixes.{sample_of, Mix}
+use Rattle.loop_finder.specs.Soundness.{ClassesOf, SoundAt}
 use Rattle.loop_finder.proofs.PartLaws.{sound_with}
 use Rattle.loop_finder.proofs.PartRows.{have_returning}
 use Rattle.loop_finder.specs.steps.Returns.{MarksReturns}

@@ -24,7 +24,7 @@ use Rattle.loop_finder.specs.steps.PartRows.{AreKept, HasHops, HasMarked, HaveHo
 use Rattle.loop_finder.specs.Parts.{PhaseHops, hops_of, no_hops, StepsOf, StepsEver, HasStepOf, AllMove, HaveReturning, IsPart}
 use Rattle.loop_finder.specs.steps.Parts.{AreAllBut, AddsUnless}
 use Rattle.loop_finder.specs.steps.Returns.{MarksAgain, MarksReturns}
-use Rattle.loop_finder.specs.ClassSteps.{sample_of, Mix, migration_in}
+use Rattle.loop_finder.specs.Mixes.{sample_of, Mix, migration_in}
 use Rattle.loop_finder.specs.declared.parts.Making.{Making}
 use Rattle.loop_finder.proofs.ClassFacts.{steps_to_those}
 use Rattle.loop_finder.proofs.ClassVerdicts.{one_target}

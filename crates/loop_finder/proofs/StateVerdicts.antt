@@ -15,8 +15,8 @@ use Rattle.prefix_atoms.specs.Classes.{AreSamples, Classes, IsInClass, SourceEnt
 use Rattle.prefix_atoms.specs.Laws.{ActAlike}
 use Rattle.prefix_atoms.proofs.ClassLaws.{one_class_acts_alike}
 use Rattle.order_core.proofs.DistinctLists.{length-le_from_distinct}
-use Rattle.loop_finder.specs.ClassSteps.{sample_of, Mix, migration_in}
-use Rattle.loop_finder.specs.Verdicts.{ClassesOf, SoundAt, Sound}
+use Rattle.loop_finder.specs.Mixes.{sample_of, Mix, migration_in}
+use Rattle.loop_finder.specs.Soundness.{ClassesOf, SoundAt, Sound}
 use Rattle.loop_finder.specs.steps.Verdicts.{SoundBelow}
 use Rattle.loop_finder.proofs.ClassVerdicts.{sample_in}
 

@@ -6,9 +6,9 @@ use Rattle.igp_theory.specs.declared.phase.Phase.{Phase}
 use Rattle.igp_theory.proofs.SameTables.{SameHops, found_ring_over}
 use Rattle.order_core.specs.declared.turn.Turn.{Turn}
 use Rattle.loop_finder.specs.Faults.{state_in}
-use Rattle.loop_finder.specs.ClassSteps.{sample_of, Mix, migration_in}
+use Rattle.loop_finder.specs.Mixes.{sample_of, Mix, migration_in}
 use Rattle.loop_finder.specs.steps.ClassSteps.{ClassState, ClassStep, IsStuckIn}
-use Rattle.loop_finder.specs.Verdicts.{ClassesOf, SoundAt, Sound}
+use Rattle.loop_finder.specs.Soundness.{ClassesOf, SoundAt, Sound}
 use Rattle.loop_finder.specs.steps.Verdicts.{Verdict, IsClassVerdict, Told, SoundBelow, Faulty}
 use Rattle.loop_finder.specs.declared.fault.Fault.{Fault}
 use Rattle.loop_finder.specs.declared.fault.Fault.TheVariants.{Loop, Missing}

@@ -12,9 +12,9 @@ use Rattle.igp_theory.proofs.FoundRings.{found_ring_returns}
 use Rattle.igp_theory.proofs.LoopWaves.{return_is_unsound}
 use Rattle.igp_theory.proofs.SameTables.{SameHops, found_ring_over}
 use Rattle.loop_finder.specs.Faults.{state_in, told_fault}
-use Rattle.loop_finder.specs.ClassSteps.{sample_of, Mix, migration_in}
+use Rattle.loop_finder.specs.Mixes.{sample_of, Mix, migration_in}
 use Rattle.loop_finder.specs.steps.ClassSteps.{ClassState, ClassStep, IsStuck, Moves}
-use Rattle.loop_finder.specs.Verdicts.{ClassesOf, SoundAt}
+use Rattle.loop_finder.specs.Soundness.{ClassesOf, SoundAt}
 use Rattle.loop_finder.specs.steps.Verdicts.{Verdict, Told, SoundWave, FaultyWave, IsBetween}
 use Rattle.loop_finder.specs.steps.WaveStarts.{AreSwitchedBefore}
 use Rattle.loop_finder.specs.declared.fault.Fault.{Fault}

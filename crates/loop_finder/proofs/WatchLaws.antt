@@ -11,8 +11,8 @@ use Rattle.loop_finder.specs.Faults.{state_in}
 use Rattle.loop_finder.specs.Parts.{PhaseHops, ClassPart, hops_of, no_hops, IsPart, AreParts, part_hops}
 use Rattle.loop_finder.specs.steps.Parts.{AreAllBut, PartStep}
 use Rattle.loop_finder.specs.Returns.{NeverReturnsTo}
-use Rattle.loop_finder.specs.ClassSteps.{sample_of, Mix}
-use Rattle.loop_finder.specs.Verdicts.{SoundAt, Sound}
+use Rattle.loop_finder.specs.Mixes.{sample_of, Mix}
+use Rattle.loop_finder.specs.Soundness.{SoundAt, Sound}
 use Rattle.loop_finder.specs.steps.Verdicts.{IsClassVerdict, Faulty}
 use Rattle.loop_finder.specs.Watches.{IsIdle, AreFirstPlaces, ArePlacesOf, IsWatch}
 use Rattle.loop_finder.specs.steps.Watches.{PhaseChange, LeadsFrom, AddsPlace, StaysSoundAt, StaysSound, TurnsFaulty}

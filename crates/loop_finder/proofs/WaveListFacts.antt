@@ -11,7 +11,7 @@ use Rattle.igp_theory.specs.Waves.{AreSeamlessWaves}
 use Rattle.igp_theory.proofs.LoopWaves.{seamless_by_waves}
 use Rattle.igp_theory.proofs.WaveFaultLaws.{waves_fault_unsound}
 use Rattle.loop_finder.specs.Faults.{told_fault}
-use Rattle.loop_finder.specs.ClassSteps.{Mix}
+use Rattle.loop_finder.specs.Mixes.{Mix}
 use Rattle.loop_finder.specs.steps.Verdicts.{SoundWavesBefore, SoundWaves}
 use Rattle.loop_finder.specs.WaveLists.{IsNumberedWavesFault}
 use Rattle.loop_finder.specs.declared.fault.Fault.{Fault}

@@ -17,8 +17,8 @@ use Rattle.loop_finder.specs.Faults.{state_in}
 use Rattle.loop_finder.specs.Parts.{ClassPart, part_hops, IsPart}
 use Rattle.loop_finder.specs.steps.Parts.{PartStep}
 use Rattle.loop_finder.specs.Returns.{NeverReturnsTo}
-use Rattle.loop_finder.specs.ClassSteps.{sample_of, Mix}
-use Rattle.loop_finder.specs.Verdicts.{SoundAt, Sound}
+use Rattle.loop_finder.specs.Mixes.{sample_of, Mix}
+use Rattle.loop_finder.specs.Soundness.{SoundAt, Sound}
 use Rattle.loop_finder.specs.steps.Verdicts.{SoundWavesBefore, IsBetween}
 use Rattle.loop_finder.specs.steps.WaveStarts.{AreSwitchedBefore, BeginsSound}
 use Rattle.loop_finder.proofs.OrderStates.{same_state}

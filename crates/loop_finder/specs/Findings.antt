@@ -6,8 +6,8 @@ use Rattle.loop_finder.specs.Orders.{AreFirstStates}
 use Rattle.igp_theory.specs.States.{all_old}
 use Rattle.loop_finder.specs.Parts.{ClassPart, AreParts}
 use Rattle.loop_finder.specs.Rooms.{HasRoom}
-use Rattle.loop_finder.specs.ClassSteps.{Mix}
-use Rattle.loop_finder.specs.Verdicts.{Sound}
+use Rattle.loop_finder.specs.Mixes.{Mix}
+use Rattle.loop_finder.specs.Soundness.{Sound}
 use Rattle.loop_finder.specs.Watches.{IsWatch}
 use Rattle.loop_finder.specs.declared.room.Room.{Room}
 

@@ -3,10 +3,10 @@ pub use Rattle.igp_theory.specs.States
 pub use Rattle.igp_theory.specs.Loops
 pub use Rattle.order_core.specs.Turns
 pub mod Faults
-pub mod ClassSteps
+pub mod Mixes
 pub mod Rooms
 pub mod WaveLists
-pub mod Verdicts
+pub mod Soundness
 pub mod Orders
 pub mod Returns
 pub mod Parts

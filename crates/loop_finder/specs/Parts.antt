@@ -5,8 +5,8 @@ use Rattle.igp_theory.specs.Forwarding.{MustForward, Steps, HasStep}
 use Rattle.igp_theory.specs.States.{State, Follows}
 use Rattle.igp_theory.specs.declared.phase.Phase.{Phase}
 use Rattle.igp_theory.specs.declared.phase.Phase.TheVariants.{Old, Middle, New}
-use Rattle.loop_finder.specs.ClassSteps.{sample_of, Mix, migration_in}
-use Rattle.loop_finder.specs.Verdicts.{ClassesOf, SoundAt}
+use Rattle.loop_finder.specs.Mixes.{sample_of, Mix, migration_in}
+use Rattle.loop_finder.specs.Soundness.{ClassesOf, SoundAt}
 
 -- Parts
 

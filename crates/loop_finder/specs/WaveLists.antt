@@ -1,4 +1,4 @@
--- The waves of a wave list, one after another.
+-- The fault of a wave list, with the number of its wave.
 use Rattle.std.specs.Prelude.{◌≡◌, ℕ, ◌+◌, List}
 use Rattle.igp_theory.specs.Loops.{Fault}
 use Rattle.igp_theory.specs.Migrations.{Migration}

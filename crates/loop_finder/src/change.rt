@@ -1,6 +1,6 @@
 ghost use Rattle.std.specs.Prelude.{◌≡◌, ◌<◌, IfNone, IfSome, Some, length, true};
 ghost use Rattle.std.specs.Bool.{OnTrue};
-ghost use Rattle.loop_finder.specs.ClassSteps.{mix_of};
+ghost use Rattle.loop_finder.specs.Mixes.{mix_of};
 ghost use Rattle.loop_finder.specs.Faults.{KeepsRing};
 ghost use Rattle.loop_finder.specs.Parts.{AreParts, IsPart, part_hops};
 ghost use Rattle.loop_finder.specs.Rooms.{HasRoom};

@@ -6,7 +6,7 @@ ghost use Rattle.prefix_atoms.specs.Classes.{HasTarget};
 ghost use Rattle.order_core.specs.Marks.{IsMarked};
 ghost use Rattle.loop_finder.specs.Faults.{KeepsRing};
 ghost use Rattle.loop_finder.specs.Rooms.{HasRoom};
-ghost use Rattle.loop_finder.specs.ClassSteps.{mix_of, sample_of};
+ghost use Rattle.loop_finder.specs.Mixes.{mix_of, sample_of};
 ghost use Rattle.loop_finder.specs.steps.ClassSteps.{AreForwarders, state_over};
 ghost use Rattle.loop_finder.specs.steps.Verdicts.{IsClassVerdict, Verdict};
 

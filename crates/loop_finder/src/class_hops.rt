@@ -2,7 +2,7 @@ ghost use Rattle.std.specs.Prelude.{◌≡◌, ◌<◌, ◌↔◌, ◌^◌, ℕ,
 ghost use Rattle.loop_finder.specs.steps.Making.{IsHopsOf};
 ghost use Rattle.rib_mix.specs.Answers.{NextLeadsTo};
 ghost use Rattle.loop_finder.specs.Parts.{StepsOf};
-ghost use Rattle.loop_finder.specs.ClassSteps.{mix_of, sample_of};
+ghost use Rattle.loop_finder.specs.Mixes.{mix_of, sample_of};
 ghost use Rattle.loop_finder.specs.steps.ClassSteps.{AreForwarders};
 
 use rib_mix::{Mixed, Next, Phase};

@@ -2,7 +2,7 @@ ghost use Rattle.std.specs.Prelude.{◌≡◌, ◌<◌, ◌↔◌, ◌^◌, ℕ,
 ghost use Rattle.std.specs.Bool.{OnFalse, OnTrue};
 ghost use Rattle.igp_theory.specs.Forwarding.{MustForward};
 ghost use Rattle.loop_finder.specs.Faults.{state_in};
-ghost use Rattle.loop_finder.specs.ClassSteps.{sample_of};
+ghost use Rattle.loop_finder.specs.Mixes.{sample_of};
 ghost use Rattle.loop_finder.specs.steps.ClassSteps.{AreForwarders, FirstStuck, IsStuck, IsStuckIn, Moves, MovesIn, StepsBy, state_over};
 
 use crate::class_hops::class_hops;
@@ -22,7 +22,7 @@ pub struct ClassSteps<'s, 'm, O: RouteSource, N: RouteSource> {
 }
 
 impl<'s, 'm, O: RouteSource, N: RouteSource> Model for ClassSteps<'s, 'm, O, N> {
-    ghost use Rattle.loop_finder.specs.ClassSteps.{mix_of};
+    ghost use Rattle.loop_finder.specs.Mixes.{mix_of};
     ghost use Rattle.loop_finder.specs.steps.ClassSteps.{IsClassState, SourceState};
 
     ghost Value = { SourceState O N };

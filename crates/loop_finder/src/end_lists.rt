@@ -4,7 +4,7 @@ ghost use Rattle.loop_finder.specs.steps.EndPairs.{new_hops, old_hops};
 ghost use Rattle.loop_finder.specs.steps.Ends.{HasBothSteps, hops_at};
 ghost use Rattle.loop_finder.specs.steps.Making.{AreNoEnds, IsKnownAt, IsRead, IsReadAt, IsSameAt};
 ghost use Rattle.loop_finder.specs.steps.Parts.{AddsUnless, AreAllBut};
-ghost use Rattle.loop_finder.specs.ClassSteps.{mix_of, sample_of};
+ghost use Rattle.loop_finder.specs.Mixes.{mix_of, sample_of};
 
 use crate::class_hops::next_hops;
 use crate::ends::Ends;

@@ -52,7 +52,7 @@ pub struct Finder<'a, O: RouteSource, N: RouteSource> {
 
 impl<'a, O: RouteSource, N: RouteSource> Model for Finder<'a, O, N> {
     ghost use Rattle.std.specs.Prelude.{vec_len};
-    ghost use Rattle.loop_finder.specs.ClassSteps.{mix_of};
+    ghost use Rattle.loop_finder.specs.Mixes.{mix_of};
     ghost use Rattle.loop_finder.specs.Faults.{Finding};
     ghost use Rattle.loop_finder.specs.Findings.{IsFinding};
 

@@ -1,14 +1,14 @@
 ghost use Rattle.std.specs.Prelude.{◌≡◌, ◌+◌, ◌*◌, ◌≤◌, ◌<◌, ℕ, Contains, IfNone, IfSome, length};
 ghost use Rattle.std.specs.Bool.{OnTrue};
 ghost use Rattle.order_core.specs.Orders.{IsOrder};
-ghost use Rattle.loop_finder.specs.ClassSteps.{mix_of};
+ghost use Rattle.loop_finder.specs.Mixes.{mix_of};
 ghost use Rattle.loop_finder.specs.Faults.{KeepsRing, state_in, told, told_fault};
 ghost use Rattle.loop_finder.specs.Orders.{AreFirstStates};
 ghost use Rattle.loop_finder.specs.steps.Orders.{IsAdvanced, IsStateOf, next_phase};
 ghost use Rattle.igp_theory.specs.States.{all_old};
 ghost use Rattle.loop_finder.specs.Parts.{AreParts};
 ghost use Rattle.loop_finder.specs.Rooms.{HasRoom};
-ghost use Rattle.loop_finder.specs.Verdicts.{Sound};
+ghost use Rattle.loop_finder.specs.Soundness.{Sound};
 ghost use Rattle.loop_finder.specs.steps.Verdicts.{Faulty, FirstFaulty};
 ghost use Rattle.loop_finder.specs.Watches.{IsWatch};
 

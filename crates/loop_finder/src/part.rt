@@ -7,7 +7,7 @@ ghost use Rattle.loop_finder.specs.steps.PartRows.{AreKept, AreRowsOf, HasHops, 
 ghost use Rattle.loop_finder.specs.Parts.{AllMove, IsPart, StepsEver, hops_of, no_hops, part_hops};
 ghost use Rattle.loop_finder.specs.steps.Parts.{AddsUnless, AreSteppers, IsBareIn};
 ghost use Rattle.loop_finder.specs.steps.Returns.{MarksReturns};
-ghost use Rattle.loop_finder.specs.ClassSteps.{mix_of, sample_of};
+ghost use Rattle.loop_finder.specs.Mixes.{mix_of, sample_of};
 ghost use Rattle.loop_finder.specs.Watches.{IsIdle};
 
 use crate::class_hops::next_hops;

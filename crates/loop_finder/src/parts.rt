@@ -4,7 +4,7 @@ ghost use Rattle.loop_finder.specs.steps.Targets.{IsTargetIn};
 ghost use Rattle.loop_finder.specs.steps.Making.{IsKnownClass, IsMaking, IsRead};
 ghost use Rattle.loop_finder.specs.steps.PartRows.{HasEarlierHops};
 ghost use Rattle.loop_finder.specs.Parts.{AllMove, AreParts, IsCovered};
-ghost use Rattle.loop_finder.specs.ClassSteps.{mix_of, sample_of};
+ghost use Rattle.loop_finder.specs.Mixes.{mix_of, sample_of};
 
 use crate::class_fault::class_target;
 use crate::end_lists::{EndLists, read_class};

@@ -1,13 +1,13 @@
 ghost use Rattle.std.specs.Prelude.{◌≡◌, ◌+◌, ◌<◌, ◌≤◌, ◌^◌, ◌↔◌, ◌⊎◌, ℕ, Contains, IfNone, IfSome, IsTrue, length, slice_index, true};
 ghost use Rattle.std.specs.Bool.{OnTrue};
 ghost use Rattle.order_core.specs.Rankings.{IsRanking};
-ghost use Rattle.loop_finder.specs.ClassSteps.{mix_of};
+ghost use Rattle.loop_finder.specs.Mixes.{mix_of};
 ghost use Rattle.loop_finder.specs.Calm.{AreCalm};
 ghost use Rattle.loop_finder.specs.Faults.{KeepsRing, told, told_fault};
 ghost use Rattle.igp_theory.specs.States.{all_old};
 ghost use Rattle.loop_finder.specs.Parts.{AreParts};
 ghost use Rattle.loop_finder.specs.Rooms.{HasRoom};
-ghost use Rattle.loop_finder.specs.Verdicts.{Sound};
+ghost use Rattle.loop_finder.specs.Soundness.{Sound};
 ghost use Rattle.loop_finder.specs.steps.Verdicts.{FaultyWave, FaultyWaves, IsClearAt, SoundWave, SoundWaves, Told};
 ghost use Rattle.loop_finder.specs.steps.WaveStarts.{AreSwitchedBefore};
 ghost use Rattle.loop_finder.specs.steps.WaveStarts.{AreClearParts, BeginsSound};

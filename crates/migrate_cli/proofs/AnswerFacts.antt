@@ -10,7 +10,8 @@ use Rattle.migrate_words.specs.declared.refusal.WordsRefused.{WordsRefused}
 use Rattle.migrate_words.specs.declared.refusal.WordsRefused.TheVariants.{Words as NotTaken, Number, OutOfMemory as NoMemoryForWords}
 use Rattle.migration_report.specs.Texts.{long_file_text, read_fault_text}
 use Rattle.migrate_cli.specs.RefusalStatus.{refusal_status}
-use Rattle.migrate_cli.specs.Answers.{AsksForFew, IsAnswer, MayAsk, FaultsAgree, RefusalAnswer, StopAnswer, HasAnswer}
+use Rattle.migrate_cli.specs.Answers.{AsksForFew, IsAnswer, MayAsk, FaultsAgree}
+use Rattle.migrate_cli.specs.steps.Answering.{RefusalAnswer, StopAnswer, HasAnswer}
 use Rattle.migrate_cli.specs.Answers.IsAnswer.{refused_words, read_fault, long_file, long_files, judged}
 use Rattle.migrate_cli.specs.Answers.MayAsk.{asks_none, asks_some}
 use Rattle.migrate_cli.specs.Calls.{Call}

@@ -11,7 +11,7 @@ use Rattle.net_model.specs.Configuration.{Configuration}
 use Rattle.net_model.specs.Network.{Network}
 use Rattle.net_model.specs.declared.interface.Interface.{Interface}
 use Rattle.net_model.proofs.Members.{length-same_from_distinct}
-use Rattle.prefix_atoms.specs.Lists.{all_originated, originated_subnet}
+use Rattle.prefix_atoms.specs.Originated.{all_originated, originated_subnet}
 use Rattle.prefix_atoms.proofs.Occurrences.{list_from_originated, originated_from_list}
 use Rattle.migrate_cli.specs.OriginatedPrefixes.{CountsOriginated}
 

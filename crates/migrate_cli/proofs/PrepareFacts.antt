@@ -13,7 +13,8 @@ use Rattle.design_file.specs.declared.refusal.DesignRefusal.TheVariants.{Bad, Ou
 use Rattle.design_file.specs.declared.settled.SettledRouter.{SettledRouter}
 use Rattle.isis_writer.specs.Prepared.{prepared_text}
 use Rattle.isis_writer.specs.PreparedConfigurations.{prepared_texts, with_last_feed}
-use Rattle.migrate_cli.specs.PrepareVerdict.{DesignAnswer, IsPrepareVerdict, configured}
+use Rattle.migrate_cli.specs.PrepareVerdict.{IsPrepareVerdict, configured}
+use Rattle.migrate_cli.specs.steps.Answering.{DesignAnswer}
 use Rattle.migrate_cli.specs.PrepareVerdict.IsPrepareVerdict.{no_design, unsettled}
 use Rattle.migrate_cli.specs.declared.answer.Answer.{Answer}
 use Rattle.migrate_cli.specs.declared.status.Status.{Status}

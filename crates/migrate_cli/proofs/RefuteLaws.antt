@@ -14,7 +14,8 @@ use Rattle.refutation_check.proofs.SameVerdicts as same_verdicts
 use Rattle.migration_report.specs.TreeVerdictTexts.{verdict_text}
 use Rattle.migrate_cli.specs.Completeness.{DecidesTree}
 use Rattle.migrate_cli.specs.Completeness.DecidesTree.{closed_tree, no_closed_tree}
-use Rattle.migrate_cli.specs.RefuteVerdict.{IsRefuteVerdict, IsTreeVerdict, verdict_status}
+use Rattle.migrate_cli.specs.RefuteVerdict.{IsRefuteVerdict, IsTreeVerdict}
+use Rattle.migrate_cli.specs.steps.Answering.{verdict_status}
 use Rattle.migrate_cli.specs.RefuteVerdict.IsTreeVerdict.{closed, unfinished, wrong}
 use Rattle.migrate_cli.specs.declared.status.Status.{Status}
 use Rattle.migrate_cli.proofs.SameAnswers.{AreSame, NoFault}

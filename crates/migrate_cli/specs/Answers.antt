@@ -1,22 +1,16 @@
 -- What is answered to a call, and how the call ends.
-use Rattle.std.specs.Prelude.{◌≡◌, ◌≢◌, ℕ, ◌<◌, ◌≤◌, List, [], ◌++◌, Result, Ok, Err, length}
-use Rattle.std.specs.declared.alloc.AllocError.{AllocError}
+use Rattle.std.specs.Prelude.{◌≡◌, ◌≢◌, ℕ, ◌<◌, ◌≤◌, List, [], ◌++◌, length}
 use Rattle.store_edge.specs.Faults.{Rose}
 use Rattle.store_edge.specs.Sink.{AddsBytes, AddsFront}
 use Rattle.migrate_words.specs.Asked.{Asks}
 use Rattle.migrate_words.specs.Requests.{Request}
-use Rattle.migrate_words.specs.declared.refusal.WordsRefused.{WordsRefused}
-use Rattle.migrate_words.specs.declared.refusal.WordsRefused.TheVariants.{Words as NotTaken, Number, OutOfMemory as NoMemory}
-use Rattle.migration_report.specs.Texts.{long_file_text, long_files_text, many_files_text, read_fault_text, words_refused_text}
+use Rattle.migration_report.specs.Texts.{long_file_text, long_files_text, many_files_text, read_fault_text}
 use Rattle.migrate_cli.specs.Calls.{Call, Outside, course, Course}
-use Rattle.migrate_cli.specs.CallWords.{AreRefused, TellsWordsRefused}
+use Rattle.migrate_cli.specs.CallWords.{AreRefused}
 use Rattle.migrate_cli.specs.CommandFiles.{config_names, config_texts, files_of, own_texts, given_texts}
 use Rattle.migrate_cli.specs.Reading.{File, AreRead, AreWithin, IsTooLong, PassesTotal, ReadUpTo, file_names, total_of, to_read}
 use Rattle.migrate_cli.specs.Verdicts.{IsVerdict}
 use Rattle.migrate_cli.specs.declared.run_call.TheConstants.{FILES_MOST}
-use Rattle.migrate_cli.specs.declared.answer.Answer.{Answer}
-use Rattle.migrate_cli.specs.declared.reading.Stop.{Stop}
-use Rattle.migrate_cli.specs.declared.reading.Stop.TheVariants.{Fault, Long, Total, OutOfMemory}
 use Rattle.migrate_cli.specs.declared.status.Status.{Status}
 use Rattle.migrate_cli.specs.declared.status.Status.TheVariants.{Words, ReadFault, WriteFault, Limit, Memory}
 
@@ -69,26 +63,3 @@ pub record Answers (call : Call) (before after : Outside) (status : Status) : Ty
   pub asked_is : after.asked ≡ before.asked ++ asked
   pub ends : Ends call asked (course before after) status
 
--- the answer that reading stopped
-abbrev pub StopAnswer : Stop → Status → List ℕ → Type 0
-StopAnswer (Fault file) status text = (status ≡ ReadFault) × (text ≡ read_fault_text file.now)
-StopAnswer (Long file) status text = (status ≡ Limit) × (text ≡ long_file_text file.now)
-StopAnswer (Total number) status text = (status ≡ Limit) × (text ≡ long_files_text number)
-StopAnswer OutOfMemory status text = ⊥
-
--- an answer, or want of memory
-abbrev pub AnswersWith : Call → List (List ℕ) → Result Answer AllocError → Type 0
-AnswersWith call asked (Ok answer) = IsAnswer call asked answer.status answer.text
-AnswersWith call asked (Err _) = MayAsk call asked
-
--- some names were asked for besides those before, and this is the answer
-pub record HasAnswer (call : Call) (asked_before asked_after : List (List ℕ)) (answer : Result Answer AllocError) : Type 0 where
-  pub asked : List (List ℕ)
-  pub asked_is : asked_after ≡ asked_before ++ asked
-  pub answers : AnswersWith call asked answer
-
--- the answer that words are refused: the first line, and more after it only where the command line doesn't take them
-abbrev pub RefusalAnswer : WordsRefused → Status → List ℕ → Type 0
-RefusalAnswer (NotTaken detail) status text = (status ≡ Words) × TellsWordsRefused text
-RefusalAnswer Number status text = (status ≡ Words) × (text ≡ words_refused_text)
-RefusalAnswer NoMemory status text = ⊥

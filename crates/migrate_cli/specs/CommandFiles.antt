@@ -53,11 +53,6 @@ files_of request = own_files request ++ map config_file (config_names request)
 abbrev pub own_texts : Request → List (List ℕ) → List (List ℕ)
 own_texts request texts = take (length (own_files request)) texts
 
--- the commands that read files: all but `sample`, whose configurations are one text that is made
-abbrev pub ReadsFiles : Request → Type 0
-ReadsFiles (sample routers) = ⊥
-ReadsFiles _ = Unit {0}
-
 -- the texts of the configurations of a command that reads these texts: those of its files, or the one that is made
 abbrev pub config_texts : Request → List (List ℕ) → List (List ℕ)
 config_texts (sample routers) texts = sample_text routers ∷ []

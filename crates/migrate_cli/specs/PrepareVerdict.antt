@@ -1,12 +1,11 @@
 -- What `prepare` answers to a design, the texts of some configurations and the network that these make.
-use Rattle.std.specs.Prelude.{◌≡◌, ℕ, List}
+use Rattle.std.specs.Prelude.{ℕ, List}
 use Rattle.net_model.specs.Network.{Network}
 use Rattle.design_file.specs.Answers.{RefusesDesign, RefusesText, SaysDesign, Settles}
 use Rattle.design_file.specs.Settling.{FitsNetwork}
 use Rattle.design_file.specs.declared.design.Design.{Design}
 use Rattle.design_file.specs.declared.refusal.DesignKind.{DesignKind}
-use Rattle.design_file.specs.declared.refusal.DesignRefusal.{DesignRefusal}
-use Rattle.design_file.specs.declared.refusal.DesignRefusal.TheVariants.{Bad, OutOfMemory}
+use Rattle.design_file.specs.declared.refusal.DesignRefusal.TheVariants.{Bad}
 use Rattle.design_file.specs.declared.settled.SettledRouter.{SettledRouter}
 use Rattle.isis_writer.specs.PreparedConfigurations.{prepared_texts}
 use Rattle.migration_report.specs.DesignTexts.{refused_design_text}
@@ -34,7 +33,3 @@ pub data IsPrepareVerdict (design : NamedText) (routers : Configured) : Status �
       FitsNetwork routers.net settled →
       IsPrepareVerdict design routers Done (prepared_texts routers.net settled routers.configs)
 
--- the answer that a design is refused
-abbrev pub DesignAnswer : List ℕ → DesignRefusal → Status → List ℕ → Type 0
-DesignAnswer file (Bad kind path) status text = (status ≡ Refused) × (text ≡ refused_design_text file path kind)
-DesignAnswer file OutOfMemory status text = ⊥

@@ -5,18 +5,10 @@ use Rattle.net_model.specs.Refusals.{IsNetwork}
 use Rattle.refutation_check.specs.Verdicts.{IsClosedText, IsFirstWrongLine, IsUnfinishedText}
 use Rattle.igp_theory.specs.Migrations.{Migration, ospf_to_isis}
 use Rattle.igp_theory.specs.Waves.{HasNoneSeamless}
-use Rattle.refutation_check.specs.declared.verdict.Verdict.{Verdict}
-use Rattle.refutation_check.specs.declared.verdict.Verdict.TheVariants.{Closed, Unfinished, Wrong}
 use Rattle.refutation_check.specs.declared.verdict.WrongKind.{WrongKind}
 use Rattle.migration_report.specs.TreeVerdictTexts.{closed_text, open_text, wrong_text}
 use Rattle.migrate_cli.specs.declared.status.Status.{Status}
 use Rattle.migrate_cli.specs.declared.status.Status.TheVariants.{Done, Negative}
-
--- a closed tree is a yes, everything else a no
-abbrev pub verdict_status : Verdict → Status
-verdict_status (Closed branches leaves) = Done
-verdict_status (Unfinished unvisited) = Negative
-verdict_status (Wrong line kind) = Negative
 
 -- what is answered of a tree file, by the tables of the two protocols: it is a closed tree, and then no wave list and no
 -- order of the network is seamless; or each of its lines is right, but it has unvisited places; or its first wrong line is

@@ -4,3 +4,4 @@ pub mod Unread
 pub mod PlannedAnswers
 pub mod SampleAnswers
 pub mod Faults
+pub mod Answering

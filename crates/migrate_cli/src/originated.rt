@@ -1,6 +1,6 @@
 ghost use Rattle.std.specs.Prelude.{◌≡◌, ◌∷◌, ◌++◌, [], IfOk, OnOk};
 ghost use Rattle.std.specs.List.{filter_map};
-ghost use Rattle.prefix_atoms.specs.Lists.{all_originated, originated_subnet};
+ghost use Rattle.prefix_atoms.specs.Originated.{all_originated, originated_subnet};
 ghost use Rattle.migrate_cli.specs.OriginatedPrefixes.{CountsOriginated};
 
 use crate::OutOfMemory;

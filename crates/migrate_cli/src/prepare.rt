@@ -1,7 +1,8 @@
 ghost use Rattle.std.specs.Prelude.{◌≡◌, ◌≤◌, ◌++◌, All, IfOk, OnOk, length};
 ghost use Rattle.net_addr.specs.JoinedLines.{is_of_whole_lines};
 ghost use Rattle.isis_writer.specs.PreparedConfigurations.{prepared_texts, with_last_feed};
-ghost use Rattle.migrate_cli.specs.PrepareVerdict.{DesignAnswer, IsPrepareVerdict, configured};
+ghost use Rattle.migrate_cli.specs.PrepareVerdict.{IsPrepareVerdict, configured};
+ghost use Rattle.migrate_cli.specs.steps.Answering.{DesignAnswer};
 ghost use Rattle.migrate_cli.specs.Reading.{named_text};
 
 use crate::answer::Answer;

@@ -1,6 +1,7 @@
 ghost use Rattle.std.specs.Prelude.{◌≡◌, ◌≤◌, IfOk, length};
 ghost use Rattle.igp_theory.specs.Migrations.{listed_migration};
-ghost use Rattle.migrate_cli.specs.RefuteVerdict.{IsRefuteVerdict, IsTreeVerdict, verdict_status};
+ghost use Rattle.migrate_cli.specs.RefuteVerdict.{IsRefuteVerdict, IsTreeVerdict};
+ghost use Rattle.migrate_cli.specs.steps.Answering.{verdict_status};
 
 use crate::answer::Answer;
 use crate::files::FILE_MOST;

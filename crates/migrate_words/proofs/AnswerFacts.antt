@@ -6,7 +6,8 @@ use Rattle.clap.specs.declared.error.kind.ErrorKind.TheVariants as kind
 use Rattle.clap.specs.declared.parser.matches.ArgMatches.{ArgMatches}
 use Rattle.migrate_words.specs.CommandLine.{command_line}
 use Rattle.migrate_words.specs.Asked.{AreTaken}
-use Rattle.migrate_words.specs.Refusals.{AnswersWords, IsEntered, IsRefusal, IsToldCause, ReadsAs}
+use Rattle.migrate_words.specs.Refusals.{AnswersWords, IsRefusal}
+use Rattle.migrate_words.specs.steps.Reading.{IsEntered, IsToldCause, ReadsAs}
 use Rattle.migrate_words.specs.Requests.{request_of}
 use Rattle.migrate_words.proofs.TakenLaws.{number_off}
 use Rattle.migrate_words.specs.declared.command.Command.{Command}

@@ -1,11 +1,9 @@
 -- Why words are refused.
-use Rattle.std.specs.Prelude.{◌≡◌, ◌≢◌, List, Result, Ok, Err, Some}
-use Rattle.clap.specs.Words.{Row, Text, subcommand_rows_of}
-use Rattle.clap.specs.declared.parser.matches.ArgMatches.{ArgMatches}
-use Rattle.clap.specs.declared.error.kind.ErrorKind.{ErrorKind}
+use Rattle.std.specs.Prelude.{List, Result, Ok, Err}
+use Rattle.clap.specs.Words.{Text}
 use Rattle.clap.specs.declared.error.kind.ErrorKind.TheVariants as kind
-use Rattle.migrate_words.specs.Requests.{Request, name_of, request_of}
-use Rattle.migrate_words.specs.Asked.{AreTaken, Asks, Gives, HasNumberOff}
+use Rattle.migrate_words.specs.Requests.{request_of}
+use Rattle.migrate_words.specs.Asked.{AreTaken, Asks, HasNumberOff}
 use Rattle.migrate_words.specs.declared.command.Command.{Command}
 use Rattle.migrate_words.specs.declared.refusal.WordsRefused.{WordsRefused}
 use Rattle.migrate_words.specs.declared.refusal.WordsRefused.TheVariants.{Words, Number, OutOfMemory}
@@ -21,23 +19,3 @@ abbrev pub AnswersWords : List Text → Result Command WordsRefused → Type 0
 AnswersWords words (Ok command) = Asks words (request_of command)
 AnswersWords words (Err refused) = IsRefusal words refused
 
--- what is said of an error of this kind: its text, but of want of memory
-abbrev pub IsToldCause : ErrorKind → WordsRefused → Type 0
-IsToldCause cause (Words detail) = cause ≢ kind.OutOfMemory
-IsToldCause cause Number = ⊥
-IsToldCause cause OutOfMemory = Unit {0}
-
--- what is read is what it stands for; a number is refused where there is nothing that it stands for
-abbrev pub ReadsAs : {T U : Type 0} → (T → U) → (U → Type 0) → Result T WordsRefused → Type 0
-ReadsAs seen StandsFor (Ok read) = StandsFor (seen read)
-ReadsAs seen StandsFor (Err (Words detail)) = ⊥
-ReadsAs {T} {U} seen StandsFor (Err Number) = (u : U) → StandsFor u → ⊥
-ReadsAs seen StandsFor (Err OutOfMemory) = Unit {0}
-
--- the request is for the subcommand of this name, with these values of its arguments
-abbrev pub NamesRequest : Text → List Row → Request → Type 0
-NamesRequest name rows request = (name_of request ≡ name) × Gives rows request
-
--- the request is for the subcommand that was entered, with the values of its arguments
-abbrev pub IsEntered : ArgMatches → Request → Type 0
-IsEntered matches request = (rows : List Row) × (subcommand_rows_of matches ≡ Some (name_of request, rows)) × Gives rows request

@@ -1,7 +1,7 @@
 ghost use Rattle.std.specs.Prelude.{codes};
 ghost use Rattle.clap.specs.Words.{first_of, found_of, rows_of};
 ghost use Rattle.migrate_words.specs.Asked.{HasConfigs, HasRouters, HasText, IsBudget, IsNumberIn};
-ghost use Rattle.migrate_words.specs.Refusals.{ReadsAs};
+ghost use Rattle.migrate_words.specs.steps.Reading.{ReadsAs};
 
 use crate::command::{LEAST_BUDGET, LEAST_SAMPLE, MOST_BUDGET, MOST_SAMPLE, USUAL_BUDGET};
 use crate::{FileNames, WordsRefused};

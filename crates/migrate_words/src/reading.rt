@@ -1,6 +1,7 @@
 ghost use Rattle.std.specs.Prelude.{codes, map, string_bytes};
 ghost use Rattle.clap.specs.Words.{found_of, rows_of};
-ghost use Rattle.migrate_words.specs.Refusals.{AnswersWords, IsEntered, NamesRequest, ReadsAs};
+ghost use Rattle.migrate_words.specs.Refusals.{AnswersWords};
+ghost use Rattle.migrate_words.specs.steps.Reading.{IsEntered, NamesRequest, ReadsAs};
 ghost use Rattle.migrate_words.specs.Requests.{request_of};
 
 use crate::arguments::{budget_of, configs_of, routers_of, text_of};

@@ -1,4 +1,4 @@
-ghost use Rattle.migrate_words.specs.Refusals.{IsToldCause};
+ghost use Rattle.migrate_words.specs.steps.Reading.{IsToldCause};
 ghost use Rattle.clap.specs.Words.{kind_of};
 
 use clap::Error;

@@ -5,7 +5,8 @@ use Rattle.std.specs.Char.{IsAsciiDigit}
 use Rattle.std.proofs.lemmas.List.{take-append-drop, drop_more, length-take, get_or-take, get_or_at, get_or_default}
 use Rattle.std.proofs.lemmas.List.Elements.{recursion_from_All}
 use Rattle.net_addr.specs.Numerals.{decimal_value}
-use Rattle.net_addr.specs.AddressWords.{CutsOctet, IsOctet, IsAddressWord}
+use Rattle.net_addr.specs.AddressWords.{IsOctet, IsAddressWord}
+use Rattle.net_addr.specs.steps.Octets.{CutsOctet}
 
 -- no byte of the word is a dot
 abbrev pub NoDot : List ℕ → Type 0

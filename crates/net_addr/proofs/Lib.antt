@@ -8,4 +8,5 @@ pub mod PieceFacts
 pub mod PlacedPieces
 pub mod JoinedFacts
 pub mod WordFacts
+pub mod SomeElement
 pub mod LongestMatchLaws

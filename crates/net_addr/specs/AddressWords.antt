@@ -21,13 +21,6 @@ pub record IsAddressWord (word : List ℕ) (a : ℕ) : Type 0 where
   pub fourth_octet : IsOctet fourth
   pub value : a ≡ 2 ^ 24 * decimal_value first + 2 ^ 16 * decimal_value second + 2 ^ 8 * decimal_value third + decimal_value fourth
 
--- the word is an octet of this value, a dot, and the rest
-pub record CutsOctet (word : List ℕ) (value : ℕ) (rest : List ℕ) : Type 0 where
-  pub part : List ℕ
-  pub octet : IsOctet part
-  pub value_is : value ≡ decimal_value part
-  pub joined : word ≡ part ++ 46 ∷ rest
-
 -- a mask (RFC 4632, section 3.1): its first `len` bits are ones, at least one, and the others are zeros
 pub record IsMask (a len : ℕ) : Type 0 where
   pub some : 1 ≤ len

@@ -8,3 +8,4 @@ pub mod Blanks
 pub mod Lines
 pub mod LongestMatches
 pub mod JoinedLines
+pub mod steps

@@ -1,5 +1,5 @@
 -- The longest match (RFC 1812, section 5.2.4.3).
-use Rattle.std.specs.Prelude.{◌≡◌, ℕ, ◌<◌, ◌≤◌, List, length, slice_get, slice_index, slice_index_or, Option, Some, None, Contains, MatchOption}
+use Rattle.std.specs.Prelude.{◌≡◌, ℕ, ◌<◌, ◌≤◌, List, slice_get, Option, Some, None, Contains, MatchOption}
 use Rattle.net_addr.specs.Addresses.{Block, ContainsAddress}
 use Rattle.net_addr.specs.declared.matches.Match.{Match}
 
@@ -31,11 +31,6 @@ pub record MatchAt (prefixes : List Block) (a : ℕ) (found : Match) : Type 0 wh
 -- the place of the longest match in a list, none where no prefix of the list contains the address
 abbrev pub IsMatch : List Block → ℕ → Option Match → Type 0
 IsMatch prefixes a found = MatchOption found (HasNoMatch (Contains prefixes) a) (MatchAt prefixes a)
-
--- the same for each of some addresses
-pub record AreMatches (prefixes : List Block) (addresses : List ℕ) (found : List (Option Match)) : Type 0 where
-  pub count : length found ≡ length addresses
-  pub each : (i : ℕ) → i < length addresses → IsMatch prefixes (slice_index addresses i) (slice_index_or found i None)
 
 -- the longer of two matches, the earlier one where they are as long
 abbrev pub TakesLonger : Option Match → Match → Match → Type 0

@@ -1,5 +1,6 @@
 ghost use Rattle.std.specs.Prelude.{◌≡◌, ◌≢◌, ℕ, ◌<◌, ◌∷◌, ◌++◌, List, length, slice_index, All, IfNone, IfSome, SomeIff};
-ghost use Rattle.net_addr.specs.AddressWords.{CutsOctet, IsAddressWord, IsOctet};
+ghost use Rattle.net_addr.specs.AddressWords.{IsAddressWord, IsOctet};
+ghost use Rattle.net_addr.specs.steps.Octets.{CutsOctet};
 ghost use Rattle.net_addr.specs.Numerals.{decimal_value};
 ghost use Rattle.net_addr.specs.Readers.{Reads};
 

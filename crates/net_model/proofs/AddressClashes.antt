@@ -6,7 +6,8 @@ use Rattle.net_model.specs.Least.{IsBest}
 use Rattle.net_model.specs.Network.{Network, HasConfiguration}
 use Rattle.net_model.specs.steps.Scans.{IsMutual, ClashOnAddress, OffersAddress}
 use Rattle.net_model.proofs.Adjacency.{UpInterface-among}
-use Rattle.net_model.proofs.Bests.{Any-from, IsBest-same}
+use Rattle.net_addr.proofs.SomeElement.{any_of}
+use Rattle.net_model.proofs.Bests.{IsBest-same}
 use Rattle.net_model.proofs.NetworkFacts.{UpInterface-within}
 use Rattle.net_model.proofs.RouterFacts.{UpInterface-from}
 
@@ -53,8 +54,8 @@ module _ (net : Network) (u v : ℕ) (c d : Configuration) (near : HasConfigurat
         apart = λ s. h.interfaces.apart (same_is.0 s);
         unshared = ⊎_elim (λ e. inl (same_is.1 e)) inr h.unshared;
       } in
-      Any-from (OffersAddress same d.interfaces a) c.interfaces h.one (UpInterface-among net u c h.one near h.interfaces.one_up)
-      (h.one_address, Any-from (ClashOnAddress same h.one) d.interfaces h.two (UpInterface-among net v d h.two far h.interfaces.two_up) clash)
+      any_of (OffersAddress same d.interfaces a) c.interfaces h.one (UpInterface-among net u c h.one near h.interfaces.one_up)
+      (h.one_address, any_of (ClashOnAddress same h.one) d.interfaces h.two (UpInterface-among net v d h.two far h.interfaces.two_up) clash)
 
   pub HaveOneAddress-best : (best : Option ℕ) → IsBest (λ a b. a ≤ b) (λ a. Any (OffersAddress same d.interfaces a) c.interfaces) best →
       IsBest (λ a b. a ≤ b) (HaveOneAddress net u v) best

@@ -2,12 +2,12 @@
 use Rattle.std.proofs.Common.{◌≡◌, ◌≢◌, ℕ, Option, Some, None, Contains, Any, MatchOption, sym, subst, ◌∙◌}
 use Rattle.std.proofs.lemmas.Option.{same_Some}
 use Rattle.net_model.specs.Configuration.{Configuration}
-use Rattle.net_model.specs.Links.{BestLink, Joins, OffersCost}
+use Rattle.net_model.specs.steps.BestLinks.{BestLink, Joins, OffersCost}
 use Rattle.net_model.specs.Lookups.{LeastArc}
 use Rattle.net_model.specs.Network.{Network, HasConfiguration, UpInterface, MayJoin, Adjacent}
 use Rattle.net_model.specs.declared.interface.Interface.{Interface}
 use Rattle.net_model.specs.declared.zone.Zone.{Zone}
-use Rattle.net_model.proofs.Bests.{Any-from}
+use Rattle.net_addr.proofs.SomeElement.{any_of}
 
 -- a router has one configuration
 pub HasConfiguration-unique : (net : Network) (u : ℕ) (c d : Configuration) → HasConfiguration net u c → HasConfiguration net u d → c ≡ d
@@ -47,8 +47,8 @@ module _ (net : Network) (zone : Zone) (u v : ℕ) (c d : Configuration) (from :
         far = record { up = a.far_up.up; link = a.far_link; runs = a.far_runs };
         share = record { subnet = a.subnet; near = a.near_subnet; far = a.far_subnet };
       } in
-      Any-from (OffersCost zone d.interfaces cost) c.interfaces a.near (UpInterface-among net u c a.near from a.near_up)
-      (a.costs, Any-from (Joins zone a.near) d.interfaces a.far (UpInterface-among net v d a.far to a.far_up) joins)
+      any_of (OffersCost zone d.interfaces cost) c.interfaces a.near (UpInterface-among net u c a.near from a.near_up)
+      (a.costs, any_of (Joins zone a.near) d.interfaces a.far (UpInterface-among net v d a.far to a.far_up) joins)
 
   pub LeastArc-from_best : (best : Option ℕ) → u ≢ v → MayJoin zone c d → BestLink zone c.interfaces d.interfaces best →
       MatchOption best ((cost : ℕ) → Adjacent net zone u v cost → ⊥) (LeastArc net zone u v)

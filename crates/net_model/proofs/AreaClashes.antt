@@ -7,7 +7,8 @@ use Rattle.net_model.specs.Least.{IsBest, IsBlockAtMost}
 use Rattle.net_model.specs.Network.{Network, HasConfiguration}
 use Rattle.net_model.specs.steps.Scans.{IsMutual, AreInTwoAreas, ClashOnArea, OffersDest}
 use Rattle.net_model.proofs.Adjacency.{UpInterface-among}
-use Rattle.net_model.proofs.Bests.{Any-from, IsBest-same}
+use Rattle.net_addr.proofs.SomeElement.{any_of}
+use Rattle.net_model.proofs.Bests.{IsBest-same}
 use Rattle.net_model.proofs.NetworkFacts.{UpInterface-within}
 use Rattle.net_model.proofs.RouterFacts.{UpInterface-from}
 
@@ -62,9 +63,9 @@ module _ (net : Network) (u v : ℕ) (c d : Configuration) (near : HasConfigurat
         two_runs = h.two_runs;
         apart = h.apart;
       } in
-      Any-from (OffersDest d.interfaces p) c.interfaces h.one (UpInterface-among net u c h.one near h.one_up) (
+      any_of (OffersDest d.interfaces p) c.interfaces h.one (UpInterface-among net u c h.one near h.one_up) (
         h.one_subnet,
-        Any-from (ClashOnArea h.one) d.interfaces h.two (UpInterface-among net v d h.two far h.two_up) (
+        any_of (ClashOnArea h.one) d.interfaces h.two (UpInterface-among net v d h.two far h.two_up) (
           two,
           record { subnet = p; near = h.one_subnet; far = h.two_subnet },
         ),

@@ -6,7 +6,7 @@ use Rattle.net_model.specs.Lookups.{LongestConnected}
 use Rattle.net_model.specs.Network.{Network, HasConfiguration, Connected}
 use Rattle.net_model.specs.steps.Subnets.{BestSubnet, HasSubnetAround}
 use Rattle.net_model.proofs.Adjacency.{UpInterface-among}
-use Rattle.net_model.proofs.Bests.{Any-from}
+use Rattle.net_addr.proofs.SomeElement.{any_of}
 
 module _ (net : Network) (u : ℕ) (c : Configuration) (at : HasConfiguration net u c) (a : ℕ) where
   Connected-from : (p : Block) → Any (HasSubnetAround a p) c.interfaces → Connected net u p
@@ -17,7 +17,7 @@ module _ (net : Network) (u : ℕ) (c : Configuration) (at : HasConfiguration ne
   list_from : (p : Block) → Connected net u p → ContainsAddress p a → Any (HasSubnetAround a p) c.interfaces
   list_from p on inside =
       let i = on.interface in
-      Any-from (HasSubnetAround a p) c.interfaces i (UpInterface-among net u c i at on.up) (record { up = on.up.up; subnet = on.subnet }, inside)
+      any_of (HasSubnetAround a p) c.interfaces i (UpInterface-among net u c i at on.up) (record { up = on.up.up; subnet = on.subnet }, inside)
 
   pub LongestConnected-from_best : (best : Option Block) → BestSubnet a c.interfaces best →
       MatchOption best ((p : Block) → Connected net u p → ContainsAddress p a → ⊥) (LongestConnected net u a)

@@ -1,11 +1,13 @@
 -- The least item that a list offers, element by element, and of things that say the same.
-use Rattle.std.proofs.Common.{◌≡◌, ℕ, ◌+◌, ◌<◌, ◌≤◌, Bool, true, false, ◌||◌, ◌&&◌, nat_lt, nat_eq, if◌then◌else◌, List, [], ◌∷◌, ◌++◌, length, get_or, take, Option}
-use Rattle.std.proofs.Common.{Some, None, Any, Contains, min, refl, sym, ap, ◌∙◌, subst, ◌⊎◌, inl, inr, ⊎_elim, arith}
+use Rattle.std.proofs.Common.{◌≡◌, ℕ, ◌+◌, ◌<◌, ◌≤◌, Bool, true, false, ◌||◌, ◌&&◌, nat_lt, nat_eq, if◌then◌else◌, List, [], ◌∷◌, ◌++◌, length, get_or}
+use Rattle.std.proofs.Common.{take, Option}
+use Rattle.std.proofs.Common.{Some, None, Any, min, refl, sym, ap, ◌∙◌, subst, ◌⊎◌, inl, inr, ⊎_elim, arith}
 use Rattle.std.proofs.lemmas.Bool.{cases_lt, cond_both}
 use Rattle.std.proofs.lemmas.Bool.Decides.{nat_tests}
 use Rattle.std.proofs.lemmas.List.{take_more}
-use Rattle.std.proofs.lemmas.List.Elements.{Contains-append_left, Contains-push, Contains-push_cases}
+use Rattle.std.proofs.lemmas.List.Quantifiers.{Any-push}
 use Rattle.net_addr.specs.Addresses.{Block}
+use Rattle.net_addr.proofs.SomeElement.{any_cases, any_left}
 use Rattle.net_model.specs.Least.{IsBest, IsBlockAtMost, better_by}
 use Rattle.net_model.specs.steps.Scans.{pick_block}
 use Rattle.net_model.specs.steps.Subnets.{pick_longer}
@@ -38,21 +40,6 @@ module _ {A : Type 0} (AtMost : A → A → Type 0) where
     least = λ x c. ⊎_elim (λ l. picks.left a b x (h.least x l)) (λ l. picks.right a b x (k.least x l)) (r x c);
   }
 
-module _ {X : Type 0} (P : X → Type 0) where
-  pub Any-from : (xs : List X) (x : X) → Contains xs x → P x → Any P xs
-  Any-from xs x c p = (c.0, x, c.1, c.2, p)
-
-  Any-left : (xs ys : List X) → Any P xs → Any P (xs ++ ys)
-  Any-left xs ys h = Any-from (xs ++ ys) h.1 (Contains-append_left xs ys h.1 (h.0, h.2, h.3)) h.4
-
-  Any-last : (xs : List X) (x : X) → P x → Any P (xs ++ x ∷ [])
-  Any-last xs x p = Any-from (xs ++ x ∷ []) x (Contains-push xs x) p
-
-  Any-cases : (xs : List X) (x : X) → Any P (xs ++ x ∷ []) → Any P xs ⊎ P x
-  Any-cases xs x h =
-      ⊎_elim (λ c. inl (Any-from xs h.1 c h.4)) (λ e. inr (subst P (sym e) h.4))
-      (Contains-push_cases xs x h.1 (h.0, h.2, h.3))
-
 -- the best that the elements of a list offer
 module _ {X A : Type 0} (AtMost : A → A → Type 0) (pick : A → A → A) (picks : Picks AtMost pick) (Offer : A → X → Type 0) where
   pub IsBest-more : (xs : List X) (i : ℕ) (x : X) (a b new : Option A) → i < length xs → x ≡ get_or xs i x → new ≡ better_by pick a b →
@@ -61,7 +48,7 @@ module _ {X A : Type 0} (AtMost : A → A → Type 0) (pick : A → A → A) (pi
       let P : List X → Type 0 = λ ys. IsBest AtMost (λ z. Any (Offer z) ys) new in
       subst P (ap (λ y. take i xs ++ y ∷ []) e ∙ sym (take_more xs i x l)) (subst (IsBest AtMost (λ z. Any (Offer z) (take i xs ++ x ∷ []))) (sym is)
       (IsBest-or AtMost pick picks (λ z. Any (Offer z) (take i xs)) (λ z. Offer z x) (λ z. Any (Offer z) (take i xs ++ x ∷ [])) a b
-      (λ z c. Any-left (Offer z) (take i xs) (x ∷ []) c) (λ z c. Any-last (Offer z) (take i xs) x c) (λ z c. Any-cases (Offer z) (take i xs) x c) h k))
+      (λ z c. any_left (Offer z) (take i xs) x c) (λ z c. Any-push (Offer z) (take i xs) x c) (λ z c. any_cases (Offer z) (take i xs) x c) h k))
 
 -- the lower of two numbers
 pub picks_lower : Picks (λ (a b : ℕ). a ≤ b) min

@@ -6,7 +6,7 @@ use Rattle.net_model.specs.Network.{Network, HasConfiguration, IsBorderRouter}
 use Rattle.net_model.specs.steps.Scans.{AreInTwoAreas, LeaveBackbone}
 use Rattle.net_model.specs.declared.interface.Interface.{Interface}
 use Rattle.net_model.proofs.Adjacency.{UpInterface-among}
-use Rattle.net_model.proofs.Bests.{Any-from}
+use Rattle.net_addr.proofs.SomeElement.{any_of}
 use Rattle.net_model.proofs.NetworkFacts.{InArea-within}
 use Rattle.net_model.proofs.RouterFacts.{UpInterface-from, InArea-from, any_from_InArea}
 
@@ -43,8 +43,8 @@ module _ (net : Network) (u : ℕ) (c : Configuration) (at : HasConfiguration ne
         two_runs = b.in_other.area;
         apart = b.apart;
       } in
-      Any-from (λ (x : Interface). Any (AreInTwoAreas x) c.interfaces) c.interfaces i (UpInterface-among net u c i at b.in_one.up)
-      (Any-from (AreInTwoAreas i) c.interfaces j (UpInterface-among net u c j at b.in_other.up) two)
+      any_of (λ (x : Interface). Any (AreInTwoAreas x) c.interfaces) c.interfaces i (UpInterface-among net u c i at b.in_one.up)
+      (any_of (AreInTwoAreas i) c.interfaces j (UpInterface-among net u c j at b.in_other.up) two)
 
   pub LacksBackbone-from : LeaveBackbone c.interfaces → LacksBackbone net u
   LacksBackbone-from h = record { border = border_from h.border; outside = λ a. h.outside (any_from_InArea net u c at 0 a) }

@@ -4,7 +4,8 @@ use Rattle.std.proofs.lemmas.List.Sorted.{IsPermutation-sym}
 use Rattle.net_model.specs.Configuration.{Configuration}
 use Rattle.net_model.specs.Limits.{IsWithinLimits}
 use Rattle.net_model.specs.Network.{Network}
-use Rattle.net_model.specs.Refusals.{IsLeastDouble, IsNetworkOf, MayRefuse, RefusesName, Refuses}
+use Rattle.net_model.specs.Refusals.{IsLeastDouble, IsNetworkOf, Refuses}
+use Rattle.net_model.specs.steps.Refused.{MayRefuse, RefusesName}
 use Rattle.net_model.specs.declared.refusal.NetRefusal.{NetRefusal}
 use Rattle.net_model.specs.declared.refusal.NetRefusal.TheVariants.{Limit, TwoNames, OutOfMemory}
 use Rattle.net_model.proofs.Names.{TwoHaveName-permutation}

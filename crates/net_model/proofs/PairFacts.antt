@@ -3,7 +3,7 @@ use Rattle.std.proofs.Common.{◌≡◌, ℕ, ◌<◌, ◌≤◌, List, ⊎_elim
 use Rattle.std.proofs.lemmas.Option.{same_Some}
 use Rattle.std.proofs.lemmas.Bool.{cases_lt, cases_order}
 use Rattle.net_model.specs.Configuration.{Configuration}
-use Rattle.net_model.specs.Least.{ComesNoLater, IsLeastPair, NoneClash}
+use Rattle.net_model.specs.Least.{ComesNoLater, IsLeastPair, NoneClash, Pairing}
 use Rattle.net_model.specs.Least.ComesNoLater.{by_first, by_second, by_item}
 use Rattle.net_model.specs.Lookups.{IsNamed}
 use Rattle.net_model.specs.Network.{Network}
@@ -23,13 +23,16 @@ module _ {A : Type 0} (AtMost : A → A → Type 0) (Clash : ℕ → ℕ → A �
         (cases_order u one);
   }
     where
-      of_two : (v : ℕ) (other : A) → two ≡ v → Clash one v other → ComesNoLater AtMost one two item one v other
+      found : Pairing A
+      found = record { one = one; two = two; item = item }
+
+      of_two : (v : ℕ) (other : A) → two ≡ v → Clash one v other → ComesNoLater AtMost found (record { one = one; two = v; item = other })
       of_two v other e c = by_item refl e (partner.least other (subst (λ w. Clash one w other) (sym e) c))
 
-      of_one : (u v : ℕ) (other : A) → one ≡ u → u ≤ v → Clash u v other → ComesNoLater AtMost one two item u v other
+      of_one : (u v : ℕ) (other : A) → one ≡ u → u ≤ v → Clash u v other → ComesNoLater AtMost found (record { one = u; two = v; item = other })
       of_one u v other e up c =
           let here = subst (λ w. Clash w v other) (sym e) c in
-          subst (λ w. ComesNoLater AtMost one two item w v other) e
+          subst (λ (w : ℕ). ComesNoLater AtMost found (record { one = w; two = v; item = other })) e
           (⊎_elim (λ same. of_two v other (sym same) here)
           (λ apart. ⊎_elim (λ l. absurd (partner.none_before v other (omega arith) l here)) (by_second refl) apart)
           (cases_order v two))
@@ -41,23 +44,24 @@ module _ {A : Type 0} (AtMost : A → A → Type 0) (Clash : ℕ → ℕ → A �
       let v_in = ways.within u v a c in
       ⊎_elim (λ l. none u u_in v a (omega arith) v_in c) (λ g. none v v_in u a g u_in back) (cases_lt u v)
 
-ascending_same : {A : Type 0} → (AtMost : A → A → Type 0) (u v : ℕ) (a : A) (w x : ℕ) (b : A) → ((a b : A) → AtMost a b → AtMost b a → a ≡ b) →
-    ComesNoLater AtMost u v a w x b → ComesNoLater AtMost w x b u v a → (u ≡ w) × (v ≡ x) × (a ≡ b)
-ascending_same AtMost u v a w x b anti (by_first l) (by_first m) = absurd (omega arith)
-ascending_same AtMost u v a w x b anti (by_first l) (by_second e m) = absurd (omega arith)
-ascending_same AtMost u v a w x b anti (by_first l) (by_item e f m) = absurd (omega arith)
-ascending_same AtMost u v a w x b anti (by_second e l) (by_first m) = absurd (omega arith)
-ascending_same AtMost u v a w x b anti (by_second e l) (by_second f m) = absurd (omega arith)
-ascending_same AtMost u v a w x b anti (by_second e l) (by_item f g m) = absurd (omega arith)
-ascending_same AtMost u v a w x b anti (by_item e f l) (by_first m) = absurd (omega arith)
-ascending_same AtMost u v a w x b anti (by_item e f l) (by_second g m) = absurd (omega arith)
-ascending_same AtMost u v a w x b anti (by_item e f l) (by_item g h m) = (e, f, anti a b l m)
+ascending_same : {A : Type 0} → (AtMost : A → A → Type 0) (p q : Pairing A) → ((a b : A) → AtMost a b → AtMost b a → a ≡ b) →
+    ComesNoLater AtMost p q → ComesNoLater AtMost q p → (p.one ≡ q.one) × (p.two ≡ q.two) × (p.item ≡ q.item)
+ascending_same AtMost p q anti (by_first l) (by_first m) = absurd (omega arith)
+ascending_same AtMost p q anti (by_first l) (by_second e m) = absurd (omega arith)
+ascending_same AtMost p q anti (by_first l) (by_item e f m) = absurd (omega arith)
+ascending_same AtMost p q anti (by_second e l) (by_first m) = absurd (omega arith)
+ascending_same AtMost p q anti (by_second e l) (by_second f m) = absurd (omega arith)
+ascending_same AtMost p q anti (by_second e l) (by_item f g m) = absurd (omega arith)
+ascending_same AtMost p q anti (by_item e f l) (by_first m) = absurd (omega arith)
+ascending_same AtMost p q anti (by_item e f l) (by_second g m) = absurd (omega arith)
+ascending_same AtMost p q anti (by_item e f l) (by_item g h m) = (e, f, anti p.item q.item l m)
 
 -- there is one least pair
 pub IsLeastPair-unique : {A : Type 0} → (AtMost : A → A → Type 0) (Clash : ℕ → ℕ → A → Type 0) (u v : ℕ) (a : A) (w x : ℕ) (b : A) →
     ((a b : A) → AtMost a b → AtMost b a → a ≡ b) → IsLeastPair AtMost Clash u v a → IsLeastPair AtMost Clash w x b → (u ≡ w) × (v ≡ x) × (a ≡ b)
 IsLeastPair-unique AtMost Clash u v a w x b anti h k =
-    ascending_same AtMost u v a w x b anti (h.least w x b k.ordered k.clash) (k.least u v a h.ordered h.clash)
+    ascending_same AtMost (record { one = u; two = v; item = a }) (record { one = w; two = x; item = b }) anti (h.least w x b k.ordered k.clash)
+    (k.least u v a h.ordered h.clash)
 
 -- a router has one name
 name-unique : (net : Network) (u v : ℕ) (a b : List ℕ) → IsNamed net a u → IsNamed net b v → u ≡ v → a ≡ b

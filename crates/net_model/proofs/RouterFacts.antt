@@ -10,7 +10,7 @@ use Rattle.net_model.specs.steps.Scans.{HaveStub}
 use Rattle.net_model.specs.declared.area.Stub.{Stub}
 use Rattle.net_model.specs.declared.interface.Interface.{Interface}
 use Rattle.net_model.proofs.Adjacency.{HasConfiguration-unique, UpInterface-among}
-use Rattle.net_model.proofs.Bests.{Any-from}
+use Rattle.net_addr.proofs.SomeElement.{any_of}
 
 pub HasConfiguration-at : (net : Network) (u : ℕ) (c : Configuration) → u < length net → c ≡ get_or net u c → HasConfiguration net u c
 HasConfiguration-at net u c l e = slice_get_read net (length net) u c refl l e
@@ -31,12 +31,12 @@ module _ (net : Network) (u : ℕ) (c : Configuration) (at : HasConfiguration ne
 
   pub any_from_InArea : (area : ℕ) → InArea net u area → Any (RunsArea area) c.interfaces
   any_from_InArea area h =
-      Any-from (RunsArea area) c.interfaces h.interface (UpInterface-among net u c h.interface at h.up) (record { up = h.up.up; area_is = h.area })
+      any_of (RunsArea area) c.interfaces h.interface (UpInterface-among net u c h.interface at h.up) (record { up = h.up.up; area_is = h.area })
 
   pub HasStubLine-from : (area : ℕ) → HaveStub area c.stubs → HasStubLine net u area
   HasStubLine-from area h = record { config = c; router = at; stub = h.1; among = (h.0, h.2, h.3); area_is = h.4 }
 
   pub any_from_HasStubLine : (area : ℕ) → HasStubLine net u area → HaveStub area c.stubs
   any_from_HasStubLine area h =
-      Any-from (λ (s : Stub). s.area ≡ area) c.stubs h.stub
+      any_of (λ (s : Stub). s.area ≡ area) c.stubs h.stub
       (subst (λ (d : Configuration). Contains d.stubs h.stub) (HasConfiguration-unique net u h.config c h.router at) h.among) h.area_is

@@ -6,7 +6,8 @@ use Rattle.net_model.specs.Least.{IsBest}
 use Rattle.net_model.specs.Network.{Network, HasConfiguration, RunsArea}
 use Rattle.net_model.specs.steps.Scans.{IsMutual, ClashOnStub, OffersArea}
 use Rattle.net_model.proofs.Adjacency.{UpInterface-among}
-use Rattle.net_model.proofs.Bests.{Any-from, IsBest-same}
+use Rattle.net_addr.proofs.SomeElement.{any_of}
+use Rattle.net_model.proofs.Bests.{IsBest-same}
 use Rattle.net_model.proofs.NetworkFacts.{InArea-within}
 use Rattle.net_model.proofs.RouterFacts.{UpInterface-from, InArea-from, any_from_InArea, HasStubLine-from, any_from_HasStubLine}
 
@@ -45,7 +46,7 @@ module _ (net : Network) (u v : ℕ) (c d : Configuration) (near : HasConfigurat
             (λ r. inr ((λ s. r.0 (HasStubLine-from net u c near a s)), any_from_HasStubLine net v d far a r.1))
             h.differ;
       } in
-      Any-from (OffersArea c d a) c.interfaces i (UpInterface-among net u c i near h.one_in.up) (runs, clash)
+      any_of (OffersArea c d a) c.interfaces i (UpInterface-among net u c i near h.one_in.up) (runs, clash)
 
   pub DifferOnStub-best : (best : Option ℕ) → IsBest (λ a b. a ≤ b) (λ a. Any (OffersArea c d a) c.interfaces) best →
       IsBest (λ a b. a ≤ b) (DifferOnStub net u v) best

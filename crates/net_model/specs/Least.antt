@@ -13,17 +13,24 @@ better_by pick None other = other
 better_by pick (Some one) None = Some one
 better_by pick (Some one) (Some other) = Some (pick one other)
 
--- routers u and v with a come no later than routers w and x with b: by the first router, then the second, then the item
-pub data ComesNoLater {A : Type 0} (AtMost : A → A → Type 0) (u v : ℕ) (a : A) (w x : ℕ) (b : A) : Type 0 where
-  by_first : u < w → ComesNoLater AtMost u v a w x b
-  by_second : u ≡ w → v < x → ComesNoLater AtMost u v a w x b
-  by_item : u ≡ w → v ≡ x → AtMost a b → ComesNoLater AtMost u v a w x b
+-- two routers, and what they have in common
+pub record Pairing (A : Type 0) : Type 0 where
+  pub one : ℕ
+  pub two : ℕ
+  pub item : A
+
+-- one comes no later than another: by the first router, then the second, then the item
+pub data ComesNoLater {A : Type 0} (AtMost : A → A → Type 0) (p q : Pairing A) : Type 0 where
+  by_first : p.one < q.one → ComesNoLater AtMost p q
+  by_second : p.one ≡ q.one → p.two < q.two → ComesNoLater AtMost p q
+  by_item : p.one ≡ q.one → p.two ≡ q.two → AtMost p.item q.item → ComesNoLater AtMost p q
 
 -- the least pair of routers that clash, the first at most the second, with the least item that they clash in
 pub record IsLeastPair {A : Type 0} (AtMost : A → A → Type 0) (Clash : ℕ → ℕ → A → Type 0) (one two : ℕ) (item : A) : Type 0 where
   pub ordered : one ≤ two
   pub clash : Clash one two item
-  pub least : (u v : ℕ) (other : A) → u ≤ v → Clash u v other → ComesNoLater AtMost one two item u v other
+  pub least : (u v : ℕ) (other : A) → u ≤ v → Clash u v other →
+      ComesNoLater AtMost (record { one = one; two = two; item = item }) (record { one = u; two = v; item = other })
 
 -- no two routers clash
 abbrev pub NoneClash : {A : Type 0} → (ℕ → ℕ → A → Type 0) → Type 0

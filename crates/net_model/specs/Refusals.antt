@@ -71,12 +71,6 @@ pub record IsLeastDouble (configs : List Configuration) (name : List ℕ) : Type
   pub double : TwoHaveName configs name
   pub least : (other : List ℕ) → TwoHaveName configs other → IsBelow other name → ⊥
 
--- the refusal carries the least name that two configurations have, or is want of memory
-abbrev pub RefusesName : NetRefusal → List Configuration → Type 0
-RefusesName (TwoNames name) configs = IsLeastDouble configs name
-RefusesName OutOfMemory configs = Unit {0}
-RefusesName _ configs = ⊥
-
 -- when each refusal of a network comes: its condition holds, and none of those above it
 abbrev pub RefusesNetwork : NetRefusal → Network → Type 0
 RefusesNetwork (AddressTwice one two address) net = IsLeastNamedPair (λ a b. a ≤ b) (HaveOneAddress net) net one two address
@@ -90,11 +84,6 @@ RefusesNetwork (SystemIdTwice one two) net =
 RefusesNetwork (StubMismatch one two area) net =
     PassesSystems net × IsLeastNamedPair (λ a b. a ≤ b) (DifferOnStub net) net one two area
 RefusesNetwork _ net = ⊥
-
--- the refusal of a network, or want of memory
-abbrev pub MayRefuse : NetRefusal → Network → Type 0
-MayRefuse OutOfMemory net = Unit {0}
-MayRefuse refusal net = RefusesNetwork refusal net
 
 -- P holds of the network of configurations that are within the limits and have distinct names
 pub record HoldsOfNetwork (configs : List Configuration) (P : Network → Type 0) : Type 0 where

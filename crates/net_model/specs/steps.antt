@@ -2,3 +2,5 @@ pub mod Doubles
 pub mod Subnets
 pub mod Scans
 pub mod Claims
+pub mod BestLinks
+pub mod Refused

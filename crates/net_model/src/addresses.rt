@@ -1,8 +1,8 @@
-ghost use Rattle.std.specs.Prelude.{◌≡◌, ◌^◌, ◌<◌, ◌≤◌, ◌↔◌, ℕ, length, Any, IfErr, IfOk, IsTrue, OnOk};
+ghost use Rattle.std.specs.Prelude.{◌^◌, ◌<◌, ◌≤◌, ◌↔◌, ℕ, length, Any, IfErr, IfOk, IsTrue, OnOk};
 ghost use Rattle.std.specs.Bool.{OnTrue};
 ghost use Rattle.net_model.specs.Conditions.{AddressesDiffer, HaveOneAddress};
 ghost use Rattle.net_model.specs.Least.{IsBest};
-ghost use Rattle.net_model.specs.Refusals.{MayRefuse};
+ghost use Rattle.net_model.specs.steps.Refused.{MayRefuse};
 ghost use Rattle.net_model.specs.steps.Scans.{ClashOnAddress, OffersAddress};
 
 use crate::claims::{Claim, Claims, claims_agree};

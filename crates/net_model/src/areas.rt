@@ -1,7 +1,7 @@
 ghost use Rattle.std.specs.Prelude.{◌≡◌, ◌≤◌, ◌↔◌, ◌||◌, ◌&&◌, nat_eq, nat_lt, length, Any, IfErr, IsTrue, OnOk};
 ghost use Rattle.net_model.specs.Conditions.{AddressesDiffer, PassesAreas, RunTwoAreas};
 ghost use Rattle.net_model.specs.Least.{IsBest, IsBlockAtMost};
-ghost use Rattle.net_model.specs.Refusals.{MayRefuse};
+ghost use Rattle.net_model.specs.steps.Refused.{MayRefuse};
 ghost use Rattle.net_model.specs.Network.{RunsArea};
 ghost use Rattle.net_model.specs.steps.Scans.{AreInTwoAreas, ClashOnArea, OffersDest, first_block};
 

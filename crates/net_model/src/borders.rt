@@ -1,7 +1,7 @@
 ghost use Rattle.std.specs.Prelude.{◌≤◌, ◌↔◌, length, Any, IfErr, IsTrue, MatchOption, OnOk};
 ghost use Rattle.net_model.specs.Conditions.{BordersMeetBackbone, LacksBackbone, PassesAreas, PassesBorders};
 ghost use Rattle.net_model.specs.Least.{IsLowest};
-ghost use Rattle.net_model.specs.Refusals.{MayRefuse};
+ghost use Rattle.net_model.specs.steps.Refused.{MayRefuse};
 ghost use Rattle.net_model.specs.steps.Scans.{AreInTwoAreas, LeaveBackbone};
 
 use crate::areas::{has_area, in_two_areas};

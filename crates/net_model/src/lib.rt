@@ -18,7 +18,7 @@
 //! `Net::build` takes the time of sorting names, prefixes and addresses, of comparing the interfaces of each router with
 //! each other, and system ids and stub lines by pairs of routers; where an address or a subnet's area is refused, of
 //! comparing all pairs of interfaces. `Net::number_of` halves over the names, `Net::arc` compares the interfaces of two
-//! routers; other questions go over one router's interfaces.
+//! routers, `Net::off_start` goes over the routers; other questions go over one router's interfaces.
 #![tactic(auto)]
 
 // What configurations say.

@@ -1,7 +1,8 @@
 ghost use Rattle.std.specs.Prelude.{◌≡◌, ◌↔◌, ◌≤◌, Any, IsTrue};
 ghost use Rattle.net_model.specs.Least.{IsBest};
 ghost use Rattle.net_model.specs.Network.{MayJoin, RunsIn, cost_in};
-ghost use Rattle.net_model.specs.Links.{BestLink, IsLink, Joins, OffersCost, ShareSubnet, lower_of};
+ghost use Rattle.net_model.specs.Links.{IsLink, lower_of};
+ghost use Rattle.net_model.specs.steps.BestLinks.{BestLink, Joins, OffersCost, ShareSubnet};
 
 use crate::{Config, Interface, Zone};
 

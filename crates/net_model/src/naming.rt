@@ -4,7 +4,8 @@ ghost use Rattle.std.specs.Cmp.Lexicographic.{slice_cmp};
 ghost use Rattle.std.specs.Ordering.{nat_cmp};
 ghost use Rattle.net_model.specs.steps.Doubles.{IsFirstDouble, IsTwoNames, NoDoubles};
 ghost use Rattle.net_model.specs.Lookups.{IsNamed};
-ghost use Rattle.net_model.specs.Refusals.{NamesAscend, RefusesName};
+ghost use Rattle.net_model.specs.Refusals.{NamesAscend};
+ghost use Rattle.net_model.specs.steps.Refused.{RefusesName};
 
 use crate::{Config, NetRefusal};
 use net_addr::Name;

@@ -3,7 +3,8 @@ ghost use Rattle.net_addr.specs.Addresses.{Block, ContainsAddress};
 ghost use Rattle.net_model.specs.Network.{HasConfiguration, Connected, Adjacent};
 ghost use Rattle.net_model.specs.Conditions.{IsConsistent};
 ghost use Rattle.net_model.specs.OffStarts.{IsLowestOffStart, StartsOff};
-ghost use Rattle.net_model.specs.Refusals.{IsNetwork, MakeNetwork, MayRefuse, Refuses};
+ghost use Rattle.net_model.specs.Refusals.{IsNetwork, MakeNetwork, Refuses};
+ghost use Rattle.net_model.specs.steps.Refused.{MayRefuse};
 ghost use Rattle.net_model.specs.Lookups.{IsNamed, LeastArc, LongestConnected};
 
 use crate::addresses::check_addresses;

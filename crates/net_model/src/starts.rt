@@ -1,4 +1,4 @@
-ghost use Rattle.std.specs.Prelude.{◌≤◌, ◌<◌, ◌↔◌, ◌^◌, ℕ, length, IsTrue, MatchOption};
+ghost use Rattle.std.specs.Prelude.{◌≤◌, ◌<◌, ◌↔◌, ℕ, length, IsTrue, MatchOption};
 ghost use Rattle.net_model.specs.OffStarts.{IsLowestOffStart, IsOffStart, StartsOff};
 
 use crate::{Config, MOST_DISTANCE, MOST_ROUTERS};

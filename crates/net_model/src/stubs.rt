@@ -2,7 +2,7 @@ ghost use Rattle.std.specs.Prelude.{◌≡◌, ◌≤◌, ◌↔◌, nat_eq, len
 ghost use Rattle.std.specs.List.{list_any};
 ghost use Rattle.net_model.specs.Conditions.{DifferOnStub, IsConsistent, PassesSystems};
 ghost use Rattle.net_model.specs.Least.{IsBest};
-ghost use Rattle.net_model.specs.Refusals.{MayRefuse};
+ghost use Rattle.net_model.specs.steps.Refused.{MayRefuse};
 ghost use Rattle.net_model.specs.steps.Scans.{ClashOnStub, HaveStub, OffersArea, OneHasStub};
 
 use crate::areas::has_area;

@@ -1,7 +1,8 @@
 ghost use Rattle.std.specs.Prelude.{◌≡◌, ◌<◌, ◌^◌, if◌then◌else◌, IfErr, OnOk, sum_by};
 ghost use Rattle.net_model.specs.Conditions.{PassesBorders, PassesIsisMetrics, PassesOspfCosts, isis_metric, isis_metric_sum, summed_cost, ospf_cost_sum};
 ghost use Rattle.net_model.specs.Conditions.{ospf_costs, stated_cost};
-ghost use Rattle.net_model.specs.Refusals.{MayRefuse, carried};
+ghost use Rattle.net_model.specs.Refusals.{carried};
+ghost use Rattle.net_model.specs.steps.Refused.{MayRefuse};
 
 use crate::{Config, Interface, MOST_COST, MOST_PATH_METRIC, NetRefusal, Range, Stub};
 

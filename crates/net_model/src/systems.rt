@@ -1,6 +1,6 @@
 ghost use Rattle.std.specs.Prelude.{◌≤◌, length, IfErr, OnOk};
 ghost use Rattle.net_model.specs.Conditions.{HaveOneSystem, PassesIsisMetrics, PassesSystems};
-ghost use Rattle.net_model.specs.Refusals.{MayRefuse};
+ghost use Rattle.net_model.specs.steps.Refused.{MayRefuse};
 
 use crate::pairs::{Clash, first_clash};
 use crate::{Config, MOST_ROUTERS, NetRefusal};

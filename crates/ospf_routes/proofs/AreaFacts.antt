@@ -22,7 +22,7 @@ use Rattle.ospf_routes.specs.steps.Areas.{RunsOther, HasArea, IsAreaAt, AreAreas
 use Rattle.ospf_routes.specs.steps.Members.{IsBorderIn, IsMember}
 use Rattle.ospf_routes.specs.Lists.{Adds, Exactly}
 use Rattle.ospf_routes.specs.declared.areas.AreaWalks.{AreaWalks}
-use Rattle.route_tables.proofs.ListFacts.{any_of, any_in}
+use Rattle.net_addr.proofs.SomeElement.{any_of, any_in}
 use Rattle.ospf_routes.proofs.SegmentFacts.{joined_more}
 use Rattle.std.specs.List.{slice_get}
 use Rattle.std.specs.Option.{IfNone, IfSome}

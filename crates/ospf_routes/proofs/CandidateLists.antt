@@ -8,7 +8,7 @@ use Rattle.net_model.proofs.NetworkFacts.{HasConfiguration-within, UpInterface-w
 use Rattle.net_model.specs.Configuration.{Configuration}
 use Rattle.net_model.specs.Network.{Network, HasConfiguration, UpInterface}
 use Rattle.net_model.specs.declared.interface.Interface.{Interface}
-use Rattle.route_tables.proofs.ListFacts.{any_of}
+use Rattle.net_addr.proofs.SomeElement.{any_of}
 use Rattle.route_tables.specs.Lists.{Adds}
 use Rattle.ospf_routes.specs.steps.Candidates.{HasOspfSubnet, IsRangeOf, IsOspfCandidate, all, subnet, range}
 

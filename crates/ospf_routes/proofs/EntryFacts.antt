@@ -17,7 +17,7 @@ use Rattle.igp_theory.specs.Ospf.{into_backbone, into_area, InterAreaCost, OspfE
 use Rattle.walk_core.specs.Reach.{Reach}
 use Rattle.route_tables.specs.declared.route.Route.{Route}
 use Rattle.route_tables.proofs.BestRoutes.{best_route_makes, route_by_hops}
-use Rattle.route_tables.proofs.ListFacts.{any_of}
+use Rattle.net_addr.proofs.SomeElement.{any_of}
 use Rattle.ospf_routes.specs.declared.areas.AreaWalks.{AreaWalks}
 use Rattle.ospf_routes.specs.declared.entry.Asked.{Asked}
 use Rattle.ospf_routes.specs.declared.entry.Deciding.{Deciding}

@@ -24,7 +24,8 @@ use Rattle.ospf_routes.specs.declared.intra_area.Destination.{Destination}
 use Rattle.ospf_routes.specs.declared.area_route.AreaRoute.{AreaRoute}
 use Rattle.ospf_routes.proofs.CostBounds.{in_range, lists_from, subnet_is_small}
 use Rattle.route_tables.proofs.BestRoutes.{best_cost_is}
-use Rattle.route_tables.proofs.ListFacts.{any_of, any_in, exactly_same, one_more}
+use Rattle.net_addr.proofs.SomeElement.{any_of, any_in, one_more}
+use Rattle.route_tables.proofs.ListFacts.{exactly_same}
 
 -- The offers of an area
 

@@ -21,7 +21,8 @@ use Rattle.ospf_routes.specs.steps.Ranges.{IsLonger, HasComponentCost, IsCompone
 use Rattle.ospf_routes.specs.steps.Ranges.{HasActive, AreActiveRanges, AreRangesBelow, HoldRanges}
 use Rattle.ospf_routes.specs.declared.intra_area.Destination.{Destination}
 use Rattle.ospf_routes.specs.declared.ranges.ActiveRange.{ActiveRange}
-use Rattle.route_tables.proofs.ListFacts.{any_of, any_in, exactly_same}
+use Rattle.net_addr.proofs.SomeElement.{any_of, any_in}
+use Rattle.route_tables.proofs.ListFacts.{exactly_same}
 
 -- Components
 

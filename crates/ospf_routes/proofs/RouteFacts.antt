@@ -33,7 +33,7 @@ use Rattle.ospf_routes.specs.declared.intra_area.AreaOffers.{AreaOffers}
 use Rattle.ospf_routes.proofs.CostBounds.{lists_from}
 use Rattle.ospf_routes.proofs.IntraFacts.{reaches_inside}
 use Rattle.ospf_routes.proofs.SummaryFacts.{listened_cost, listened_hop}
-use Rattle.route_tables.proofs.ListFacts.{any_of, any_in, any_left, any_cases, one_more}
+use Rattle.net_addr.proofs.SomeElement.{any_of, any_in, any_left, any_cases, one_more}
 
 -- Within an area
 

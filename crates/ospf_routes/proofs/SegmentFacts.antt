@@ -9,7 +9,7 @@ use Rattle.zone_graph.specs.Segments.{AreZoneSegments}
 use Rattle.igp_theory.specs.Laws.{IsOspfNeighbor}
 use Rattle.route_tables.specs.Entries.{AreJoinedBy}
 use Rattle.route_tables.proofs.JoinedLaws.{joined_both}
-use Rattle.route_tables.proofs.ListFacts.{any_cases, any_in, any_left, any_of}
+use Rattle.net_addr.proofs.SomeElement.{any_cases, any_in, any_left, any_of}
 use Rattle.ospf_routes.specs.steps.Areas.{HasArea, IsAdjacentIn, JoinAreas}
 use Rattle.ospf_routes.specs.declared.areas.AreaWalks.{AreaWalks}
 

@@ -8,7 +8,8 @@ use Rattle.net_model.specs.Configuration.{Configuration}
 use Rattle.net_model.specs.Network.{Network, HasConfiguration, UpInterface, Connected}
 use Rattle.net_model.specs.declared.interface.Interface.{Interface}
 use Rattle.igp_theory.specs.Ospf.{OffersSubnet}
-use Rattle.route_tables.proofs.ListFacts.{AnyBelow, any_of, any_in, exactly_same}
+use Rattle.net_addr.proofs.SomeElement.{any_of, any_in}
+use Rattle.route_tables.proofs.ListFacts.{AnyBelow, exactly_same}
 use Rattle.ospf_routes.specs.Lists.{Exactly}
 use Rattle.ospf_routes.specs.steps.Subnets.{joins_on, IsInterfaceSubnet, IsUpSubnet, AreSubnetsAround, IsHome, IsSubnetRoute}
 use Rattle.ospf_routes.specs.declared.area_route.AreaRoute.{AreaRoute}

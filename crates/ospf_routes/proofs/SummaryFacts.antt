@@ -32,7 +32,8 @@ use Rattle.ospf_routes.specs.declared.intra_area.AreaOffers.{AreaOffers}
 use Rattle.ospf_routes.specs.declared.intra_area.Destination.{Destination}
 use Rattle.ospf_routes.specs.declared.ranges.ActiveRange.{ActiveRange}
 use Rattle.ospf_routes.specs.declared.area_route.AreaRoute.{AreaRoute}
-use Rattle.route_tables.proofs.ListFacts.{iff_then, any_of, any_in, exactly_same, exactly_added, adds_same, adds_both}
+use Rattle.net_addr.proofs.SomeElement.{any_of, any_in}
+use Rattle.route_tables.proofs.ListFacts.{iff_then, exactly_same, exactly_added, adds_same, adds_both}
 use Rattle.route_tables.proofs.BestRoutes.{best_cost_is}
 use Rattle.ospf_routes.proofs.BorderLists.{border_is_router}
 use Rattle.ospf_routes.proofs.CostBounds.{lists_from}

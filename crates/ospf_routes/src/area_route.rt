@@ -1,4 +1,4 @@
-ghost use Rattle.std.specs.Prelude.{◌≡◌, ◌<◌, ◌↔◌, length, Any, IfOk};
+ghost use Rattle.std.specs.Prelude.{◌≡◌, ◌<◌, Any, IfOk};
 ghost use Rattle.ospf_routes.specs.Lists.{Exactly};
 ghost use Rattle.ospf_routes.specs.steps.Offered.{InsideOf, OutsideOf, IsInsideOffer, IsOutsideOffer};
 

@@ -38,7 +38,8 @@ pub struct JoinedAreas {
     pub segments: Vec<Segment>,
 }
 
-/// The backbone and every area that a router is in, each with its least walks, its routers and its border routers.
+/// The backbone and every area that a router is in, each with its least walks, its routers and its border routers; and the
+/// segments of all.
 pub fn all_areas(alloc: Global, net: &Net) -> Result<JoinedAreas, OutOfMemory>
     ensures areas { IfOk result (λ all. AreAreas net.now all.areas.items) }
     ensures segments { IfOk result (λ all. AreJoinedBy (IsOspfNeighbor net.now) all.segments.items) }

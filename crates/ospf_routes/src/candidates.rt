@@ -1,4 +1,4 @@
-ghost use Rattle.std.specs.Prelude.{◌≡◌, ◌<◌, ◌↔◌, ℕ, length, Some, Any, Contains, IfOk, OnOk};
+ghost use Rattle.std.specs.Prelude.{◌≡◌, ◌<◌, ◌↔◌, Some, Any, Contains, IfOk, OnOk};
 ghost use Rattle.net_addr.specs.Addresses.{Block};
 ghost use Rattle.ospf_routes.specs.steps.Candidates.{HasOspfSubnet, IsOspfCandidate, IsRangeOf};
 ghost use Rattle.ospf_routes.specs.Lists.{Adds};

@@ -1,5 +1,4 @@
 ghost use Rattle.std.specs.Prelude.{◌≡◌, ◌<◌, ◌⊎◌, ℕ, length, Any, All, Contains, IsTrue};
-ghost use Rattle.net_model.specs.Network.{Connected};
 ghost use Rattle.route_tables.specs.declared.lane.Decision.TheVariants.{Unknown};
 ghost use Rattle.ospf_routes.specs.steps.Areas.{AreListeners};
 ghost use Rattle.ospf_routes.specs.steps.Destinations.{IsDestinationIn};

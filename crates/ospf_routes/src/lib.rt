@@ -1,7 +1,8 @@
 //! The route tables of OSPF: intra-area routes, ranges and summaries, inter-area routes (RFC 2328).
 //!
-//! `OspfRoutes::build` (`tables.rt`) makes the tables of `Ospf` (`protocol.rt`). Steps 1 to 3 are `Ospf::build`, which also
-//! finds twins, step 4 is `Ospf::decision` where this tells the route, else `Ospf::target`, else `Ospf::route`:
+//! `OspfRoutes::build` (`source.rt`) makes the areas with their segments and walks (`all_areas`), and then the tables of `Ospf`
+//! (`protocol.rt`). The rest of step 1, and steps 2 and 3, are `Ospf::build`, which also finds twins; step 4 is
+//! `Ospf::decision` where this tells the route, else `Ospf::target`, else `Ospf::route`:
 //!
 //! 1. `domain.rt`: a network and its areas (`areas.rt`, `members.rt`) with their least walks (section 16.1), whose segments the
 //!    tables keep, and routers, border routers (3.3), whom a router listens to (16.2). Its facts are known wherever one has it.
@@ -9,11 +10,11 @@
 //!    `intra_area.rt`: the prefixes, where each is connected, what the interfaces of each area offer of it, and what it costs
 //!    within an area.
 //! 2. `ranges.rt`: the active ranges of border routers (12.4.3, 11.1), and what they cost.
-//! 3. `all_summaries` (`announcements.rt`, 12.4.3): what the border routers of each area announce of a prefix into it, for all
-//!    prefixes and areas in one vector (`summaries.rt`). `summarized_routes.rt` has what they summarize out of whichever area,
+//! 3. `all_summaries` (`originating.rt`, 12.4.3): what the border routers of each area announce of a prefix into it, for all
+//!    prefixes and areas in one vector (`summaries.rt`). `area_boundary.rt` has what they summarize out of whichever area,
 //!    each as a route of its own area (`area_route.rt`). Those of other areas than the backbone are the summaries into the
 //!    backbone: `offers_outside` makes them for what border routers reach over the backbone (`backbone_routes.rt`, costs alone,
-//!    16.2), `push_outside` for the backbone's own list. Into every other area there go the routes of other areas, what its
+//!    16.2), `push_announced` for the backbone's own list. Into every other area there go the routes of other areas, what its
 //!    border routers reach over the backbone, and the defaults of stub areas (`stub_areas.rt`, 3.6).
 //! 4. `entry.rt`: the intra-area route, else a discard, else the inter-area route (16, 11.1), by what is announced into the area
 //!    that the router listens to, which `Ospf::asked` reads; `united.rt`: several areas' hops together. Where one area alone
@@ -40,12 +41,12 @@ mod members;
 mod subnets;
 
 // Between areas
-mod announcements;
+mod originating;
 mod backbone_routes;
 mod ranges;
 mod stub_areas;
 mod summaries;
-mod summarized_routes;
+mod area_boundary;
 
 // The routes of each router
 mod entry;
@@ -53,9 +54,9 @@ mod lane_twins;
 mod lanes;
 mod latest;
 mod protocol;
-mod tables;
+mod source;
 mod twins;
 mod united;
 
 pub use route_tables::OutOfMemory;
-pub use tables::OspfRoutes;
+pub use source::OspfRoutes;

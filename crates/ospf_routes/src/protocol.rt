@@ -8,7 +8,7 @@ ghost use Rattle.ospf_routes.specs.steps.Lanes.{DecidesLane};
 ghost use Rattle.ospf_routes.specs.steps.Networks.{AreEarlierIn, lane_in};
 
 use crate::OutOfMemory;
-use crate::announcements::all_summaries;
+use crate::originating::all_summaries;
 use crate::areas::AreaWalks;
 use crate::destinations::destinations;
 use crate::domain::Domain;
@@ -44,14 +44,30 @@ impl<'a> Model for Ospf<'a> {
 
     ghost Value = { OspfNetwork };
 
-    ghost view = { λ x. record { domain = x.domain; destinations = x.destinations.items; listens = x.listens.items; ranges = x.ranges.items; summaries = x.summaries; twins = x.twins.items; lane_twins = x.lane_twins.items } };
+    ghost view = { λ x. record {
+        domain = x.domain;
+        destinations = x.destinations.items;
+        listens = x.listens.items;
+        ranges = x.ranges.items;
+        summaries = x.summaries;
+        twins = x.twins.items;
+        lane_twins = x.lane_twins.items
+    } };
 
-    ghost invariant = { λ x. IsOspf (record { domain = x.domain; destinations = x.destinations.items; listens = x.listens.items; ranges = x.ranges.items; summaries = x.summaries; twins = x.twins.items; lane_twins = x.lane_twins.items }) };
+    ghost invariant = { λ x. IsOspf (record {
+        domain = x.domain;
+        destinations = x.destinations.items;
+        listens = x.listens.items;
+        ranges = x.ranges.items;
+        summaries = x.summaries;
+        twins = x.twins.items;
+        lane_twins = x.lane_twins.items
+    }) };
 }
 
 impl<'a> Ospf<'a> {
-    /// OSPF on this network (RFC 2328): the areas and what they offer (section 16.1), the active ranges (12.4.3, 11.1), and
-    /// what border routers announce (12.4.3, 16.2, 3.6).
+    /// OSPF on this network (RFC 2328), which has these areas: what they offer (section 16.1), the active ranges (12.4.3,
+    /// 11.1), and what border routers announce (12.4.3, 16.2, 3.6).
     pub fn build(
         alloc: Global,
         net: &'a Net,
@@ -60,7 +76,7 @@ impl<'a> Ospf<'a> {
         requires { AreAreas net.now areas.items }
         ensures { IfOk result (λ ospf. ospf.domain.net ≡ net.now) }
     {
-        // 1. Areas with their least walks, and what is offered of each prefix within them (section 16.1).
+        // 1. What is offered of each prefix within the areas (section 16.1).
         let domain = Domain::new(net, areas);
         let destinations = destinations(alloc, &domain)?;
         let known = destinations.as_slice();

@@ -1,6 +1,6 @@
-ghost use Rattle.std.specs.Prelude.{◌≡◌, ◌<◌, ◌≤◌, ◌↔◌, ℕ, length, Some, All, Any, Contains, IfOk, IfNone, IfSome, IsTrue, OnOk, MatchOption};
+ghost use Rattle.std.specs.Prelude.{◌≡◌, ◌<◌, ◌↔◌, ℕ, length, Some, Any, IfOk, IsTrue, OnOk, MatchOption};
 ghost use Rattle.net_model.specs.Network.{IsBorderRouter, Network};
-ghost use Rattle.igp_theory.specs.Ospf.{HasRange, IsActive, IsActiveRange, IsComponent, RangeCost};
+ghost use Rattle.igp_theory.specs.Ospf.{HasRange, IsActive, IsComponent};
 ghost use Rattle.ospf_routes.specs.steps.Destinations.{AreOspfDestinations, IsDestinationIn};
 ghost use Rattle.ospf_routes.specs.Lists.{Adds, Exactly};
 ghost use Rattle.ospf_routes.specs.steps.Ranges.{AreActiveRanges, AreRangesBelow, HasComponentCost, IsActiveAt, IsComponentOfSome, IsGreatestOf, IsLeastOf};

@@ -1,4 +1,4 @@
-ghost use Rattle.std.specs.Prelude.{◌≡◌, ◌+◌, ◌<◌, ◌↔◌, ℕ, length, Any, Contains, IfOk, IfSome, IsTrue};
+ghost use Rattle.std.specs.Prelude.{◌≡◌, ◌+◌, ◌<◌, ◌↔◌, ℕ, length, Contains, IfOk, IfSome, IsTrue};
 ghost use Rattle.ospf_routes.specs.steps.Destinations.{AreOspfDestinations, ospf_prefixes};
 ghost use Rattle.ospf_routes.specs.steps.Ranges.{AreRangesBelow};
 ghost use Rattle.ospf_routes.specs.steps.Heard.{AreSummaries};

@@ -13,7 +13,7 @@ use Rattle.order_core.specs.Pairs.{Pair, IsPath, AreBelow, HasNoCycle}
 use Rattle.order_core.proofs.DistinctLists.{AllPairs-cons, length-le_from_distinct, Contains-from_distinct, place_from_Contains}
 use Rattle.order_core.proofs.Paths.{length-path}
 use Rattle.precedence_set.specs.steps.Walking.{pair_at, IsFirstFrom}
-use Rattle.precedence_set.specs.steps.Sorting.{StandsBelow, AreLeftCounts, IsGone, IsGoneBy, IsListing, IsTopological, Queue, Stop, passing, queue, stop}
+use Rattle.precedence_set.specs.steps.Sorting.{StandsBelow, AreFree, AreLeftCounts, IsGone, IsGoneBy, IsListing, IsTopological, Queue, Stop, passing, queue, stop}
 use Rattle.precedence_set.proofs.LayerFacts.{pair_below}
 use Rattle.precedence_set.proofs.SortFacts.{AreLeftCounts-same, AreLeftCounts-gone, left_none, left_some}
 
@@ -363,15 +363,7 @@ IsTopological-whole n pairs counts order count listing whole long = record {
 
 -- Routers without a predecessor
 
--- the routers below r without a predecessor, as far as they are listed
-pub record AreFree (counts order : List ℕ) (count r : ℕ) : Type 0 where
-  pub within : count ≤ r
-  pub below : (j : ℕ) → j < count → get_or order j 0 < r
-  pub distinct : (i j : ℕ) → i < j → j < count → get_or order i 0 ≢ get_or order j 0
-  pub none_left : (j : ℕ) → j < count → get_or counts (get_or order j 0) 0 ≡ 0
-  pub listed : (v : ℕ) → v < r → get_or counts v 0 ≡ 0 → StandsBelow order count v
-
--- in the end they are a listing
+-- the routers without a predecessor, all of them listed, are a listing
 pub IsListing-free : (n : ℕ) (pairs : List Pair) (counts order other : List ℕ) (count : ℕ) → AreFree counts order count n → length counts ≡ n →
     AreLeftCounts pairs (IsGone pairs other 0) counts → IsListing n pairs (queue counts order count)
 IsListing-free n pairs counts order other count free long counted = record {

@@ -1,7 +1,7 @@
 ghost use Rattle.std.specs.Prelude.{◌≡◌, ℕ, ◌+◌, ◌-◌, ◌^◌, ◌<◌, ◌≤◌, length, slice_index, slice_set};
 ghost use Rattle.order_core.specs.Pairs.{AreBelow, HasNoCycle};
 ghost use Rattle.precedence_set.specs.Successors.{AreSuccessors};
-ghost use Rattle.precedence_set.specs.steps.Sorting.{AreLeftCounts, IsGone, IsListing, IsTopological, queue};
+ghost use Rattle.precedence_set.specs.steps.Sorting.{AreFree, AreLeftCounts, IsGone, IsListing, IsTopological, queue};
 
 use link_trail::Links;
 
@@ -23,7 +23,7 @@ pub(crate) fn sort_all(
     ensures { IsTopological (length order.new) pairs.now order.new }
 {
     count_pairs(pairs, counts);
-    let mut count = list_free(pairs, counts, order);
+    let mut count = list_free(counts, order);
     for k in 0..order.len() {
         count = list_after(successors, pairs, counts, order, k, count);
     }
@@ -51,13 +51,11 @@ pub(crate) fn clear_numbers(numbers: &mut [u32])
     }
 }
 
-/// Lists the routers without a predecessor; how many they are.
-fn list_free(pairs: &[(u32, u32)], counts: &[u32], order: &mut [u32]) -> usize
+/// Lists the routers that wait for no pair; how many they are.
+fn list_free(counts: &[u32], order: &mut [u32]) -> usize
     requires small { length order.old < 2 ^ 31 }
     requires counts_length { length counts.now ≡ length order.old }
-    requires counted { AreLeftCounts pairs.now (IsGone pairs.now counts.now 0) counts.now }
-    ensures listing { IsListing (length order.new) pairs.now (queue counts.now order.new result) }
-    ensures within { result ≤ length order.new }
+    ensures { AreFree counts.now order.new result (length order.new) }
 {
     let mut count = 0;
     for router in 0..order.len() as u32 {

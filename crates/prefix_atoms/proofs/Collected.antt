@@ -9,7 +9,7 @@ use Rattle.net_model.specs.Configuration.{Configuration}
 use Rattle.net_model.specs.DestLists.{subnet_if_up, own_dests, all_dests}
 use Rattle.net_model.specs.declared.area.Range.{Range}
 use Rattle.net_model.specs.declared.interface.Interface.{Interface}
-use Rattle.prefix_atoms.specs.Lists.{originated_subnet, all_originated}
+use Rattle.prefix_atoms.specs.Originated.{originated_subnet, all_originated}
 
 -- one element more, which stands at the next place
 pub take_place : {X : Type 0} (xs : List X) (i : ℕ) (x : X) → slice_get xs i ≡ Some x → take (i + 1) xs ≡ take i xs ++ x ∷ []

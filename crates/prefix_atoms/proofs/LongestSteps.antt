@@ -15,8 +15,7 @@ use Rattle.net_addr.specs.LongestMatches.{IsBestMatch, LongestAt}
 use Rattle.net_addr.proofs.LongestMatchLaws.{slice_get-push_old, slice_get-push_new}
 use Rattle.route_core.proofs.TableLaws.{Contains-from_place}
 use Rattle.prefix_atoms.specs.steps.Lists.{AreTargets, IsPlaceOf}
-use Rattle.prefix_atoms.specs.Longest.{IsFoundAt, IsKept, nothing}
-use Rattle.prefix_atoms.specs.steps.Longest.{AreLongestKept, AreKeys, IsKey, TakesPrefix, key_of, top_of}
+use Rattle.prefix_atoms.specs.steps.Longest.{AreLongestKept, AreKeys, IsKey, TakesPrefix, key_of, top_of, IsFoundAt, IsKept, nothing}
 use Rattle.prefix_atoms.specs.Nested.{AreTops, IsTop}
 use Rattle.prefix_atoms.specs.declared.longest.Longest.{Longest}
 use Rattle.prefix_atoms.proofs.Ascending.{at_most_later}

@@ -20,7 +20,7 @@ use Rattle.route_core.proofs.TableLaws.{Contains-from_place, place_from_Contains
 use Rattle.igp_theory.specs.Forwarding.{IsOriginated}
 use Rattle.igp_theory.specs.Migrations.{Migration, migration}
 use Rattle.prefix_atoms.specs.Classes.{SourceEntry, HasRangeOf, Occurs, connected_occurs, range_occurs, old_occurs, new_occurs, HasTarget, Classes, AreClasses}
-use Rattle.prefix_atoms.specs.Lists.{originated_subnet, all_originated}
+use Rattle.prefix_atoms.specs.Originated.{originated_subnet, all_originated}
 use Rattle.prefix_atoms.specs.steps.Lists.{source_prefixes, GainsPrefixes, AreClassesOf}
 use Rattle.prefix_atoms.proofs.Gained.{gains_behind, gains_both}
 use Rattle.prefix_atoms.proofs.ClassLaws.{occur_alike, has_target_alike}

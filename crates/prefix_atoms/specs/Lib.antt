@@ -1,7 +1,7 @@
 pub use Rattle.igp_theory.specs.Forwarding
 pub mod Views
 pub mod Laws
-pub mod Lists
+pub mod Originated
 pub mod Numbers
 pub mod Longest
 pub mod Nested

@@ -1,7 +1,7 @@
 ghost use Rattle.std.specs.Prelude.{◌≡◌, ◌<◌, ◌++◌, [], IfOk, OnOk, length, map};
 ghost use Rattle.std.specs.List.{cons_option, filter_map, range_with_len};
 ghost use Rattle.net_model.specs.DestLists.{all_dests, subnet_if_up};
-ghost use Rattle.prefix_atoms.specs.Lists.{all_originated, originated_subnet};
+ghost use Rattle.prefix_atoms.specs.Originated.{all_originated, originated_subnet};
 ghost use Rattle.prefix_atoms.specs.steps.Lists.{AreUnseen, GainsPrefixes, seen_prefix, source_prefixes, unseen_place};
 ghost use Rattle.route_core.specs.Rows.{IsTable, kept_in, row_prefixes, rows_in};
 

@@ -32,5 +32,4 @@ pub use atoms::Atoms;
 pub use collect::add_connected;
 pub use distinct::place_of_prefix;
 pub use law::one_class_acts_alike;
-pub use longest::{Longest, NOTHING};
 pub use route_core::OutOfMemory;

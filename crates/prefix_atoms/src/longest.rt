@@ -1,8 +1,7 @@
 ghost use Rattle.std.specs.Prelude.{◌≡◌, ◌<◌, ◌≤◌, All, OnOk, length, replicate, slice_index_or, slice_set};
 ghost use Rattle.std.specs.List.Sorted.{IsStrictlyIncreasing};
 ghost use Rattle.net_addr.specs.Addresses.{IsBlock};
-ghost use Rattle.prefix_atoms.specs.Longest.{nothing};
-ghost use Rattle.prefix_atoms.specs.steps.Longest.{AreLongestKept, TakesPrefix};
+ghost use Rattle.prefix_atoms.specs.steps.Longest.{AreLongestKept, TakesPrefix, nothing};
 
 use crate::near::number_near;
 use net_addr::Prefix;

@@ -8,7 +8,8 @@ use Rattle.igp_theory.specs.Forwarding.{Usable, connected, connected_counts, old
 use Rattle.igp_theory.specs.declared.phase.Phase.{Phase}
 use Rattle.igp_theory.specs.declared.phase.Phase.TheVariants.{Old, Middle, New}
 use Rattle.rib_mix.specs.Cells.{IsUsable, use_in}
-use Rattle.rib_mix.specs.Sites.{CountsAt, Kind, Site}
+use Rattle.rib_mix.specs.Sites.{Site}
+use Rattle.rib_mix.specs.steps.Sites.{CountsAt, Kind}
 use Rattle.rib_mix.specs.steps.Uses.{cell_between, cell_of_three, cell_over}
 use Rattle.rib_mix.specs.steps.WayUp.{IsBestUse, IsCellUpTo, UpTo}
 use Rattle.rib_mix.specs.declared.cell.Cell.{Cell}

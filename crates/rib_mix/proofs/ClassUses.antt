@@ -12,8 +12,10 @@ use Rattle.igp_theory.specs.declared.phase.Phase.{Phase}
 use Rattle.igp_theory.specs.declared.phase.Phase.TheVariants.{Old, Middle, New}
 use Rattle.prefix_atoms.specs.Classes.{Classes, AreClasses, SourceEntry, connected_occurs, old_occurs, new_occurs, IsInClass}
 use Rattle.rib_mix.specs.Answers.{IsAlikeAt, IsNextAtAnEnd, IsNextOf, Says}
-use Rattle.rib_mix.specs.Cells.{IsCell, IsUsable, IsUse, ShowsUse, first_if_new, first_unless_new, use_in}
-use Rattle.rib_mix.specs.Sites.{CountsAt, Kind, Site, UsesAt, table_of}
+use Rattle.rib_mix.specs.Cells.{IsCell, IsUsable, IsUse, first_if_new, first_unless_new, use_in}
+use Rattle.rib_mix.specs.steps.Uses.{ShowsUse}
+use Rattle.rib_mix.specs.Sites.{Site, UsesAt, table_of}
+use Rattle.rib_mix.specs.steps.Sites.{CountsAt, Kind}
 use Rattle.rib_mix.specs.declared.both_tables.BothTables.{BothTables}
 use Rattle.rib_mix.specs.declared.cell.Cell.{Cell}
 use Rattle.rib_mix.specs.declared.next.Next.{Next}

@@ -12,7 +12,8 @@ use Rattle.route_core.specs.declared.table.TableParts.{TableParts}
 use Rattle.route_core.proofs.RowLaws.{prefixes_of_rows}
 use Rattle.route_core.proofs.TableLaws.{Contains-from_place, prefix_of_entry}
 use Rattle.prefix_atoms.specs.Longest.{number_at}
-use Rattle.rib_mix.specs.Sites.{HasTableRows, IsLawfulTable, prefixes_in, table_of}
+use Rattle.rib_mix.specs.Sites.{table_of}
+use Rattle.rib_mix.specs.steps.Sites.{HasTableRows, IsLawfulTable, prefixes_in}
 use Rattle.prefix_atoms.proofs.Pushed.{at_place}
 use Rattle.rib_mix.proofs.RowSteps.{lawful_from}
 

@@ -10,8 +10,9 @@ use Rattle.igp_theory.specs.Migrations.{migration}
 use Rattle.prefix_atoms.specs.Classes.{AreClasses, Classes, SourceEntry, connected_occurs, old_occurs, new_occurs}
 use Rattle.rib_mix.specs.Cells.{IsCell}
 use Rattle.rib_mix.specs.Mixture.{Mixture}
-use Rattle.rib_mix.specs.Rows.{AllOccur, AreAllSubnets, AreRows, Ground, IsMixed, MixedParts}
-use Rattle.rib_mix.specs.Sites.{AreTablesOf, prefixes_in, table_of}
+use Rattle.rib_mix.specs.Rows.{AreAllSubnets, AreRows, Ground, IsMixed, MixedParts}
+use Rattle.rib_mix.specs.Sites.{AreTablesOf, table_of}
+use Rattle.rib_mix.specs.steps.Sites.{prefixes_in, AllOccur}
 use Rattle.rib_mix.specs.declared.both_tables.BothTables.{BothTables}
 use Rattle.rib_mix.specs.declared.cell.Cell.{Cell}
 use Rattle.rib_mix.proofs.FoundFacts.{rows_prefixes}

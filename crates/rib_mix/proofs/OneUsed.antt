@@ -10,7 +10,8 @@ use Rattle.net_model.specs.Refusals.{IsNetwork}
 use Rattle.route_core.proofs.TableLaws.{one_entry}
 use Rattle.igp_theory.specs.Forwarding.{Usable, of_old, of_new, connected_counts, old_counts, new_counts}
 use Rattle.igp_theory.specs.declared.phase.Phase.{Phase}
-use Rattle.rib_mix.specs.Sites.{Site, CountsAt, UsesAt, IsLawfulSite, table_of}
+use Rattle.rib_mix.specs.Sites.{Site, UsesAt, table_of}
+use Rattle.rib_mix.specs.steps.Sites.{CountsAt, IsLawfulSite}
 
 -- what each configuration of a network keeps
 config_of : (net : Network) (u : ℕ) (c : Configuration) → IsNetwork net → HasConfiguration net u c → IsConfiguration c

@@ -9,8 +9,9 @@ use Rattle.prefix_atoms.specs.Nested.{IsTop}
 use Rattle.rib_mix.specs.steps.Spots.{AreSpots, AreTableSpots}
 use Rattle.rib_mix.specs.steps.WayUp.{AreOwnCells, IsOwnAmong, IsRowOfTops}
 use Rattle.rib_mix.specs.Cells.{IsCell}
-use Rattle.rib_mix.specs.Rows.{AllOccur, AreSubnets, Ground, IsRow}
-use Rattle.rib_mix.specs.Sites.{AreTablesInParts, HasOspfDistance, Site}
+use Rattle.rib_mix.specs.Rows.{AreSubnets, Ground, IsRow}
+use Rattle.rib_mix.specs.Sites.{Site}
+use Rattle.rib_mix.specs.steps.Sites.{AreTablesInParts, HasOspfDistance, AllOccur}
 use Rattle.rib_mix.specs.declared.both_tables.BothTables.{BothTables}
 use Rattle.rib_mix.specs.declared.cell.Cell.{Cell}
 use Rattle.rib_mix.specs.declared.spots.Spots.{Spots}

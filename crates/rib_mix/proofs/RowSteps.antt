@@ -3,11 +3,10 @@ use Rattle.std.proofs.Common.{◌≡◌, List, get_or, All, arith}
 use Rattle.std.proofs.Common.{subst}
 use Rattle.std.proofs.lemmas.List.{length-map, get_or-map, get_or_default}
 use Rattle.std.proofs.lemmas.List.Elements.{All-contains}
-use Rattle.rib_mix.specs.Rows.{AreAmong}
 use Rattle.net_addr.specs.Addresses.{Block, IsBlock}
 use Rattle.route_core.specs.declared.entry.Entry.{Entry}
 use Rattle.route_core.specs.Tables.{HasDistinctPrefixes, table_prefixes}
-use Rattle.rib_mix.specs.Sites.{IsLawfulTable}
+use Rattle.rib_mix.specs.steps.Sites.{IsLawfulTable, AreAmong}
 
 -- what holds of all prefixes holds of all entries
 entries_all : (P : Block → Type 0) (entries : List (Block × Entry)) → All P (table_prefixes entries) → All (λ x. P x.0) entries

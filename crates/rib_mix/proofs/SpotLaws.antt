@@ -14,7 +14,7 @@ use Rattle.prefix_atoms.specs.Longest.{number_at}
 use Rattle.prefix_atoms.specs.Nested.{AreAscendingPrefixes}
 use Rattle.prefix_atoms.proofs.ClassFacts.{one_place}
 use Rattle.prefix_atoms.proofs.NestedLaws.{ascending_apart}
-use Rattle.rib_mix.specs.Sites.{prefixes_in}
+use Rattle.rib_mix.specs.steps.Sites.{prefixes_in}
 use Rattle.rib_mix.specs.steps.Spots.{AreSpots, HasPlace, IsPlaced, IsSpot, number_at_spot, number_in, with_spot}
 use Rattle.rib_mix.specs.steps.WayUp.{AreOwnNumbers, IsOwnNumber}
 use Rattle.rib_mix.specs.declared.spots.PlacedTable.{PlacedTable}

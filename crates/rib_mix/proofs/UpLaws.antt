@@ -21,10 +21,11 @@ use Rattle.prefix_atoms.specs.Classes.{Classes, IsClassing}
 use Rattle.prefix_atoms.specs.Longest.{number_at}
 use Rattle.prefix_atoms.specs.Nested.{IsNextShorter, IsParent, IsTop}
 use Rattle.prefix_atoms.proofs.NestedLaws.{parent_is_next}
-use Rattle.rib_mix.specs.Cells.{IsCell, IsUsable, no_cell, use_in}
-use Rattle.rib_mix.specs.Sites.{CountsAt, HasOspfDistance, HasTableRows, Site, prefixes_in, table_of}
+use Rattle.rib_mix.specs.Cells.{IsCell, IsUsable, use_in}
+use Rattle.rib_mix.specs.Sites.{Site, table_of}
+use Rattle.rib_mix.specs.steps.Sites.{CountsAt, HasOspfDistance, HasTableRows, prefixes_in}
 use Rattle.rib_mix.specs.steps.Spots.{AreSpots, IsPlaced, number_in}
-use Rattle.rib_mix.specs.steps.Uses.{cell_at, cell_over}
+use Rattle.rib_mix.specs.steps.Uses.{cell_at, cell_over, no_cell}
 use Rattle.rib_mix.specs.steps.WayUp.{AreAllCells, AreOwnCells, IsBestUse, IsCellFor, IsOwnAmong, IsOwnNumber, IsOwnSite, UpTo, connected_in, has_at, old_in}
 use Rattle.rib_mix.specs.declared.cell.Cell.{Cell}
 use Rattle.rib_mix.specs.declared.marks.Own.{Own}

@@ -6,7 +6,8 @@ use Rattle.route_core.specs.declared.entry.Entry.{Entry}
 use Rattle.igp_theory.specs.Forwarding.{Usable, of_old, of_new}
 use Rattle.igp_theory.specs.declared.phase.Phase.{Phase}
 use Rattle.rib_mix.specs.Cells.{IsUsable, IsUse, IsKeptUse}
-use Rattle.rib_mix.specs.Sites.{CountsAt, IsLawfulSite, Site, UsesAt}
+use Rattle.rib_mix.specs.Sites.{Site, UsesAt}
+use Rattle.rib_mix.specs.steps.Sites.{CountsAt, IsLawfulSite}
 use Rattle.rib_mix.specs.steps.WayUp.{IsBestUse}
 use Rattle.rib_mix.specs.declared.used.Used.{Used}
 use Rattle.rib_mix.specs.declared.used.Used.TheVariants as used

@@ -4,35 +4,31 @@ use Rattle.route_core.specs.declared.entry.Entry.{Entry}
 use Rattle.igp_theory.specs.Forwarding.{Usable, connected, of_old, of_new}
 use Rattle.igp_theory.specs.declared.phase.Phase.{Phase}
 use Rattle.igp_theory.specs.declared.phase.Phase.TheVariants as phase
-use Rattle.rib_mix.specs.Answers.{ShowsEntry}
 use Rattle.rib_mix.specs.Sites.{Site, UsesAt}
 use Rattle.rib_mix.specs.declared.cell.Cell.{Cell}
 use Rattle.rib_mix.specs.declared.used.Used.{Used}
 use Rattle.rib_mix.specs.declared.used.Used.TheVariants as used
-use Rattle.rib_mix.specs.declared.next.Next.{Next}
 use Rattle.rib_mix.specs.declared.next.Next.TheVariants as next
 
--- nothing is used
-abbrev pub no_cell : Cell
-no_cell = record { middle = used.Nothing; other = used.Nothing }
-
--- what is used in Old: what is used in Middle, unless that is of the new table
+-- the first of two uses, and the second where that is of the new table
 abbrev pub first_unless_new : Used → Used → Used
 first_unless_new used.Nothing other = used.Nothing
 first_unless_new used.Connected other = used.Connected
 first_unless_new (used.Old number) other = used.Old number
 first_unless_new (used.New number) other = other
 
+-- what is used in Old: what is used in Middle, unless that is of the new table
 abbrev pub old_use : Cell → Used
 old_use cell = first_unless_new cell.middle cell.other
 
--- what is used in New: what is used in Middle where that is of the new table
+-- the first of two uses where that is of the new table, else the second
 abbrev pub first_if_new : Used → Used → Used
 first_if_new used.Nothing other = other
 first_if_new used.Connected other = other
 first_if_new (used.Old number) other = other
 first_if_new (used.New number) other = used.New number
 
+-- what is used in New: what is used in Middle where that is of the new table, else what is used at the other end
 abbrev pub new_use : Cell → Used
 new_use cell = first_if_new cell.middle cell.other
 
@@ -55,13 +51,6 @@ IsUsable olds news used.Nothing x = ⊥
 IsUsable olds news used.Connected x = x ≡ connected
 IsUsable olds news (used.Old number) x = (e : Entry) × (slice_get olds number ≡ Some e) × (x ≡ of_old e)
 IsUsable olds news (used.New number) x = (e : Entry) × (slice_get news number ≡ Some e) × (x ≡ of_new e)
-
--- the answer is what is used
-abbrev pub ShowsUse : List Entry → List Entry → Used → Next → Type 0
-ShowsUse olds news used.Nothing answer = answer ≡ next.Absent
-ShowsUse olds news used.Connected answer = answer ≡ next.Connected
-ShowsUse olds news (used.Old number) answer = (e : Entry) → slice_get olds number ≡ Some e → ShowsEntry answer e
-ShowsUse olds news (used.New number) answer = (e : Entry) → slice_get news number ≡ Some e → ShowsEntry answer e
 
 -- what is used in a phase is this alone
 pub record IsUse (s : Site) (phase : Phase) (way : Used) : Type 0 where

@@ -6,7 +6,7 @@ use Rattle.route_core.specs.declared.entry.Entry.{Entry}
 use Rattle.igp_theory.specs.Migrations.{migration}
 use Rattle.prefix_atoms.specs.Classes.{Classes, AreClasses, SourceEntry}
 use Rattle.rib_mix.specs.Cells.{IsCell}
-use Rattle.rib_mix.specs.Sites.{AreTablesOf, Site, prefixes_in}
+use Rattle.rib_mix.specs.Sites.{AreTablesOf, Site}
 use Rattle.rib_mix.specs.declared.both_tables.BothTables.{BothTables}
 use Rattle.rib_mix.specs.declared.cell.Cell.{Cell}
 
@@ -38,16 +38,6 @@ AreSubnets net u subnets = (p : Block) → Contains subnets p ↔ Connected net 
 pub record AreAllSubnets (net : Network) (subnets : List (List Block)) : Type 0 where
   pub count : length subnets ≡ length net
   pub each : (u : ℕ) (ps : List Block) → slice_get subnets u ≡ Some ps → AreSubnets net u ps
-
--- each of these prefixes is among those
-abbrev pub AreAmong : List Block → List Block → Type 0
-AreAmong prefixes own = (p : Block) → Contains own p → Contains prefixes p
-
--- the connected prefixes of all routers and those of their tables are among these
-pub record AllOccur (prefixes : List Block) (g : Ground) : Type 0 where
-  pub connected : (u : ℕ) (p : Block) → Connected g.net u p → Contains prefixes p
-  pub olds : (u : ℕ) (both : BothTables) → slice_get g.tables u ≡ Some both → AreAmong prefixes (prefixes_in both.old)
-  pub news : (u : ℕ) (both : BothTables) → slice_get g.tables u ≡ Some both → AreAmong prefixes (prefixes_in both.new)
 
 -- what mixed forwarding keeps
 pub record MixedParts : Type 0 where

@@ -2,3 +2,4 @@ pub mod Codes
 pub mod Spots
 pub mod Uses
 pub mod WayUp
+pub mod Sites

@@ -1,5 +1,6 @@
 ghost use Rattle.std.specs.Prelude.{◌≡◌, IfOk};
-ghost use Rattle.rib_mix.specs.Sites.{AreTablesInParts, AreTablesOf};
+ghost use Rattle.rib_mix.specs.Sites.{AreTablesOf};
+ghost use Rattle.rib_mix.specs.steps.Sites.{AreTablesInParts};
 
 use route_core::{OutOfMemory, RouteSource, TableParts};
 use std::alloc::Global;

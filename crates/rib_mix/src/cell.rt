@@ -1,6 +1,6 @@
 ghost use Rattle.std.specs.Prelude.{◌≡◌, ◌<◌, IfOk, IfSome, length};
-ghost use Rattle.rib_mix.specs.Cells.{new_use, no_cell, old_use, use_in};
-ghost use Rattle.rib_mix.specs.steps.Uses.{cell_at, cell_between, cell_over};
+ghost use Rattle.rib_mix.specs.Cells.{new_use, old_use, use_in};
+ghost use Rattle.rib_mix.specs.steps.Uses.{cell_at, cell_between, cell_over, no_cell};
 
 use crate::used::{Use, Used};
 use igp_theory::Phase;

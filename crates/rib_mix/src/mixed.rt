@@ -6,9 +6,10 @@ ghost use Rattle.igp_theory.specs.Migrations.{migration};
 ghost use Rattle.prefix_atoms.specs.Classes.{AreClasses, SourceEntry};
 ghost use Rattle.rib_mix.specs.Answers.{IsAlikeAt, IsNextAtAnEnd, IsNextOf, ShowsEntry};
 ghost use Rattle.rib_mix.specs.Mixture.{migration_of};
-ghost use Rattle.rib_mix.specs.Cells.{IsKeptUse, ShowsUse};
-ghost use Rattle.rib_mix.specs.Rows.{AllOccur, AreAllSubnets, AreRows};
-ghost use Rattle.rib_mix.specs.Sites.{AreTablesInParts, HasOspfDistance};
+ghost use Rattle.rib_mix.specs.Cells.{IsKeptUse};
+ghost use Rattle.rib_mix.specs.steps.Uses.{ShowsUse};
+ghost use Rattle.rib_mix.specs.Rows.{AreAllSubnets, AreRows};
+ghost use Rattle.rib_mix.specs.steps.Sites.{AreTablesInParts, HasOspfDistance, AllOccur};
 
 use crate::both_tables::{BothTables, tables_of};
 use crate::cells::{Cells, is_same};

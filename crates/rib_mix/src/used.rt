@@ -28,7 +28,7 @@ impl Model for Use {
     ghost use Rattle.std.specs.Prelude.{ℕ};
     ghost use Rattle.std.proofs.Common.{ap};
     ghost use Rattle.rib_mix.specs.declared.used.Used.{Used};
-    ghost use Rattle.rib_mix.specs.steps.Codes.{code_back, code_of_use, use_of_code};
+    ghost use Rattle.rib_mix.specs.steps.Codes.{use_code_back, code_of_use, use_of_code};
 
     ghost Value = { Used };
 
@@ -36,11 +36,11 @@ impl Model for Use {
 
     ghost inverse = { λ u. record { code = code_of_use u } };
 
-    ghost inverse_ok = { λ x h. let P : ℕ → Inside = λ n. record { code = n } in ap P (code_back x.code) };
+    ghost inverse_ok = { λ x h. let P : ℕ → Inside = λ n. record { code = n } in ap P (use_code_back x.code) };
 }
 
 impl Use {
-    ghost use Rattle.std.specs.Prelude.{◌≡◌, ◌↔◌, IfOk, IsTrue};
+    ghost use Rattle.std.specs.Prelude.{◌≡◌, ◌<◌, ◌+◌, ◌^◌, ◌↔◌, IfOk, IsTrue, Ok};
     ghost use Rattle.rib_mix.specs.steps.Uses.{IsOfNew};
     ghost use Rattle.rib_mix.specs.declared.used.Used.TheVariants.{Connected, New, Nothing, Old};
 
@@ -66,7 +66,8 @@ impl Use {
     /// The entry of this number that the old table keeps. From 2^31 - 2 on it gives `OutOfMemory`, since no table has so many.
     #[inline(always)]
     pub fn old(number: u32) -> Result<Use, OutOfMemory>
-        ensures { IfOk result (λ own. own ≡ Old number) }
+        ensures is { IfOk result (λ own. own ≡ Old number) }
+        ensures fits { number + 2 < 2 ^ 31 → result ≡ Ok (Old number) }
     {
         if number >= Use::MOST_NUMBERS {
             return Err(OutOfMemory);
@@ -79,7 +80,8 @@ impl Use {
     /// The same of the new table.
     #[inline(always)]
     pub fn new(number: u32) -> Result<Use, OutOfMemory>
-        ensures { IfOk result (λ own. own ≡ New number) }
+        ensures is { IfOk result (λ own. own ≡ New number) }
+        ensures fits { number + 2 < 2 ^ 31 → result ≡ Ok (New number) }
     {
         if number >= Use::MOST_NUMBERS {
             return Err(OutOfMemory);

@@ -6,7 +6,7 @@ use Rattle.walk_core.specs.Segments.{Sends}
 use Rattle.walk_core.specs.declared.segment.Port.{Port}
 use Rattle.route_tables.specs.Entries.{AreJoined}
 use Rattle.route_tables.specs.steps.Joined.{JoinsRouters}
-use Rattle.route_tables.proofs.ListFacts.{any_in, any_of}
+use Rattle.net_addr.proofs.SomeElement.{any_in, any_of}
 
 -- two routers are joined where they are apart and have ports of one of the segments
 pub joined_by : (segments : List (List Port)) (u v : ℕ) → u ≢ v → Any (JoinsRouters u v) segments ↔ AreJoined segments u v

@@ -1,5 +1,6 @@
 -- Tables that keep the numbers of a router's entries, kind by kind, are the router's.
-use Rattle.std.proofs.Common.{◌≡◌, ℕ, zero, suc, ◌+◌, ◌<◌, inl, inr, List, [], ◌∷◌, ◌++◌, length, map, Option, Some, None, get_or, refl, sym, ap, subst, ◌∙◌, arith}
+use Rattle.std.proofs.Common.{◌≡◌, ℕ, zero, suc, ◌+◌, ◌<◌, inl, inr, List, [], ◌∷◌, ◌++◌, length, map, Option, Some, None, get_or, refl, sym, ap, subst}
+use Rattle.std.proofs.Common.{◌∙◌, arith}
 use Rattle.std.specs.List.{All, Contains}
 use Rattle.std.proofs.lemmas.Bool.{cases_lt}
 use Rattle.std.proofs.lemmas.List.{get_or_default, get_or_past, length-map, length_push}
@@ -11,7 +12,8 @@ use Rattle.route_core.specs.Tables.{AreLinkedHops}
 use Rattle.route_core.specs.declared.entry.Entry.{Entry}
 use Rattle.route_core.specs.declared.entry.Entry.TheVariants.{Discard, Via}
 use Rattle.route_core.proofs.RowLaws.{row_is, row_is_there, table_rows}
-use Rattle.route_tables.specs.Entries.{AreSameEntries, IsLawful, IsTableOf, AreTablesBelow, AreJoined, AreJoinedBy}
+use Rattle.route_tables.specs.Entries.{IsLawful, AreJoined, AreJoinedBy}
+use Rattle.route_tables.specs.steps.Entries.{AreSameEntries, IsTableOf, AreTablesBelow}
 use Rattle.route_tables.specs.Prefixes.{AreDistinctPrefixes, prefix_at}
 use Rattle.route_tables.specs.Protocols.{AreAlikeInLane, ProtocolRoutes}
 use Rattle.route_tables.specs.Tables.{AreLawful, AreRoutes, AreSourceTables, prefixes_of_first}

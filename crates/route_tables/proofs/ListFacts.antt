@@ -1,12 +1,14 @@
 -- Lists of what a relation holds of, element by element and router by router.
-use Rattle.std.proofs.Common.{◌≡◌, ℕ, ◌+◌, ◌<◌, ◌≤◌, ◌↔◌, ◌⊎◌, inl, inr, ⊎_elim, List, [], ◌∷◌, ◌++◌, length, map, take, get_or, Option, Some, None, true, false, refl, sym, ap, subst, ◌∙◌, arith}
+use Rattle.std.proofs.Common.{◌≡◌, ℕ, ◌+◌, ◌<◌, ◌≤◌, ◌↔◌, ◌⊎◌, inl, inr, ⊎_elim, List, [], ◌∷◌, ◌++◌, length, map, take, get_or, Option, Some, None}
+use Rattle.std.proofs.Common.{true, false, refl, sym, ap, subst, ◌∙◌, arith}
 use Rattle.std.specs.Option.{is_some}
 use Rattle.std.proofs.lemmas.Option.{none-some}
 use Rattle.std.specs.List.{Contains, Any, All, AllWithin}
 use Rattle.std.proofs.lemmas.Bool.{cases_lt}
-use Rattle.std.proofs.lemmas.List.{take_more, take_all, get_or_default, get_or_append_left, get_or_push, get_or-map, length-map}
+use Rattle.std.proofs.lemmas.List.{take_all, get_or_default, get_or_append_left, get_or_push, get_or-map, length-map}
 use Rattle.std.proofs.lemmas.List.Elements.{Contains-append_left, Contains-get_or, Contains-push, Contains-push_cases}
 use Rattle.std.proofs.lemmas.List.Quantifiers.{Any-push}
+use Rattle.net_addr.proofs.SomeElement.{any_in, any_left, any_cases, one_more}
 use Rattle.route_tables.specs.Lists.{Exactly, Adds}
 
 -- what says the same as what says the same
@@ -24,27 +26,6 @@ the_one x y among = elim (Contains-push_cases [] x y among) [
   | inl none ↦ absurd (omega (arith, none.1))
   | inr same ↦ sym same
 ]
-
-pub any_of : {Y : Type 0} (P : Y → Type 0) (ys : List Y) (y : Y) → Contains ys y → P y → Any P ys
-any_of P ys y has p = (has.0, y, has.1, has.2, p)
-
--- an element of the list of which P holds
-pub record Found {Y : Type 0} (P : Y → Type 0) (ys : List Y) : Type 0 where
-  pub item : Y
-  pub among : Contains ys item
-  pub holds : P item
-
-pub any_in : {Y : Type 0} (P : Y → Type 0) (ys : List Y) → Any P ys → Found P ys
-any_in P ys any = record { item = any.1; among = (any.0, any.2, any.3); holds = any.4 }
-
-pub any_left : {Y : Type 0} (P : Y → Type 0) (front : List Y) (y : Y) → Any P front → Any P (front ++ y ∷ [])
-any_left P front y any =
-    let f = any_in P front any in any_of P (front ++ y ∷ []) f.item (Contains-append_left front (y ∷ []) f.item f.among) f.holds
-
-pub any_cases : {Y : Type 0} (P : Y → Type 0) (front : List Y) (y : Y) → Any P (front ++ y ∷ []) → Any P front ⊎ P y
-any_cases P front y any =
-    let f = any_in P (front ++ y ∷ []) any in
-    ⊎_elim (λ among. inl (any_of P front f.item among f.holds)) (λ same. inr (subst P (sym same) f.holds)) (Contains-push_cases front y f.item f.among)
 
 -- one of one or of two elements is
 pub any_in_one : {Y : Type 0} (P : Y → Type 0) (y : Y) → Any P (y ∷ []) → P y
@@ -102,9 +83,6 @@ pub adds_start : {X Y : Type 0} (gives : X → Y → Type 0) (old : List X) (ys 
 adds_start gives old ys = adds_nothing old (λ x. Any (gives x) (take 0 ys)) (λ x any. omega (arith, any.2))
 
 -- the elements so far with the next are one more
-pub one_more : {Y : Type 0} (ys : List Y) (i : ℕ) (y : Y) → i < length ys → y ≡ get_or ys i y → take i ys ++ y ∷ [] ≡ take (i + 1) ys
-one_more {Y} ys i y within is = sym (take_more ys i y within ∙ ap (λ (z : Y). take i ys ++ z ∷ []) (sym is))
-
 -- one more element, which gives this
 pub adds_more : {X Y : Type 0} (gives : X → Y → Type 0) (old mid new : List X) (ys : List Y) (i : ℕ) (y : Y) → i < length ys → y ≡ get_or ys i y →
     Adds old mid (λ x. Any (gives x) (take i ys)) → Adds mid new (λ x. gives x y) → Adds old new (λ x. Any (gives x) (take (i + 1) ys))

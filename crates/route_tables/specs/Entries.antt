@@ -1,9 +1,9 @@
 -- The entries that a protocol gives routers, as tables, and its neighbors, by segments.
-use Rattle.std.specs.Prelude.{◌≡◌, ◌<◌, ◌≤◌, ◌↔◌, ℕ, List, [], length, slice_index_or, Contains}
+use Rattle.std.specs.Prelude.{◌≡◌, ◌<◌, ◌≤◌, ◌↔◌, ℕ, List}
 use Rattle.net_addr.specs.Addresses.{Block}
 use Rattle.walk_core.specs.Segments.{SendsAcross}
 use Rattle.walk_core.specs.declared.segment.Port.{Port}
-use Rattle.route_core.specs.Tables.{AreLinkedHops, HasDistinctPrefixes}
+use Rattle.route_core.specs.Tables.{AreLinkedHops}
 use Rattle.route_core.specs.declared.entry.Entry.{Entry}
 use Rattle.route_core.specs.declared.entry.Entry.TheVariants.{Via}
 
@@ -15,10 +15,6 @@ pub record IsLawful (routers : ℕ) (entry : ℕ → Block → Entry → Type 0)
   pub hops : (u : ℕ) (p : Block) (hops : List ℕ) → entry u p (Via hops) → AreLinkedHops routers (neighbor u) hops
   pub within : (u v : ℕ) → neighbor u v → v < routers
 
--- both prefixes have the same entries
-abbrev pub AreSameEntries : (Block → Entry → Type 0) → Block → Block → Type 0
-AreSameEntries entry one other = (e : Entry) → entry one e ↔ entry other e
-
 -- the routers of which this holds have the same entries for both prefixes
 abbrev pub AreAlikeFor : (ℕ → Type 0) → (ℕ → Block → Entry → Type 0) → Block → Block → Type 0
 AreAlikeFor router entry one other = (u : ℕ) (e : Entry) → router u → entry u one e ↔ entry u other e
@@ -26,16 +22,6 @@ AreAlikeFor router entry one other = (u : ℕ) (e : Entry) → router u → entr
 -- the routers below n have the same entries for both prefixes
 abbrev pub AreAlikePrefixes : ℕ → (ℕ → Block → Entry → Type 0) → Block → Block → Type 0
 AreAlikePrefixes n = AreAlikeFor (λ u. u < n)
-
--- the table has these entries, and no others
-pub record IsTableOf (entry : Block → Entry → Type 0) (table : List (Block × Entry)) : Type 0 where
-  pub distinct : HasDistinctPrefixes table
-  pub exact : (p : Block) (e : Entry) → Contains table (p, e) ↔ entry p e
-
--- these are the tables of the routers below n
-pub record AreTablesBelow (entry : ℕ → Block → Entry → Type 0) (n : ℕ) (tables : List (List (Block × Entry))) : Type 0 where
-  pub count : length tables ≡ n
-  pub each : (u : ℕ) → u < n → IsTableOf (entry u) (slice_index_or tables u [])
 
 -- u sends to v over one of the segments
 pub record AreJoined (segments : List (List Port)) (u v : ℕ) : Type 0 where

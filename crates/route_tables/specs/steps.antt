@@ -4,3 +4,4 @@ pub mod Sharing
 pub mod Alike
 pub mod Joined
 pub mod Sure
+pub mod Entries

@@ -15,7 +15,7 @@
 //! - `sharing.rt`, `table.rt`: of each router the number of its entry for each kind of its lane, and the tables; no route is
 //!   asked for where the lane tells the entry, or where it leads is known.
 //! - `candidates.rt`, `distinct.rt`, `lists.rt`: prefixes, in order and each once, and lists that grow.
-//! - `routes.rt`, `joined.rt`: tables as a source of tables, with the segments that join neighbors.
+//! - `source.rt`, `joined.rt`: tables as a source of tables, with the segments that join neighbors.
 //!
 //! `RouteTables::build` takes time of lanes times prefixes, and of routers times the kinds in their lanes, besides the routes
 //! that it asks for. A table has 4 bytes for each kind, a lane 4 for each prefix.
@@ -37,7 +37,7 @@ mod lists;
 mod joined;
 mod kinds;
 mod pool;
-mod routes;
+mod source;
 mod sharing;
 mod sure;
 mod table;
@@ -49,5 +49,5 @@ pub use lane::Decision;
 pub use lists::push_option;
 pub use protocol::Protocol;
 pub use route::{Route, Target};
-pub use routes::RouteTables;
+pub use source::RouteTables;
 pub use std::alloc::AllocError as OutOfMemory;

@@ -2,7 +2,8 @@ ghost use Rattle.std.specs.Prelude.{◌≡◌, ◌<◌, ℕ, length, All, Contai
 ghost use Rattle.net_addr.specs.Addresses.{Block};
 ghost use Rattle.route_core.specs.declared.entry.Entry.{Entry as EntryValue};
 ghost use Rattle.route_core.specs.Rows.{IsTable, listed};
-ghost use Rattle.route_tables.specs.Entries.{AreSameEntries, AreTablesBelow, IsLawful};
+ghost use Rattle.route_tables.specs.Entries.{IsLawful};
+ghost use Rattle.route_tables.specs.steps.Entries.{AreSameEntries, AreTablesBelow};
 ghost use Rattle.route_tables.specs.Lanes.{DecidesFor};
 ghost use Rattle.route_tables.specs.Prefixes.{AreDistinctPrefixes};
 ghost use Rattle.route_tables.specs.steps.Kinds.{AreLaneKinds, IsToldLane, first_prefix_of};

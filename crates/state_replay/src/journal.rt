@@ -28,6 +28,7 @@ pub fn replay(net: &Net, ranks: &[u32], journal: &[u8], done: &mut [u8]) -> Plac
     let mut changes = 0;
     while let Some(line) = lines.next_line() {
         if !judge_line(net, ranks, line, done) {
+            // The header is line 1, so the lines of these changes end with line `changes + 1`.
             return Place::Departs(changes + 2);
         }
         changes += 1;

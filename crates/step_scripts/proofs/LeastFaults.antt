@@ -11,9 +11,9 @@ use Rattle.net_model.specs.Refusals.{NamesAscend}
 use Rattle.net_model.proofs.NetworkFacts.{IsNamed-unique}
 use Rattle.step_scripts.specs.WaveLines.{header_of, wave_on, chain_on, waves_on, chains_on}
 use Rattle.step_scripts.specs.WaveFiles.{all_in, AreOfEach}
-use Rattle.step_scripts.specs.FaultyLines.{FileEntry, file_entry, HasHeader, IsFaultBehind, IsFaultyLine, IsLeastFaultyLine, IsWaveBehind, HasFaultyEntry}
+use Rattle.step_scripts.specs.FaultyLines.{FileEntry, HasHeader, IsFaultBehind, IsFaultyLine, IsLeastFaultyLine, IsWaveBehind, HasFaultyEntry}
 use Rattle.step_scripts.specs.FaultyLines.{order_kind_rank}
-use Rattle.step_scripts.specs.steps.ReadWaves.{AreWavesRead, AreEntriesRead, IsUnfit, HasUnseated, HasUnknown, NamesRepeat}
+use Rattle.step_scripts.specs.steps.ReadWaves.{AreWavesRead, AreEntriesRead, IsUnfit, HasUnseated, HasUnknown, NamesRepeat, file_entry}
 use Rattle.step_scripts.specs.declared.version.Version.{Version}
 use Rattle.step_scripts.specs.declared.kind.OrderKind.{OrderKind}
 use Rattle.step_scripts.specs.declared.kind.OrderKind.TheVariants.{Header, NotInNetwork, Twice, Missing, Wave, Chain}

@@ -13,8 +13,8 @@ use Rattle.net_model.specs.Refusals.{NamesAscend}
 use Rattle.order_core.specs.Orders.{AreDistinct}
 use Rattle.step_scripts.specs.WaveLines.{wave_on, waves_on}
 use Rattle.step_scripts.specs.WaveFiles.{all_in, MayFollowWaves, IsChainOf, AreOfEach}
-use Rattle.step_scripts.specs.FaultyLines.{file_entry, IsFaultBehind, NamesNoRouter}
-use Rattle.step_scripts.specs.steps.ReadWaves.{AreWavesRead, AreEntriesRead}
+use Rattle.step_scripts.specs.FaultyLines.{IsFaultBehind, NamesNoRouter}
+use Rattle.step_scripts.specs.steps.ReadWaves.{AreWavesRead, AreEntriesRead, file_entry}
 use Rattle.step_scripts.specs.declared.version.Version.{Version}
 use Rattle.step_scripts.specs.declared.kind.OrderKind.{OrderKind}
 use Rattle.step_scripts.specs.declared.kind.OrderKind.TheVariants.{NotInNetwork, Twice, Wave, Chain}

@@ -17,8 +17,8 @@ use Rattle.net_model.specs.Refusals.{NamesAscend}
 use Rattle.order_core.specs.Orders.{AreDistinct}
 use Rattle.step_scripts.specs.WaveLines.{header_of, wave_on}
 use Rattle.step_scripts.specs.WaveFiles.{all_in}
-use Rattle.step_scripts.specs.FaultyLines.{file_entry, IsLeastFaultyLine}
-use Rattle.step_scripts.specs.steps.ReadWaves.{bytes_of_lines, AreFileEntries, AreWavesRead, AreEntriesRead, AreFirstWaves, IsUnfit, TakesSeats}
+use Rattle.step_scripts.specs.FaultyLines.{IsLeastFaultyLine}
+use Rattle.step_scripts.specs.steps.ReadWaves.{bytes_of_lines, AreFileEntries, AreWavesRead, AreEntriesRead, AreFirstWaves, IsUnfit, TakesSeats, file_entry}
 use Rattle.step_scripts.specs.declared.version.Version.{Version}
 use Rattle.step_scripts.specs.declared.kind.OrderKind.{OrderKind}
 use Rattle.step_scripts.proofs.LeastFaults.{IsLowestBehind, least_here, lowest_unfit}

@@ -22,9 +22,6 @@ pub record FileEntry : Type 0 where
   pub before : List (List ℕ)
   pub line : List ℕ
 
-abbrev pub file_entry : Version → List (List ℕ) → List ℕ → FileEntry
-file_entry version before line = record { version = version; before = before; line = line }
-
 -- a line is a wave, and no line before it is a chain
 pub record IsWaveBehind (e : FileEntry) (names : List (List ℕ)) : Type 0 where
   pub wave : wave_on e.version e.line ≡ Some names

@@ -13,9 +13,9 @@
 //! | the script of a migration | `specs/Scripts.antt` | `script_text` |
 //!
 //! That a text names one wave list at most, or is refused in one way, is `waves_laws`; that a script's lines make its changes is
-//! `script_laws`. `read_waves` looks for each name among those of the routers, and compares a router with those before it on its
-//! line, so it takes time of the text, and for each name of the count of routers; `waves_text` and `script_text` take time of the
-//! bytes that they print.
+//! `script_laws`. `read_waves` finds each name by halves among those of the routers, and compares a router with those
+//! before it on its line, so it takes time of the text, and for each name of those before it on its line; `waves_text` and
+//! `script_text` take time of the bytes that they print.
 #![tactic(auto)]
 
 // Order files: their versions and faults, the text that is read, the text that is written.

@@ -2,3 +2,4 @@ pub mod Faults
 pub mod Files
 pub mod Sink
 pub mod Transfer
+pub mod steps

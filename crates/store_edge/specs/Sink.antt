@@ -15,11 +15,6 @@ pub record AddsFront (before after : Option (List ℕ)) (piece : List ℕ) : Typ
   pub cut : front ++ rest ≡ piece
   pub adds : AddsBytes before after front
 
--- bytes that are kept, and how many there is room for in all
-pub record BytesWithRoom : Type 0 where
-  pub bytes : List ℕ
-  pub room : ℕ
-
 -- a sink in memory: the bytes written, how many it takes in all, the numbers of the writes that fail, how many
 -- writes there were, and the faults
 pub record MemorySinkState : Type 0 where

@@ -1,5 +1,5 @@
 ghost use Rattle.std.specs.Prelude.{◌≡◌, ◌+◌, ◌≤◌, ◌↔◌, ◌++◌, [], length, max, IsTrue, OnOk, OnErr};
-ghost use Rattle.store_edge.specs.Sink.{BytesWithRoom};
+ghost use Rattle.store_edge.specs.steps.Room.{BytesWithRoom};
 
 use std::alloc::{AllocError as OutOfMemory, Global};
 use std::marker::Model;
@@ -14,7 +14,7 @@ pub struct KeptBytes {
 impl Model for KeptBytes {
     ghost use Rattle.std.specs.Prelude.{◌≤◌};
     ghost use Rattle.std.specs.Vec.{vec_len, vec_capacity};
-    ghost use Rattle.store_edge.specs.Sink.{BytesWithRoom};
+    ghost use Rattle.store_edge.specs.steps.Room.{BytesWithRoom};
 
     ghost Value = { BytesWithRoom };
 

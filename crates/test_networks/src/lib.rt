@@ -7,9 +7,9 @@
 //! | `small` | routers without interfaces, two routers on one link, a network with one target |
 //! | `areas`, `levels` | a ring of routers in areas of OSPF, and one in levels of IS-IS |
 //! | `router`, `interface` | the configurations that they are made of |
-//! | `texts` | texts of configurations: a triangle, a square, two border routers with a range, chains of links |
+//! | `texts` | texts of configurations: a triangle, a square, two border routers with a range, routers with given links |
 //!
-//! Each call takes the time of the routers that it makes.
+//! Each call takes the time of the routers that it makes, `linked_text` of routers times links.
 #![tactic(auto)]
 
 // networks

@@ -4,7 +4,7 @@ use Rattle.std.proofs.Common.{take, get_or}
 use Rattle.std.proofs.lemmas.Bool.{cases_lt}
 use Rattle.std.proofs.lemmas.List.{take_more, take_all}
 use Rattle.std.proofs.lemmas.List.Elements.{Contains-append_left, Contains-push, Contains-push_cases}
-use Rattle.walk_core.specs.BestOffers.{least_cost_of}
+use Rattle.walk_core.specs.steps.BestOver.{least_cost_of}
 use Rattle.walk_core.specs.steps.Cheapest.{HasCost, IsCheapestCost}
 use Rattle.walk_core.specs.steps.Relaxing.{IsAtMost}
 

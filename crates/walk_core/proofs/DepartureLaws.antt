@@ -4,7 +4,8 @@ use Rattle.std.proofs.lemmas.List.Elements.{Contains-push, Contains-append_left,
 use borrow.Author.Count.{below_more}
 use Rattle.walk_core.specs.declared.hops.Departure.{Departure}
 use Rattle.walk_core.specs.Walks.{Arcs, FirstHop}
-use Rattle.walk_core.specs.Distances.{distance_at, distance_between, AreLeastDistances, KnowsEnds}
+use Rattle.walk_core.specs.Distances.{distance_at}
+use Rattle.walk_core.specs.steps.Rows.{distance_between, AreLeastDistances, KnowsEnds}
 use Rattle.walk_core.specs.steps.Departures.{LeavesTo, AreDepartures, BeginsAt}
 use Rattle.walk_core.proofs.HopLaws.{BeginsLeast, begins_least_from_first_hop, first_hop_from_begins_least}
 

@@ -5,10 +5,12 @@ use Rattle.std.proofs.lemmas.Bool.{cases_eq}
 use Rattle.std.proofs.lemmas.List.{get_or_default}
 use Rattle.std.proofs.lemmas.Option.{same_Some}
 use borrow.Author.Count.{below_more}
-use Rattle.walk_core.specs.BestOffers.{least_cost_of, total_with}
+use Rattle.walk_core.specs.BestOffers.{total_with}
+use Rattle.walk_core.specs.steps.BestOver.{least_cost_of}
 use Rattle.walk_core.specs.declared.outlets.Outlet.{Outlet}
 use Rattle.walk_core.specs.declared.segment.Port.{Port}
-use Rattle.walk_core.specs.Distances.{distance_at, IsDistanceRow}
+use Rattle.walk_core.specs.Distances.{distance_at}
+use Rattle.walk_core.specs.steps.Rows.{IsDistanceRow}
 use Rattle.walk_core.specs.Segments.{AreSegments, SendsAcross}
 use Rattle.walk_core.specs.steps.Cheapest.{HasCost, IsCheapest, IsCheapestCost}
 use Rattle.walk_core.specs.steps.Ends.{AreRowsFound, AreSearched, IsEndRow, IsShortRow, distance_beyond, distance_over}

@@ -1,9 +1,11 @@
 -- First hops from a root of two links are those to which its exits lead.
-use Rattle.std.proofs.Common.{◌≡◌, ℕ, ◌+◌, ◌<◌, ◌↔◌, ◌⊎◌, List, [], ◌∷◌, ◌++◌, Option, Some, None, Contains, MatchOption, get_or, refl, sym, ap, subst, ◌∙◌, inl, inr, arith}
+use Rattle.std.proofs.Common.{◌≡◌, ℕ, ◌+◌, ◌<◌, ◌↔◌, ◌⊎◌, List, [], ◌∷◌, ◌++◌, Option, Some, None, Contains, MatchOption, get_or, refl, sym, ap, subst}
+use Rattle.std.proofs.Common.{◌∙◌, inl, inr, arith}
 use Rattle.std.proofs.lemmas.Option.{none-some, same_Some}
 use Rattle.std.proofs.lemmas.List.Elements.{Contains-append_left, Contains-push, Contains-push_cases}
 use Rattle.std.specs.List.Sorted.{IsStrictlyIncreasing}
-use Rattle.walk_core.specs.Distances.{distance_at, distance_between}
+use Rattle.walk_core.specs.Distances.{distance_at}
+use Rattle.walk_core.specs.steps.Rows.{distance_between}
 use Rattle.walk_core.specs.Segments.{SendsAcross}
 use Rattle.walk_core.specs.Walks.{FirstHop, walk_cost, Arcs, LeastCost}
 use Rattle.walk_core.specs.declared.ways.Aim.{Aim}
@@ -11,7 +13,7 @@ use Rattle.walk_core.specs.declared.exits.Exit.{Exit}
 use Rattle.walk_core.specs.declared.exits.TwoExits.{TwoExits}
 use Rattle.walk_core.specs.declared.outlets.Outlet.{Outlet}
 use Rattle.walk_core.specs.declared.segment.Port.{Port}
-use Rattle.walk_core.specs.steps.Exits.{AddsHops, HasExit, HasTwoExits, IsExit, LeadsOut, LeadsOver, list_of_two, cost_over, FitsOver, IsNearer}
+use Rattle.walk_core.specs.steps.Exits.{AddsHops, HasExit, HasTwoExits, IsExit, LeadsOut, LeadsOver, list_of_two, cost_over, FitsOver, IsNoFarther}
 use Rattle.walk_core.specs.steps.Flooding.{segment_at}
 use Rattle.walk_core.specs.steps.SegmentWalks.{GoesOut, GoesOver, IsBehind, IsEndAt, IsLan, IsLinkEnd, IsMesh, Mesh, AreOutlets, IsOutlet}
 use Rattle.walk_core.proofs.SegmentHopLaws.{IsWanted, ends_alone, hop_from_outlet, outlet_from_hop}
@@ -72,9 +74,9 @@ at_most_over mesh root v c outlets exit is below listed has costs =
     record { value = most.value; is = most.is; below = omega (arith, most.below, parts.2, has.is.costs) }
 
 -- the exits lead to the first hops
-pub exits_lead : (mesh : Mesh) (root v h : ℕ) (exits : TwoExits) → IsMesh mesh → root < mesh.count → HasTwoExits mesh root exits →
-    LeadsOut exits v h ↔ FirstHop (SendsAcross mesh.segments) root v h
-exits_lead mesh root v h exits is below has = (
+pub exits_lead : (mesh : Mesh) (v h : ℕ) (exits : TwoExits) → IsMesh mesh → exits.root < mesh.count → HasTwoExits mesh exits →
+    LeadsOut exits v h ↔ FirstHop (SendsAcross mesh.segments) exits.root v h
+exits_lead mesh v h exits is below has = (
   λ out. elim out.over [
     | inl first ↦ leads exits.one exits.other has.are.one over out.apart first
     | inr second ↦ leads exits.other exits.one has.are.other
@@ -84,7 +86,7 @@ exits_lead mesh root v h exits is below has = (
       let cost : ℕ = walk_cost (hop.leg ∷ hop.legs) in
       let away : distance_between mesh.rows root v ≡ Some cost = ((is.rows.each root below).least.least v cost).1 (first_hop_has_least_cost hop) in
       record {
-        apart = λ home. no_hop_home mesh root v h is (home ∙ has.are.from) hop;
+        apart = λ home. no_hop_home mesh root v h is home hop;
         over = elim (over cost h away hop) [
           | inl first ↦ inl (record { value = cost; is = first.0; least = none_less cost away exits.other has.are.other }, first.1)
           | inr second ↦ inr (record { value = cost; is = second.0; least = none_less cost away exits.one has.are.one }, second.1)
@@ -92,6 +94,9 @@ exits_lead mesh root v h exits is below has = (
       },
 )
   where
+    root : ℕ
+    root = exits.root
+
     arc : Arcs
     arc = SendsAcross mesh.segments
 
@@ -111,10 +116,10 @@ exits_lead mesh root v h exits is below has = (
         ((d n : ℕ) → distance_between mesh.rows root v ≡ Some d → FirstHop arc root v n → LeadsAt exit v d n ⊎ LeadsAt other v d n) →
         v ≢ exits.root → LeadsOver exit other v h → FirstHop arc root v h
     leads exit other one either apart to_end =
-        let near : IsNearer (cost_over exit v) (cost_over other v) = to_end.0 in
+        let near : IsNoFarther (cost_over exit v) (cost_over other v) = to_end.0 in
         let most = at_most_over mesh root v near.value has.outlets exit is below has.listed one near.is in
         let least : LeastCost arc root v most.value = cost_from mesh root v most.value is below most.is in
-        let first = some_hop arc root v least.legs (λ same. apart (sym same ∙ sym has.are.from)) least.walk in
+        let first = some_hop arc root v least.legs (λ same. apart (sym same)) least.walk in
         let same : near.value ≡ most.value = elim (either most.value first.0 most.is first.1) [
           | inl here ↦ same_Some near.value most.value (sym near.is ∙ here.0)
           | inr there ↦ omega (arith, most.below, near.least most.value there.0)

@@ -7,7 +7,7 @@ use Rattle.std.proofs.lemmas.List.Elements.{Contains-push, Contains-push_cases}
 use Rattle.walk_core.specs.declared.ways.Aim.{Aim}
 use Rattle.walk_core.specs.declared.outlets.Outlet.{Outlet}
 use Rattle.walk_core.specs.declared.segment.Port.{Port}
-use Rattle.walk_core.specs.Distances.{distance_between, IsDistanceRow}
+use Rattle.walk_core.specs.steps.Rows.{distance_between, IsDistanceRow}
 use Rattle.walk_core.specs.Reach.{Reach, distance_of, listed_hops_of, HasHop}
 use Rattle.walk_core.specs.Segments.{SendsAcross}
 use Rattle.walk_core.specs.Walks.{Arcs, LeastCost, FirstHop, walk_cost}

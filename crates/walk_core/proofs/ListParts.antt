@@ -1,7 +1,7 @@
 -- Spans of one list of numbers as lists, and lists of one number or more.
 use Rattle.std.proofs.Common.{◌≡◌, ℕ, ◌-◌, ◌≤◌, List, [], ◌∷◌, ◌++◌, length, length-append, take, drop, map, set, All, refl, sym, ap, ◌∙◌, arith}
 use Rattle.std.proofs.lemmas.List.{drop-append-le, drop_at, take-append-le, take_all, map-append, map-set, length-drop}
-use Rattle.std.proofs.lemmas.List.Elements.{All-head, All-tail, All-weaker}
+use Rattle.std.proofs.lemmas.List.Elements.{All-head, All-tail}
 use Rattle.walk_core.specs.steps.NumberLists.{part_of, lists_of, list_of, IsWithin, AreSpansWithin, IsLongListKept, Grows}
 use Rattle.walk_core.specs.declared.long_lists.Span.{Span}
 use Rattle.walk_core.specs.declared.number_lists.Numbers.{Numbers}

@@ -2,7 +2,7 @@
 use Rattle.std.proofs.Common.{◌≡◌, ◌≢◌, ℕ, ◌≤◌, ◌↔◌, List, [], ◌∷◌, Option, sym, subst, inl, inr, arith}
 use Rattle.std.proofs.lemmas.Bool.{cases_eq}
 use Rattle.walk_core.specs.Walks.{Arcs, Leg, Walks, walk_cost, LeastCost}
-use Rattle.walk_core.specs.Distances.{AreLeastDistances}
+use Rattle.walk_core.specs.steps.Rows.{AreLeastDistances}
 use Rattle.walk_core.proofs.WalkLaws.{least_cost_at_most, least_cost_from, walks_over}
 
 -- the loose relation has the arcs, and besides them at most arcs from a vertex to itself

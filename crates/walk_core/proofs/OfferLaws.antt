@@ -6,7 +6,8 @@ use Rattle.std.specs.List.Sorted.{IsStrictlyIncreasing}
 use Rattle.walk_core.specs.Walks.{Arcs}
 use Rattle.walk_core.specs.Offers.{Offers, OfferCosts, BestCost, BestHop}
 use Rattle.walk_core.specs.Reach.{Reach, distance_of, HasHop, AreLeastWalks}
-use Rattle.walk_core.specs.BestOffers.{ListsOffer, total_with, total_towards, HasTotal, NoneTotals, IsBestTotal, IsHopOver, IsHopTowards}
+use Rattle.walk_core.specs.BestOffers.{ListsOffer, total_with, total_towards, HasTotal, NoneTotals, IsBestTotal, IsHopTowards}
+use Rattle.walk_core.specs.steps.BestOver.{IsHopOver}
 use Rattle.walk_core.specs.BestOffers.{AreHopsTowards}
 use Rattle.walk_core.specs.declared.offers.Offer.{Offer}
 use Rattle.walk_core.specs.steps.Adding.{AddsNumbers, SomeLeadsTo}

@@ -9,9 +9,11 @@ use Rattle.std.proofs.lemmas.List.{get_or_append_left, get_or_push}
 use Rattle.std.proofs.lemmas.Option.{slice_get_within, slice_get-get_or, same_Some}
 use borrow.Author.Count.{below_more}
 use Rattle.walk_core.specs.Walks.{Arcs, FirstHop, walk_cost}
-use Rattle.walk_core.specs.Distances.{distance_at, AreLeastDistances, IsDistanceRow, AreDistanceRows}
+use Rattle.walk_core.specs.Distances.{distance_at}
+use Rattle.walk_core.specs.steps.Rows.{AreLeastDistances, IsDistanceRow}
 use Rattle.walk_core.specs.steps.FirstHops.{AreAllHops, AreFirstHops, ListFirstHops}
-use Rattle.walk_core.specs.Reach.{Reach, AreAscending, AreLeastWalks, AreNear, AreWalksBelow}
+use Rattle.walk_core.specs.Reach.{Reach, AreLeastWalks, AreNear, AreWalksBelow}
+use Rattle.walk_core.specs.steps.Ascending.{AreAscending}
 use Rattle.walk_core.proofs.WalkLaws.{first_hop_has_least_cost}
 
 -- what holds of each element so far and of one more holds of all of them

@@ -6,7 +6,8 @@ use Rattle.std.proofs.lemmas.Bool.{cases_eq}
 use Rattle.std.proofs.lemmas.List.{length-replicate}
 use borrow.Author.Count.{below_more}
 use Rattle.walk_core.specs.Walks.{Arcs, Leg, Walks, walk_cost, LeastCost}
-use Rattle.walk_core.specs.Distances.{distance_at, AreLeastDistances}
+use Rattle.walk_core.specs.Distances.{distance_at}
+use Rattle.walk_core.specs.steps.Rows.{AreLeastDistances}
 use Rattle.walk_core.proofs.WalkLaws.{least_cost_from, least_cost_unique}
 use Rattle.walk_core.specs.steps.Relaxing.{WalkCosts, AreWalked, IsAtMost, IsTightFrom, missing, HaveRoom, weight_of, total_weight, Relaxes}
 

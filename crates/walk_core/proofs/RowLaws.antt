@@ -5,14 +5,15 @@ use Rattle.std.proofs.lemmas.Bool.{cases_lt}
 use Rattle.std.proofs.lemmas.List.{get_or_default, length-replicate}
 use Rattle.walk_core.specs.declared.outlets.Outlet.{Outlet}
 use Rattle.walk_core.specs.declared.segment.Port.{Port}
-use Rattle.walk_core.specs.Distances.{distance_at, IsDistanceRow}
+use Rattle.walk_core.specs.Distances.{distance_at}
+use Rattle.walk_core.specs.steps.Rows.{IsDistanceRow}
 use Rattle.walk_core.specs.Reach.{Reach, AreWalksBelow}
 use Rattle.walk_core.specs.Segments.{SendsAcross, AreSegments, IsPort}
 use Rattle.walk_core.specs.steps.Ends.{IsShortRow}
 use Rattle.walk_core.specs.steps.Flooding.{segment_at}
 use Rattle.walk_core.specs.Walks.{Arcs}
 use Rattle.walk_core.specs.steps.Relaxing.{AreWalked, IsTightFrom}
-use Rattle.walk_core.specs.Known.{lone_row}
+use Rattle.walk_core.specs.KeptWalks.{lone_row}
 use Rattle.walk_core.specs.steps.SegmentWalks.{AreAllOutlets, AreOutlets, HasOutlet, IsJoinedEnd}
 use Rattle.walk_core.proofs.FloodLaws.{sends_at_place, sends_below}
 use Rattle.walk_core.proofs.ReachLaws.{lists_of_all, no_hops_listed, walks_more}

@@ -6,7 +6,8 @@ use Rattle.walk_core.specs.declared.ways.Aim.{Aim}
 use Rattle.walk_core.specs.declared.outlets.Outlet.{Outlet}
 use Rattle.walk_core.specs.declared.segment.Port.{Port}
 use Rattle.walk_core.specs.Walks.{Arcs, Leg, walk_cost, LeastCost, FirstHop, LeastWalk, Walks}
-use Rattle.walk_core.specs.Distances.{distance_between, AreLeastDistances, distance_at}
+use Rattle.walk_core.specs.Distances.{distance_at}
+use Rattle.walk_core.specs.steps.Rows.{distance_between, AreLeastDistances}
 use Rattle.walk_core.specs.steps.Flooding.{segment_at}
 use Rattle.walk_core.specs.steps.SegmentWalks.{Mesh, IsMesh, IsOutlet, HasOutlet, AreOutlets, GoesOver, GoesOut, IsNoNearer}
 use Rattle.walk_core.specs.steps.SegmentWalks.{EndsAlone, IsBehind, IsEndAt, IsLinkEnd, IsFarEnd, IsLan}
@@ -40,7 +41,8 @@ pub record IsWanted (mesh : Mesh) (root : ℕ) (outlets : List Outlet) (aim : Ai
   pub away : distance_between mesh.rows root aim.vertex ≡ Some aim.distance
 
 -- a distance of the rows is a least cost
-pub cost_from : (mesh : Mesh) (u v d : ℕ) → IsMesh mesh → u < mesh.count → distance_between mesh.rows u v ≡ Some d → LeastCost (SendsAcross mesh.segments) u v d
+pub cost_from : (mesh : Mesh) (u v d : ℕ) → IsMesh mesh → u < mesh.count → distance_between mesh.rows u v ≡ Some d →
+    LeastCost (SendsAcross mesh.segments) u v d
 cost_from mesh u v d is below away = ((is.rows.each u below).least.least v d).0 away
 
 -- the arc over an outlet to another vertex of its segment
@@ -131,7 +133,8 @@ over_outlet mesh root v d outlet port is below out among far =
         below = omega arith;
       }
       | inr apart ↦
-          let most = at_most_of_walk (SendsAcross mesh.segments) root v (get_or mesh.rows root []) (record { to = port.vertex; cost = outlet.cost } ∷ beyond.legs)
+          let most =
+          at_most_of_walk (SendsAcross mesh.segments) root v (get_or mesh.rows root []) (record { to = port.vertex; cost = outlet.cost } ∷ beyond.legs)
           (is.rows.each root below).least (arc_over mesh.segments root outlet port out among apart, beyond.walk.leads) in
           record { value = most.value; is = most.is; below = omega (arith, most.below, beyond.costs) }
     ]
@@ -166,7 +169,8 @@ ends_alone mesh root outlets aim outlet wanted listed = go outlet.to is.leads
         omega (arith, positive, behind.sum, same)
 
     go : (to : Option ℕ) → MatchOption to (IsLan ports) (IsFarEnd ports root) →
-        MatchOption to (IsLan ports) (λ t. (rest : Aim) (h : ℕ) → IsBehind aim outlet.cost rest → IsEndAt mesh.rows ports rest h ↔ IsLinkEnd mesh.rows rest t h)
+        MatchOption to (IsLan ports)
+        (λ t. (rest : Aim) (h : ℕ) → IsBehind aim outlet.cost rest → IsEndAt mesh.rows ports rest h ↔ IsLinkEnd mesh.rows rest t h)
     go None lan = lan
     go (Some to) far = λ rest h behind. (
       λ end. elim (far.only end.thing end.among) [

@@ -9,7 +9,8 @@ use Rattle.walk_core.specs.steps.Adding.{AddsNumbers}
 use Rattle.walk_core.specs.steps.Flooding.{segment_at}
 use Rattle.walk_core.specs.steps.Cheapest.{HasCost, IsCheapestCost}
 use Rattle.walk_core.specs.Distances.{distance_at}
-use Rattle.walk_core.specs.Reach.{Reach, AreAscending, distance_of}
+use Rattle.walk_core.specs.Reach.{Reach, distance_of}
+use Rattle.walk_core.specs.steps.Ascending.{AreAscending}
 use Rattle.walk_core.specs.steps.SegmentWalks.{beyond_port, AreEnds, IsEndAt, IsLan, AreWalksFrom, KnowsBeyond, Mesh, GoesOver, IsBehind, IsNoNearer}
 use Rattle.walk_core.proofs.AddingLaws.{adds_same}
 use Rattle.walk_core.proofs.ReachLaws.{ascending_more, each_at_more}

@@ -1,5 +1,5 @@
 -- The best of a list of offers, at the distances that are known from the root.
-use Rattle.std.specs.Prelude.{◌≡◌, ℕ, ◌+◌, ◌^◌, ◌<◌, ◌≤◌, ◌↔◌, List, Option, Some, None, min, Contains, All}
+use Rattle.std.specs.Prelude.{◌≡◌, ℕ, ◌+◌, ◌^◌, ◌<◌, ◌≤◌, ◌↔◌, List, Option, Some, None, Contains, All}
 use Rattle.std.specs.List.Sorted.{IsStrictlyIncreasing}
 use Rattle.walk_core.specs.Reach.{Reach, distance_of, HasHop}
 use Rattle.walk_core.specs.declared.offers.Offer.{Offer}
@@ -42,21 +42,10 @@ pub record IsBestTotal (reach : Reach) (offers : List Offer) (cost : ℕ) : Type
   pub attained : HasTotal reach offers cost
   pub least : (other : ℕ) → HasTotal reach offers other → cost ≤ other
 
--- the least of two costs, of which either may be missing
-abbrev pub least_cost_of : Option ℕ → Option ℕ → Option ℕ
-least_cost_of None other = other
-least_cost_of (Some x) None = Some x
-least_cost_of (Some x) (Some y) = Some (min x y)
-
 -- h is a first hop towards an offer that costs this in all
 pub record IsHopTowards (reach : Reach) (offers : List Offer) (cost h : ℕ) : Type 0 where
   pub offer : Offer
   pub among : Contains offers offer
-  pub total : total_towards reach offer ≡ Some cost
-  pub hop : HasHop reach offer.at h
-
--- h is a first hop towards an offer, which costs this in all
-pub record IsHopOver (reach : Reach) (offer : Offer) (cost h : ℕ) : Type 0 where
   pub total : total_towards reach offer ≡ Some cost
   pub hop : HasHop reach offer.at h
 

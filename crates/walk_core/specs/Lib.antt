@@ -3,6 +3,6 @@ pub mod Offers
 pub mod BestOffers
 pub mod Distances
 pub mod Reach
-pub mod Known
+pub mod KeptWalks
 pub mod Segments
 pub mod steps

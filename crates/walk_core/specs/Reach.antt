@@ -1,6 +1,5 @@
 -- What is known of the least walks from one vertex.
 use Rattle.std.specs.Prelude.{◌≡◌, ℕ, ◌*◌, ◌^◌, ◌<◌, List, [], Option, Some, None, slice_index_or, Contains, length, slice_get, ◌↔◌}
-use Rattle.std.specs.List.Sorted.{IsStrictlyIncreasing}
 use Rattle.walk_core.specs.Walks.{Arcs, Leg, Walks, LeastCost, FirstHop}
 use Rattle.walk_core.specs.Distances.{distance_at}
 
@@ -20,10 +19,6 @@ listed_hops_of reach v = slice_index_or reach.hops v []
 -- h is among the first hops towards v
 abbrev pub HasHop : Reach → ℕ → ℕ → Type 0
 HasHop reach v h = Contains (listed_hops_of reach v) h
-
--- the numbers of each list ascend
-abbrev pub AreAscending : List (List ℕ) → Type 0
-AreAscending lists = (v : ℕ) → IsStrictlyIncreasing (slice_index_or lists v [])
 
 -- the distances are the least costs of walks from the root, none exactly where no walk leads, and
 -- the hops are those with which a least walk begins

@@ -10,3 +10,5 @@ pub mod FirstHops
 pub mod SegmentWalks
 pub mod Exits
 pub mod Ends
+pub mod Ascending
+pub mod BestOver

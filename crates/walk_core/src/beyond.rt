@@ -4,7 +4,7 @@ ghost use Rattle.walk_core.specs.steps.SegmentWalks.{AreEnds, AreWalksFrom, IsLa
 
 use crate::OutOfMemory;
 use crate::distance::{Distance, nearer_of};
-use crate::found::Found;
+use crate::found_walks::FoundWalks;
 use crate::number_lists::NumberLists;
 use crate::outlets::is_lan;
 use crate::rows::{Distances, row_distance};
@@ -18,8 +18,9 @@ pub fn all_beyond(
     segments: &[Segment],
     rows: &[Distances],
     count: u32,
-) -> Result<Vec<Found>, OutOfMemory>
-    ensures { IfOk result (λ beyond. KnowsBeyond (record { count = count; segments = segments.now; rows = rows.now; beyond = beyond.items }) (length segments.now)) }
+) -> Result<Vec<FoundWalks>, OutOfMemory>
+    ensures { IfOk result (λ beyond.
+        KnowsBeyond (record { count = count; segments = segments.now; rows = rows.now; beyond = beyond.items }) (length segments.now)) }
 {
     let mut beyond = Vec::with_capacity(alloc, segments.len())?;
     for place in 0..segments.len() {
@@ -29,7 +30,7 @@ pub fn all_beyond(
 }
 
 /// The least walks that begin on the segment of a place.
-pub fn walks_at(beyond: &[Found], place: usize) -> &Found
+pub fn walks_at(beyond: &[FoundWalks], place: usize) -> &FoundWalks
     requires { place < length beyond.now }
     ensures { result.now ≡ reach_at beyond.now place }
 {
@@ -43,11 +44,11 @@ fn walks_beyond(
     ports: &[Port],
     rows: &[Distances],
     count: u32,
-) -> Result<Found, OutOfMemory>
+) -> Result<FoundWalks, OutOfMemory>
     ensures { IfOk result (λ walks. IsLan ports.now → AreWalksFrom rows.now ports.now count walks) }
 {
     if !is_lan(ports) {
-        return Ok(Found::none(alloc));
+        return Ok(FoundWalks::none(alloc));
     }
     let mut distances = Vec::with_capacity(alloc, count as usize)?;
     let mut hops = NumberLists::with_room(alloc, count as usize)?;
@@ -58,7 +59,7 @@ fn walks_beyond(
         distances.push(distance)?;
         hops.push(ends.as_slice())?;
     }
-    Ok(Found::of(Distances::from_vec(distances), hops))
+    Ok(FoundWalks::of(Distances::from_vec(distances), hops))
 }
 
 /// Finds how far v is from the nearest vertex of a segment, and which vertices of the segment are that near.

@@ -1,5 +1,6 @@
 ghost use Rattle.std.specs.Prelude.{◌≡◌, ◌+◌, ◌^◌, ◌<◌, ℕ, Some};
-ghost use Rattle.walk_core.specs.BestOffers.{least_cost_of, total_with};
+ghost use Rattle.walk_core.specs.BestOffers.{total_with};
+ghost use Rattle.walk_core.specs.steps.BestOver.{least_cost_of};
 
 use std::marker::Model;
 

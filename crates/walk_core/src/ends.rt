@@ -1,6 +1,8 @@
 ghost use Rattle.std.specs.Prelude.{◌≡◌, ◌+◌, ◌*◌, ◌^◌, ◌<◌, ◌≤◌, ℕ, true, false, length, slice_index_or, Some, IfOk, IfSome};
-ghost use Rattle.walk_core.specs.BestOffers.{least_cost_of, total_with};
-ghost use Rattle.walk_core.specs.Distances.{IsDistanceRow, distance_at};
+ghost use Rattle.walk_core.specs.BestOffers.{total_with};
+ghost use Rattle.walk_core.specs.steps.BestOver.{least_cost_of};
+ghost use Rattle.walk_core.specs.Distances.{distance_at};
+ghost use Rattle.walk_core.specs.steps.Rows.{IsDistanceRow};
 ghost use Rattle.walk_core.specs.Segments.{AreSegments, SendsAcross};
 ghost use Rattle.walk_core.specs.steps.Ends.{AreSearched, IsEndRow};
 ghost use Rattle.walk_core.specs.steps.SegmentWalks.{AreOutlets};

@@ -1,6 +1,6 @@
-ghost use Rattle.std.specs.Prelude.{◌≡◌, ◌↔◌, ◌∷◌, ◌++◌, ◌+◌, ◌<◌, ◌^◌, ℕ, [], Some, slice_index_or, IfSome, OnOk};
+ghost use Rattle.std.specs.Prelude.{◌≡◌, ◌↔◌, ◌∷◌, ◌++◌, ◌+◌, ◌<◌, ℕ, [], Some, slice_index_or, IfSome, OnOk};
 ghost use Rattle.walk_core.specs.Distances.{distance_at};
-ghost use Rattle.walk_core.specs.steps.Exits.{AddsHops, AreTwoExits, FitsOver, IsExit, IsNearer, cost_over, list_of_two};
+ghost use Rattle.walk_core.specs.steps.Exits.{AddsHops, AreTwoExits, FitsOver, IsExit, IsNoFarther, cost_over, list_of_two};
 
 use crate::OutOfMemory;
 use crate::distance::Distance;
@@ -82,8 +82,8 @@ pub fn push_exits(hops: &mut NumberLists, exits: TwoExits<'_>, v: u32) -> Result
     let other = cost_over(exits.other, v);
     push_two(
         hops,
-        nearer_end(exits.one.to, one, other),
-        nearer_end(exits.other.to, other, one),
+        no_farther_end(exits.one.to, one, other),
+        no_farther_end(exits.other.to, other, one),
     )
 }
 
@@ -99,8 +99,8 @@ fn cost_over(exit: Exit<'_>, v: u32) -> Option<u64>
 
 /// The end of an exit over which it costs this, unless it costs less over the other one.
 #[inline(always)]
-fn nearer_end(to: u32, cost: Option<u64>, rival: Option<u64>) -> Option<u32>
-    ensures { (h : ℕ) → (result ≡ Some h) ↔ (IsNearer cost rival × (to ≡ h)) }
+fn no_farther_end(to: u32, cost: Option<u64>, rival: Option<u64>) -> Option<u32>
+    ensures { (h : ℕ) → (result ≡ Some h) ↔ (IsNoFarther cost rival × (to ≡ h)) }
 {
     match (cost, rival) {
         (Some(cost), Some(rival)) if rival < cost => None,

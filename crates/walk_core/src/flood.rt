@@ -1,5 +1,6 @@
-ghost use Rattle.std.specs.Prelude.{◌≡◌, ◌+◌, ◌^◌, ◌<◌, ◌≤◌, ◌↔◌, ℕ, true, false, length, slice_index_or, IsTrue, Some, MatchOption, slice_set, if◌then◌else◌, IfOk};
-ghost use Rattle.std.specs.Bool.{OnFalse, OnTrue};
+ghost use Rattle.std.specs.Prelude.{◌≡◌, ◌+◌, ◌^◌, ◌<◌, ◌≤◌, ◌↔◌, ℕ, true, false, length, slice_index_or, IsTrue, Some, MatchOption, slice_set};
+ghost use Rattle.std.specs.Prelude.{if◌then◌else◌, IfOk};
+ghost use Rattle.std.specs.Bool.{OnTrue};
 ghost use Rattle.walk_core.specs.steps.Cheapest.{HasCost};
 ghost use Rattle.walk_core.specs.Distances.{distance_at};
 ghost use Rattle.walk_core.specs.steps.Ends.{IsShortRow};

@@ -9,7 +9,7 @@
 //! | File | What it holds |
 //! |---|---|
 //! | `graph`, `segment` | the two kinds of graphs |
-//! | `walks`, `offers`, `found`, `number_lists`, `long_lists` | what is known of the walks from a root, and the best of offers |
+//! | `walks`, `offers`, `found_walks`, `number_lists`, `long_lists` | what is known of the walks from a root, and the best of offers |
 //! | `distance`, `rows` | a distance in 8 bytes, and a row of those from one vertex |
 //! | `relax`, `hops` | over arcs: distances by relaxing, and first hops by the distances from where arcs lead |
 //! | `flood`, `outlets`, `over_segments` | over segments: distances, from stale vertices, and onto a LAN at once |
@@ -26,7 +26,7 @@
 //! what each costs and how far it is from the far end, one pass over a row a link, where those rows were searched before.
 //! Along a chain every second root is such a one. A root without a port takes no
 //! time of its own and no row, and the rows of the others end with the last vertex that has a port. A caller that is
-//! proved: `ZoneWalks::build` of `zone_graph`.
+//! proved: `ZoneWalks::over` of `zone_graph`.
 #![tactic(auto)]
 
 // graphs
@@ -35,7 +35,7 @@ mod segment;
 
 // what is known of the walks from a root
 mod distance;
-mod found;
+mod found_walks;
 mod long_lists;
 mod number_lists;
 mod offers;

@@ -1,5 +1,5 @@
 ghost use Rattle.std.specs.Prelude.{◌≡◌, ◌<◌, ◌↔◌, ◌⊎◌, ℕ, IfOk, OnOk, MatchOption, Contains};
-ghost use Rattle.walk_core.specs.BestOffers.{least_cost_of};
+ghost use Rattle.walk_core.specs.steps.BestOver.{least_cost_of};
 
 use crate::union::{push_below, put_in_order};
 use crate::{LeastWalks, OutOfMemory};
@@ -15,7 +15,8 @@ pub struct Offer {
 }
 
 impl LeastWalks {
-    ghost use Rattle.walk_core.specs.BestOffers.{AreInRange, FitsTotal, IsBestTotal, NoneTotals, AreHopsTowards, IsHopOver, total_towards};
+    ghost use Rattle.walk_core.specs.BestOffers.{AreInRange, FitsTotal, IsBestTotal, NoneTotals, AreHopsTowards, total_towards};
+    ghost use Rattle.walk_core.specs.steps.BestOver.{IsHopOver};
 
     /// What the best of some offers costs at the root, and `None` where none is reached.
     pub fn best_cost(&self, offers: &[Offer]) -> Option<u64>

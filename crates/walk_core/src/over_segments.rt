@@ -1,5 +1,5 @@
 ghost use Rattle.std.specs.Prelude.{◌≡◌, ◌+◌, ◌<◌, [], false, true, length, slice_index_or, slice_set, IfOk, OnOk};
-ghost use Rattle.walk_core.specs.Distances.{AreDistanceRows, IsDistanceRow};
+ghost use Rattle.walk_core.specs.steps.Rows.{AreDistanceRows, IsDistanceRow};
 ghost use Rattle.walk_core.specs.Reach.{AreWalksBelow};
 ghost use Rattle.walk_core.specs.steps.Ends.{AreRowsFound, AreSearched, IsShortRow};
 ghost use Rattle.walk_core.specs.steps.FirstHops.{AreAllHops};

@@ -1,6 +1,7 @@
-ghost use Rattle.std.specs.Prelude.{◌≡◌, ◌+◌, ◌*◌, ◌^◌, ◌<◌, ◌≤◌, ◌↔◌, ℕ, length, IsTrue, Some, slice_set, if◌then◌else◌, IfOk};
-ghost use Rattle.std.specs.Bool.{OnTrue, OnFalse};
-ghost use Rattle.walk_core.specs.Distances.{distance_at, AreLeastDistances};
+ghost use Rattle.std.specs.Prelude.{◌≡◌, ◌+◌, ◌*◌, ◌^◌, ◌<◌, ◌↔◌, ℕ, length, IsTrue, Some, slice_set, if◌then◌else◌, IfOk};
+ghost use Rattle.std.specs.Bool.{OnFalse};
+ghost use Rattle.walk_core.specs.Distances.{distance_at};
+ghost use Rattle.walk_core.specs.steps.Rows.{AreLeastDistances};
 ghost use Rattle.walk_core.specs.steps.Relaxing.{weight_of, HaveRoom, IsTightFrom, Relaxes};
 
 use crate::distance::Distance;

@@ -1,6 +1,7 @@
 ghost use Rattle.std.specs.Prelude.{◌≡◌, ◌<◌, length, IfOk};
-ghost use Rattle.walk_core.specs.Distances.{distance_at, distance_between, KnowsEnds};
-ghost use Rattle.walk_core.specs.Known.{lone_row};
+ghost use Rattle.walk_core.specs.Distances.{distance_at};
+ghost use Rattle.walk_core.specs.steps.Rows.{distance_between, KnowsEnds};
+ghost use Rattle.walk_core.specs.KeptWalks.{lone_row};
 
 use crate::distance::Distance;
 use crate::relax::{distance_in, distances_from};
@@ -9,7 +10,7 @@ use std::alloc::Global;
 use std::marker::Model;
 
 /// The distances from one vertex, by the number of the other: the least cost of a walk there, and None where no walk
-/// leads. Those of a vertex that reaches itself alone take no memory.
+/// leads. Those over segments from a vertex without a port take no memory.
 #[derive(Debug, Drop)]
 pub struct Distances {
     kept: Kept,
@@ -36,7 +37,7 @@ impl Model for Distances {
 impl Distances {
     ghost use Rattle.std.specs.Prelude.{◌≡◌, [], IfSome};
     ghost use Rattle.walk_core.specs.Distances.{distance_at};
-    ghost use Rattle.walk_core.specs.Known.{lone_row};
+    ghost use Rattle.walk_core.specs.KeptWalks.{lone_row};
 
     /// No distances.
     pub fn none(alloc: Global) -> Distances

@@ -1,8 +1,8 @@
 ghost use Rattle.std.specs.Prelude.{◌≡◌, ◌<◌, ◌⊎◌, length, IfOk};
-ghost use Rattle.walk_core.specs.Distances.{IsDistanceRow, KnowsEnds};
+ghost use Rattle.walk_core.specs.steps.Rows.{IsDistanceRow, KnowsEnds};
 ghost use Rattle.walk_core.specs.Reach.{AreLeastWalks, AreNear};
 
-use crate::found::Found;
+use crate::found_walks::FoundWalks;
 use crate::hops::{Departure, departures_from, find_first_hops};
 use crate::number_lists::NumberLists;
 use crate::relax::distances_from;
@@ -12,24 +12,24 @@ use std::alloc::Global;
 use std::marker::Model;
 
 /// The least-cost walks from one vertex of a graph, the root: how far each vertex is, and with
-/// which first hops one goes there. Those of a vertex that reaches itself alone take no memory.
+/// which first hops one goes there. Those that `segment_walks` finds from a vertex without a port take no memory.
 #[derive(Debug, Drop)]
 pub struct LeastWalks {
-    known: Known,
+    known: KeptWalks,
 }
 
 /// What is known of the walks from a root.
 #[derive(Debug, Drop)]
-pub enum Known {
+pub enum KeptWalks {
     /// This is the root, which reaches itself alone.
     Lone(u32),
     /// How far the vertices are, and their first hops.
-    Far(Box<Found>),
+    Far(Box<FoundWalks>),
 }
 
 impl Model for LeastWalks {
     ghost use Rattle.walk_core.specs.Reach.{Reach};
-    ghost use Rattle.walk_core.specs.Known.{reach_known};
+    ghost use Rattle.walk_core.specs.KeptWalks.{reach_known};
 
     ghost Value = { Reach };
 
@@ -96,8 +96,9 @@ fn most_ends(departures: &[Departure], vertices: u32) -> u32
 impl LeastWalks {
     ghost use Rattle.std.specs.Prelude.{◌≡◌, ◌↔◌, [], IfOk, IsTrue};
     ghost use Rattle.std.specs.List.Sorted.{IsStrictlyIncreasing};
-    ghost use Rattle.walk_core.specs.Reach.{AreAscending, distance_of, listed_hops_of, HasHop};
-    ghost use Rattle.walk_core.specs.Known.{lone_row};
+    ghost use Rattle.walk_core.specs.Reach.{distance_of, listed_hops_of, HasHop};
+    ghost use Rattle.walk_core.specs.steps.Ascending.{AreAscending};
+    ghost use Rattle.walk_core.specs.KeptWalks.{lone_row};
 
     /// These distances, and these lists of first hops.
     pub(crate) fn of(
@@ -113,9 +114,9 @@ impl LeastWalks {
                 return Ok(LeastWalks::of_lone(root));
             }
         }
-        let found = Box::new(alloc, Found::of(distances, hops))?;
+        let found = Box::new(alloc, FoundWalks::of(distances, hops))?;
         Ok(LeastWalks {
-            known: Known::Far(found),
+            known: KeptWalks::Far(found),
         })
     }
 
@@ -124,7 +125,7 @@ impl LeastWalks {
         ensures { result ≡ (record { distances = lone_row root; hops = [] }) }
     {
         LeastWalks {
-            known: Known::Lone(root),
+            known: KeptWalks::Lone(root),
         }
     }
 
@@ -134,8 +135,8 @@ impl LeastWalks {
         ensures { result ≡ distance_of self.now v }
     {
         match &self.known {
-            Known::Lone(root) => distance_to_lone(*root, v).get(),
-            Known::Far(found) => found.distance(v),
+            KeptWalks::Lone(root) => distance_to_lone(*root, v).get(),
+            KeptWalks::Far(found) => found.distance(v),
         }
     }
 
@@ -155,8 +156,8 @@ impl LeastWalks {
         ensures ascending { IsStrictlyIncreasing result.now }
     {
         match &self.known {
-            Known::Lone(_) => &[],
-            Known::Far(found) => found.hops_to(v),
+            KeptWalks::Lone(_) => &[],
+            KeptWalks::Far(found) => found.hops_to(v),
         }
     }
 }

@@ -4,7 +4,7 @@ ghost use Rattle.walk_core.specs.steps.SegmentWalks.{IsBehind};
 use crate::OutOfMemory;
 use crate::beyond::walks_at;
 use crate::exits::{TwoExits, push_exits, two_exits};
-use crate::found::Found;
+use crate::found_walks::FoundWalks;
 use crate::number_lists::NumberLists;
 use crate::outlets::{Outlet, is_lone, only_lan};
 use crate::rows::{Distances, distance_between};
@@ -26,7 +26,7 @@ pub struct Ways<'a> {
     count: u32,
     segments: &'a [Segment],
     rows: &'a [Distances],
-    beyond: &'a [Found],
+    beyond: &'a [FoundWalks],
 }
 
 impl<'a> Model for Ways<'a> {
@@ -40,10 +40,10 @@ impl<'a> Model for Ways<'a> {
 }
 
 impl<'a> Ways<'a> {
-    ghost use Rattle.std.specs.Prelude.{◌≡◌, ◌<◌, ◌↔◌, ◌∷◌, ℕ, [], None, length, slice_index_or, IfOk, OnOk, Contains};
+    ghost use Rattle.std.specs.Prelude.{◌≡◌, ◌<◌, ◌↔◌, ◌∷◌, ℕ, [], None, length, IfOk, OnOk, Contains};
     ghost use Rattle.std.specs.List.Sorted.{IsStrictlyIncreasing};
-    ghost use Rattle.walk_core.specs.Distances.{distance_between};
-    ghost use Rattle.walk_core.specs.Reach.{AreAscending};
+    ghost use Rattle.walk_core.specs.steps.Rows.{distance_between};
+    ghost use Rattle.walk_core.specs.steps.Ascending.{AreAscending};
     ghost use Rattle.walk_core.specs.Segments.{SendsAcross};
     ghost use Rattle.walk_core.specs.Walks.{FirstHop};
     ghost use Rattle.walk_core.specs.steps.Adding.{AddsNumbers};
@@ -57,7 +57,7 @@ impl<'a> Ways<'a> {
         count: u32,
         segments: &'a [Segment],
         rows: &'a [Distances],
-        beyond: &'a [Found],
+        beyond: &'a [FoundWalks],
     ) -> Ways<'a>
         requires { IsMesh (record { count = count; segments = segments.now; rows = rows.now; beyond = beyond.now }) }
         ensures { result ≡ (record { count = count; segments = segments.now; rows = rows.now; beyond = beyond.now }) }
@@ -78,14 +78,6 @@ impl<'a> Ways<'a> {
         self.count
     }
 
-    /// The distances from u.
-    fn row(&self, u: u32) -> &Distances
-        requires { u < self.now.count }
-        ensures { result.now ≡ slice_index_or self.now.rows u [] }
-    {
-        &self.rows[u as usize]
-    }
-
     /// How far v is from u.
     fn distance(&self, u: u32, v: u32) -> Option<u64>
         ensures { result ≡ distance_between self.now.rows u v }
@@ -94,7 +86,7 @@ impl<'a> Ways<'a> {
     }
 
     /// The walks that begin on the segment of a place, if it is a LAN.
-    fn walks(&self, place: usize) -> &Found
+    fn walks(&self, place: usize) -> &FoundWalks
         requires { place < length self.now.segments }
         ensures { IsLan (segment_at self.now.segments place) →
             AreWalksFrom self.now.rows (segment_at self.now.segments place) self.now.count result.now }
@@ -123,13 +115,12 @@ impl<'a> Ways<'a> {
             return self.hops_over_lan(alloc, outlet, root);
         }
         if let Some(exits) = two_exits(self.rows, outlets, root) {
-            return self.hops_over_exits(alloc, exits, root);
+            return self.hops_over_exits(alloc, exits);
         }
         let mut hops = NumberLists::with_room(alloc, count as usize)?;
-        let own = self.row(root);
         let mut found = Vec::new(alloc);
         for v in 0..count {
-            self.find_hops(&mut found, outlets, own, root, v)?;
+            self.find_hops(&mut found, outlets, root, v)?;
             hops.push(found.as_slice())?;
         }
         Ok(hops)
@@ -153,17 +144,16 @@ impl<'a> Ways<'a> {
         walks.hops_without(alloc, root)
     }
 
-    /// The first hops from a root of two links.
+    /// The first hops from the root of two exits.
     fn hops_over_exits(
         &self,
         alloc: Global,
         exits: TwoExits<'_>,
-        root: u32,
     ) -> Result<NumberLists, OutOfMemory>
         requires mesh { IsMesh self.now }
-        requires root { root < self.now.count }
-        requires exits { HasTwoExits self.now root exits }
-        ensures exact { IfOk result (ListFirstHops (SendsAcross self.now.segments) root) }
+        requires root { exits.root < self.now.count }
+        requires exits { HasTwoExits self.now exits }
+        ensures exact { IfOk result (ListFirstHops (SendsAcross self.now.segments) exits.entry.root) }
         ensures ascending { IfOk result AreAscending }
     {
         let count = self.count();
@@ -174,12 +164,11 @@ impl<'a> Ways<'a> {
         Ok(hops)
     }
 
-    /// Finds the first hops from the root, which has these ports and distances, towards v, in ascending order.
+    /// Finds the first hops from the root, which has these ports, towards v, in ascending order.
     fn find_hops(
         &self,
         found: &mut Vec<u32>,
         outlets: &[Outlet],
-        own: &Distances,
         root: u32,
         v: u32,
     ) -> Result<(), OutOfMemory>
@@ -187,12 +176,11 @@ impl<'a> Ways<'a> {
         requires root { root < self.now.count }
         requires vertex { v < self.now.count }
         requires outlets { AreOutlets self.now.segments root (length self.now.segments) outlets.now }
-        requires own { own.now ≡ slice_index_or self.now.rows root [] }
         ensures exact { OnOk result ((h : ℕ) → Contains found.new.items h ↔ FirstHop (SendsAcross self.now.segments) root v h) }
         ensures ascending { OnOk result (IsStrictlyIncreasing found.new.items) }
     {
         found.clear();
-        let Some(distance) = own.at(v) else {
+        let Some(distance) = self.distance(root, v) else {
             return Ok(());
         };
         for outlet in outlets {

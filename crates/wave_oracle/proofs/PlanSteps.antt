@@ -6,7 +6,7 @@ use Rattle.igp_theory.specs.declared.phase.Phase.TheVariants.{Old, New}
 use Rattle.plan_theory.specs.Plans.{IsPlanned}
 use Rattle.plan_theory.specs.declared.planned.EndFault.{EndFault}
 use Rattle.plan_theory.specs.declared.planned.Planned.TheVariants.{UnsoundOld, UnsoundNew}
-use Rattle.wave_oracle.specs.Oracles.{IsSoundEnd, HasEndFault}
+use Rattle.wave_oracle.specs.steps.EndFaults.{IsSoundEnd, HasEndFault}
 
 -- where no fault is told
 pub none_told : {P : Type 0} (told : Option EndFault) → ((fault : EndFault) → told ≡ Some fault → ⊥) → IfNone told P → P

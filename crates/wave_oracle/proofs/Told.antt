@@ -12,7 +12,7 @@ use Rattle.order_search.specs.Meanings.{Break}
 use Rattle.plan_theory.specs.WavesMeaning.{IsPickedFault}
 use Rattle.plan_theory.proofs.WaveBreaks.{wave_fault_breaks, no_step_lacks}
 use Rattle.order_core.specs.declared.turn.Turn.{Turn}
-use Rattle.wave_oracle.specs.Oracles.{IsToldLoop}
+use Rattle.wave_oracle.specs.steps.EndFaults.{IsToldLoop}
 
 -- what is told is a loop
 pub told_is_loop : (move : Migration) (ranks : List ℕ) (number : ℕ) (fault : Fault) (ring : List Turn) → AreSoundEnds move →

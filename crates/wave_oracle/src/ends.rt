@@ -2,7 +2,7 @@ ghost use Rattle.std.specs.Prelude.{◌≡◌, ◌<◌, ℕ, IfOk, IfSome, IfNon
 ghost use Rattle.loop_finder.specs.Faults.{state_in, told_fault};
 ghost use Rattle.rib_mix.specs.Mixture.{migration_of};
 ghost use Rattle.plan_theory.specs.Plans.{fault_told};
-ghost use Rattle.wave_oracle.specs.Oracles.{HasEndFault, IsSoundEnd};
+ghost use Rattle.wave_oracle.specs.steps.EndFaults.{HasEndFault, IsSoundEnd};
 
 use igp_theory::Phase;
 use loop_finder::{Fault, Finder};

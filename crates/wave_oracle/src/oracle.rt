@@ -1,6 +1,7 @@
 ghost use Rattle.std.specs.Prelude.{◌≡◌, length};
 ghost use Rattle.rib_mix.specs.Mixture.{migration_of};
-ghost use Rattle.wave_oracle.specs.Oracles.{HasSoundEnds, IsToldLoop};
+ghost use Rattle.wave_oracle.specs.Oracles.{HasSoundEnds};
+ghost use Rattle.wave_oracle.specs.steps.EndFaults.{IsToldLoop};
 
 use loop_finder::{Fault, Finder};
 use order_search::{Answer, Oracle, Turn};

@@ -181,7 +181,8 @@ cost_range Two i h = h.metric2
 port_range : (net : Network) (z : Zone) (a : Attachment) (port : Port) → IsNetwork net → IsAttachment net z (length net) a → IsPortOf a port →
     IsPort (length net) port
 port_range net z a port kept is port_is =
-    let keeps = All-contains IsInterface is.config.interfaces is.interface (HasConfiguration-keeps net a.router is.config kept is.router).interfaces is.among in
+    let keeps =
+    All-contains IsInterface is.config.interfaces is.interface (HasConfiguration-keeps net a.router is.config kept is.router).interfaces is.among in
     let range = cost_range z is.interface keeps in
     record {
       vertex = omega (arith, is.below, port_is.vertex);

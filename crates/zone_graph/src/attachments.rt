@@ -1,4 +1,4 @@
-ghost use Rattle.std.specs.Prelude.{◌≡◌, ◌<◌, ◌⊎◌, ◌↔◌, ℕ, length, Contains, IfOk, OnOk};
+ghost use Rattle.std.specs.Prelude.{◌<◌, ◌↔◌, length, Contains, IfOk, OnOk};
 ghost use Rattle.std.specs.List.Sorted.{IsNonDecreasingBy};
 ghost use Rattle.zone_graph.specs.declared.attachments.Attachment.{Attachment};
 ghost use Rattle.zone_graph.specs.steps.Attachments.{AddsLinks, AreAttachments, IsGroup};

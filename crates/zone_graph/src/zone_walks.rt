@@ -27,7 +27,8 @@ impl Model for ZoneWalks {
 }
 
 impl ZoneWalks {
-    /// The least walks over the adjacencies of a zone (RFC 2328, section 16.1; RFC 1195).
+    /// The least walks over the adjacencies of a zone (RFC 2328, section 16.1; RFC 1195). It is here for users of a network
+    /// as a library: the protocols keep a zone's segments, and take `over`.
     pub fn build(alloc: Global, net: &Net, zone: Zone) -> Result<ZoneWalks, OutOfMemory>
         ensures { IfOk result (AreZoneWalks net.now zone) }
     {
@@ -35,7 +36,7 @@ impl ZoneWalks {
         ZoneWalks::over(alloc, net, segments.as_slice())
     }
 
-    /// The least walks over segments. Over those of a zone they are the zone's.
+    /// The least walks of a zone, over its segments. Of segments that are no zone's nothing is said.
     pub fn over(alloc: Global, net: &Net, segments: &[Segment]) -> Result<ZoneWalks, OutOfMemory>
         requires { AreSegments (length net.now) segments.now }
         ensures { IfOk result (λ walks. (zone : ZoneValue) → AreZoneSegments net.now zone segments.now →

@@ -8,7 +8,7 @@ use Rattle.order_core.specs.Marks.{IsMarked}
 use Rattle.order_core.specs.declared.turn.Turn.{Turn}
 use Rattle.rib_mix.specs.Mixture.{Mixture}
 use Rattle.loop_finder.specs.Faults.{state_in}
-use Rattle.loop_finder.specs.ClassSteps.{Listing, Mix, mix_of, migration_in, sample_of}
+use Rattle.loop_finder.specs.Mixes.{Listing, Mix, mix_of, migration_in, sample_of}
 
 -- two states and a class: what is mixed, the phase of each router in the first state and in the last, whether
 -- each router has to pass packets on, and the class

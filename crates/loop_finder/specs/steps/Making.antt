@@ -6,7 +6,7 @@ use Rattle.rib_mix.specs.Answers.{IsAlikeAt, IsNextOf, NextLeadsTo}
 use Rattle.rib_mix.specs.declared.next.Next.{Next}
 use Rattle.loop_finder.specs.steps.Ends.{ReadHops, EndStep, AreNoHops, hops_at}
 use Rattle.loop_finder.specs.steps.Returns.{MarksReturns}
-use Rattle.loop_finder.specs.ClassSteps.{sample_of, Mix, migration_in}
+use Rattle.loop_finder.specs.Mixes.{sample_of, Mix, migration_in}
 use Rattle.loop_finder.specs.declared.parts.Making.{Making}
 
 -- nothing is read yet of n routers

@@ -3,7 +3,7 @@ use Rattle.std.specs.Prelude.{◌≡◌, ℕ, ◌<◌, Bool, List, length, slice
 use Rattle.igp_theory.specs.declared.phase.Phase.{Phase}
 use Rattle.order_core.specs.Marks.{IsMarked}
 use Rattle.loop_finder.specs.Parts.{PhaseHops, ClassPart, StepsOf, hops_of, no_hops}
-use Rattle.loop_finder.specs.ClassSteps.{Mix}
+use Rattle.loop_finder.specs.Mixes.{Mix}
 
 -- the marked ones of some routers are among others
 abbrev pub HasMarked : List Bool → List ℕ → List ℕ → Type 0

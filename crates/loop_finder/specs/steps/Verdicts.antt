@@ -10,13 +10,13 @@ use Rattle.igp_theory.specs.declared.phase.Phase.TheVariants.{Old, New}
 use Rattle.order_core.specs.Turns.{routers_of}
 use Rattle.order_core.specs.declared.turn.Turn.{Turn}
 use Rattle.loop_finder.specs.Faults.{state_in, told_fault}
-use Rattle.loop_finder.specs.ClassSteps.{sample_of, Mix, migration_in}
+use Rattle.loop_finder.specs.Mixes.{sample_of, Mix, migration_in}
 use Rattle.loop_finder.specs.steps.ClassSteps.{ClassState, ClassStep, IsTagged, Moves, FirstStuck}
 use Rattle.loop_finder.specs.steps.Walks.{ReturnsNever}
 use Rattle.loop_finder.specs.WaveLists.{IsNumberedWavesFault}
 use Rattle.loop_finder.specs.declared.fault.Fault.{Fault}
 use Rattle.loop_finder.specs.declared.fault.Fault.TheVariants.{Loop, Missing}
-use Rattle.loop_finder.specs.Verdicts.{SoundAt, Sound}
+use Rattle.loop_finder.specs.Soundness.{SoundAt, Sound}
 
 -- a loop of a class: no router is stuck, and the turns are those of the ring that is told
 pub record IsClassLoop (c : ClassState) (a : ℕ) (turns : List Turn) : Type 0 where
@@ -52,7 +52,7 @@ IsClearAt m first last atom = (state : State) → IsBetween (length m.net) first
 
 -- the states between two are sound for the first n classes
 abbrev pub AreClear : Mix → List Phase → List Phase → ℕ → Type 0
-AreClear m first last n = (k : ℕ) → k < n → (state : State) → IsBetween (length m.net) first last state → SoundAt m state (sample_of m.classes k)
+AreClear m first last n = (k : ℕ) → k < n → IsClearAt m first last k
 
 -- the fault of the first class that has one
 pub record IsFirstTold (m : Mix) (first last : List Phase) (fault : Fault) (turns : List Turn) : Type 0 where

@@ -6,8 +6,8 @@ use Rattle.order_core.specs.declared.turn.Turn.{Turn}
 use Rattle.loop_finder.specs.Faults.{state_in}
 use Rattle.loop_finder.specs.Parts.{ClassPart}
 use Rattle.loop_finder.specs.steps.Parts.{DifferAt}
-use Rattle.loop_finder.specs.ClassSteps.{sample_of, Mix}
-use Rattle.loop_finder.specs.Verdicts.{SoundAt, Sound}
+use Rattle.loop_finder.specs.Mixes.{sample_of, Mix}
+use Rattle.loop_finder.specs.Soundness.{SoundAt, Sound}
 use Rattle.loop_finder.specs.steps.Verdicts.{Faulty}
 use Rattle.loop_finder.specs.declared.fault.Fault.{Fault}
 use Rattle.loop_finder.specs.Watches.{IsIdle}

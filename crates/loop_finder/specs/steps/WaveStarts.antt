@@ -5,8 +5,8 @@ use Rattle.igp_theory.specs.declared.phase.Phase.{Phase}
 use Rattle.igp_theory.specs.declared.phase.Phase.TheVariants.{Old, New}
 use Rattle.loop_finder.specs.Faults.{state_in}
 use Rattle.loop_finder.specs.Parts.{ClassPart}
-use Rattle.loop_finder.specs.ClassSteps.{Mix}
-use Rattle.loop_finder.specs.Verdicts.{Sound}
+use Rattle.loop_finder.specs.Mixes.{Mix}
+use Rattle.loop_finder.specs.Soundness.{Sound}
 
 -- the waves before w are switched, the others not begun: every router of the former is New, every other Old
 pub record AreSwitchedBefore (ranks : List ℕ) (w : ℕ) (phases : List Phase) : Type 0 where

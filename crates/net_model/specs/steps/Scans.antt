@@ -3,7 +3,7 @@ use Rattle.std.specs.Prelude.{◌≡◌, ◌≢◌, ℕ, ◌<◌, ◌≤◌, nat
 use Rattle.net_addr.specs.Addresses.{Block}
 use Rattle.net_model.specs.Configuration.{Configuration}
 use Rattle.net_model.specs.Least.{better_by}
-use Rattle.net_model.specs.Links.{ShareSubnet}
+use Rattle.net_model.specs.steps.BestLinks.{ShareSubnet}
 use Rattle.net_model.specs.Network.{RunsArea}
 use Rattle.net_model.specs.declared.area.Stub.{Stub}
 use Rattle.net_model.specs.declared.interface.Interface.{Interface}

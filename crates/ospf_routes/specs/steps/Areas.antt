@@ -55,7 +55,8 @@ pub record AreJoinedAreas (net : Network) (numbers : List ℕ) (areas : List Are
   pub every : (n : ℕ) → Contains numbers n → HasArea areas n
   pub join : JoinAreas net areas segments
 
--- the areas of a network have their least walks, their routers and their border routers, and are the backbone and every area that a router is in
+-- areas of a network, each with its least walks, its routers and its border routers; the backbone and every area that a
+-- router is in are among them
 pub record AreAreas (net : Network) (areas : List AreaWalks) : Type 0 where
   pub network : IsNetwork net
   pub each : All (IsArea net) areas

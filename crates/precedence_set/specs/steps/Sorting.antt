@@ -1,5 +1,5 @@
 -- Routers listed so that each stands after its predecessors: what is listed and what is left to wait for.
-use Rattle.std.specs.Prelude.{◌≡◌, ◌≢◌, ℕ, zero, suc, ◌+◌, ◌<◌, ◌↔◌, ◌⊎◌, ◌==◌, if◌then◌else◌, Bool, true, List}
+use Rattle.std.specs.Prelude.{◌≡◌, ◌≢◌, ℕ, zero, suc, ◌+◌, ◌<◌, ◌≤◌, ◌↔◌, ◌⊎◌, ◌==◌, if◌then◌else◌, Bool, true, List}
 use Rattle.std.specs.Prelude.{length, slice_index, Contains, Option}
 use Rattle.order_core.specs.Pairs.{Pair}
 use Rattle.precedence_set.specs.steps.Walking.{pair_at}
@@ -44,6 +44,14 @@ pub record Queue : Type 0 where
 
 abbrev pub queue : List ℕ → List ℕ → ℕ → Queue
 queue counts order count = record { counts = counts; order = order; count = count }
+
+-- the first places list the routers below r that wait for no pair, each once
+pub record AreFree (counts order : List ℕ) (count r : ℕ) : Type 0 where
+  pub within : count ≤ r
+  pub below : (j : ℕ) → j < count → slice_index order j < r
+  pub distinct : (i j : ℕ) → i < j → j < count → slice_index order i ≢ slice_index order j
+  pub none_left : (j : ℕ) → j < count → slice_index counts (slice_index order j) ≡ 0
+  pub listed : (v : ℕ) → v < r → slice_index counts v ≡ 0 → StandsBelow order count v
 
 -- the first places list distinct routers below n, those for which no pair is left, each after all its predecessors
 pub record IsListing (n : ℕ) (pairs : List Pair) (q : Queue) : Type 0 where

@@ -1,10 +1,28 @@
 -- The longest of some prefixes for each of some addresses, as it is kept from prefix to prefix.
-use Rattle.std.specs.Prelude.{◌≡◌, ℕ, ◌<◌, ◌==◌, ◌⊎◌, if◌then◌else◌, List, [], ◌∷◌, ◌++◌, length, slice_index, slice_index_or, Option, None, Some}
+use Rattle.std.specs.Prelude.{◌≡◌, ℕ, ◌<◌, ◌==◌, ◌⊎◌, if◌then◌else◌, List, [], ◌∷◌, ◌++◌, length, slice_index, slice_index_or, Option, None, Some, ◌+◌}
+use Rattle.std.specs.Prelude.{slice_get}
 use Rattle.std.specs.Prelude.{Contains}
-use Rattle.net_addr.specs.Addresses.{Block}
+use Rattle.net_addr.specs.Addresses.{Block, ContainsAddress}
 use Rattle.net_addr.specs.LongestMatches.{HasNoMatch, LongestAt}
 use Rattle.prefix_atoms.specs.declared.longest.Longest.{Longest}
-use Rattle.prefix_atoms.specs.Longest.{nothing, IsKept}
+
+-- no prefix is found
+abbrev pub nothing : Longest
+nothing = record { number = 0; size = 0 }
+
+-- a prefix of the list contains the address, and is found by its length and the number of its place
+pub record IsFoundAt (prefixes : List Block) (numbers : ℕ → ℕ) (a : ℕ) (found : Longest) : Type 0 where
+  pub place : ℕ
+  pub prefix : Block
+  pub stands : slice_get prefixes place ≡ Some prefix
+  pub contains : ContainsAddress prefix a
+  pub size_is : prefix.len + 1 ≡ found.size
+  pub number_is : numbers place ≡ found.number
+
+-- it is the longest of them, or there is none
+pub record IsKept (prefixes : List Block) (numbers : ℕ → ℕ) (a : ℕ) (found : Longest) : Type 0 where
+  pub there : (found.size ≡ 0) ⊎ IsFoundAt prefixes numbers a found
+  pub covers : (q : Block) → Contains prefixes q → ContainsAddress q a → q.len < found.size
 
 -- the number that is found, and this one where none is
 abbrev pub key_of : ℕ → Longest → ℕ

@@ -17,8 +17,8 @@ abbrev pub use_of_code : ℕ → Used
 use_of_code code = if code % 2 == 1 then New (code / 2) else if code == 0 then Nothing else if code == 2 then Connected else Old (code / 2 - 2)
 
 -- a number is that of what it stands for
-pub code_back : (code : ℕ) → code_of_use (use_of_code code) ≡ code
-code_back code = by_tests (code % 2 == 1) (code == 0) (code == 2) refl refl refl
+pub use_code_back : (code : ℕ) → code_of_use (use_of_code code) ≡ code
+use_code_back code = by_tests (code % 2 == 1) (code == 0) (code == 2) refl refl refl
   where
     by_tests : (odd none two : Bool) → (code % 2 == 1) ≡ odd → (code == 0) ≡ none → (code == 2) ≡ two
         → code_of_use (if odd then New (code / 2) else if none then Nothing else if two then Connected else Old (code / 2 - 2)) ≡ code

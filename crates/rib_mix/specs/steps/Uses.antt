@@ -1,10 +1,24 @@
 -- What a router uses for the addresses of a prefix, by what it has for the prefix and what it uses for its parent.
-use Rattle.std.specs.Prelude.{ℕ, Bool, if◌then◌else◌, List, slice_index_or, Option, Some, None}
-use Rattle.rib_mix.specs.Cells.{new_use, no_cell, old_use}
+use Rattle.std.specs.Prelude.{ℕ, Bool, if◌then◌else◌, List, slice_index_or, Option, Some, None, ◌≡◌, slice_get}
+use Rattle.rib_mix.specs.Cells.{new_use, old_use}
 use Rattle.rib_mix.specs.declared.cell.Cell.{Cell}
 use Rattle.rib_mix.specs.declared.cell.Has.{Has}
 use Rattle.rib_mix.specs.declared.used.Used.{Used}
 use Rattle.rib_mix.specs.declared.used.Used.TheVariants.{Connected, New, Nothing, Old}
+use Rattle.route_core.specs.declared.entry.Entry.{Entry}
+use Rattle.rib_mix.specs.Answers.{ShowsEntry}
+use Rattle.rib_mix.specs.declared.next.Next.{Next}
+
+-- nothing is used
+abbrev pub no_cell : Cell
+no_cell = record { middle = used.Nothing; other = used.Nothing }
+
+-- the answer is what is used
+abbrev pub ShowsUse : List Entry → List Entry → Used → Next → Type 0
+ShowsUse olds news used.Nothing answer = answer ≡ next.Absent
+ShowsUse olds news used.Connected answer = answer ≡ next.Connected
+ShowsUse olds news (used.Old number) answer = (e : Entry) → slice_get olds number ≡ Some e → ShowsEntry answer e
+ShowsUse olds news (used.New number) answer = (e : Entry) → slice_get news number ≡ Some e → ShowsEntry answer e
 
 -- an entry of the new table is used
 abbrev pub IsOfNew : Used → Type 0

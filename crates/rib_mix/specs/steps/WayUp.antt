@@ -9,11 +9,12 @@ use Rattle.igp_theory.specs.Forwarding.{Usable}
 use Rattle.igp_theory.specs.declared.phase.Phase.{Phase}
 use Rattle.prefix_atoms.specs.Longest.{number_at}
 use Rattle.prefix_atoms.specs.Nested.{IsTop}
-use Rattle.rib_mix.specs.Cells.{IsCell, IsUsable, no_cell, use_in}
-use Rattle.rib_mix.specs.Rows.{AreAmong, AreSubnets}
-use Rattle.rib_mix.specs.Sites.{CountsAt, HasOspfDistance, IsLawfulSite, Kind, Site, prefixes_in}
+use Rattle.rib_mix.specs.Cells.{IsCell, IsUsable, use_in}
+use Rattle.rib_mix.specs.Rows.{AreSubnets}
+use Rattle.rib_mix.specs.Sites.{Site}
+use Rattle.rib_mix.specs.steps.Sites.{CountsAt, HasOspfDistance, IsLawfulSite, Kind, prefixes_in, AreAmong}
 use Rattle.rib_mix.specs.steps.Spots.{AreTableSpots, IsPlaced, number_in}
-use Rattle.rib_mix.specs.steps.Uses.{cell_at}
+use Rattle.rib_mix.specs.steps.Uses.{cell_at, no_cell}
 use Rattle.rib_mix.specs.declared.both_tables.BothTables.{BothTables}
 use Rattle.rib_mix.specs.declared.cell.Cell.{Cell}
 use Rattle.rib_mix.specs.declared.cell.Has.{Has}
@@ -37,7 +38,7 @@ abbrev pub UpTo : Site → Phase → ℕ → Kind
 UpTo s phase len q d x = CountsAt s phase q d x × ContainsAddress q s.a × (q.len ≤ len)
 
 -- this is the best of the entries of a kind: the longest, and of equally long ones that of the lowest distance
-pub record IsBest (s : Site) (kind : Kind) (way : Used) : Type 0 where
+pub record IsBestOfKind (s : Site) (kind : Kind) (way : Used) : Type 0 where
   pub entry : Usable
   pub is : IsUsable s.tables.old.entries.now s.tables.new.entries.now way entry
   pub prefix : Block
@@ -48,7 +49,7 @@ pub record IsBest (s : Site) (kind : Kind) (way : Used) : Type 0 where
 
 -- it is, or nothing is used and there is none
 abbrev pub IsBestUse : Site → Kind → Used → Type 0
-IsBestUse s kind way = ((way ≡ used.Nothing) × ((q : Block) (d : ℕ) (x : Usable) → kind q d x → ⊥)) ⊎ IsBest s kind way
+IsBestUse s kind way = ((way ≡ used.Nothing) × ((q : Block) (d : ℕ) (x : Usable) → kind q d x → ⊥)) ⊎ IsBestOfKind s kind way
 
 -- what is used in each phase of the entries whose prefixes are no longer than this
 abbrev pub IsCellUpTo : Site → ℕ → Cell → Type 0

@@ -5,7 +5,7 @@ use Rattle.walk_core.specs.Reach.{Reach}
 use Rattle.route_core.specs.Rows.{KeptTable}
 use Rattle.route_core.specs.declared.entry.Entry.{Entry}
 use Rattle.route_core.specs.declared.entry.Entry.TheVariants.{Via, Discard}
-use Rattle.route_tables.specs.Entries.{AreSameEntries}
+use Rattle.route_tables.specs.steps.Entries.{AreSameEntries}
 use Rattle.route_tables.specs.Protocols.{ProtocolRoutes}
 use Rattle.route_tables.specs.Routings.{IsEntryTo}
 use Rattle.route_tables.specs.declared.lane.Decision.TheVariants.{Unknown}

@@ -14,6 +14,10 @@ use Rattle.step_scripts.specs.WaveFiles.{all_in, wave_at, MayFollowWaves}
 use Rattle.step_scripts.specs.declared.version.Version.{Version}
 use Rattle.step_scripts.specs.declared.kind.OrderKind.{OrderKind}
 use Rattle.step_scripts.specs.declared.kind.OrderKind.TheVariants.{Header, NotInNetwork, Twice, Missing, Wave, Chain}
+use Rattle.step_scripts.specs.FaultyLines.{FileEntry}
+
+abbrev pub file_entry : Version → List (List ℕ) → List ℕ → FileEntry
+file_entry version before line = record { version = version; before = before; line = line }
 
 -- the bytes of some lines
 abbrev pub bytes_of_lines : List ℕ → List Line → List (List ℕ)

@@ -2,7 +2,7 @@
 use Rattle.std.specs.Prelude.{◌≡◌, ℕ, ◌+◌, List, Option, Some, Contains}
 use Rattle.walk_core.specs.declared.hops.Departure.{Departure}
 use Rattle.walk_core.specs.Walks.{Arcs}
-use Rattle.walk_core.specs.Distances.{distance_between}
+use Rattle.walk_core.specs.steps.Rows.{distance_between}
 use Rattle.walk_core.specs.steps.Adding.{SomeLeadsTo}
 
 -- one of the departures is the arc to h at this cost

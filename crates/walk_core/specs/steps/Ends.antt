@@ -1,7 +1,8 @@
 -- Distances from a root of links, by those from the far ends.
 use Rattle.std.specs.Prelude.{◌≡◌, ℕ, ◌+◌, ◌*◌, ◌^◌, ◌<◌, ◌≤◌, Bool, false, List, [], Option, Some, None, length, slice_index_or}
 use Rattle.walk_core.specs.BestOffers.{total_with}
-use Rattle.walk_core.specs.Distances.{distance_at, distance_between, IsDistanceRow}
+use Rattle.walk_core.specs.Distances.{distance_at}
+use Rattle.walk_core.specs.steps.Rows.{distance_between, IsDistanceRow}
 use Rattle.walk_core.specs.Walks.{Arcs}
 use Rattle.walk_core.specs.declared.outlets.Outlet.{Outlet}
 

@@ -28,11 +28,11 @@ pub record AreTwoExits (rows : List (List (Option ℕ))) (outlets : List Outlet)
   pub other : HasExit rows outlets exits.other
   pub every : (outlet : Outlet) → Contains outlets outlet → IsExit rows outlet exits.one ⊎ IsExit rows outlet exits.other
 
--- the root has these exits, over all its ports
-pub record HasTwoExits (mesh : Mesh) (root : ℕ) (exits : TwoExits) : Type 0 where
+-- the exits are over all ports of their root
+pub record HasTwoExits (mesh : Mesh) (exits : TwoExits) : Type 0 where
   pub outlets : List Outlet
-  pub listed : AreOutlets mesh.segments root (length mesh.segments) outlets
-  pub are : AreTwoExits mesh.rows outlets root exits
+  pub listed : AreOutlets mesh.segments exits.root (length mesh.segments) outlets
+  pub are : AreTwoExits mesh.rows outlets exits.root exits
 
 -- what it costs to go to v over an exit
 abbrev pub cost_over : Exit → ℕ → Option ℕ
@@ -43,14 +43,14 @@ abbrev pub FitsOver : Exit → Type 0
 FitsOver exit = (v d : ℕ) → distance_at exit.row.now v ≡ Some d → d + 2 ^ 32 < 2 ^ 64
 
 -- there is a cost, and where there is another, it is no less
-pub record IsNearer (cost rival : Option ℕ) : Type 0 where
+pub record IsNoFarther (cost rival : Option ℕ) : Type 0 where
   pub value : ℕ
   pub is : cost ≡ Some value
   pub least : (other : ℕ) → rival ≡ Some other → value ≤ other
 
 -- the exit leads to h, and over the other one v is no nearer
 abbrev pub LeadsOver : Exit → Exit → ℕ → ℕ → Type 0
-LeadsOver exit other v h = IsNearer (cost_over exit v) (cost_over other v) × (exit.to ≡ h)
+LeadsOver exit other v h = IsNoFarther (cost_over exit v) (cost_over other v) × (exit.to ≡ h)
 
 -- v isn't the root, and one of the exits does
 pub record LeadsOut (exits : TwoExits) (v h : ℕ) : Type 0 where

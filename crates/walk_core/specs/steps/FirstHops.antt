@@ -1,6 +1,6 @@
 -- Lists of first hops, by the number of the vertex towards which they lead.
 use Rattle.std.specs.Prelude.{◌≡◌, ℕ, ◌<◌, ◌↔◌, List, [], length, Contains, slice_index_or}
-use Rattle.walk_core.specs.Reach.{AreAscending}
+use Rattle.walk_core.specs.steps.Ascending.{AreAscending}
 use Rattle.walk_core.specs.Walks.{Arcs, FirstHop}
 
 -- the list of v has the first hops towards it

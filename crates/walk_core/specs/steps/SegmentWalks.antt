@@ -2,7 +2,7 @@
 use Rattle.std.specs.Prelude.{◌≡◌, ℕ, ◌+◌, ◌<◌, ◌≤◌, ◌↔◌, ◌⊎◌, ◌∷◌, ◌++◌, List, [], length, Option, Some, None, Contains, Any, MatchOption, slice_index_or}
 use Rattle.walk_core.specs.steps.Adding.{SomeLeadsTo}
 use Rattle.walk_core.specs.steps.Cheapest.{IsCheapestCost}
-use Rattle.walk_core.specs.Distances.{AreDistanceRows, distance_between}
+use Rattle.walk_core.specs.steps.Rows.{AreDistanceRows, distance_between}
 use Rattle.walk_core.specs.steps.Flooding.{segment_at}
 use Rattle.walk_core.specs.Reach.{Reach, distance_of, listed_hops_of}
 use Rattle.walk_core.specs.Segments.{AreSegments, SendsAcross}

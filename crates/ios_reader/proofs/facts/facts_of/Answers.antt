@@ -1,5 +1,5 @@
 use Rattle.std.proofs.Common.{◌<◌, length, sym, ap, ◌∙◌}
-use Rattle.ios_reader.specs.InterfaceFacts.{noted}
+use Rattle.ios_reader.specs.steps.Noted.{noted}
 use Rattle.ios_reader.specs.declared.facts.InterfaceFacts.{InterfaceFacts}
 use Rattle.ios_reader.proofs.FactsFacts.{facts_of_more}
 use Rattle.ios_reader.proofs.facts.facts_of.Goals as goal

@@ -8,7 +8,7 @@ use Rattle.ios_reader.specs.Faults.{interface_faults}
 use Rattle.ios_reader.specs.InterfacesAsRead.{interface_as_read}
 use Rattle.ios_reader.specs.Routers.{Router, router_with}
 use Rattle.ios_reader.specs.Configurations.{interfaces_by}
-use Rattle.ios_reader.specs.steps.ByStatements.{interfaces_fault_by}
+use Rattle.ios_reader.specs.steps.LeastFaults.{interfaces_fault_by}
 use Rattle.ios_reader.proofs.interfaces.interfaces_of.Goals.{In_ok-read}
 use Rattle.ios_reader.proofs.interfaces.interfaces_of.Goals as goal
 

@@ -1,5 +1,5 @@
 use Rattle.loop_finder.proofs.WatchLaws.{stays_where_kept, stays_where_never, stays_where_told}
-use Rattle.loop_finder.specs.ClassSteps.{mix_of}
+use Rattle.loop_finder.specs.Mixes.{mix_of}
 use Rattle.loop_finder.proofs.change.part_fault.Goals as goal
 
 pub returns-then-keeps_hops-clause-sound : goal.returns-then-keeps_hops-clause-sound

@@ -3,7 +3,7 @@ use Rattle.std.proofs.lemmas.List.{get_or_default}
 use Rattle.loop_finder.specs.Parts.{ClassPart, IsPart}
 use Rattle.loop_finder.specs.steps.Watches.{StaysSoundAt}
 use Rattle.loop_finder.proofs.WatchLaws.{stays_sound_at_all, turns_faulty_at}
-use Rattle.loop_finder.specs.ClassSteps.{mix_of}
+use Rattle.loop_finder.specs.Mixes.{mix_of}
 use Rattle.loop_finder.proofs.change.turned_fault.Goals as goal
 
 pub part_fault-requires-clause-part : goal.part_fault-requires-clause-part

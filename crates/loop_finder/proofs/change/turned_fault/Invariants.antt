@@ -2,7 +2,7 @@ use Rattle.std.proofs.Common.{◌≡◌, ℕ, ◌<◌, length, get_or}
 use Rattle.loop_finder.specs.Parts.{ClassPart}
 use Rattle.loop_finder.specs.Rooms.{HasRoom}
 use Rattle.loop_finder.specs.steps.Watches.{StaysSoundAt}
-use Rattle.loop_finder.specs.ClassSteps.{mix_of}
+use Rattle.loop_finder.specs.Mixes.{mix_of}
 use Rattle.loop_finder.proofs.change.turned_fault.Given as goal
 
 abbrev pub invariant-loop-place : goal.invariant-loop-place

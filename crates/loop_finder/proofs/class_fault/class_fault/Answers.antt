@@ -1,6 +1,6 @@
 use Rattle.std.proofs.Common.{◌≡◌, List, Bool, length, ap, ◌∙◌, subst, sym, arith}
 use Rattle.std.proofs.lemmas.List.{take_at}
-use Rattle.loop_finder.specs.ClassSteps.{sample_of, mix_of}
+use Rattle.loop_finder.specs.Mixes.{sample_of, mix_of}
 use Rattle.loop_finder.specs.steps.ClassSteps.{AreForwarders, SourceState, state_over}
 use Rattle.loop_finder.specs.steps.Verdicts.{Verdict}
 use Rattle.loop_finder.proofs.ClassVerdicts.{told_without}

@@ -3,7 +3,7 @@ use Rattle.net_model.specs.Network.{Network, Connected}
 use Rattle.net_model.specs.Refusals.{IsNetwork}
 use Rattle.igp_theory.specs.Forwarding.{IsTarget}
 use Rattle.order_core.specs.Marks.{IsMarked}
-use Rattle.loop_finder.specs.ClassSteps.{sample_of}
+use Rattle.loop_finder.specs.Mixes.{sample_of}
 use Rattle.loop_finder.proofs.ClassVerdicts.{forwarders_from}
 use Rattle.loop_finder.proofs.class_fault.mark_class.Goals as goal
 

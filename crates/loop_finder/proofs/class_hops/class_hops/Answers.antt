@@ -1,5 +1,5 @@
 use Rattle.loop_finder.proofs.ClassFacts.{steps_to_those}
-use Rattle.loop_finder.specs.ClassSteps.{mix_of}
+use Rattle.loop_finder.specs.Mixes.{mix_of}
 use Rattle.loop_finder.proofs.class_hops.class_hops.Goals as goal
 
 pub returns : goal.returns

@@ -1,6 +1,6 @@
 use Rattle.loop_finder.proofs.Between.{clear_where_told}
 use Rattle.loop_finder.proofs.PartLaws.{clear_part}
-use Rattle.loop_finder.specs.ClassSteps.{mix_of}
+use Rattle.loop_finder.specs.Mixes.{mix_of}
 use Rattle.loop_finder.proofs.classes_fault.fault_in.Goals as goal
 
 pub returns-then-is_clear-clause-clear : goal.returns-then-is_clear-clause-clear

@@ -1,7 +1,7 @@
 use Rattle.std.proofs.Common.{arith, refl, ◌∙◌, below_more}
 use Rattle.loop_finder.specs.steps.Making.{IsReadAt, IsSameAt}
 use Rattle.loop_finder.proofs.PartRows.{AreAllBut-none, changed_more, known_at, known_class, read_same, same_twice}
-use Rattle.loop_finder.specs.ClassSteps.{mix_of}
+use Rattle.loop_finder.specs.Mixes.{mix_of}
 use Rattle.loop_finder.proofs.end_lists.read_class.Goals as goal
 
 pub loop-router-init : goal.loop-router-init

@@ -1,7 +1,7 @@
 use Rattle.std.proofs.Common.{◌≡◌, ℕ, ◌<◌, ◌≤◌, length}
 use Rattle.loop_finder.specs.steps.Making.{IsReadAt, IsSameAt}
 use Rattle.loop_finder.specs.steps.Parts.{AreAllBut}
-use Rattle.loop_finder.specs.ClassSteps.{mix_of}
+use Rattle.loop_finder.specs.Mixes.{mix_of}
 use Rattle.loop_finder.proofs.end_lists.read_class.Given as goal
 
 abbrev pub invariant-loop-router : goal.invariant-loop-router

@@ -1,7 +1,7 @@
 use Rattle.std.proofs.Common.{ℕ, Option, IfSome, subst}
 use Rattle.loop_finder.specs.steps.Making.{IsReadAt}
 use Rattle.loop_finder.proofs.PartRows.{read_alike}
-use Rattle.loop_finder.specs.ClassSteps.{mix_of}
+use Rattle.loop_finder.specs.Mixes.{mix_of}
 use Rattle.loop_finder.proofs.end_lists.read_router.Goals as goal
 
 pub returns-then-is_known_at-clause-read : goal.returns-then-is_known_at-clause-read

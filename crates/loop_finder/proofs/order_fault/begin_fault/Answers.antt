@@ -2,9 +2,9 @@ use Rattle.std.proofs.Common.{Bool, sym, subst}
 use Rattle.std.specs.Bool.{OnTrue}
 use Rattle.igp_theory.specs.States.{State, all_old}
 use Rattle.loop_finder.specs.Faults.{state_in}
-use Rattle.loop_finder.specs.Verdicts.{Sound}
+use Rattle.loop_finder.specs.Soundness.{Sound}
 use Rattle.loop_finder.proofs.OrderStates.{same_state}
-use Rattle.loop_finder.specs.ClassSteps.{mix_of}
+use Rattle.loop_finder.specs.Mixes.{mix_of}
 use Rattle.loop_finder.proofs.order_fault.begin_fault.Goals as goal
 
 pub returns-then-begun-clause-sound : goal.returns-then-begun-clause-sound

@@ -1,9 +1,9 @@
 use Rattle.std.proofs.Common.{subst}
 use Rattle.igp_theory.specs.States.{State, all_old}
 use Rattle.loop_finder.specs.Faults.{state_in}
-use Rattle.loop_finder.specs.Verdicts.{Sound}
+use Rattle.loop_finder.specs.Soundness.{Sound}
 use Rattle.loop_finder.proofs.OrderStates.{same_state}
-use Rattle.loop_finder.specs.ClassSteps.{mix_of}
+use Rattle.loop_finder.specs.Mixes.{mix_of}
 use Rattle.loop_finder.proofs.order_fault.begin_is_sound.Goals as goal
 
 pub returns-in-None-clause-sound : goal.returns-in-None-clause-sound

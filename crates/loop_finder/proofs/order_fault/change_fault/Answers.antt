@@ -3,11 +3,11 @@ use Rattle.std.proofs.lemmas.List.{get_or_default}
 use Rattle.igp_theory.specs.States.{State, state_of}
 use Rattle.loop_finder.specs.Faults.{state_in}
 use Rattle.loop_finder.specs.steps.Orders.{IsStateOf}
-use Rattle.loop_finder.specs.Verdicts.{Sound}
+use Rattle.loop_finder.specs.Soundness.{Sound}
 use Rattle.loop_finder.specs.Watches.{ArePlacesOf}
 use Rattle.loop_finder.proofs.OrderStates.{changed_inside, same_state, state_advanced, state_stays}
 use Rattle.loop_finder.proofs.WatchLaws.{sound_after, faulty_after}
-use Rattle.loop_finder.specs.ClassSteps.{mix_of}
+use Rattle.loop_finder.specs.Mixes.{mix_of}
 use Rattle.loop_finder.proofs.order_fault.change_fault.Goals as goal
 
 pub advance-was-requires : goal.advance-was-requires

@@ -3,10 +3,10 @@ use Rattle.net_model.specs.Network.{Network}
 use Rattle.order_core.proofs.Orders.{order_length}
 use Rattle.igp_theory.specs.States.{State, state_of}
 use Rattle.loop_finder.specs.Faults.{state_in}
-use Rattle.loop_finder.specs.Verdicts.{Sound}
+use Rattle.loop_finder.specs.Soundness.{Sound}
 use Rattle.loop_finder.specs.steps.Verdicts.{Faulty}
 use Rattle.loop_finder.proofs.OrderStates.{same_state}
-use Rattle.loop_finder.specs.ClassSteps.{mix_of}
+use Rattle.loop_finder.specs.Mixes.{mix_of}
 use Rattle.loop_finder.proofs.order_fault.order_fault.Goals as goal
 
 pub returns-in-Some-clause-fault : goal.returns-in-Some-clause-fault

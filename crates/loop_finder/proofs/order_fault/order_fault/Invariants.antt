@@ -2,8 +2,8 @@ use Rattle.std.proofs.Common.{◌≡◌, ◌+◌, length}
 use Rattle.loop_finder.specs.Orders.{AreFirstStates}
 use Rattle.loop_finder.specs.steps.Orders.{IsStateOf}
 use Rattle.loop_finder.specs.Rooms.{HasRoom}
-use Rattle.loop_finder.specs.Verdicts.{Sound}
-use Rattle.loop_finder.specs.ClassSteps.{mix_of}
+use Rattle.loop_finder.specs.Soundness.{Sound}
+use Rattle.loop_finder.specs.Mixes.{mix_of}
 use Rattle.loop_finder.proofs.order_fault.order_fault.Given as goal
 
 abbrev pub invariant-loop-k : goal.invariant-loop-k

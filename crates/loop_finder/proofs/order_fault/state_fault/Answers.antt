@@ -1,5 +1,5 @@
 use Rattle.loop_finder.proofs.ToldOfStates.{sound_of_told, fault_of_told}
-use Rattle.loop_finder.specs.ClassSteps.{mix_of}
+use Rattle.loop_finder.specs.Mixes.{mix_of}
 use Rattle.loop_finder.proofs.order_fault.state_fault.Goals as goal
 
 pub returns-clause-sound : goal.returns-clause-sound

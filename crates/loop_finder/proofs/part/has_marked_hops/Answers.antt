@@ -1,6 +1,6 @@
 use Rattle.igp_theory.specs.declared.phase.Phase.{Phase}
 use Rattle.igp_theory.specs.declared.phase.Phase.TheVariants.{Old, Middle, New}
-use Rattle.loop_finder.specs.ClassSteps.{mix_of}
+use Rattle.loop_finder.specs.Mixes.{mix_of}
 use Rattle.loop_finder.specs.Parts.{PhaseHops, hops_of}
 use Rattle.loop_finder.specs.steps.Making.{IsHopsOf}
 use Rattle.loop_finder.proofs.OnFalse.{on_true_three}

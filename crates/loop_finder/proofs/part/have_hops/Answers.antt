@@ -1,7 +1,7 @@
 use Rattle.std.proofs.Common.{ℕ, length, get_or, ap, arith, ◌∙◌, subst, below_more}
 use Rattle.std.proofs.lemmas.List.{get_or_default}
 use Rattle.net_model.specs.Network.{Network}
-use Rattle.loop_finder.specs.ClassSteps.{mix_of}
+use Rattle.loop_finder.specs.Mixes.{mix_of}
 use Rattle.loop_finder.specs.Parts.{PhaseHops, no_hops}
 use Rattle.loop_finder.specs.steps.PartRows.{HasHops}
 use Rattle.loop_finder.proofs.part.have_hops.Goals as goal

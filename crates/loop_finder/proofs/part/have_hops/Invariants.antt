@@ -1,5 +1,5 @@
 use Rattle.std.proofs.Common.{ℕ, ◌<◌, get_or}
-use Rattle.loop_finder.specs.ClassSteps.{mix_of}
+use Rattle.loop_finder.specs.Mixes.{mix_of}
 use Rattle.loop_finder.specs.Parts.{no_hops}
 use Rattle.loop_finder.specs.steps.PartRows.{HasHops}
 use Rattle.loop_finder.proofs.part.have_hops.Given as goal

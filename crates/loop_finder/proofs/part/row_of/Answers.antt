@@ -1,6 +1,6 @@
 use Rattle.std.proofs.Common.{subst}
 use Rattle.net_model.specs.Network.{Connected}
-use Rattle.loop_finder.specs.ClassSteps.{sample_of, mix_of}
+use Rattle.loop_finder.specs.Mixes.{sample_of, mix_of}
 use Rattle.loop_finder.proofs.ClassVerdicts.{one_target}
 use Rattle.loop_finder.proofs.OnFalse.{never_at_false}
 use Rattle.loop_finder.proofs.PartRows.{row_made, row_none}

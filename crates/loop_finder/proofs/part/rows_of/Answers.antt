@@ -2,7 +2,7 @@ use Rattle.std.proofs.Common.{◌≡◌, ℕ, length, arith, ap, subst}
 use Rattle.net_model.specs.Network.{Network}
 use Rattle.loop_finder.specs.steps.PartRows.{AreFirstRows}
 use Rattle.loop_finder.proofs.PartRows.{AreFirstRows-more}
-use Rattle.loop_finder.specs.ClassSteps.{mix_of}
+use Rattle.loop_finder.specs.Mixes.{mix_of}
 use Rattle.loop_finder.proofs.part.rows_of.Goals as goal
 
 pub loop-router-preserved : goal.loop-router-preserved

@@ -1,5 +1,5 @@
 use Rattle.loop_finder.specs.steps.PartRows.{AreFirstRows}
-use Rattle.loop_finder.specs.ClassSteps.{mix_of}
+use Rattle.loop_finder.specs.Mixes.{mix_of}
 use Rattle.loop_finder.proofs.part.rows_of.Given as goal
 
 abbrev pub invariant-loop-router : goal.invariant-loop-router

@@ -5,7 +5,7 @@ use Rattle.net_model.specs.Refusals.{IsNetwork}
 use Rattle.loop_finder.specs.Parts.{never_unsound}
 use Rattle.loop_finder.proofs.PartLaws.{never_without}
 use Rattle.loop_finder.proofs.PartLists.{AreParts-more}
-use Rattle.loop_finder.specs.ClassSteps.{mix_of}
+use Rattle.loop_finder.specs.Mixes.{mix_of}
 use Rattle.loop_finder.proofs.parts.add_part.Goals as goal
 
 pub returns-in_default-clause-parts : goal.returns-in_default-clause-parts

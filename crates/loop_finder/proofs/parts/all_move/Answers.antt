@@ -1,7 +1,7 @@
 use Rattle.std.proofs.Common.{◌≡◌, length, arith, ◌∙◌, ap}
 use Rattle.net_model.specs.Network.{Network}
 use Rattle.loop_finder.proofs.PartRows.{all_move_from}
-use Rattle.loop_finder.specs.ClassSteps.{mix_of}
+use Rattle.loop_finder.specs.Mixes.{mix_of}
 use Rattle.loop_finder.proofs.parts.all_move.Goals as goal
 
 pub returns : goal.returns

@@ -5,7 +5,7 @@ use Rattle.loop_finder.specs.steps.Making.{IsMaking}
 use Rattle.loop_finder.specs.Parts.{ClassPart, AreParts}
 use Rattle.loop_finder.proofs.PartLists.{AreParts-none}
 use Rattle.loop_finder.proofs.StateVerdicts.{classes_few}
-use Rattle.loop_finder.specs.ClassSteps.{mix_of}
+use Rattle.loop_finder.specs.Mixes.{mix_of}
 use Rattle.loop_finder.proofs.parts.parts_of.Goals as goal
 
 pub loop-atom-init : goal.loop-atom-init

@@ -1,7 +1,7 @@
 use Rattle.std.proofs.Common.{length}
 use Rattle.loop_finder.specs.steps.Making.{IsKnownClass, IsMaking}
 use Rattle.loop_finder.specs.Parts.{AreParts}
-use Rattle.loop_finder.specs.ClassSteps.{mix_of}
+use Rattle.loop_finder.specs.Mixes.{mix_of}
 use Rattle.loop_finder.proofs.parts.parts_of.Given as goal
 
 abbrev pub invariant-loop-atom : goal.invariant-loop-atom

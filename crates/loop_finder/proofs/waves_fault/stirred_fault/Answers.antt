@@ -1,8 +1,8 @@
 use Rattle.std.proofs.Common.{◌≡◌, ℕ, ◌<◌, [], length, get_or, true, arith, sym, ap, ◌∙◌, subst, below_more}
 use Rattle.std.proofs.lemmas.List.{get_or_default}
 use Rattle.loop_finder.specs.Parts.{ClassPart}
-use Rattle.loop_finder.specs.ClassSteps.{sample_of, mix_of}
-use Rattle.loop_finder.specs.Verdicts.{SoundAt}
+use Rattle.loop_finder.specs.Mixes.{sample_of, mix_of}
+use Rattle.loop_finder.specs.Soundness.{SoundAt}
 use Rattle.loop_finder.proofs.Between.{clear_told}
 use Rattle.loop_finder.proofs.PartLists.{sound_before, sound_whole}
 use Rattle.loop_finder.proofs.waves_fault.stirred_fault.Goals as goal

@@ -2,8 +2,8 @@ use Rattle.std.proofs.Common.{◌≡◌, ℕ, ◌<◌, length, get_or}
 use Rattle.igp_theory.specs.States.{State}
 use Rattle.loop_finder.specs.Parts.{ClassPart}
 use Rattle.loop_finder.specs.Rooms.{HasRoom}
-use Rattle.loop_finder.specs.ClassSteps.{sample_of, mix_of}
-use Rattle.loop_finder.specs.Verdicts.{SoundAt}
+use Rattle.loop_finder.specs.Mixes.{sample_of, mix_of}
+use Rattle.loop_finder.specs.Soundness.{SoundAt}
 use Rattle.loop_finder.specs.steps.Verdicts.{IsBetween}
 use Rattle.loop_finder.proofs.waves_fault.stirred_fault.Given as goal
 

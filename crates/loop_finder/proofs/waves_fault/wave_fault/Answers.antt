@@ -1,7 +1,7 @@
 use Rattle.std.proofs.Common.{arith}
 use Rattle.loop_finder.proofs.CalmLaws.{clear_parts}
 use Rattle.loop_finder.proofs.ToldOfWaves.{sound_of_told, fault_of_told}
-use Rattle.loop_finder.specs.ClassSteps.{mix_of}
+use Rattle.loop_finder.specs.Mixes.{mix_of}
 use Rattle.loop_finder.proofs.waves_fault.wave_fault.Goals as goal
 
 pub stirred_fault-requires-clause-calm : goal.stirred_fault-requires-clause-calm

@@ -6,7 +6,7 @@ use Rattle.loop_finder.proofs.CalmLaws.{sound_waves_before}
 use Rattle.loop_finder.proofs.OnFalse.{on_true}
 use Rattle.loop_finder.proofs.WaveListFacts.{sound_to_last, sound_to_all}
 use Rattle.loop_finder.proofs.WaveSteps.{begins_sound}
-use Rattle.loop_finder.specs.ClassSteps.{mix_of}
+use Rattle.loop_finder.specs.Mixes.{mix_of}
 use Rattle.loop_finder.proofs.waves_fault.waves_fault.Goals as goal
 
 pub returns-then-not-is_wave-clause-sound : goal.returns-then-not-is_wave-clause-sound

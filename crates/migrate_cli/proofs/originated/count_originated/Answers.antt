@@ -1,6 +1,6 @@
 use Rattle.std.proofs.Common.{rules, ◌≡◌, length, IsPermutation, subst}
 use Rattle.std.proofs.lemmas.List.Filters.{dedup_is}
-use Rattle.prefix_atoms.specs.Lists.{all_originated}
+use Rattle.prefix_atoms.specs.Originated.{all_originated}
 use Rattle.migrate_cli.specs.OriginatedPrefixes.{CountsOriginated}
 use Rattle.migrate_cli.proofs.OriginatedFacts.{counts_sorted}
 use Rattle.migrate_cli.proofs.originated.count_originated.Goals as goal

@@ -2,7 +2,7 @@ use Rattle.std.proofs.Common.{◌∙◌, ◌≡◌, ℕ, Option, Some, None, ref
 use Rattle.clap.specs.Words.{Text, first_of, found_of, rows_of}
 use Rattle.clap.proofs.WalkLemmas.{first_value-rows}
 use Rattle.migrate_words.specs.Asked.{IsBudget}
-use Rattle.migrate_words.specs.Refusals.{ReadsAs}
+use Rattle.migrate_words.specs.steps.Reading.{ReadsAs}
 use Rattle.migrate_words.proofs.arguments.budget_of.Goals as goal
 
 pub returns-in-Some : goal.returns-in-Some

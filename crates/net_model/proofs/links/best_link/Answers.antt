@@ -1,6 +1,6 @@
 use Rattle.std.proofs.Common.{◌≤◌, min, subst}
 use Rattle.std.proofs.lemmas.List.{take_all}
-use Rattle.net_model.specs.Links.{BestLink, OffersCost}
+use Rattle.net_model.specs.steps.BestLinks.{BestLink, OffersCost}
 use Rattle.net_model.proofs.Bests.{IsBest-more, picks_lower}
 use Rattle.net_model.proofs.links.best_link.Goals as goal
 

@@ -1,5 +1,5 @@
 use Rattle.std.proofs.Common.{take}
-use Rattle.net_model.specs.Links.{BestLink}
+use Rattle.net_model.specs.steps.BestLinks.{BestLink}
 use Rattle.net_model.proofs.links.best_link.Given as goal
 
 abbrev pub invariant-loop-near : goal.invariant-loop-near

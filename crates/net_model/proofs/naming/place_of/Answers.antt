@@ -33,4 +33,6 @@ named_by_search net name (Err place) up within position = λ u n.
 pub returns-clause-named : goal.returns-clause-named
 returns-clause-named c =
     rw c.ok.ensures.value (named_by_search c.args.configs.now c.args.name.now c.binary_search_by-found.result c.requires
-    c.binary_search_by-found.ensures.bound (c.binary_search_by-found.ensures.position (λ x. slice_cmp nat_cmp x.name c.args.name.now) (always_returns_same _ _ _ (λ a r f' k. search rules))))
+    c.binary_search_by-found.ensures.bound
+    (c.binary_search_by-found.ensures.position (λ x. slice_cmp nat_cmp x.name c.args.name.now)
+    (always_returns_same _ _ _ (λ a r f' k. search rules))))

@@ -1,6 +1,7 @@
 use Rattle.std.proofs.Common.{refl, ℕ}
 use Rattle.net_model.specs.declared.interface.Interface.{Interface}
-use Rattle.route_tables.proofs.ListFacts.{any_of, contains_at, within_more}
+use Rattle.net_addr.proofs.SomeElement.{any_of}
+use Rattle.route_tables.proofs.ListFacts.{contains_at, within_more}
 use Rattle.net_model.specs.Network.{RunsArea}
 use Rattle.ospf_routes.proofs.areas.first_area.Goals as goal
 

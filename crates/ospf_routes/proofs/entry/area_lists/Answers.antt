@@ -1,7 +1,8 @@
 use Rattle.std.proofs.Common.{[], arith, subst, List, ℕ, sym, take}
 use Rattle.std.proofs.lemmas.List.{take_all}
 use Rattle.std.specs.List.{Contains}
-use Rattle.route_tables.proofs.ListFacts.{contains_at, one_more}
+use Rattle.net_addr.proofs.SomeElement.{one_more}
+use Rattle.route_tables.proofs.ListFacts.{contains_at}
 use Rattle.ospf_routes.proofs.RouteFacts.{AreaListsSoFar, area_lists_more, area_lists_all}
 use Rattle.ospf_routes.specs.declared.intra_area.AreaOffers.{AreaOffers}
 use Rattle.ospf_routes.proofs.entry.area_lists.Goals as goal

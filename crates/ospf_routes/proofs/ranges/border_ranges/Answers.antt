@@ -2,7 +2,7 @@ use Rattle.std.proofs.Common.{◌∙◌, subst, List, take, ap}
 use Rattle.std.proofs.lemmas.List.{take_all}
 use Rattle.net_model.specs.Configuration.{Configuration}
 use Rattle.net_model.specs.declared.area.Range.{Range}
-use Rattle.route_tables.proofs.ListFacts.{one_more}
+use Rattle.net_addr.proofs.SomeElement.{one_more}
 use Rattle.ospf_routes.proofs.RangeFacts.{ActivesSoFar, actives_more, actives_all}
 use Rattle.ospf_routes.proofs.ranges.border_ranges.Goals as goal
 

@@ -1,4 +1,4 @@
-use Rattle.precedence_set.proofs.ListFacts.{AreFree}
+use Rattle.precedence_set.specs.steps.Sorting.{AreFree}
 use Rattle.precedence_set.proofs.sorting.list_free.Given as goal
 
 abbrev pub invariant-loop-router : goal.invariant-loop-router

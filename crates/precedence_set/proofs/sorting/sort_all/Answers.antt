@@ -3,14 +3,15 @@ use Rattle.std.proofs.lemmas.Bool.{cases_lt}
 use Rattle.order_core.specs.Pairs.{AreBelow}
 use Rattle.precedence_set.specs.steps.Sorting.{IsListing, IsGone, queue}
 use Rattle.precedence_set.proofs.SortFacts.{AreLeftCounts-same}
-use Rattle.precedence_set.proofs.ListFacts.{all_listed, IsTopological-whole, IsGone-none}
+use Rattle.precedence_set.proofs.ListFacts.{IsListing-free, all_listed, IsTopological-whole, IsGone-none}
 use Rattle.precedence_set.proofs.sorting.sort_all.Goals as goal
 
 pub loop-k-init : goal.loop-k-init
 loop-k-init c = record {
   placed = omega arith;
   within = c.list_free-count.ensures.within;
-  listing = c.list_free-count.ensures.listing;
+  listing = IsListing-free (length c.list_free-count.new.order) c.args.pairs.now c.count_pairs.new.counts c.list_free-count.new.order
+      c.count_pairs.new.counts c.list_free-count.result c.list_free-count.ensures (omega arith) c.count_pairs.ensures;
   counted = AreLeftCounts-same c.args.pairs.now (IsGone c.args.pairs.now c.count_pairs.new.counts 0) (IsGone c.args.pairs.now c.list_free-count.new.order 0)
       c.count_pairs.new.counts (λ i lt. IsGone-none c.args.pairs.now c.count_pairs.new.counts c.list_free-count.new.order i) c.count_pairs.ensures;
 }

@@ -1,6 +1,6 @@
 use Rattle.std.proofs.Common.{◌≡◌, ◌++◌, take}
 use Rattle.std.specs.List.{filter_map}
-use Rattle.prefix_atoms.specs.Lists.{originated_subnet}
+use Rattle.prefix_atoms.specs.Originated.{originated_subnet}
 use Rattle.prefix_atoms.proofs.collect.add_originated.Given as goal
 
 abbrev pub invariant-loop-interface : goal.invariant-loop-interface

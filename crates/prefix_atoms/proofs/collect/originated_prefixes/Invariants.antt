@@ -1,5 +1,5 @@
 use Rattle.std.proofs.Common.{◌≡◌, take}
-use Rattle.prefix_atoms.specs.Lists.{all_originated}
+use Rattle.prefix_atoms.specs.Originated.{all_originated}
 use Rattle.prefix_atoms.proofs.collect.originated_prefixes.Given as goal
 
 abbrev pub invariant-loop-router : goal.invariant-loop-router

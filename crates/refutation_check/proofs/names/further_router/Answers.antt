@@ -7,6 +7,7 @@ returns-in_err-router c = rw c.from_residual.ensures (λ u named. absurd (c.in_e
 
 pub returns-then-has_router : goal.returns-then-has_router
 returns-then-has_router c = λ u named.
-    subst (λ (v : ℕ). Contains c.args.routers.now v) (IsNamed-unique c.args.net.now c.args.name.now c.in_ok-router.router u c.in_ok-router.ensures.network.ascending
+    subst (λ (v : ℕ). Contains c.args.routers.now v)
+    (IsNamed-unique c.args.net.now c.args.name.now c.in_ok-router.router u c.in_ok-router.ensures.network.ascending
     c.in_ok-router.ensures.number named)
     (c.has_router.ensures.0 c.if-has_router.true)

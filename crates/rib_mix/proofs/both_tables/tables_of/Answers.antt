@@ -3,7 +3,8 @@ use Rattle.net_addr.specs.Addresses.{Block}
 use Rattle.route_core.specs.Rows.{IsTable, KeptTable, kept_in, listed}
 use Rattle.route_core.specs.declared.entry.Entry.{Entry}
 use Rattle.route_core.specs.declared.table.TableParts.{TableParts}
-use Rattle.rib_mix.specs.Sites.{IsTableOver, table_of}
+use Rattle.rib_mix.specs.Sites.{table_of}
+use Rattle.rib_mix.specs.steps.Sites.{IsTableOver}
 use Rattle.rib_mix.specs.declared.both_tables.BothTables.{BothTables}
 use Rattle.prefix_atoms.proofs.Pushed.{count_more, each_more}
 use Rattle.rib_mix.proofs.both_tables.tables_of.Goals as goal

@@ -1,5 +1,6 @@
 use Rattle.std.proofs.Common.{◌≡◌, ℕ, length, slice_get, Some}
-use Rattle.rib_mix.specs.Sites.{IsTableOver, table_of}
+use Rattle.rib_mix.specs.Sites.{table_of}
+use Rattle.rib_mix.specs.steps.Sites.{IsTableOver}
 use Rattle.rib_mix.specs.declared.both_tables.BothTables.{BothTables}
 use Rattle.rib_mix.proofs.both_tables.tables_of.Given as goal
 

@@ -4,7 +4,7 @@ use Rattle.std.proofs.lemmas.Result.{IfOk-weaker}
 use Rattle.net_addr.specs.Addresses.{Block}
 use Rattle.route_core.specs.Rows.{IsTable, KeptTable, listed}
 use Rattle.route_core.specs.declared.entry.Entry.{Entry}
-use Rattle.route_tables.specs.Entries.{AreTablesBelow}
+use Rattle.route_tables.specs.steps.Entries.{AreTablesBelow}
 use Rattle.route_tables.specs.declared.kinds.LaneKinds.{LaneKinds}
 use Rattle.route_tables.specs.declared.table.RouterNumbers.{RouterNumbers}
 use Rattle.route_tables.specs.Lanes.{DecidesFor}

@@ -1,5 +1,6 @@
 use Rattle.std.proofs.Common.{◌≡◌, ◌<◌, ◌≤◌, ℕ}
-use Rattle.walk_core.specs.BestOffers.{least_cost_of, total_with}
+use Rattle.walk_core.specs.BestOffers.{total_with}
+use Rattle.walk_core.specs.steps.BestOver.{least_cost_of}
 use Rattle.walk_core.specs.Distances.{distance_at}
 use Rattle.walk_core.proofs.ends.lower_over.Given as goal
 

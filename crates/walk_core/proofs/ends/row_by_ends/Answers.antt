@@ -1,6 +1,7 @@
 use Rattle.std.proofs.Common.{◌≡◌, ◌+◌, ◌++◌, ℕ, List, Option, None, get_or, length, take, drop, ap, sym, subst, ◌∙◌, arith}
 use Rattle.std.proofs.lemmas.Grind.{common_steps}
-use Rattle.walk_core.specs.BestOffers.{least_cost_of, total_with}
+use Rattle.walk_core.specs.BestOffers.{total_with}
+use Rattle.walk_core.specs.steps.BestOver.{least_cost_of}
 use Rattle.walk_core.specs.Distances.{distance_at}
 use Rattle.walk_core.proofs.EndLaws.{AreLowered, lowered_more, row_of_lowered}
 use Rattle.walk_core.proofs.ends.row_by_ends.Goals as goal

@@ -30,8 +30,8 @@ cross-requires c =
     c.requires.outlets.each outlet (Contains-get_or c.args.outlets.now c.loop-outlet.outlet-index (record { place = 0; cost = 0; to = None })
     c.loop-outlet-test.true) in
     let begun : distance_at c.args.distances.now c.args.u ≡ Some near =
-    near_at c.args.distances.now c.args.u near c.index-distances-u.result c.get.result c.requires.vertex c.index-distances-u.is c.get.ensures.value c.in-Some.is
-    in
+    near_at c.args.distances.now c.args.u near c.index-distances-u.result c.get.result c.requires.vertex c.index-distances-u.is c.get.ensures.value
+    c.in-Some.is in
     let here : distance_at now c.args.u ≡ Some near = c.loop-outlet.invariant.lowers.near c.args.u near begun (omega arith) in
     record {
       place = is.within;
@@ -80,8 +80,8 @@ pub returns-clause-tight : goal.returns-clause-tight
 returns-clause-tight c =
     let near : ℕ = c.in-Some.near in
     let begun : distance_at c.args.distances.now c.args.u ≡ Some near =
-    near_at c.args.distances.now c.args.u near c.index-distances-u.result c.get.result c.requires.vertex c.index-distances-u.is c.get.ensures.value c.in-Some.is
-    in
+    near_at c.args.distances.now c.args.u near c.index-distances-u.result c.get.result c.requires.vertex c.index-distances-u.is c.get.ensures.value
+    c.in-Some.is in
     tight_over c.args.segments.now c.args.u c.in-Some.near c.loop-outlet.outlet-index c.args.outlets.now (record { place = 0; cost = 0; to = None })
     c.loop-outlet.distances c.loop-outlet-test.false c.requires.outlets
     (c.loop-outlet.invariant.lowers.near c.args.u near begun (omega arith)) c.loop-outlet.invariant.reached

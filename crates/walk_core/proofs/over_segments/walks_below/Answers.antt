@@ -1,7 +1,8 @@
 use Rattle.std.proofs.Common.{◌+◌, ◌++◌, ◌∷◌, ℕ, List, [], Option, length, length-set, get_or, refl, ap, sym, subst, ◌∙◌, arith}
 use Rattle.std.proofs.lemmas.Option.{slice_get_within}
-use Rattle.walk_core.specs.Distances.{IsDistanceRow}
-use Rattle.walk_core.specs.Reach.{Reach, AreAscending, AreWalksBelow}
+use Rattle.walk_core.specs.steps.Rows.{IsDistanceRow}
+use Rattle.walk_core.specs.Reach.{Reach, AreWalksBelow}
+use Rattle.walk_core.specs.steps.Ascending.{AreAscending}
 use Rattle.walk_core.specs.Segments.{SendsAcross}
 use Rattle.walk_core.specs.Walks.{Arcs}
 use Rattle.walk_core.specs.declared.segment.Port.{Port}

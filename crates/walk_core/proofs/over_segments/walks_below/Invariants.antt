@@ -1,6 +1,7 @@
 use Rattle.std.proofs.Common.{◌≡◌, ℕ, [], ◌<◌, ◌≤◌, length, get_or}
-use Rattle.walk_core.specs.Distances.{IsDistanceRow}
-use Rattle.walk_core.specs.Reach.{AreAscending, AreWalksBelow}
+use Rattle.walk_core.specs.steps.Rows.{IsDistanceRow}
+use Rattle.walk_core.specs.Reach.{AreWalksBelow}
+use Rattle.walk_core.specs.steps.Ascending.{AreAscending}
 use Rattle.walk_core.specs.Segments.{SendsAcross}
 use Rattle.walk_core.specs.steps.FirstHops.{ListFirstHops}
 use Rattle.walk_core.proofs.over_segments.walks_below.Given as goal

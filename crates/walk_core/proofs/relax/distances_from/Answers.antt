@@ -1,7 +1,7 @@
 use Rattle.std.proofs.Common.{◌≡◌, ◌<◌, ◌++◌, replicate, None, arith, length, length-set, take, drop, ℕ, List, Option, ap, sym, subst, ◌∙◌}
 use Rattle.std.proofs.lemmas.List.{length-replicate}
 use Rattle.std.proofs.lemmas.Grind.{common_steps}
-use Rattle.walk_core.specs.Distances.{AreLeastDistances}
+use Rattle.walk_core.specs.steps.Rows.{AreLeastDistances}
 use Rattle.walk_core.specs.steps.Relaxing.{AreWalked}
 use Rattle.walk_core.proofs.RelaxLaws.{room_at_first, walked_at_first, distances_from_tight}
 use Rattle.walk_core.proofs.relax.distances_from.Goals as goal

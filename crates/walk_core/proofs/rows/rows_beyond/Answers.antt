@@ -1,5 +1,5 @@
 use Rattle.std.proofs.Common.{◌≡◌, ℕ, ◌<◌, List, [], Option, length, length-set, get_or, arith, ap, sym, subst, ◌∙◌}
-use Rattle.walk_core.specs.Distances.{AreLeastDistances}
+use Rattle.walk_core.specs.steps.Rows.{AreLeastDistances}
 use Rattle.walk_core.proofs.ReachLaws.{known_more}
 use Rattle.walk_core.proofs.rows.rows_beyond.Goals as goal
 

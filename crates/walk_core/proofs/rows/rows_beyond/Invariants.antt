@@ -1,5 +1,5 @@
 use Rattle.std.proofs.Common.{◌≡◌, ◌<◌, ℕ, [], length, get_or}
-use Rattle.walk_core.specs.Distances.{AreLeastDistances}
+use Rattle.walk_core.specs.steps.Rows.{AreLeastDistances}
 use Rattle.walk_core.proofs.rows.rows_beyond.Given as goal
 
 abbrev pub invariant-loop-i : goal.invariant-loop-i

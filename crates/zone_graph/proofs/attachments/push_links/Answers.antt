@@ -4,7 +4,7 @@ use Rattle.zone_graph.specs.steps.Attachments.{AddsLinks}
 use Rattle.zone_graph.specs.declared.attachments.Attachment.{Attachment}
 use Rattle.zone_graph.specs.declared.links.Link.{Link}
 use Rattle.zone_graph.proofs.AttachmentFacts.{adds_no_links, adds_link}
-use Rattle.zone_graph.proofs.LinkFacts.{one_more}
+use Rattle.net_addr.proofs.SomeElement.{one_more}
 use Rattle.zone_graph.proofs.attachments.push_links.Goals as goal
 
 pub loop-link-init : goal.loop-link-init

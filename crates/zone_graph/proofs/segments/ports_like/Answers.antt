@@ -3,7 +3,7 @@ use Rattle.std.proofs.lemmas.List.{take_all}
 use Rattle.walk_core.specs.declared.segment.Port.{Port}
 use Rattle.zone_graph.specs.steps.Attachments.{ArePortsLike}
 use Rattle.zone_graph.specs.declared.attachments.Attachment.{Attachment}
-use Rattle.zone_graph.proofs.LinkFacts.{one_more}
+use Rattle.net_addr.proofs.SomeElement.{one_more}
 use Rattle.zone_graph.proofs.RunFacts.{no_ports, port_yes, port_no}
 use Rattle.zone_graph.proofs.segments.ports_like.Goals as goal
 use Rattle.zone_graph.proofs.segments.ports_like.Goals.{then-are_of_one_segment+in_ok-push, else-are_of_one_segment}

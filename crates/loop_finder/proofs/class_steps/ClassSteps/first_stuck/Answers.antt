@@ -1,7 +1,7 @@
 use Rattle.std.proofs.Common.{ℕ, ◌<◌, length, ap, arith, below_more}
 use Rattle.net_model.specs.Network.{Network}
 use Rattle.igp_theory.specs.Forwarding.{MustForward}
-use Rattle.loop_finder.specs.ClassSteps.{sample_of}
+use Rattle.loop_finder.specs.Mixes.{sample_of}
 use Rattle.loop_finder.specs.steps.ClassSteps.{Moves, SourceState, state_over}
 use Rattle.loop_finder.proofs.class_steps.ClassSteps.first_stuck.Goals as goal
 

@@ -5,10 +5,10 @@ use Rattle.igp_theory.specs.States.{State, IsSeamless, state_of}
 use Rattle.rib_mix.specs.Mixture.{migration_of}
 use Rattle.loop_finder.specs.Faults.{Finding}
 use Rattle.loop_finder.specs.Orders.{AreFirstStates}
-use Rattle.loop_finder.specs.Verdicts.{Sound}
+use Rattle.loop_finder.specs.Soundness.{Sound}
 use Rattle.loop_finder.proofs.FaultLaws.{none_seamless}
 use Rattle.loop_finder.proofs.OrderStates.{same_state, known_after}
-use Rattle.loop_finder.specs.ClassSteps.{mix_of}
+use Rattle.loop_finder.specs.Mixes.{mix_of}
 use Rattle.loop_finder.proofs.finder.Finder.order_fault.Goals as goal
 
 pub returns-clause-seamless : goal.returns-clause-seamless

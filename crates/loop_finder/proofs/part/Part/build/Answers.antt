@@ -1,5 +1,5 @@
 use Rattle.loop_finder.proofs.PartRows.{part_made}
-use Rattle.loop_finder.specs.ClassSteps.{mix_of}
+use Rattle.loop_finder.specs.Mixes.{mix_of}
 use Rattle.loop_finder.proofs.part.Part.build.Goals as goal
 
 pub returns-clause-part : goal.returns-clause-part

@@ -1,6 +1,6 @@
 use Rattle.std.proofs.Common.{◌≡◌, List, subst, ap, ◌∙◌}
 use Rattle.net_model.specs.Configuration.{Configuration}
-use Rattle.net_model.specs.Links.{BestLink}
+use Rattle.net_model.specs.steps.BestLinks.{BestLink}
 use Rattle.net_model.specs.declared.interface.Interface.{Interface}
 use Rattle.net_model.proofs.Adjacency.{LeastArc-from_best}
 use Rattle.net_model.proofs.net.Net.arc.Goals as goal

@@ -3,7 +3,7 @@ use Rattle.std.proofs.lemmas.Result.{IfOk-weaker}
 use Rattle.net_model.specs.DestLists.{all_dests}
 use Rattle.igp_theory.specs.Migrations.{migration}
 use Rattle.prefix_atoms.specs.Classes.{Classes, AreClasses, SourceEntry}
-use Rattle.prefix_atoms.specs.Lists.{all_originated}
+use Rattle.prefix_atoms.specs.Originated.{all_originated}
 use Rattle.prefix_atoms.specs.steps.Lists.{source_prefixes, AreClassesOf}
 use Rattle.prefix_atoms.proofs.Occurrences.{classes_collected, gathered}
 use Rattle.prefix_atoms.proofs.atoms.Atoms.build.Goals as goal

@@ -1,5 +1,6 @@
 use Rattle.std.proofs.Common.{◌∙◌, List, subst, sym}
-use Rattle.rib_mix.specs.Rows.{AllOccur, AreRows}
+use Rattle.rib_mix.specs.Rows.{AreRows}
+use Rattle.rib_mix.specs.steps.Sites.{AllOccur}
 use Rattle.rib_mix.specs.declared.both_tables.BothTables.{BothTables}
 use Rattle.rib_mix.proofs.MixedLaws.{all_occur, mixed_made}
 use Rattle.rib_mix.proofs.mixed.Mixed.build.Goals as goal

@@ -2,7 +2,8 @@ use Rattle.std.proofs.Common.{◌<◌, length, arith, subst, sym}
 use Rattle.igp_theory.specs.declared.phase.Phase.{Phase}
 use Rattle.rib_mix.specs.Answers.{IsNextAtAnEnd, IsNextOf}
 use Rattle.rib_mix.specs.Mixture.{Mixture, migration_of}
-use Rattle.rib_mix.specs.Cells.{IsKeptUse, ShowsUse, use_in}
+use Rattle.rib_mix.specs.Cells.{IsKeptUse, use_in}
+use Rattle.rib_mix.specs.steps.Uses.{ShowsUse}
 use Rattle.rib_mix.specs.declared.used.Used.{Used}
 use Rattle.rib_mix.proofs.ClassUses.{answer_of, middle_answer}
 use Rattle.rib_mix.proofs.MixedLaws.{atom_along, home, router_along}

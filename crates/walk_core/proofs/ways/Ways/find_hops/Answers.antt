@@ -1,9 +1,8 @@
-use Rattle.std.proofs.Common.{[], ◌∷◌, ℕ, List, Contains, None, Option, ap, get_or, refl, sym, subst, ◌∙◌, arith}
+use Rattle.std.proofs.Common.{[], ◌∷◌, ℕ, List, Contains, None, get_or, refl, sym, subst, ◌∙◌, arith}
 use Rattle.std.proofs.lemmas.List.{get_or_default}
 use Rattle.std.proofs.lemmas.List.Elements.{Contains-get_or}
 use Rattle.walk_core.specs.declared.ways.Aim.{Aim}
 use Rattle.walk_core.specs.declared.outlets.Outlet.{Outlet}
-use Rattle.walk_core.specs.Distances.{distance_at}
 use Rattle.walk_core.specs.Walks.{walk_cost}
 use Rattle.walk_core.specs.steps.Adding.{AddsNumbers}
 use Rattle.walk_core.specs.steps.SegmentWalks.{GoesOut, GoesOver, Mesh}
@@ -28,7 +27,7 @@ add_hops-requires c =
       mesh_is = c.requires.mesh;
       root_is = c.requires.root;
       outlets_are = c.requires.outlets;
-      away = ap (λ (l : List (Option ℕ)). distance_at l c.args.v) (sym c.requires.own) ∙ sym c.at.ensures ∙ c.in-Some.is;
+      away = sym c.distance.ensures ∙ c.in-Some.is;
     } in
     record {
       place = (c.requires.outlets.each outlet among).within;
@@ -57,7 +56,7 @@ returns-clause-exact c h =
       mesh_is = c.requires.mesh;
       root_is = c.requires.root;
       outlets_are = c.requires.outlets;
-      away = ap (λ (l : List (Option ℕ)). distance_at l c.args.v) (sym c.requires.own) ∙ sym c.at.ensures ∙ c.in-Some.is;
+      away = sym c.distance.ensures ∙ c.in-Some.is;
     } in
     let adds : AddsNumbers (GoesOut mesh outlets aim) [] found =
     leads_all (GoesOver mesh aim) outlets c.loop-outlet.outlet-index [] found c.loop-outlet-test.false c.loop-outlet.invariant in
@@ -72,6 +71,6 @@ returns-in_default-clause-exact c h = (
   λ hop.
       let cost : ℕ = walk_cost (hop.leg ∷ hop.legs) in
       let some = ((c.requires.mesh.rows.each c.args.root c.requires.root).least.least c.args.v cost).1 (first_hop_has_least_cost hop) in
-      let none = ap (λ (l : List (Option ℕ)). distance_at l c.args.v) (sym c.requires.own) ∙ sym c.at.ensures ∙ c.in_default.is in
+      let none = sym c.distance.ensures ∙ c.in_default.is in
       absurd (cc (some, none)),
 )

@@ -7,8 +7,8 @@ use Rattle.walk_core.proofs.ReachLaws.{hops_more, lists_of_all, no_hops_listed}
 use Rattle.walk_core.proofs.ways.Ways.hops_over_exits.Goals as goal
 
 pub loop-v-init : goal.loop-v-init
-loop-v-init c = subst (λ (l : List (List ℕ)). AreFirstHops (SendsAcross c.args.self.now.segments) c.args.root 0 l) (sym c.in_ok-hops.ensures)
-    (no_hops_listed (SendsAcross c.args.self.now.segments) c.args.root)
+loop-v-init c = subst (λ (l : List (List ℕ)). AreFirstHops (SendsAcross c.args.self.now.segments) c.args.exits.root 0 l) (sym c.in_ok-hops.ensures)
+    (no_hops_listed (SendsAcross c.args.self.now.segments) c.args.exits.root)
 
 pub push_exits-requires-clause-one : goal.push_exits-requires-clause-one
 push_exits-requires-clause-one c = exit_fits c.args.self.now c.requires.exits.outlets c.args.exits.one c.requires.mesh (omega arith) c.requires.exits.are.one
@@ -22,15 +22,15 @@ loop-v-preserved c =
     let arc : Arcs = SendsAcross c.args.self.now.segments in
     let v : ℕ = c.loop-v.v in
     let adds = c.in_ok-push_exits.ensures in
-    subst (λ (l : List (List ℕ)). AreFirstHops arc c.args.root (v + 1) l) (sym adds.added)
-    (hops_more arc c.args.root v c.loop-v.hops adds.list c.loop-v.invariant
+    subst (λ (l : List (List ℕ)). AreFirstHops arc c.args.exits.root (v + 1) l) (sym adds.added)
+    (hops_more arc c.args.exits.root v c.loop-v.hops adds.list c.loop-v.invariant
     (λ h.
-    let lead = exits_lead c.args.self.now c.args.root v h c.args.exits c.requires.mesh c.requires.root c.requires.exits in
+    let lead = exits_lead c.args.self.now v h c.args.exits c.requires.mesh c.requires.root c.requires.exits in
     (λ has. lead.0 ((adds.exact h).0 has), λ hop. (adds.exact h).1 (lead.1 hop)))
     (adds.ascending c.requires.exits.are.less))
 
 pub returns-clause-exact : goal.returns-clause-exact
 returns-clause-exact c =
     let last : c.loop-v.v ≡ c.count-count.result = omega arith in
-    lists_of_all (SendsAcross c.args.self.now.segments) c.args.root c.args.self.now.count c.loop-v.v (get_or c.args.self.now.rows c.args.root []) c.loop-v.hops
-    (c.count-count.ensures.mesh.rows.each c.args.root c.requires.root) c.loop-v.invariant (inl (last ∙ c.count-count.ensures.value))
+    lists_of_all (SendsAcross c.args.self.now.segments) c.args.exits.root c.args.self.now.count c.loop-v.v (get_or c.args.self.now.rows c.args.exits.root []) c.loop-v.hops
+    (c.count-count.ensures.mesh.rows.each c.args.exits.root c.requires.root) c.loop-v.invariant (inl (last ∙ c.count-count.ensures.value))

@@ -1,7 +1,8 @@
 use Rattle.std.proofs.Common.{[], ℕ, List, MatchOption, Option, sym, subst}
 use Rattle.std.proofs.lemmas.List.Elements.{Contains-push}
 use Rattle.std.proofs.lemmas.Result.{IfOk-weaker}
-use Rattle.walk_core.specs.Reach.{Reach, AreAscending}
+use Rattle.walk_core.specs.Reach.{Reach}
+use Rattle.walk_core.specs.steps.Ascending.{AreAscending}
 use Rattle.walk_core.specs.Segments.{SendsAcross}
 use Rattle.walk_core.specs.steps.FirstHops.{ListFirstHops}
 use Rattle.walk_core.specs.steps.Flooding.{segment_at}

@@ -3,7 +3,8 @@ use Rattle.std.proofs.lemmas.List.{take_all}
 use Rattle.net_model.specs.declared.interface.Interface.{Interface}
 use Rattle.zone_graph.specs.declared.links.Link.{Link}
 use Rattle.zone_graph.specs.steps.LinkLists.{AreLinksOf, IsLinkAt}
-use Rattle.zone_graph.proofs.LinkFacts.{one_more, links_more, links_no_more}
+use Rattle.net_addr.proofs.SomeElement.{one_more}
+use Rattle.zone_graph.proofs.LinkFacts.{links_more, links_no_more}
 use Rattle.zone_graph.proofs.links.Links.among.Goals as goal
 use Rattle.zone_graph.proofs.links.Links.among.Goals.{in-Some+in_ok-push, in_default}
 

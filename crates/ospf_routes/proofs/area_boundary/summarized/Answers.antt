@@ -1,0 +1,15 @@
+use Rattle.route_tables.proofs.ListFacts.{adds_both, exactly_added}
+use Rattle.ospf_routes.proofs.SummaryFacts.{summarized_both}
+use Rattle.ospf_routes.specs.steps.Summarized.{SummarizedFrom, SummarizedRange, SummarizedSubnet}
+use Rattle.ospf_routes.specs.declared.area_route.AreaRoute.{AreaRoute}
+use Rattle.ospf_routes.proofs.area_boundary.summarized.Goals as goal
+
+pub returns : goal.returns
+returns c =
+    let net = c.args.domain.now.net in
+    let p = c.args.destination.now.dest in
+    let From : AreaRoute → Type 0 = λ r. SummarizedFrom net p r.at r in
+    exactly_added c.new-routes.result.items c.push_ranges.new.routes.items From c.new-routes.ensures.items
+    (adds_both c.new-routes.result.items c.push_subnets.new.routes.items c.push_ranges.new.routes.items
+    (λ (r : AreaRoute). SummarizedSubnet net p r.at r) (λ (r : AreaRoute). SummarizedRange net p r.at r) From
+    c.in_ok-push_subnets.ensures c.in_ok-push_ranges.ensures (λ r. summarized_both net p r.at r))

@@ -1,0 +1,190 @@
+ghost use Rattle.std.specs.Prelude.{◌≡◌, ◌<◌, ◌↔◌, length, Some, All, Any, IfOk, IsTrue, OnOk};
+ghost use Rattle.igp_theory.specs.Ospf.{BackboneSummary};
+ghost use Rattle.walk_core.specs.declared.offers.Offer.{Offer as OfferValue};
+ghost use Rattle.ospf_routes.specs.steps.Members.{AreMembersBelow, IsBorderIn};
+ghost use Rattle.ospf_routes.specs.steps.Destinations.{AreOspfDestinations, IsDestinationIn};
+ghost use Rattle.net_model.specs.Network.{IsBorderRouter};
+ghost use Rattle.ospf_routes.specs.Lists.{Adds, Exactly};
+ghost use Rattle.ospf_routes.specs.steps.Offered.{AreOffers};
+ghost use Rattle.ospf_routes.specs.steps.Ranges.{AreRangesBelow};
+ghost use Rattle.ospf_routes.specs.steps.Heard.{AddsRow, AreSummaries};
+ghost use Rattle.ospf_routes.specs.steps.Summarized.{Announces, AreSummarized, IsHeard, IsOutgoing};
+
+use crate::OutOfMemory;
+use crate::area_route::{AreaRoute, offers_outside, outside_offer};
+use crate::areas::AreaWalks;
+use crate::backbone_routes::push_reached;
+use crate::domain::Domain;
+use crate::intra_area::Destination;
+use crate::ranges::ActiveRanges;
+use crate::stub_areas::{is_totally_stubby, push_defaults};
+use crate::summaries::Summaries;
+use crate::area_boundary::summarized;
+use net_addr::Prefix;
+use route_tables::push_option;
+use std::alloc::Global;
+use walk_core::Offer;
+
+/// What border routers announce of each prefix into each of their areas: the subnets and the ranges of other areas, and into
+/// areas other than the backbone what they reach over the backbone, and the defaults of stub areas.
+pub fn all_summaries(
+    alloc: Global,
+    domain: &Domain<'_>,
+    destinations: &[Destination],
+    ranges: &[ActiveRanges],
+) -> Result<Summaries, OutOfMemory>
+    requires destinations { AreOspfDestinations domain.now.net domain.now.areas destinations.now }
+    requires ranges { AreRangesBelow domain.now.net (length domain.now.net) ranges.now }
+    ensures { IfOk result (AreSummaries domain.now destinations.now) }
+{
+    let borders = domain.borders(alloc)?;
+    let mut summaries = Summaries::none(alloc, domain.zones());
+    let mut offers = Vec::new(alloc);
+    for destination in destinations {
+        keep_summaries(
+            alloc,
+            &mut summaries,
+            &mut offers,
+            domain,
+            borders.as_slice(),
+            ranges,
+            destination,
+        )?;
+    }
+    Ok(summaries)
+}
+
+/// Keeps what is announced of a prefix into each area, area by area. Each is made in one vector of offers.
+fn keep_summaries(
+    alloc: Global,
+    summaries: &mut Summaries,
+    offers: &mut Vec<Offer>,
+    domain: &Domain<'_>,
+    borders: &[u32],
+    ranges: &[ActiveRanges],
+    destination: &Destination,
+) -> Result<(), OutOfMemory>
+    requires borders { Exactly (IsBorderRouter domain.now.net) borders.now }
+    requires ranges { AreRangesBelow domain.now.net (length domain.now.net) ranges.now }
+    requires destination { IsDestinationIn domain.now.net domain.now.areas destination.now }
+    ensures { OnOk result (AddsRow domain.now.net domain.now.areas destination.now.dest (length domain.now.areas) summaries.old summaries.new) }
+{
+    let routes = summarized(alloc, domain, borders, ranges, destination)?;
+    let backbone = offers_outside(alloc, routes.as_slice(), 0)?;
+    keep_into_areas(
+        summaries,
+        offers,
+        domain,
+        ranges,
+        destination,
+        routes.as_slice(),
+        backbone.as_slice(),
+    )
+}
+
+/// Keeps what is announced of a prefix into each area, by what is summarized of it and what goes into the backbone.
+fn keep_into_areas(
+    summaries: &mut Summaries,
+    offers: &mut Vec<Offer>,
+    domain: &Domain<'_>,
+    ranges: &[ActiveRanges],
+    destination: &Destination,
+    routes: &[AreaRoute],
+    backbone: &[Offer],
+) -> Result<(), OutOfMemory>
+    requires ranges { AreRangesBelow domain.now.net (length domain.now.net) ranges.now }
+    requires destination { IsDestinationIn domain.now.net domain.now.areas destination.now }
+    requires routes { AreSummarized domain.now.net destination.now.dest routes.now }
+    requires backbone { AreOffers (BackboneSummary domain.now.net destination.now.dest) backbone.now }
+    ensures { OnOk result (AddsRow domain.now.net domain.now.areas destination.now.dest (length domain.now.areas) summaries.old summaries.new) }
+{
+    for zone in 0..domain.zones() {
+        put_summaries(
+            offers,
+            domain,
+            domain.area(zone),
+            ranges,
+            destination,
+            routes,
+            backbone,
+        )?;
+        summaries.keep(offers.as_slice())?;
+    }
+    Ok(())
+}
+
+/// Puts the announcements of an area's routers into it in place of other offers: the subnets and ranges of other areas, and
+/// into an area other than the backbone what border routers reach over the backbone, and the defaults of stub areas (RFC
+/// 2328, sections 12.4.3 and 3.6).
+fn put_summaries(
+    offers: &mut Vec<Offer>,
+    domain: &Domain<'_>,
+    area: &AreaWalks,
+    ranges: &[ActiveRanges],
+    destination: &Destination,
+    routes: &[AreaRoute],
+    backbone: &[Offer],
+) -> Result<(), OutOfMemory>
+    requires members { AreMembersBelow domain.now.net area.now.number (length domain.now.net) area.now.members }
+    requires borders { Exactly (IsBorderIn domain.now.net area.now.number) area.now.borders }
+    requires ranges { AreRangesBelow domain.now.net (length domain.now.net) ranges.now }
+    requires destination { IsDestinationIn domain.now.net domain.now.areas destination.now }
+    requires routes { AreSummarized domain.now.net destination.now.dest routes.now }
+    requires backbone { AreOffers (BackboneSummary domain.now.net destination.now.dest) backbone.now }
+    ensures { OnOk result (AreOffers (IsHeard domain.now.net destination.now.dest area.now.number) offers.new.items) }
+{
+    offers.clear();
+    push_announced(offers, domain, area, routes)?;
+    let is_backbone = area.number == 0;
+    if is_backbone {
+        return Ok(());
+    }
+    push_reached(offers, domain, area, ranges, destination, backbone)?;
+    push_defaults(offers, domain, area, destination.dest)
+}
+
+/// Adds the routes of other areas that their routers announce into this one.
+fn push_announced(
+    offers: &mut Vec<Offer>,
+    domain: &Domain<'_>,
+    area: &AreaWalks,
+    routes: &[AreaRoute],
+) -> Result<(), OutOfMemory>
+    requires members { AreMembersBelow domain.now.net area.now.number (length domain.now.net) area.now.members }
+    requires routers { All (λ r. r.at < length domain.now.net) routes.now }
+    ensures { OnOk result (Adds offers.old.items offers.new.items (λ o. Any (IsOutgoing domain.now.net area.now.number o) routes.now)) }
+{
+    for route in routes {
+        push_option(offers, outgoing(domain, area, *route))?;
+    }
+    Ok(())
+}
+
+/// The route as an offer, where it is of another area and its router announces it into this one.
+fn outgoing(domain: &Domain<'_>, area: &AreaWalks, route: AreaRoute) -> Option<Offer>
+    requires router { route.at < length domain.now.net }
+    requires members { AreMembersBelow domain.now.net area.now.number (length domain.now.net) area.now.members }
+    ensures { (o : OfferValue) → (result ≡ Some o) ↔ IsOutgoing domain.now.net area.now.number o route }
+{
+    if announces(domain, area, route.at) {
+        outside_offer(route, area.number)
+    } else {
+        None
+    }
+}
+
+/// Whether a router is in the area, and announces more than the default route into it. The backbone is no stub area
+/// (RFC 2328, section 3.6).
+fn announces(domain: &Domain<'_>, area: &AreaWalks, b: u32) -> bool
+    requires router { b < length domain.now.net }
+    requires members { AreMembersBelow domain.now.net area.now.number (length domain.now.net) area.now.members }
+    ensures { IsTrue result ↔ Announces domain.now.net area.now.number b }
+{
+    if !area.members.has(b) {
+        return false;
+    }
+    if area.number == 0 {
+        return true;
+    }
+    !is_totally_stubby(domain, b, area.number)
+}
