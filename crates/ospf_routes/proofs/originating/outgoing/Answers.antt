@@ -2,7 +2,7 @@ use Rattle.std.proofs.Common.{refl, subst, sym}
 use Rattle.std.proofs.lemmas.Bool.{false≢true}
 use Rattle.std.proofs.lemmas.Option.{none-some}
 use Rattle.ospf_routes.specs.steps.Summarized.{Announces}
-use Rattle.ospf_routes.proofs.announcements.outgoing.Goals as goal
+use Rattle.ospf_routes.proofs.originating.outgoing.Goals as goal
 
 pub returns-then-announces : goal.returns-then-announces
 returns-then-announces c o = (
