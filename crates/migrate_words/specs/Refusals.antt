@@ -1,7 +1,6 @@
 -- Why words are refused.
 use Rattle.std.specs.Prelude.{List, Result, Ok, Err}
 use Rattle.clap.specs.Words.{Text}
-use Rattle.clap.specs.declared.error.kind.ErrorKind.TheVariants as kind
 use Rattle.migrate_words.specs.Requests.{request_of}
 use Rattle.migrate_words.specs.Asked.{AreTaken, Asks, HasNumberOff}
 use Rattle.migrate_words.specs.declared.command.Command.{Command}

@@ -1,5 +1,5 @@
 -- Between sound ends what is told of a wave list that isn't seamless is a loop that breaks its ranking.
-use Rattle.std.proofs.Common.{◌≡◌, ℕ, ◌<◌, List, length, Contains, arith, subst}
+use Rattle.std.proofs.Common.{◌≡◌, ℕ, List, length, arith, subst}
 use Rattle.order_core.specs.declared.turn.Turn.{Turn}
 use Rattle.igp_theory.specs.LoopLaws.{AreSoundEnds, IsLoopOfWave}
 use Rattle.igp_theory.specs.Loops.{missing, loop, IsLoop}

@@ -1,6 +1,6 @@
 ghost use Rattle.printed_sections.specs.PrintedSections.{SectionsReadBack};
 
 /// The law that printed sections read back.
-pub fn section_laws()
+pub fn sections_read_back()
     ensures { SectionsReadBack }
 {}

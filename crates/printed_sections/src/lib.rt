@@ -6,4 +6,4 @@
 
 mod laws;
 
-pub use laws::section_laws;
+pub use laws::sections_read_back;

@@ -10,7 +10,7 @@ use Rattle.igp_theory.specs.declared.phase.Phase.TheVariants.{Old, Middle, New}
 use Rattle.rib_mix.specs.Cells.{IsUsable, use_in}
 use Rattle.rib_mix.specs.Sites.{Site}
 use Rattle.rib_mix.specs.steps.Sites.{CountsAt, Kind}
-use Rattle.rib_mix.specs.steps.Uses.{cell_between, cell_of_three, cell_over}
+use Rattle.rib_mix.specs.steps.Uses.{cell_between, cell_over}
 use Rattle.rib_mix.specs.steps.WayUp.{IsBestUse, IsCellUpTo, UpTo}
 use Rattle.rib_mix.specs.declared.cell.Cell.{Cell}
 use Rattle.rib_mix.specs.declared.cell.Has.{Has}
@@ -130,7 +130,7 @@ cell_step s p ospf has old_first up one inside first are shorter = by_three has.
         (record { entry = connected; is = refl; counts = connected_counts h; lowest = λ d x counts. omega arith })
 
     by_three : (place old new : Option ℕ) → AreHere s p ospf (record { connected = place; old = old; new = new })
-        → IsCellUpTo s p.len (cell_of_three place old new old_first up)
+        → IsCellUpTo s p.len (cell_over (record { connected = place; old = old; new = new }) old_first up)
     by_three (Some _) old new h Old = connected_here Old h.connected
     by_three (Some _) old new h Middle = connected_here Middle h.connected
     by_three (Some _) old new h New = connected_here New h.connected

@@ -8,7 +8,6 @@ use Rattle.rib_mix.specs.Sites.{Site, UsesAt}
 use Rattle.rib_mix.specs.declared.cell.Cell.{Cell}
 use Rattle.rib_mix.specs.declared.used.Used.{Used}
 use Rattle.rib_mix.specs.declared.used.Used.TheVariants as used
-use Rattle.rib_mix.specs.declared.next.Next.TheVariants as next
 
 -- the first of two uses, and the second where that is of the new table
 abbrev pub first_unless_new : Used → Used → Used

@@ -60,7 +60,8 @@ impl<'a, O: RouteSource, N: RouteSource> Model for Mixed<'a, O, N> {
 }
 
 impl<'a, O: RouteSource, N: RouteSource> Mixed<'a, O, N> {
-    /// Mixed forwarding over a network and two sources that have its routers.
+    /// Mixed forwarding over a network and two sources that have its routers. A table that keeps 2^31 - 2 entries or more
+    /// gives `OutOfMemory`.
     pub fn build(
         alloc: Global,
         net: &'a Net,

@@ -3,6 +3,7 @@ use Rattle.std.specs.Prelude.{◌≡◌, ◌≢◌, List, Result, Ok, Err, Some}
 use Rattle.clap.specs.Words.{Row, Text, subcommand_rows_of}
 use Rattle.clap.specs.declared.parser.matches.ArgMatches.{ArgMatches}
 use Rattle.clap.specs.declared.error.kind.ErrorKind.{ErrorKind}
+use Rattle.clap.specs.declared.error.kind.ErrorKind.TheVariants as kind
 use Rattle.migrate_words.specs.Requests.{Request, name_of}
 use Rattle.migrate_words.specs.Asked.{Gives}
 use Rattle.migrate_words.specs.declared.refusal.WordsRefused.{WordsRefused}

@@ -14,21 +14,11 @@ use Rattle.rib_mix.specs.declared.both_tables.BothTables.{BothTables}
 use Rattle.rib_mix.specs.Sites.{Site, table_of, own_migration}
 use Rattle.rib_mix.specs.Rows.{Ground}
 
--- each of these prefixes is among those
-abbrev pub AreAmong : List Block → List Block → Type 0
-AreAmong prefixes own = (p : Block) → Contains own p → Contains prefixes p
-
--- the connected prefixes of all routers and those of their tables are among these
-pub record AllOccur (prefixes : List Block) (g : Ground) : Type 0 where
-  pub connected : (u : ℕ) (p : Block) → Connected g.net u p → Contains prefixes p
-  pub olds : (u : ℕ) (both : BothTables) → slice_get g.tables u ≡ Some both → AreAmong prefixes (prefixes_in both.old)
-  pub news : (u : ℕ) (both : BothTables) → slice_get g.tables u ≡ Some both → AreAmong prefixes (prefixes_in both.new)
-
--- its prefixes, by its rows
+-- the prefixes of the parts of a table, by their rows
 abbrev pub prefixes_in : TableParts → List Block
 prefixes_in parts = row_prefixes parts.prefixes.now (rows_in (kept_in parts))
 
--- the rows are those of a table
+-- the rows of the parts are those of a table
 abbrev pub HasTableRows : TableParts → Type 0
 HasTableRows parts = AreTableRows parts.prefixes.now parts.entries.now (rows_in (kept_in parts))
 
@@ -36,7 +26,7 @@ HasTableRows parts = AreTableRows parts.prefixes.now parts.entries.now (rows_in 
 abbrev pub Kind : Type 1
 Kind = Block → ℕ → Usable → Type 0
 
--- the entries that count there, and the one that is used
+-- the entries that count at a router in a phase
 abbrev pub CountsAt : Site → Phase → Kind
 CountsAt s phase = Counts (own_migration s) s.u phase
 
@@ -71,3 +61,13 @@ pub record AreTablesInParts (routers : ℕ) (tables : List BothTables) : Type 0 
   pub count : length tables ≡ routers
   pub olds : (u : ℕ) (both : BothTables) → slice_get tables u ≡ Some both → IsTableOver old_prefixes both.old
   pub news : (u : ℕ) (both : BothTables) → slice_get tables u ≡ Some both → IsTableOver new_prefixes both.new
+
+-- each of these prefixes is among those
+abbrev pub AreAmong : List Block → List Block → Type 0
+AreAmong prefixes own = (p : Block) → Contains own p → Contains prefixes p
+
+-- the connected prefixes of all routers and those of their tables are among these
+pub record AllOccur (prefixes : List Block) (g : Ground) : Type 0 where
+  pub connected : (u : ℕ) (p : Block) → Connected g.net u p → Contains prefixes p
+  pub olds : (u : ℕ) (both : BothTables) → slice_get g.tables u ≡ Some both → AreAmong prefixes (prefixes_in both.old)
+  pub news : (u : ℕ) (both : BothTables) → slice_get g.tables u ≡ Some both → AreAmong prefixes (prefixes_in both.new)

@@ -1,5 +1,5 @@
 -- What a router uses for the addresses of a prefix, by what it has for the prefix and what it uses for its parent.
-use Rattle.std.specs.Prelude.{ℕ, Bool, if◌then◌else◌, List, slice_index_or, Option, Some, None, ◌≡◌, slice_get}
+use Rattle.std.specs.Prelude.{ℕ, Bool, if◌then◌else◌, is_some, List, slice_index_or, Option, Some, None, ◌≡◌, slice_get}
 use Rattle.rib_mix.specs.Cells.{new_use, old_use}
 use Rattle.rib_mix.specs.declared.cell.Cell.{Cell}
 use Rattle.rib_mix.specs.declared.cell.Has.{Has}
@@ -8,17 +8,18 @@ use Rattle.rib_mix.specs.declared.used.Used.TheVariants.{Connected, New, Nothing
 use Rattle.route_core.specs.declared.entry.Entry.{Entry}
 use Rattle.rib_mix.specs.Answers.{ShowsEntry}
 use Rattle.rib_mix.specs.declared.next.Next.{Next}
+use Rattle.rib_mix.specs.declared.next.Next.TheVariants as next
 
 -- nothing is used
 abbrev pub no_cell : Cell
-no_cell = record { middle = used.Nothing; other = used.Nothing }
+no_cell = record { middle = Nothing; other = Nothing }
 
 -- the answer is what is used
 abbrev pub ShowsUse : List Entry → List Entry → Used → Next → Type 0
-ShowsUse olds news used.Nothing answer = answer ≡ next.Absent
-ShowsUse olds news used.Connected answer = answer ≡ next.Connected
-ShowsUse olds news (used.Old number) answer = (e : Entry) → slice_get olds number ≡ Some e → ShowsEntry answer e
-ShowsUse olds news (used.New number) answer = (e : Entry) → slice_get news number ≡ Some e → ShowsEntry answer e
+ShowsUse olds news Nothing answer = answer ≡ next.Absent
+ShowsUse olds news Connected answer = answer ≡ next.Connected
+ShowsUse olds news (Old number) answer = (e : Entry) → slice_get olds number ≡ Some e → ShowsEntry answer e
+ShowsUse olds news (New number) answer = (e : Entry) → slice_get news number ≡ Some e → ShowsEntry answer e
 
 -- an entry of the new table is used
 abbrev pub IsOfNew : Used → Type 0
@@ -31,17 +32,18 @@ IsOfNew (New n) = Unit {0}
 abbrev pub cell_between : Used → Used → Bool → Cell
 cell_between old new old_first = if old_first then record { middle = old; other = new } else record { middle = new; other = old }
 
--- what is used where there is a connected prefix, or an entry of the old table, or one of the new one
-abbrev pub cell_of_three : Option ℕ → Option ℕ → Option ℕ → Bool → Cell → Cell
-cell_of_three (Some place) old new old_first up = record { middle = Connected; other = Connected }
-cell_of_three None None None old_first up = up
-cell_of_three None (Some n) None old_first up = record { middle = Old n; other = new_use up }
-cell_of_three None None (Some n) old_first up = record { middle = New n; other = old_use up }
-cell_of_three None (Some n) (Some m) old_first up = cell_between (Old n) (New m) old_first
+-- what is used where there may be an entry of the old table, and one of the new one: at an end without one, what is used
+-- for the parent
+abbrev pub cell_of_two : Option ℕ → Option ℕ → Bool → Cell → Cell
+cell_of_two None None old_first up = up
+cell_of_two (Some n) None old_first up = record { middle = Old n; other = new_use up }
+cell_of_two None (Some n) old_first up = record { middle = New n; other = old_use up }
+cell_of_two (Some n) (Some m) old_first up = cell_between (Old n) (New m) old_first
 
--- what is used of what a router has for a prefix, and at an end where it has nothing that of its parent
+-- what is used of what a router has for a prefix: a connected prefix before all entries
 abbrev pub cell_over : Has → Bool → Cell → Cell
-cell_over has old_first up = cell_of_three has.connected has.old has.new old_first up
+cell_over has old_first up =
+    if is_some has.connected then record { middle = Connected; other = Connected } else cell_of_two has.old has.new old_first up
 
 -- what is used for the prefix at a place, if there is one
 abbrev pub cell_at : List Cell → Option ℕ → Cell

@@ -1,5 +1,5 @@
 use Rattle.printed_sections.proofs.SectionFacts.{section_fits, section_says}
-use Rattle.printed_sections.proofs.laws.section_laws.Goals as goal
+use Rattle.printed_sections.proofs.laws.sections_read_back.Goals as goal
 
 pub returns : goal.returns
 returns c head bodies fine_head not_end fine = record {
