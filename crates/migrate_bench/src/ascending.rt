@@ -115,17 +115,16 @@ fn lowest_not_risen(ranks: &[u32], size: u32) -> u32
     let mut scanned = (at, size);
     while at > 0 {
         at -= 1;
-        scanned = scan(ranks, size, at, scanned);
+        scanned = scan(ranks, at, scanned);
     }
     scanned.1
 }
 
 /// One number more of a scan from the last one down: the number of the lowest rank, and the lowest one that has a later
 /// one of no higher rank.
-fn scan(ranks: &[u32], size: u32, at: u32, scanned: (u32, u32)) -> (u32, u32)
-    requires size { length ranks.now ≡ size }
-    requires scanned { IsScanned ranks.now size (at + 1) scanned }
-    ensures { IsScanned ranks.now size at result }
+fn scan(ranks: &[u32], at: u32, scanned: (u32, u32)) -> (u32, u32)
+    requires { IsScanned ranks.now (length ranks.now) (at + 1) scanned }
+    ensures { IsScanned ranks.now (length ranks.now) at result }
 {
     let (lowest, found) = scanned;
     if ranks[lowest as usize] <= ranks[at as usize] {

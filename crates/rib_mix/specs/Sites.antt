@@ -34,4 +34,3 @@ pub record AreTablesOf (old new : ℕ → List (Block × Entry)) (routers : ℕ)
   pub count : length tables ≡ routers
   pub olds : (u : ℕ) (both : BothTables) → slice_get tables u ≡ Some both → table_of both.old ≡ old u
   pub news : (u : ℕ) (both : BothTables) → slice_get tables u ≡ Some both → table_of both.new ≡ new u
-

@@ -58,17 +58,17 @@ impl Model for Table {
     ghost Value = { KeptTable };
 
     ghost view = { λ x. record {
-        prefixes = x.prefixes.value.items;
-        kinds = x.kinds.value.items;
-        numbers = x.numbers.items;
-        entries = x.entries.value.items
+      prefixes = x.prefixes.value.items;
+      kinds = x.kinds.value.items;
+      numbers = x.numbers.items;
+      entries = x.entries.value.items;
     } };
 
     ghost invariant = { λ x. IsTable (record {
-        prefixes = x.prefixes.value.items;
-        kinds = x.kinds.value.items;
-        numbers = x.numbers.items;
-        entries = x.entries.value.items
+      prefixes = x.prefixes.value.items;
+      kinds = x.kinds.value.items;
+      numbers = x.numbers.items;
+      entries = x.entries.value.items;
     }) };
 }
 
@@ -106,16 +106,16 @@ impl Table {
         numbers: Vec<Number>,
     ) -> Result<Table, OutOfMemory>
         requires { IsTable (record {
-            prefixes = prefixes.now.value.items;
-            kinds = kinds.now.value.items;
-            numbers = numbers.items;
-            entries = entries.now.value.items
+          prefixes = prefixes.now.value.items;
+          kinds = kinds.now.value.items;
+          numbers = numbers.items;
+          entries = entries.now.value.items;
         }) }
         ensures { IfOk result (λ table. table ≡ record {
-            prefixes = prefixes.now.value.items;
-            kinds = kinds.now.value.items;
-            numbers = numbers.items;
-            entries = entries.now.value.items
+          prefixes = prefixes.now.value.items;
+          kinds = kinds.now.value.items;
+          numbers = numbers.items;
+          entries = entries.now.value.items;
         }) }
     {
         Ok(Table {

@@ -37,8 +37,8 @@ mod lists;
 mod joined;
 mod kinds;
 mod pool;
-mod source;
 mod sharing;
+mod source;
 mod sure;
 mod table;
 

@@ -1,8 +1,8 @@
 -- The walks from a vertex that reaches itself alone.
-use Rattle.std.proofs.Common.{◌≡◌, ◌∙◌, ℕ, ◌+◌, ◌<◌, zero, suc, List, [], ◌∷◌, ◌++◌, Option, Some, None, length, length-append, replicate, refl, sym}
+use Rattle.std.proofs.Common.{◌≡◌, ◌∙◌, ℕ, ◌+◌, ◌<◌, zero, suc, List, [], ◌∷◌, ◌++◌, Option, Some, None, length, length-append, length-take-le, replicate, refl, sym, take}
 use Rattle.std.proofs.Common.{Contains, ap, get_or, inl, inr, subst, arith}
 use Rattle.std.proofs.lemmas.Bool.{cases_lt}
-use Rattle.std.proofs.lemmas.List.{get_or_default, length-replicate}
+use Rattle.std.proofs.lemmas.List.{get_or-take, get_or_default, length-replicate}
 use Rattle.walk_core.specs.declared.outlets.Outlet.{Outlet}
 use Rattle.walk_core.specs.declared.segment.Port.{Port}
 use Rattle.walk_core.specs.Distances.{distance_at}
@@ -14,7 +14,7 @@ use Rattle.walk_core.specs.steps.Flooding.{segment_at}
 use Rattle.walk_core.specs.Walks.{Arcs}
 use Rattle.walk_core.specs.steps.Relaxing.{AreWalked, IsTightFrom}
 use Rattle.walk_core.specs.KeptWalks.{lone_row}
-use Rattle.walk_core.specs.steps.SegmentWalks.{AreAllOutlets, AreOutlets, HasOutlet, IsJoinedEnd}
+use Rattle.walk_core.specs.steps.SegmentWalks.{AreAllOutlets, AreOutlets, HasOutlet, IsJoined, IsJoinedEnd}
 use Rattle.walk_core.proofs.FloodLaws.{sends_at_place, sends_below}
 use Rattle.walk_core.proofs.ReachLaws.{lists_of_all, no_hops_listed, walks_more}
 use Rattle.walk_core.proofs.RelaxLaws.{distances_from_tight}
@@ -68,7 +68,7 @@ short_row_of_lone segments count root outlets below are listed none = record {
 }
 
 -- the ports are of vertices before the last one that has one
-pub ports_below : (segments : List (List Port)) (count end : ℕ) (all : List (List Outlet)) → AreSegments count segments → AreAllOutlets segments count all →
+ports_below : (segments : List (List Port)) (count end : ℕ) (all : List (List Outlet)) → AreSegments count segments → AreAllOutlets segments count all →
     IsJoinedEnd all end → AreSegments end segments
 ports_below segments count end all are listed is segment among port at = record {
   vertex = elim (cases_lt port.vertex end) [
@@ -86,6 +86,18 @@ ports_below segments count end all are listed is segment among port at = record 
   where
     fits : IsPort count port
     fits = are segment among port at
+
+-- so the vertices before that one are joined by all segments
+pub joined_below : (segments : List (List Port)) (count end : ℕ) (all : List (List Outlet)) → AreSegments count segments →
+    AreAllOutlets segments count all → IsJoinedEnd all end → IsJoined (record { count = end; segments = segments; outlets = take end all })
+joined_below segments count end all are listed is = record {
+  segments = ports_below segments count end all are listed is;
+  outlets = record {
+    long = length-take-le end all is.within;
+    each = λ u below. subst (λ (l : List Outlet). AreOutlets segments u (length segments) l) (sym (get_or-take end all u [] below))
+        (listed.each u (omega (arith, below, is.within, listed.long)));
+  };
+}
 
 -- the walks from a vertex that reaches itself alone come behind others
 pub lone_more : (segments : List (List Port)) (count u : ℕ) (outlets : List Outlet) (walks : List Reach) → AreSegments count segments → u < count →

@@ -3,16 +3,15 @@ ghost use Rattle.walk_core.specs.BestOffers.{total_with};
 ghost use Rattle.walk_core.specs.steps.BestOver.{least_cost_of};
 ghost use Rattle.walk_core.specs.Distances.{distance_at};
 ghost use Rattle.walk_core.specs.steps.Rows.{IsDistanceRow};
-ghost use Rattle.walk_core.specs.Segments.{AreSegments, SendsAcross};
+ghost use Rattle.walk_core.specs.Segments.{SendsAcross};
 ghost use Rattle.walk_core.specs.steps.Ends.{AreSearched, IsEndRow};
-ghost use Rattle.walk_core.specs.steps.SegmentWalks.{AreOutlets};
 
 use crate::OutOfMemory;
 use crate::distance::{Distance, nearer_over};
 use crate::exits::whole_row;
 use crate::outlets::{Outlet, Outlets};
 use crate::rows::Distances;
-use crate::segment::Segment;
+use crate::segment_graph::SegmentGraph;
 use std::alloc::Global;
 
 /// The vertices whose distances are to be found by those from the far ends of their links: in order of number each one
@@ -46,25 +45,22 @@ fn is_free(outlet: Outlet, by_ends: &[bool]) -> bool {
     }
 }
 
-/// The distances from a root that has these ports, by those from the far ends, where all are on links and those rows are
-/// there: a least walk to another vertex goes over one of the links and on from its far end.
+/// The distances from a root by those from the far ends of its ports, where all are on links and those rows are there: a
+/// least walk to another vertex goes over one of the links and on from its far end.
 pub fn row_by_ends(
     alloc: Global,
-    segments: &[Segment],
-    outlets: &[Outlet],
+    graph: &SegmentGraph<'_>,
     rows: &[Distances],
     by_ends: &[bool],
-    count: u32,
     root: u32,
 ) -> Result<Option<Distances>, OutOfMemory>
-    requires root { root < count }
+    requires root { root < graph.now.count }
     requires taken { slice_index_or by_ends.now root false ≡ true }
-    requires segments { AreSegments count segments.now }
-    requires outlets { AreOutlets segments.now root (length segments.now) outlets.now }
-    requires rows { AreSearched (SendsAcross segments.now) count by_ends.now count rows.now }
-    ensures { IfOk result (λ found. IfSome found (IsDistanceRow (SendsAcross segments.now) count root)) }
+    requires rows { AreSearched (SendsAcross graph.now.segments) graph.now.count by_ends.now graph.now.count rows.now }
+    ensures { IfOk result (λ found. IfSome found (IsDistanceRow (SendsAcross graph.now.segments) graph.now.count root)) }
 {
-    let mut row = vec![in alloc; Distance::none(); count as usize]?;
+    let mut row = vec![in alloc; Distance::none(); graph.count() as usize]?;
+    let outlets = graph.ports(root);
     for outlet in outlets {
         let Some(far) = end_row(rows, by_ends, *outlet) else {
             return Ok(None);

@@ -12,7 +12,7 @@
 //! | `walks`, `offers`, `found_walks`, `number_lists`, `long_lists` | what is known of the walks from a root, and the best of offers |
 //! | `distance`, `rows` | a distance in 8 bytes, and a row of those from one vertex |
 //! | `relax`, `hops` | over arcs: distances by relaxing, and first hops by the distances from where arcs lead |
-//! | `flood`, `outlets`, `over_segments` | over segments: distances, from stale vertices, and onto a LAN at once |
+//! | `over_segments`, `segment_graph`, `outlets`, `flood` | over segments: the walks from all vertices, a graph of segments with its ports, distances from stale vertices, and onto a LAN at once |
 //! | `ends` | the distances from a root of one or two links, by those from the far ends |
 //! | `beyond`, `ways` | the walks that begin on a LAN, once for all roots, and first hops by these and by the distances from the ends of links |
 //! | `exits` | first hops from a root of two links, as most have, in one pass over the rows of their two ends |
@@ -53,6 +53,7 @@ mod exits;
 mod flood;
 mod outlets;
 mod over_segments;
+mod segment_graph;
 mod ways;
 
 // numbers

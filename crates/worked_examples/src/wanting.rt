@@ -67,7 +67,7 @@ impl Oracle for Wanting<'_> {
     }
 
     fn ask(&mut self, ranks: &[u32]) -> Answer {
-        match first_unkept(self.size, self.wants, ranks) {
+        match first_unkept(self.wants, ranks) {
             Some((before, after)) => {
                 self.turns = turns_of(before, after);
                 Answer::Breaks { address: 0 }
@@ -114,9 +114,8 @@ fn are_apart(size: u32, pairs: &[(u32, u32)]) -> bool
 }
 
 /// The first wanted pair that a ranking doesn't keep.
-fn first_unkept(size: u32, wants: &[(u32, u32)], ranks: &[u32]) -> Option<(u32, u32)>
-    requires size { length ranks.now ≡ size }
-    requires apart { AreApart size wants.now }
+fn first_unkept(wants: &[(u32, u32)], ranks: &[u32]) -> Option<(u32, u32)>
+    requires { AreApart (length ranks.now) wants.now }
     ensures wanted { IfSome result (Contains wants.now) }
     ensures late { IfSome result (λ pair. rank_of ranks.now pair.1 ≤ rank_of ranks.now pair.0) }
     ensures none { IfNone result (KeepsPairs ranks.now wants.now) }

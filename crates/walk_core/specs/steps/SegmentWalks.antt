@@ -114,6 +114,17 @@ pub record AreAllOutlets (segments : List (List Port)) (n : ℕ) (all : List (Li
   pub long : length all ≡ n
   pub each : (u : ℕ) → u < n → AreOutlets segments u (length segments) (slice_index_or all u [])
 
+-- so many vertices, the segments that join them, and the outlets of each
+pub record Joined : Type 0 where
+  pub count : ℕ
+  pub segments : List (List Port)
+  pub outlets : List (List Outlet)
+
+-- the segments are of ports of the vertices, and the outlets are these ports
+pub record IsJoined (graph : Joined) : Type 0 where
+  pub segments : AreSegments graph.count graph.segments
+  pub outlets : AreAllOutlets graph.segments graph.count graph.outlets
+
 -- the vertices from this one on have no outlets
 pub record IsJoinedEnd (all : List (List Outlet)) (end : ℕ) : Type 0 where
   pub within : end ≤ length all

@@ -12,14 +12,14 @@ loop-outlet-preserved c =
     let after : List (Option ℕ) = c.lower_over.new.distances in
     let i : ℕ = c.loop-outlet.outlet-index in
     let whole : take c.loop-outlet.row.len (after ++ drop (length after) row) ≡ after = grind (arith, common_steps) in
-    subst (λ (l : List (Option ℕ)). AreLowered c.args.segments.now c.args.count c.args.root (i + 1) c.args.outlets.now c.args.rows.now l) (sym whole)
-    (lowered_more c.args.segments.now c.args.count c.args.root i c.args.outlets.now c.args.rows.now c.args.by_ends.now row c.in-Some.far.now after
+    subst (λ (l : List (Option ℕ)). AreLowered c.args.graph.now.segments c.args.graph.now.count c.args.root (i + 1) c.ports-outlets.result.now c.args.rows.now l) (sym whole)
+    (lowered_more c.args.graph.now.segments c.args.graph.now.count c.args.root i c.ports-outlets.result.now c.args.rows.now c.args.by_ends.now row c.in-Some.far.now after
     c.loop-outlet-test.true c.requires.taken c.requires.rows c.in-Some.ensures (omega (arith, c.lower_over.auto.distances, c.deref_mut.ensures.len))
     (λ v. c.lower_over.ensures v ∙ ap (λ (l : List (Option ℕ)). least_cost_of (distance_at l v) (total_with (distance_at c.in-Some.far.now v)
-    (get_or c.args.outlets.now i (record { place = 0; cost = 0; to = None })).cost)) c.deref_mut.ensures.value) c.loop-outlet.invariant)
+    (get_or c.ports-outlets.result.now i (record { place = 0; cost = 0; to = None })).cost)) c.deref_mut.ensures.value) c.loop-outlet.invariant)
 
 pub returns : goal.returns
 returns c =
-    row_of_lowered c.args.segments.now c.args.count c.args.root c.loop-outlet.outlet-index c.args.outlets.now c.args.rows.now c.loop-outlet.row.items
-    c.from_vec.result c.of.result c.requires.root c.requires.segments c.requires.outlets (omega (arith, c.loop-outlet-test.false)) c.loop-outlet.invariant
+    row_of_lowered c.args.graph.now.segments c.args.graph.now.count c.args.root c.loop-outlet.outlet-index c.ports-outlets.result.now c.args.rows.now c.loop-outlet.row.items
+    c.from_vec.result c.of.result c.requires.root c.ports-outlets.ensures.joined.segments c.ports-outlets.ensures.ports (omega (arith, c.loop-outlet-test.false)) c.loop-outlet.invariant
     c.of.ensures c.from_vec.ensures

@@ -1,26 +1,28 @@
-use Rattle.std.proofs.Common.{ℕ, ◌≤◌, ◌+◌, ◌++◌, ◌∷◌, [], List, length, ap, get_or, sym, subst, ◌∙◌, arith}
+use Rattle.std.proofs.Common.{ℕ, ◌≤◌, ◌+◌, ◌++◌, ◌∷◌, [], List, length, ap, get_or, sym, subst, ◌∙◌, arith, take}
 use Rattle.walk_core.specs.Reach.{Reach, AreWalksBelow}
 use Rattle.walk_core.specs.Segments.{SendsAcross}
 use Rattle.walk_core.specs.Walks.{Arcs}
 use Rattle.walk_core.specs.declared.outlets.Outlet.{Outlet}
-use Rattle.walk_core.specs.steps.SegmentWalks.{IsJoinedEnd}
-use Rattle.walk_core.proofs.RowLaws.{lone_more, ports_below}
+use Rattle.walk_core.specs.steps.SegmentWalks.{IsJoined, IsJoinedEnd, Joined}
+use Rattle.walk_core.proofs.RowLaws.{joined_below, lone_more}
 use Rattle.walk_core.proofs.over_segments.segment_walks.Goals as goal
 
-pub walks_below-requires-clause-segments : goal.walks_below-requires-clause-segments
-walks_below-requires-clause-segments c =
-    let all : List (List Outlet) = c.in_ok-outlets.outlets.items in
+pub new-graph-requires : goal.new-graph-requires
+new-graph-requires c =
     let end : ℕ = c.joined_end-end.result in
-    ports_below c.args.segments.now c.args.count end all c.requires c.in_ok-outlets.ensures
-    (subst (λ (l : List (List Outlet)). IsJoinedEnd l end) c.as_slice.ensures.value c.joined_end-end.ensures)
+    subst (λ (l : List (List Outlet)). IsJoined (record { count = end; segments = c.args.segments.now; outlets = take end l })) (sym c.deref.ensures.value)
+    (joined_below c.args.segments.now c.args.count end c.in_ok-outlets.outlets.items c.requires c.in_ok-outlets.ensures
+    (subst (λ (l : List (List Outlet)). IsJoinedEnd l end) c.as_slice.ensures.value c.joined_end-end.ensures))
 
 pub loop-root-init : goal.loop-root-init
 loop-root-init c =
     let end : ℕ = c.joined_end-end.result in
+    let arc : Arcs = SendsAcross c.args.segments.now in
     let within : end ≤ c.args.count =
     omega (arith, c.joined_end-end.ensures.within, c.in_ok-outlets.ensures.long, ap (λ (l : List (List Outlet)). length l) c.as_slice.ensures.value) in
-    let are = c.in_ok-all.ensures in
-    subst (λ (l : List Reach). AreWalksBelow (SendsAcross c.args.segments.now) c.args.count end l) (sym c.in_ok-reserve.ensures.items)
+    let are : AreWalksBelow arc end end c.in_ok-all.all.items =
+    subst (λ (g : Joined). AreWalksBelow (SendsAcross g.segments) g.count g.count c.in_ok-all.all.items) c.new-graph.ensures c.in_ok-all.ensures in
+    subst (λ (l : List Reach). AreWalksBelow arc c.args.count end l) (sym c.in_ok-reserve.ensures.items)
     (record { long = are.long; least = are.least; near = λ u reach at v d is. omega (arith, within, are.near u reach at v d is) })
 
 pub loop-root-preserved : goal.loop-root-preserved

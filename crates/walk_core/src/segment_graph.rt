@@ -1,0 +1,212 @@
+ghost use Rattle.std.specs.Prelude.{◌≡◌, ◌<◌, [], length, slice_index_or, slice_set};
+
+use crate::beyond::all_beyond;
+use crate::ends::{roots_by_ends, row_by_ends};
+use crate::flood::distances_over;
+use crate::number_lists::NumberLists;
+use crate::outlets::{Outlet, Outlets, is_lone};
+use crate::rows::Distances;
+use crate::segment::Segment;
+use crate::ways::Ways;
+use crate::{LeastWalks, OutOfMemory};
+use std::alloc::Global;
+use std::marker::Model;
+use std::mem;
+
+/// So many vertices, the segments that join them, and the ports of each.
+#[derive(Drop)]
+pub struct SegmentGraph<'a> {
+    count: u32,
+    segments: &'a [Segment],
+    outlets: &'a [Outlets],
+}
+
+impl<'a> Model for SegmentGraph<'a> {
+    ghost use Rattle.walk_core.specs.steps.SegmentWalks.{Joined, IsJoined};
+
+    ghost Value = { Joined };
+
+    ghost view = { λ x. record { count = x.count; segments = x.segments.now; outlets = x.outlets.now } };
+
+    ghost invariant = { λ x. IsJoined (record { count = x.count; segments = x.segments.now; outlets = x.outlets.now }) };
+}
+
+impl<'a> SegmentGraph<'a> {
+    ghost use Rattle.std.specs.Prelude.{◌≡◌, ◌+◌, ◌<◌, false, true, length, slice_index_or, IfOk, OnOk};
+    ghost use Rattle.walk_core.specs.Reach.{AreWalksBelow};
+    ghost use Rattle.walk_core.specs.Segments.{SendsAcross};
+    ghost use Rattle.walk_core.specs.steps.Ends.{AreRowsFound, AreSearched, IsShortRow};
+    ghost use Rattle.walk_core.specs.steps.FirstHops.{AreAllHops};
+    ghost use Rattle.walk_core.specs.steps.Rows.{AreDistanceRows, IsDistanceRow};
+    ghost use Rattle.walk_core.specs.steps.SegmentWalks.{AreOutlets, IsJoined};
+
+    /// The graph of these vertices, which have these ports.
+    pub fn new(count: u32, segments: &'a [Segment], outlets: &'a [Outlets]) -> SegmentGraph<'a>
+        requires { IsJoined (record { count = count; segments = segments.now; outlets = outlets.now }) }
+        ensures { result ≡ (record { count = count; segments = segments.now; outlets = outlets.now }) }
+    {
+        SegmentGraph {
+            count,
+            segments,
+            outlets,
+        }
+    }
+
+    /// How many vertices there are.
+    pub fn count(&self) -> u32
+        ensures value { result ≡ self.now.count }
+        ensures joined { IsJoined self.now }
+    {
+        self.count
+    }
+
+    /// The ports of a vertex.
+    pub fn ports(&self, vertex: u32) -> &[Outlet]
+        requires { vertex < self.now.count }
+        ensures ports { AreOutlets self.now.segments vertex (length self.now.segments) result.now }
+        ensures joined { IsJoined self.now }
+    {
+        self.outlets[vertex as usize].as_slice()
+    }
+
+    /// The least-cost walks from every vertex.
+    pub fn walks(&self, alloc: Global) -> Result<Vec<LeastWalks>, OutOfMemory>
+        ensures { IfOk result (λ all. AreWalksBelow (SendsAcross self.now.segments) self.now.count self.now.count all.items) }
+    {
+        let count = self.count();
+        let mut rows = self.rows(alloc)?;
+        let beyond = all_beyond(alloc, self.segments, rows.as_slice(), count)?;
+        let ways = Ways::new(count, self.segments, rows.as_slice(), beyond.as_slice());
+        let mut lists = self.all_hops(alloc, &ways)?;
+        let mut all = Vec::with_capacity(alloc, count as usize)?;
+        for root in 0..count {
+            let hops = take_hops(alloc, &mut lists, root);
+            let distances = take_row(alloc, &mut rows, root);
+            let walks = LeastWalks::of(alloc, distances, hops)?;
+            all.push(walks)?;
+        }
+        Ok(all)
+    }
+
+    /// The first hops from every vertex, by the ways over the segments.
+    fn all_hops(&self, alloc: Global, ways: &Ways<'_>) -> Result<Vec<NumberLists>, OutOfMemory>
+        requires count { ways.now.count ≡ self.now.count }
+        requires segments { ways.now.segments ≡ self.now.segments }
+        ensures { IfOk result (λ lists. AreAllHops (SendsAcross self.now.segments) self.now.count lists.items) }
+    {
+        let count = self.count();
+        let mut lists = Vec::with_capacity(alloc, count as usize)?;
+        for root in 0..count {
+            let hops = ways.hops_from(alloc, self.ports(root), root)?;
+            lists.push(hops)?;
+        }
+        Ok(lists)
+    }
+
+    /// The distances from every vertex.
+    fn rows(&self, alloc: Global) -> Result<Vec<Distances>, OutOfMemory>
+        ensures { IfOk result (λ rows. AreDistanceRows (SendsAcross self.now.segments) self.now.count self.now.count rows.items) }
+    {
+        let count = self.count();
+        let by_ends = roots_by_ends(alloc, self.outlets)?;
+        let mut rows = self.searched_rows(alloc, by_ends.as_slice())?;
+        for root in 0..count {
+            self.complete_row(alloc, by_ends.as_slice(), &mut rows, root)?;
+        }
+        Ok(rows)
+    }
+
+    /// The distances from every vertex but those whose distances are to be found by the ends of their links.
+    fn searched_rows(&self, alloc: Global, by_ends: &[bool]) -> Result<Vec<Distances>, OutOfMemory>
+        requires { length by_ends.now ≡ self.now.count }
+        ensures { IfOk result (λ rows. AreSearched (SendsAcross self.now.segments) self.now.count by_ends.now self.now.count rows.items) }
+    {
+        let count = self.count();
+        let mut rows = Vec::with_capacity(alloc, count as usize)?;
+        for root in 0..count {
+            let row = if by_ends[root as usize] {
+                Distances::none(alloc)
+            } else {
+                self.searched_row(alloc, root)?
+            };
+            rows.push(row)?;
+        }
+        Ok(rows)
+    }
+
+    /// Finds the distances from a root by the ends of its links, if they are still to be found.
+    fn complete_row(
+        &self,
+        alloc: Global,
+        by_ends: &[bool],
+        rows: &mut Vec<Distances>,
+        root: u32,
+    ) -> Result<(), OutOfMemory>
+        requires root { root < self.now.count }
+        requires rows { AreRowsFound (SendsAcross self.now.segments) self.now.count by_ends.now root rows.old.items }
+        ensures { OnOk result (AreRowsFound (SendsAcross self.now.segments) self.now.count by_ends.now (root + 1) rows.new.items) }
+    {
+        if !by_ends[root as usize] {
+            return Ok(());
+        }
+        let row = self.found_row(alloc, by_ends, rows.as_slice(), root)?;
+        put_row(rows, root, row);
+        Ok(())
+    }
+
+    /// The distances from a root by the ends of its links, where their rows are there, and else as from the others.
+    fn found_row(
+        &self,
+        alloc: Global,
+        by_ends: &[bool],
+        rows: &[Distances],
+        root: u32,
+    ) -> Result<Distances, OutOfMemory>
+        requires root { root < self.now.count }
+        requires taken { slice_index_or by_ends.now root false ≡ true }
+        requires rows { AreSearched (SendsAcross self.now.segments) self.now.count by_ends.now self.now.count rows.now }
+        ensures { IfOk result (IsDistanceRow (SendsAcross self.now.segments) self.now.count root) }
+    {
+        match row_by_ends(alloc, self, rows, by_ends, root)? {
+            Some(row) => Ok(row),
+            None => Ok(distances_over(alloc, self.segments, self.outlets, self.count, root)?),
+        }
+    }
+
+    /// The distances from the root.
+    fn searched_row(&self, alloc: Global, root: u32) -> Result<Distances, OutOfMemory>
+        requires { root < self.now.count }
+        ensures { IfOk result (IsShortRow (SendsAcross self.now.segments) self.now.count root) }
+    {
+        if is_lone(self.ports(root)) {
+            return Ok(Distances::of_lone(root));
+        }
+        distances_over(alloc, self.segments, self.outlets, self.count, root)
+    }
+}
+
+/// Puts the distances from a vertex among those of all.
+fn put_row(rows: &mut Vec<Distances>, root: u32, row: Distances)
+    requires { root < length rows.old.items }
+    ensures { rows.new.items ≡ slice_set rows.old.items root row }
+{
+    rows[root as usize] = row;
+}
+
+/// Takes the first hops from a vertex out of those of all.
+fn take_hops(alloc: Global, lists: &mut Vec<NumberLists>, root: u32) -> NumberLists
+    requires { root < length lists.old.items }
+    ensures taken { result ≡ slice_index_or lists.old.items root [] }
+    ensures others { lists.new.items ≡ slice_set lists.old.items root [] }
+{
+    mem::replace(&mut lists[root as usize], NumberLists::none(alloc))
+}
+
+/// Takes the distances from a vertex out of those of all.
+fn take_row(alloc: Global, rows: &mut Vec<Distances>, root: u32) -> Distances
+    requires { root < length rows.old.items }
+    ensures taken { result ≡ slice_index_or rows.old.items root [] }
+    ensures others { rows.new.items ≡ slice_set rows.old.items root [] }
+{
+    mem::replace(&mut rows[root as usize], Distances::none(alloc))
+}
