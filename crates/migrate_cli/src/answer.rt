@@ -8,7 +8,7 @@ use std::alloc::Global;
 
 /// What a call answers: how it ends, and what it writes.
 #[derive(Drop)]
-pub struct Answer {
+pub(crate) struct Answer {
     /// How it ends where all of the text is written.
     pub status: Status,
     /// The text.
@@ -16,7 +16,7 @@ pub struct Answer {
 }
 
 /// The answer that something is refused.
-pub fn refuse(alloc: Global, status: Status, refusal: &Refusal<'_>) -> Result<Answer, OutOfMemory>
+pub(crate) fn refuse(alloc: Global, status: Status, refusal: &Refusal<'_>) -> Result<Answer, OutOfMemory>
     requires { IsPrinted refusal.now }
     ensures status { IfOk result (λ answer. answer.status ≡ status) }
     ensures text { IfOk result (λ answer. answer.text ≡ refusal_text refusal.now) }

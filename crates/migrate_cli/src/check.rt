@@ -25,7 +25,7 @@ use std::alloc::{AllocError, Global};
 use step_scripts::{OrderRefusal, Version, read_waves};
 
 /// The answer to the text of an order file and a network with a router.
-pub fn judge_check(
+pub(crate) fn judge_check(
     alloc: Global,
     file: &str,
     text: &Bytes,

@@ -20,14 +20,14 @@ use net_model::Net;
 use std::alloc::Global;
 
 /// Whether a command asks that every router is where a migration starts.
-pub fn needs_start(command: &Command<'_>) -> bool
+pub(crate) fn needs_start(command: &Command<'_>) -> bool
     ensures { IsTrue result ↔ NeedsStart (request_of command.now) }
 {
     !matches!(command, Command::Prepare { .. })
 }
 
 /// The answer of a command to the texts of its own files, those of configurations, and the network that these make.
-pub fn judge_command(
+pub(crate) fn judge_command(
     alloc: Global,
     command: &Command<'_>,
     own: &[Bytes],

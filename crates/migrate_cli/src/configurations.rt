@@ -10,7 +10,7 @@ use net_model::{Config, Configs};
 use std::alloc::Global;
 
 /// Why the configurations of some files aren't read.
-pub enum Unread<'a> {
+pub(crate) enum Unread<'a> {
     /// This is the first file that has a faulty line, with its first faulty line and the least kind on it.
     Bad {
         /// The name of the file.
@@ -25,7 +25,7 @@ pub enum Unread<'a> {
 }
 
 /// The configurations of the texts of some files, in their order.
-pub fn read_all<'a>(
+pub(crate) fn read_all<'a>(
     alloc: Global,
     names: &[&'a str],
     texts: &[Bytes],

@@ -8,14 +8,14 @@ use migrate_words::Command;
 use std::alloc::Global;
 
 /// How many bytes a file has at most that isn't a design, 16 MiB.
-pub const FILE_MOST: u64 = 16_777_216;
+pub(crate) const FILE_MOST: u64 = 16_777_216;
 
 /// How many bytes a design has at most, 1 MiB.
-pub const DESIGN_MOST: u64 = 1_048_576;
+pub(crate) const DESIGN_MOST: u64 = 1_048_576;
 
 /// A file that a command reads.
 #[derive(Clone, Copy, Debug)]
-pub struct Wanted<'a> {
+pub(crate) struct Wanted<'a> {
     /// Its name.
     pub name: &'a str,
     /// The most bytes that it may have.
@@ -60,7 +60,7 @@ impl<'a> Wanted<'a> {
 }
 
 /// The names of the files of configurations of a command.
-pub fn config_names<'a, 'b>(command: &'b Command<'a>) -> &'b [&'a str]
+pub(crate) fn config_names<'a, 'b>(command: &'b Command<'a>) -> &'b [&'a str]
     ensures { map (λ name. name.now) result.now ≡ config_names (request_of command.now) }
 {
     match command {
@@ -75,7 +75,7 @@ pub fn config_names<'a, 'b>(command: &'b Command<'a>) -> &'b [&'a str]
 }
 
 /// The names of the texts of configurations of a command: those of its files, or `sample` for the one that is made.
-pub fn text_names<'a, 'b>(command: &'b Command<'a>) -> &'b [&'a str]
+pub(crate) fn text_names<'a, 'b>(command: &'b Command<'a>) -> &'b [&'a str]
     ensures { map (λ name. name.now) result.now ≡ text_names (request_of command.now) }
 {
     match command {
@@ -85,7 +85,7 @@ pub fn text_names<'a, 'b>(command: &'b Command<'a>) -> &'b [&'a str]
 }
 
 /// The files that a command reads, in the order in which it reads them.
-pub fn files_of<'a>(alloc: Global, command: &Command<'a>) -> Result<Vec<Wanted<'a>>, OutOfMemory>
+pub(crate) fn files_of<'a>(alloc: Global, command: &Command<'a>) -> Result<Vec<Wanted<'a>>, OutOfMemory>
     ensures { IfOk result (λ files. map file_of files.items ≡ files_of (request_of command.now)) }
 {
     let mut files = own_files(alloc, command)?;

@@ -9,7 +9,7 @@ use net_model::{Interface, Net};
 use std::alloc::Global;
 
 /// How many distinct prefixes are originated in a network.
-pub fn count_originated(alloc: Global, net: &Net) -> Result<u64, OutOfMemory>
+pub(crate) fn count_originated(alloc: Global, net: &Net) -> Result<u64, OutOfMemory>
     ensures { IfOk result (CountsOriginated net.now) }
 {
     let mut prefixes = originated_prefixes(alloc, net)?;

@@ -23,7 +23,7 @@ use std::alloc::Global;
 use wave_oracle::plan_waves;
 
 /// The answer to a network: what is planned of it with a budget of so many branches.
-pub fn judge_plan(alloc: Global, budget: u32, net: &Net) -> Result<Answer, OutOfMemory>
+pub(crate) fn judge_plan(alloc: Global, budget: u32, net: &Net) -> Result<Answer, OutOfMemory>
     requires budget { 1 ≤ budget }
     requires some { 0 < length net.now }
     ensures { IfOk result (λ answer. IsPlanVerdict budget net.now answer.status answer.text) }
@@ -33,7 +33,7 @@ pub fn judge_plan(alloc: Global, budget: u32, net: &Net) -> Result<Answer, OutOf
 }
 
 /// What is planned of a network, by the routes of OSPF and of IS-IS, with a budget of so many branches.
-pub fn plan_network(alloc: Global, budget: u32, net: &Net) -> Result<Planned, OutOfMemory>
+pub(crate) fn plan_network(alloc: Global, budget: u32, net: &Net) -> Result<Planned, OutOfMemory>
     requires budget { 1 ≤ budget }
     requires some { 0 < length net.now }
     ensures network { IsNetwork net.now }
@@ -80,7 +80,7 @@ fn plan_mixed<O: RouteSource, N: RouteSource>(
 }
 
 /// The answer that this is planned.
-pub fn planned_answer(alloc: Global, net: &Net, planned: &Planned) -> Result<Answer, OutOfMemory>
+pub(crate) fn planned_answer(alloc: Global, net: &Net, planned: &Planned) -> Result<Answer, OutOfMemory>
     requires { IsTellable net.now planned.now }
     ensures status { IfOk result (λ answer. answer.status ≡ plan_status planned.now) }
     ensures text { IfOk result (λ answer. answer.text ≡ plan_text (names_of net.now) planned.now) }

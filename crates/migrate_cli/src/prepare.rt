@@ -17,7 +17,7 @@ use std::alloc::{AllocError, Global};
 
 /// The answer to the text of a design, the texts of configurations and the network that they make: the texts with the
 /// IS-IS lines of the design.
-pub fn judge_prepare(
+pub(crate) fn judge_prepare(
     alloc: Global,
     file: &str,
     design: &Bytes,

@@ -13,7 +13,7 @@ use store_edge::{FileAnswer, Files};
 const CONFIGS_MOST: u64 = 67_108_864;
 
 /// Why reading stopped.
-pub enum Stop<'a> {
+pub(crate) enum Stop<'a> {
     /// The file could not be read.
     Fault(&'a str),
     /// The file has more bytes than it may have.
@@ -26,7 +26,7 @@ pub enum Stop<'a> {
 
 /// The texts of files, and how many of their bytes count to those of all configurations.
 #[derive(Drop)]
-pub struct Texts {
+pub(crate) struct Texts {
     all: Vec<Bytes>,
     counted: u64,
 }
@@ -120,7 +120,7 @@ fn read_whole<'a, F: Files>(
 }
 
 /// Reads files, in their order.
-pub fn read_texts<'a, F: Files>(
+pub(crate) fn read_texts<'a, F: Files>(
     alloc: Global,
     wanted: &[Wanted<'a>],
     files: &mut F,

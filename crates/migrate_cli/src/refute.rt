@@ -17,7 +17,7 @@ use route_core::RouteSource;
 use std::alloc::Global;
 
 /// The answer to the text of a tree file and a network, by the routes of OSPF and of IS-IS.
-pub fn judge_refute(alloc: Global, tree: &Bytes, net: &Net) -> Result<Answer, OutOfMemory>
+pub(crate) fn judge_refute(alloc: Global, tree: &Bytes, net: &Net) -> Result<Answer, OutOfMemory>
     requires { length tree.now ≤ FILE_MOST }
     ensures { IfOk result (λ answer. IsRefuteVerdict tree.now net.now answer.status answer.text) }
 {

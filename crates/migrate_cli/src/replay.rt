@@ -14,7 +14,7 @@ use std::alloc::{AllocError, Global};
 use step_scripts::{OrderRefusal, read_waves};
 
 /// The answer to the text of an order file, a journal and a network with a router.
-pub fn judge_replay(
+pub(crate) fn judge_replay(
     alloc: Global,
     file: &str,
     order: &Bytes,

@@ -17,7 +17,7 @@ use std::alloc::Global;
 
 /// The answer to the network of a sample of so many routers: a summary of the waves that are planned of it, or what else
 /// is planned.
-pub fn judge_sample(alloc: Global, routers: u32, net: &Net) -> Result<Answer, OutOfMemory>
+pub(crate) fn judge_sample(alloc: Global, routers: u32, net: &Net) -> Result<Answer, OutOfMemory>
     requires { 0 < length net.now }
     ensures { IfOk result (λ answer. IsSampleVerdict routers net.now answer.status answer.text) }
 {

@@ -12,7 +12,7 @@ use std::alloc::{AllocError, Global};
 use step_scripts::{OrderRefusal, read_waves, script_text};
 
 /// The answer to the text of an order file and a network with a router: the script of its wave list.
-pub fn judge_scripts(
+pub(crate) fn judge_scripts(
     alloc: Global,
     file: &str,
     order: &Bytes,

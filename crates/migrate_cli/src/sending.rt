@@ -8,7 +8,7 @@ use store_edge::{Failed, Sink};
 const PIECE: usize = 4096;
 
 /// Writes a text in pieces of 4,096 bytes, of which the last one may be shorter and none is empty.
-pub fn send<S: Sink>(out: &mut S, text: &[u8]) -> Result<(), Failed>
+pub(crate) fn send<S: Sink>(out: &mut S, text: &[u8]) -> Result<(), Failed>
     ensures ok { OnOk result (AddsBytes (S.written out.old) (S.written out.new) text.now) }
     ensures cut { OnErr result (AddsFront (S.written out.old) (S.written out.new) text.now) }
     ensures failed { OnErr result (Rose (S.faults out.old) (S.faults out.new)) }

@@ -7,7 +7,7 @@ use refutation_check::WrongKind;
 use step_scripts::OrderKind;
 
 /// The name of a kind of faulty line of a configuration.
-pub fn read_kind_name(kind: ReadKind) -> &'static [u8]
+pub(crate) fn read_kind_name(kind: ReadKind) -> &'static [u8]
     ensures { result.now ≡ read_kind_name kind }
 {
     match kind {
@@ -30,7 +30,7 @@ pub fn read_kind_name(kind: ReadKind) -> &'static [u8]
 }
 
 /// The name of a kind of faulty line of an order.
-pub fn order_kind_name(kind: OrderKind) -> &'static [u8]
+pub(crate) fn order_kind_name(kind: OrderKind) -> &'static [u8]
     ensures { result.now ≡ order_kind_name kind }
 {
     match kind {
@@ -44,7 +44,7 @@ pub fn order_kind_name(kind: OrderKind) -> &'static [u8]
 }
 
 /// The name of a kind of wrong line of a tree file.
-pub fn wrong_kind_name(kind: WrongKind) -> &'static [u8]
+pub(crate) fn wrong_kind_name(kind: WrongKind) -> &'static [u8]
     ensures { result.now ≡ wrong_kind_name kind }
 {
     match kind {
@@ -59,7 +59,7 @@ pub fn wrong_kind_name(kind: WrongKind) -> &'static [u8]
 }
 
 /// What a network has too many of.
-pub fn limit_name(what: LimitWhat) -> &'static [u8]
+pub(crate) fn limit_name(what: LimitWhat) -> &'static [u8]
     ensures { result.now ≡ limit_name what }
 {
     match what {

@@ -10,7 +10,7 @@ use printed_lines::LineBuilder;
 use std::alloc::{AllocError, Global};
 
 /// The line for configurations that make no network.
-pub fn network_text(alloc: Global, refusal: &NetRefusal) -> Result<Bytes, AllocError>
+pub(crate) fn network_text(alloc: Global, refusal: &NetRefusal) -> Result<Bytes, AllocError>
     requires { refusal.now ≢ NetRefusal.OutOfMemory }
     ensures { IfOk result (λ text. text ≡ network_text refusal.now) }
 {
@@ -47,7 +47,7 @@ pub fn network_text(alloc: Global, refusal: &NetRefusal) -> Result<Bytes, AllocE
 }
 
 /// The line for too many of something.
-pub fn limit_text(alloc: Global, what: &[u8], number: u64) -> Result<Bytes, AllocError>
+pub(crate) fn limit_text(alloc: Global, what: &[u8], number: u64) -> Result<Bytes, AllocError>
     ensures { IfOk result (λ text. text ≡ line (codes "limit") (what.now ∷ decimal number ∷ [])) }
 {
     LineBuilder::start(alloc, b"limit")?
@@ -57,7 +57,7 @@ pub fn limit_text(alloc: Global, what: &[u8], number: u64) -> Result<Bytes, Allo
 }
 
 /// A line that begins with the refusal of a network.
-pub fn refused(alloc: Global, name: &[u8]) -> Result<LineBuilder, AllocError>
+pub(crate) fn refused(alloc: Global, name: &[u8]) -> Result<LineBuilder, AllocError>
     ensures { IfOk result (λ text. text ≡ codes "refused" ++ spaced (codes "network" ∷ name.now ∷ [])) }
 {
     LineBuilder::start(alloc, b"refused")?

@@ -12,7 +12,7 @@ use crate::{Config, Interface, MOST_ROUTERS, NetRefusal};
 use std::alloc::{AllocError, Global};
 
 /// Refuses an address that two up interfaces have, if they belong to one router or one of them is no loopback.
-pub fn check_addresses(alloc: Global, configs: &[Config]) -> Result<(), NetRefusal>
+pub(crate) fn check_addresses(alloc: Global, configs: &[Config]) -> Result<(), NetRefusal>
     requires { length configs.now ≤ MOST_ROUTERS }
     ensures ok { OnOk result (AddressesDiffer configs.now) }
     ensures err { IfErr result (λ e. MayRefuse e configs.now) }

@@ -13,7 +13,7 @@ use net_addr::Prefix;
 use std::alloc::Global;
 
 /// Refuses a subnet that up interfaces run in different OSPF areas.
-pub fn check_areas(alloc: Global, configs: &[Config]) -> Result<(), NetRefusal>
+pub(crate) fn check_areas(alloc: Global, configs: &[Config]) -> Result<(), NetRefusal>
     requires few { length configs.now ≤ MOST_ROUTERS }
     requires addresses { AddressesDiffer configs.now }
     ensures ok { OnOk result (PassesAreas configs.now) }
@@ -115,7 +115,7 @@ fn clash(one: &Interface, two: &Interface) -> bool
 }
 
 /// Whether two interfaces are up and run OSPF in different areas.
-pub fn in_two_areas(one: &Interface, two: &Interface) -> bool
+pub(crate) fn in_two_areas(one: &Interface, two: &Interface) -> bool
     ensures { IsTrue result ↔ AreInTwoAreas one.now two.now }
 {
     match (one.area, two.area) {
@@ -125,7 +125,7 @@ pub fn in_two_areas(one: &Interface, two: &Interface) -> bool
 }
 
 /// Whether an up interface runs OSPF in the area.
-pub fn has_area(interfaces: &[Interface], area: u32) -> bool
+pub(crate) fn has_area(interfaces: &[Interface], area: u32) -> bool
     ensures { IsTrue result ↔ Any (RunsArea area) interfaces.now }
 {
     interfaces.iter().any(|i| runs_area(i, area))

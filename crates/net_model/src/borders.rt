@@ -10,7 +10,7 @@ use crate::{Config, Interface, MOST_ROUTERS, NetRefusal};
 use std::alloc::Global;
 
 /// Refuses the lowest border router that has no up interface in area 0.
-pub fn check_borders(alloc: Global, configs: &[Config]) -> Result<(), NetRefusal>
+pub(crate) fn check_borders(alloc: Global, configs: &[Config]) -> Result<(), NetRefusal>
     requires few { length configs.now ≤ MOST_ROUTERS }
     requires areas { PassesAreas configs.now }
     ensures ok { OnOk result (PassesBorders configs.now) }

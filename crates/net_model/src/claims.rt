@@ -11,7 +11,7 @@ use std::alloc::{AllocError, Global};
 
 /// What an interface claims: a key, for a value.
 #[derive(Clone, Copy)]
-pub struct Claim {
+pub(crate) struct Claim {
     /// An address, the first one of a subnet, or an area.
     pub key: u32,
     /// Who has it alone: a router, or an area. Or whether it is a stub area.
@@ -19,7 +19,7 @@ pub struct Claim {
 }
 
 /// What is claimed.
-pub trait Claims {
+pub(crate) trait Claims {
     ghost use Rattle.net_model.specs.declared.claims.Claim.{Claim};
 
     /// What an interface of a router claims, if anything.
@@ -31,7 +31,7 @@ pub trait Claims {
 }
 
 /// Whether each key is claimed for one value alone. Takes the time of sorting the claims.
-pub fn claims_agree<C: Claims>(alloc: Global, configs: &[Config]) -> Result<bool, AllocError>
+pub(crate) fn claims_agree<C: Claims>(alloc: Global, configs: &[Config]) -> Result<bool, AllocError>
     requires { length configs.now < 2 ^ 32 }
     ensures { IfOk result (λ agree. OnTrue agree (ClaimsAgree C.claimed configs.now)) }
 {

@@ -12,7 +12,7 @@ use net_addr::Prefix;
 use std::alloc::{AllocError, Global};
 
 /// Whether configurations are within the limits of a network; else the refusal is of the first that they exceed.
-pub fn within_limits(alloc: Global, configs: &[Config]) -> Result<(), NetRefusal>
+pub(crate) fn within_limits(alloc: Global, configs: &[Config]) -> Result<(), NetRefusal>
     ensures ok { OnOk result (IsWithinLimits configs.now) }
     ensures err { IfErr result (λ e. Refuses e configs.now) }
     ensures each { OnOk result (All IsConfiguration configs.now) }

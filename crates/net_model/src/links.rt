@@ -7,7 +7,7 @@ ghost use Rattle.net_model.specs.steps.BestLinks.{BestLink, Joins, OffersCost, S
 use crate::{Config, Interface, Zone};
 
 /// The least cost of an interface in the first list that makes two routers adjacent in the zone.
-pub fn best_link(zone: Zone, nears: &[Interface], fars: &[Interface]) -> Option<u32>
+pub(crate) fn best_link(zone: Zone, nears: &[Interface], fars: &[Interface]) -> Option<u32>
     ensures { BestLink zone nears.now fars.now result }
 {
     let mut best = None;
@@ -18,7 +18,7 @@ pub fn best_link(zone: Zone, nears: &[Interface], fars: &[Interface]) -> Option<
 }
 
 /// The lower of two costs, or the one that there is.
-pub fn lower(one: Option<u32>, other: Option<u32>) -> Option<u32>
+pub(crate) fn lower(one: Option<u32>, other: Option<u32>) -> Option<u32>
     ensures { result ≡ lower_of one other }
 {
     match (one, other) {
@@ -54,7 +54,7 @@ fn joins(zone: Zone, near: &Interface, far: &Interface) -> bool
 }
 
 /// Whether two interfaces have one subnet.
-pub fn share_subnet(near: &Interface, far: &Interface) -> bool
+pub(crate) fn share_subnet(near: &Interface, far: &Interface) -> bool
     ensures { IsTrue result ↔ ShareSubnet near.now far.now }
 {
     match (near.subnet, far.subnet) {

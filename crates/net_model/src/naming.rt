@@ -13,7 +13,7 @@ use std::alloc::Global;
 use std::cmp::Ordering;
 
 /// Puts configurations into byte order of their names.
-pub fn sort_by_name(configs: &mut Vec<Config>)
+pub(crate) fn sort_by_name(configs: &mut Vec<Config>)
     ensures same { IsPermutation configs.old.items configs.new.items }
     ensures sorted { IsSortedByKey (λ c. c.name) (slice_cmp nat_cmp) configs.new.items }
 {
@@ -25,7 +25,7 @@ pub fn sort_by_name(configs: &mut Vec<Config>)
 }
 
 /// Refuses the least name that two configurations have. They stand in byte order of their names.
-pub fn check_names(alloc: Global, configs: &[Config]) -> Result<(), NetRefusal>
+pub(crate) fn check_names(alloc: Global, configs: &[Config]) -> Result<(), NetRefusal>
     requires { IsSortedByKey (λ c. c.name) (slice_cmp nat_cmp) configs.now }
     ensures ok { OnOk result (NamesAscend configs.now) }
     ensures err { IfErr result (λ e. RefusesName e configs.now) }
@@ -68,7 +68,7 @@ fn have_one_name(one: &Config, two: &Config) -> bool
 }
 
 /// The place of the configuration of this name. The names ascend, so it takes time of the logarithm of their count.
-pub fn place_of(configs: &[Config], name: &[u8]) -> Option<usize>
+pub(crate) fn place_of(configs: &[Config], name: &[u8]) -> Option<usize>
     requires { NamesAscend configs.now }
     ensures named { MatchOption result ((u : ℕ) → IsNamed configs.now name.now u → ⊥) (IsNamed configs.now name.now) }
     ensures within { IfSome result (λ place. place < length configs.now) }

@@ -10,7 +10,7 @@ use net_addr::Name;
 use std::alloc::{AllocError, Global};
 
 /// What no two routers of a network may do.
-pub trait Clash {
+pub(crate) trait Clash {
     /// What they clash in.
     type Item: Copy + Drop;
 
@@ -29,7 +29,7 @@ pub trait Clash {
 
 /// Two routers that clash, by their names, and the item in which they do.
 #[derive(Drop)]
-pub struct NamedPair<T: Copy + Drop> {
+pub(crate) struct NamedPair<T: Copy + Drop> {
     /// The name of the first router.
     pub one: Name,
     /// The name of the second router.
@@ -50,7 +50,7 @@ struct Pair<T: Copy> {
 }
 
 /// The first pair of routers that clash, by their names, with their least item.
-pub fn first_clash<C: Clash>(
+pub(crate) fn first_clash<C: Clash>(
     alloc: Global,
     configs: &[Config],
 ) -> Result<Option<NamedPair<C::Item>>, AllocError>
@@ -70,7 +70,7 @@ pub fn first_clash<C: Clash>(
 }
 
 /// The name of a router.
-pub fn name_of(alloc: Global, configs: &[Config], router: u32) -> Result<Name, AllocError>
+pub(crate) fn name_of(alloc: Global, configs: &[Config], router: u32) -> Result<Name, AllocError>
     requires { router < length configs.now }
     ensures { IfOk result (λ name. IsNamed configs.now name router) }
 {

@@ -4,7 +4,7 @@ ghost use Rattle.net_model.specs.OffStarts.{IsLowestOffStart, IsOffStart, Starts
 use crate::{Config, MOST_DISTANCE, MOST_ROUTERS};
 
 /// The lowest router that isn't where a migration starts.
-pub fn first_off_start(configs: &[Config]) -> Option<u32>
+pub(crate) fn first_off_start(configs: &[Config]) -> Option<u32>
     requires { length configs.now ≤ MOST_ROUTERS }
     ensures { MatchOption result ((u : ℕ) → StartsOff configs.now u → ⊥) (IsLowestOffStart configs.now) }
 {

@@ -13,7 +13,7 @@ use crate::{Config, Interface, MOST_ROUTERS, NetRefusal, Stub};
 use std::alloc::Global;
 
 /// Refuses an area of two routers for which one of them alone has a stub line.
-pub fn check_stubs(alloc: Global, configs: &[Config]) -> Result<(), NetRefusal>
+pub(crate) fn check_stubs(alloc: Global, configs: &[Config]) -> Result<(), NetRefusal>
     requires few { length configs.now ≤ MOST_ROUTERS }
     requires systems { PassesSystems configs.now }
     ensures ok { OnOk result (IsConsistent configs.now) }

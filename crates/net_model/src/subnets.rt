@@ -6,7 +6,7 @@ use crate::Interface;
 use net_addr::Prefix;
 
 /// The longest subnet of an up interface that contains the address.
-pub fn longest_subnet(interfaces: &[Interface], a: u32) -> Option<Prefix>
+pub(crate) fn longest_subnet(interfaces: &[Interface], a: u32) -> Option<Prefix>
     ensures { BestSubnet a interfaces.now result }
 {
     let mut best = None;
@@ -38,7 +38,7 @@ fn subnet_around(interface: &Interface, a: u32) -> Option<Prefix>
 }
 
 /// Whether the prefix is the subnet of an interface that is up.
-pub fn has_subnet(interfaces: &[Interface], dest: Prefix) -> bool
+pub(crate) fn has_subnet(interfaces: &[Interface], dest: Prefix) -> bool
     ensures { IsTrue result ↔ Any (HasSubnet dest) interfaces.now }
 {
     interfaces.iter().any(|i| is_subnet(i, dest))

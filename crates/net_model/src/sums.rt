@@ -7,7 +7,7 @@ ghost use Rattle.net_model.specs.steps.Refused.{MayRefuse};
 use crate::{Config, Interface, MOST_COST, MOST_PATH_METRIC, NetRefusal, Range, Stub};
 
 /// Refuses costs of OSPF whose sum is above the greatest cost of a path.
-pub fn check_ospf_costs(configs: &[Config]) -> Result<(), NetRefusal>
+pub(crate) fn check_ospf_costs(configs: &[Config]) -> Result<(), NetRefusal>
     requires { PassesBorders configs.now }
     ensures ok { OnOk result (PassesOspfCosts configs.now) }
     ensures err { IfErr result (λ e. MayRefuse e configs.now) }
@@ -20,7 +20,7 @@ pub fn check_ospf_costs(configs: &[Config]) -> Result<(), NetRefusal>
 }
 
 /// Refuses metrics of IS-IS whose sum is above the greatest metric of a path.
-pub fn check_isis_metrics(configs: &[Config]) -> Result<(), NetRefusal>
+pub(crate) fn check_isis_metrics(configs: &[Config]) -> Result<(), NetRefusal>
     requires { PassesOspfCosts configs.now }
     ensures ok { OnOk result (PassesIsisMetrics configs.now) }
     ensures err { IfErr result (λ e. MayRefuse e configs.now) }

@@ -7,7 +7,7 @@ use crate::{Config, MOST_ROUTERS, NetRefusal};
 use std::alloc::Global;
 
 /// Refuses a system id that two routers with IS-IS have.
-pub fn check_systems(alloc: Global, configs: &[Config]) -> Result<(), NetRefusal>
+pub(crate) fn check_systems(alloc: Global, configs: &[Config]) -> Result<(), NetRefusal>
     requires few { length configs.now ≤ MOST_ROUTERS }
     requires metrics { PassesIsisMetrics configs.now }
     ensures ok { OnOk result (PassesSystems configs.now) }

@@ -11,7 +11,7 @@ use route_core::{RouteSource, TableParts};
 use std::alloc::{AllocError as OutOfMemory, Global};
 
 /// The subnets that can be targets: those of interfaces that are up and run a protocol.
-pub fn originated_prefixes(alloc: Global, net: &Net) -> Result<Vec<Prefix>, OutOfMemory>
+pub(crate) fn originated_prefixes(alloc: Global, net: &Net) -> Result<Vec<Prefix>, OutOfMemory>
     ensures { IfOk result (λ v. v.items ≡ all_originated net.now) }
 {
     let mut prefixes = Vec::new(alloc);
@@ -23,7 +23,7 @@ pub fn originated_prefixes(alloc: Global, net: &Net) -> Result<Vec<Prefix>, OutO
 }
 
 /// Adds the subnets and the ranges of all routers.
-pub fn add_net(prefixes: &mut Vec<Prefix>, net: &Net) -> Result<(), OutOfMemory>
+pub(crate) fn add_net(prefixes: &mut Vec<Prefix>, net: &Net) -> Result<(), OutOfMemory>
     ensures { OnOk result (prefixes.new.items ≡ prefixes.old.items ++ all_dests net.now) }
 {
     for router in 0..net.routers() {
@@ -36,7 +36,7 @@ pub fn add_net(prefixes: &mut Vec<Prefix>, net: &Net) -> Result<(), OutOfMemory>
 
 /// Adds the prefixes that occur in the tables of a source. It takes time of the prefixes, and for each router of those that no
 /// table before had an entry for.
-pub fn add_source<S: RouteSource>(
+pub(crate) fn add_source<S: RouteSource>(
     alloc: Global,
     prefixes: &mut Vec<Prefix>,
     source: &S,

@@ -9,7 +9,7 @@ use std::alloc::{AllocError as OutOfMemory, Global};
 /// The cuts of prefixes: 0, each base, and each address after a last one, in ascending order.
 ///
 /// Between two neighboring cuts no prefix begins or ends.
-pub fn cuts_of(alloc: Global, prefixes: &[Prefix]) -> Result<Vec<u32>, OutOfMemory>
+pub(crate) fn cuts_of(alloc: Global, prefixes: &[Prefix]) -> Result<Vec<u32>, OutOfMemory>
     ensures cuts { IfOk result (λ v. AreCuts prefixes.now v.items) }
     ensures blocks { OnOk result (All IsBlock prefixes.now) }
 {

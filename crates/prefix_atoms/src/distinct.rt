@@ -6,7 +6,7 @@ ghost use Rattle.prefix_atoms.specs.Nested.{AreAscendingPrefixes};
 use net_addr::Prefix;
 
 /// Leaves each prefix of a list once, in ascending order.
-pub fn keep_distinct_prefixes(prefixes: &mut Vec<Prefix>)
+pub(crate) fn keep_distinct_prefixes(prefixes: &mut Vec<Prefix>)
     ensures same { (p : Block) → Contains prefixes.new.items p ↔ Contains prefixes.old.items p }
     ensures ascending { AreAscendingPrefixes prefixes.new.items }
 {
@@ -23,7 +23,7 @@ pub fn place_of_prefix(prefixes: &[Prefix], prefix: Prefix) -> Option<usize>
 }
 
 /// Leaves each number of a list once, in ascending order.
-pub fn keep_distinct_numbers(numbers: &mut Vec<u32>)
+pub(crate) fn keep_distinct_numbers(numbers: &mut Vec<u32>)
     ensures same { (n : ℕ) → Contains numbers.new.items n ↔ Contains numbers.old.items n }
     ensures ascending { IsStrictlyIncreasing numbers.new.items }
     ensures below { All (λ n. n < 2 ^ 32) numbers.new.items }

@@ -9,7 +9,7 @@ use std::alloc::AllocError as OutOfMemory;
 
 /// The longest prefix that is found for an address. It has 8 bytes, since there is one for each address.
 #[derive(Clone, Copy, Debug)]
-pub struct Longest {
+pub(crate) struct Longest {
     /// The number that the prefix is kept under.
     pub number: u32,
     /// One more than its length, 0 where none is found.
@@ -17,14 +17,14 @@ pub struct Longest {
 }
 
 /// No prefix is found.
-pub const NOTHING: Longest = Longest { number: 0, size: 0 };
+pub(crate) const NOTHING: Longest = Longest { number: 0, size: 0 };
 
 /// Finds for each of some ascending addresses the longest of the prefixes, and keeps it under its place.
 ///
 /// The addresses of one prefix stand side by side. Where the prefixes ascend too, most of them begin where the one
 /// before ends, and the whole takes time of the prefixes and of the addresses in each. 2^32 prefixes or more give
 /// `OutOfMemory`.
-pub fn longest_in_prefixes(
+pub(crate) fn longest_in_prefixes(
     prefixes: &[Prefix],
     addresses: &[u32],
     found: &mut Vec<Longest>,

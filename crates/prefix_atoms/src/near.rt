@@ -6,7 +6,7 @@ const NEAR: usize = 8;
 
 /// Where a number stands in an ascending list, or would stand: first looked for at the places from `from` on.
 #[inline(always)]
-pub fn number_near(numbers: &[u32], x: u32, from: usize) -> usize
+pub(crate) fn number_near(numbers: &[u32], x: u32, from: usize) -> usize
     requires { IsStrictlyIncreasing numbers.now }
     ensures { IsPlaceOf numbers.now x result }
 {

@@ -5,7 +5,7 @@ use std::alloc::{AllocError as OutOfMemory, Global};
 
 /// A numbering of keys by first appearance.
 #[derive(Drop)]
-pub struct Numbering {
+pub(crate) struct Numbering {
     /// The number of each key.
     pub numbers: Vec<u32>,
     /// For each number the first place that has it.
@@ -13,7 +13,7 @@ pub struct Numbering {
 }
 
 /// Numbers keys below a bound by first appearance: equal keys have one number.
-pub fn number(alloc: Global, keys: &[usize], bound: usize) -> Result<Numbering, OutOfMemory>
+pub(crate) fn number(alloc: Global, keys: &[usize], bound: usize) -> Result<Numbering, OutOfMemory>
     requires keys { All (λ key. key < bound) keys.now }
     requires few { length keys.now ≤ 2 ^ 32 }
     ensures { IfOk result (λ n. IsNumbering keys.now n.numbers.items n.firsts.items) }

@@ -10,7 +10,10 @@ use std::alloc::{AllocError as OutOfMemory, Global};
 /// With 10.0.0.0/8, 10.1.0.0/16, 10.1.2.0/24 and 10.2.0.0/16 the parents are none, 0, 1 and 0. Each is found from the
 /// prefix before upwards, so that the whole takes time of the prefixes and of how deep they stand in each other. 2^32
 /// prefixes or more give `OutOfMemory`.
-pub fn parents_of(alloc: Global, prefixes: &[Prefix]) -> Result<Vec<Option<u32>>, OutOfMemory>
+pub(crate) fn parents_of(
+    alloc: Global,
+    prefixes: &[Prefix],
+) -> Result<Vec<Option<u32>>, OutOfMemory>
     requires blocks { All IsBlock prefixes.now }
     requires ascending { AreAscendingPrefixes prefixes.now }
     ensures { IfOk result (λ v. AreNested prefixes.now v.items) }

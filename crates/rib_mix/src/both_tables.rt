@@ -7,7 +7,7 @@ use std::alloc::Global;
 
 /// Both tables of a router, in their parts.
 #[derive(Clone, Copy, Debug)]
-pub struct BothTables<'a> {
+pub(crate) struct BothTables<'a> {
     /// The old table.
     pub old: TableParts<'a>,
     /// The new table.
@@ -15,7 +15,7 @@ pub struct BothTables<'a> {
 }
 
 /// Both tables of each router of two sources.
-pub fn tables_of<'a, O: RouteSource, N: RouteSource>(
+pub(crate) fn tables_of<'a, O: RouteSource, N: RouteSource>(
     alloc: Global,
     old: &'a O,
     new: &'a N,

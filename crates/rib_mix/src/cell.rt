@@ -8,7 +8,7 @@ use route_core::OutOfMemory;
 
 /// What a router uses for an address in each phase. It has 8 bytes, since there is one for each router and class.
 #[derive(Clone, Copy, Debug, PartialEq, Eq)]
-pub struct Cell {
+pub(crate) struct Cell {
     /// What it uses in Middle, which is what it uses in Old or in New.
     pub middle: Use,
     /// What it uses at the other end: in Old where it uses an entry of the new table in Middle, otherwise in New.
@@ -17,7 +17,7 @@ pub struct Cell {
 
 /// What a router has for a prefix.
 #[derive(Clone, Copy, Debug)]
-pub struct Has {
+pub(crate) struct Has {
     /// The place of the prefix among the connected ones.
     pub connected: Option<u32>,
     /// The number of the entry of the old table, where that counts.
@@ -76,7 +76,7 @@ impl Cell {
 /// What a router uses in each phase for the addresses of a prefix that are in no longer one: what it has for the prefix, and
 /// at an end where it has nothing what it uses for the parent. Of entries of both tables that of lower distance comes first.
 #[inline(always)]
-pub fn cell_over(has: Has, old_first: bool, parent: Cell) -> Result<Cell, OutOfMemory>
+pub(crate) fn cell_over(has: Has, old_first: bool, parent: Cell) -> Result<Cell, OutOfMemory>
     ensures { IfOk result (λ cell. cell ≡ cell_over has old_first parent) }
 {
     if has.connected.is_some() {
@@ -110,7 +110,7 @@ fn cell_between(old: Use, new: Use, old_first: bool) -> Cell
 
 /// What a router uses for the addresses of the prefix at a place, and nothing where there is none.
 #[inline(always)]
-pub fn cell_at(cells: &[Cell], place: Option<u32>) -> Cell
+pub(crate) fn cell_at(cells: &[Cell], place: Option<u32>) -> Cell
     requires { IfSome place (λ i. i < length cells.now) }
     ensures { result ≡ cell_at cells.now place }
 {

@@ -6,7 +6,7 @@ use std::marker::Model;
 
 /// What a router uses for each of some addresses, cell by cell.
 #[derive(Drop)]
-pub struct Cells {
+pub(crate) struct Cells {
     all: Vec<Cell>,
 }
 
@@ -37,7 +37,7 @@ impl Cells {
 }
 
 /// Whether two cells are the same.
-pub fn is_same(one: Cell, other: Cell) -> bool
+pub(crate) fn is_same(one: Cell, other: Cell) -> bool
     ensures { OnTrue result (one ≡ other) }
 {
     one == other

@@ -13,7 +13,7 @@ use std::alloc::Global;
 
 /// What a router has for each prefix that occurs, and what it uses by that. One value serves all routers, one after another.
 #[derive(Drop)]
-pub struct Marks {
+pub(crate) struct Marks {
     /// Where the prefixes stand among the connected ones.
     pub connected: Vec<Number>,
     /// What it uses for each prefix: for its addresses that are in no longer one.
@@ -22,7 +22,7 @@ pub struct Marks {
 
 /// What a router has: its connected prefixes by the places of those that occur, both tables, and its OSPF distance.
 #[derive(Clone, Copy, Debug)]
-pub struct Own<'a> {
+pub(crate) struct Own<'a> {
     /// Where the prefixes stand among the connected ones.
     pub connected: &'a [Number],
     /// The old table.

@@ -9,7 +9,7 @@ use std::alloc::Global;
 
 /// What a router uses for each class, by what it uses for each prefix.
 #[inline(never)]
-pub fn row_of(alloc: Global, atoms: &Atoms, cells: &[Cell]) -> Result<Cells, OutOfMemory>
+pub(crate) fn row_of(alloc: Global, atoms: &Atoms, cells: &[Cell]) -> Result<Cells, OutOfMemory>
     requires { length cells.now ≡ length atoms.now.prefixes }
     ensures { IfOk result (IsRowOfTops atoms.now.tops cells.now) }
 {

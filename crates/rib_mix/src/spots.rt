@@ -11,7 +11,7 @@ use std::alloc::Global;
 
 /// Where each of the prefixes that occur stands among those of the old tables, and among those of the new ones.
 #[derive(Drop)]
-pub struct Spots {
+pub(crate) struct Spots {
     /// Among those of the old tables.
     pub olds: Vec<Number>,
     /// Among those of the new tables.
@@ -20,7 +20,7 @@ pub struct Spots {
 
 /// A table, and where each of the prefixes that occur stands among its own.
 #[derive(Clone, Copy, Debug)]
-pub struct PlacedTable<'a> {
+pub(crate) struct PlacedTable<'a> {
     /// Where they stand.
     pub spots: &'a [Number],
     /// The table.
@@ -62,7 +62,7 @@ impl Spots {
 }
 
 /// Finds where each of some ascending prefixes stands in a list.
-pub fn find_spots(
+pub(crate) fn find_spots(
     spots: &mut Vec<Number>,
     prefixes: &[Prefix],
     list: &[Prefix],

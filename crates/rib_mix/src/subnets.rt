@@ -10,7 +10,7 @@ use std::marker::Model;
 
 /// Prefixes that are connected at a router.
 #[derive(Drop)]
-pub struct Subnets {
+pub(crate) struct Subnets {
     all: Vec<Prefix>,
 }
 

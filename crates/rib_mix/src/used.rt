@@ -6,7 +6,7 @@ use std::marker::Model;
 
 /// What a router uses for an address.
 #[derive(Clone, Copy, Debug)]
-pub enum Used {
+pub(crate) enum Used {
     /// No entry.
     Nothing,
     /// A connected prefix.
@@ -19,7 +19,7 @@ pub enum Used {
 
 /// The same in 4 bytes, since there are two for each router and class.
 #[derive(Clone, Copy, Debug, PartialEq, Eq)]
-pub struct Use {
+pub(crate) struct Use {
     /// 0 for nothing, 2 for a connected prefix, 2 n + 4 for entry n of the old table and 2 n + 1 for entry n of the new one.
     code: u32,
 }

@@ -8,7 +8,7 @@ use crate::table::TableParts;
 use net_addr::{Match, Prefix};
 
 /// The longest match of the address `a` among the prefixes of a table's rows.
-pub fn longest_match(parts: TableParts<'_>, a: u32) -> Option<Match>
+pub(crate) fn longest_match(parts: TableParts<'_>, a: u32) -> Option<Match>
     requires { IsTable (kept_in parts) }
     ensures cases { IsMatch (row_prefixes parts.entry.prefixes.now (rows_in (kept_in parts.entry))) a result }
     ensures blocks { AreBlocks (row_prefixes parts.entry.prefixes.now (rows_in (kept_in parts.entry))) a }

@@ -29,7 +29,10 @@ struct RouterNumbers {
 }
 
 /// The tables of all routers.
-pub fn all_tables<P: Protocol>(alloc: Global, protocol: &P) -> Result<Vec<Table>, OutOfMemory>
+pub(crate) fn all_tables<P: Protocol>(
+    alloc: Global,
+    protocol: &P,
+) -> Result<Vec<Table>, OutOfMemory>
     ensures tables { IfOk result (λ tables. AreTablesBelow (P.routes protocol.now).entry
         (P.routes protocol.now).routers (map listed tables.items)) }
     ensures prefixes { IfOk result (λ tables. All (λ kept. kept.prefixes ≡ P.candidates protocol.now) tables.items) }

@@ -6,7 +6,7 @@ use std::marker::Model;
 
 /// Bytes that are kept, and how many there is room for in all.
 #[derive(Debug, Drop)]
-pub struct KeptBytes {
+pub(crate) struct KeptBytes {
     all: Vec<u8>,
     room: u64,
 }

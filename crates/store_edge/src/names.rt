@@ -4,14 +4,14 @@ use net_addr::{Bytes, Name};
 use std::alloc::{AllocError as OutOfMemory, Global};
 
 /// A name of one's own.
-pub fn own_name(alloc: Global, name: &str) -> Result<Name, OutOfMemory>
+pub(crate) fn own_name(alloc: Global, name: &str) -> Result<Name, OutOfMemory>
     ensures { IfOk result (λ own. own ≡ name.now) }
 {
     Ok(Name::from_vec(Vec::from_slice(alloc, name.as_bytes())?))
 }
 
 /// The first `most` of these bytes, all of them where there are fewer.
-pub fn front(alloc: Global, bytes: &[u8], most: u64) -> Result<Bytes, OutOfMemory>
+pub(crate) fn front(alloc: Global, bytes: &[u8], most: u64) -> Result<Bytes, OutOfMemory>
     ensures value { IfOk result (λ front. front ≡ take most bytes.now) }
     ensures at_most { IfOk result (λ front. length front ≤ most) }
 {

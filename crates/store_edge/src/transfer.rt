@@ -29,7 +29,7 @@ pub fn read_front<F: Read>(alloc: Global, file: &mut F, most: u64) -> Result<Byt
 }
 
 /// Writes the whole piece, or fails after a front of it. A write that takes no byte is a fault.
-pub fn write_whole<W: Write>(writer: &mut W, piece: &[u8]) -> Result<(), Failed>
+pub(crate) fn write_whole<W: Write>(writer: &mut W, piece: &[u8]) -> Result<(), Failed>
     ensures ok { OnOk result (Appends (W.contents writer.old) (W.contents writer.new) piece.now) }
     ensures cut { OnErr result (AppendsFront (W.contents writer.old) (W.contents writer.new) piece.now) }
 {

@@ -6,7 +6,7 @@ use net_model::{Interface, Interfaces, Levels};
 use std::alloc::{AllocError as OutOfMemory, Global};
 
 /// An interface of an area: of length 32 a loopback, of length 24 passive.
-pub fn ospf_interface(
+pub(crate) fn ospf_interface(
     alloc: Global,
     name: u8,
     address: u32,
@@ -39,7 +39,7 @@ pub fn ospf_interface(
 }
 
 /// An interface of these levels, of which a prefix of length 32 makes a loopback.
-pub fn isis_interface(
+pub(crate) fn isis_interface(
     alloc: Global,
     name: u8,
     address: u32,
@@ -72,7 +72,7 @@ pub fn isis_interface(
 }
 
 /// One interface.
-pub fn one_interface(alloc: Global, interface: Interface) -> Result<Interfaces, OutOfMemory>
+pub(crate) fn one_interface(alloc: Global, interface: Interface) -> Result<Interfaces, OutOfMemory>
     requires { IsInterface interface }
     ensures kept { IfOk result (All IsInterface) }
     ensures apart { IfOk result (AllPairs (λ i j. i.name ≢ j.name)) }
@@ -83,7 +83,7 @@ pub fn one_interface(alloc: Global, interface: Interface) -> Result<Interfaces, 
 }
 
 /// Three interfaces, which are named 0, 1 and 2.
-pub fn three_interfaces(
+pub(crate) fn three_interfaces(
     alloc: Global,
     zero: Interface,
     one: Interface,

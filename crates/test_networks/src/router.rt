@@ -12,7 +12,7 @@ const DISTANCES: Distances = Distances {
 };
 
 /// The router of this number, with OSPF process 1 and without IS-IS.
-pub fn ospf_router(
+pub(crate) fn ospf_router(
     alloc: Global,
     number: u8,
     interfaces: Interfaces,
@@ -46,7 +46,7 @@ pub fn ospf_router(
 }
 
 /// The router of this number, with the levels of IS-IS that it runs in an area, and without OSPF.
-pub fn isis_router(
+pub(crate) fn isis_router(
     alloc: Global,
     number: u8,
     area: u8,

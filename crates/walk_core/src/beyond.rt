@@ -13,7 +13,7 @@ use crate::union::put_in_order;
 use std::alloc::Global;
 
 /// The least walks that begin on each LAN, by the distances from the vertices.
-pub fn all_beyond(
+pub(crate) fn all_beyond(
     alloc: Global,
     segments: &[Segment],
     rows: &[Distances],
@@ -30,7 +30,7 @@ pub fn all_beyond(
 }
 
 /// The least walks that begin on the segment of a place.
-pub fn walks_at(beyond: &[FoundWalks], place: usize) -> &FoundWalks
+pub(crate) fn walks_at(beyond: &[FoundWalks], place: usize) -> &FoundWalks
     requires { place < length beyond.now }
     ensures { result.now ≡ reach_at beyond.now place }
 {

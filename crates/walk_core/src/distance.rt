@@ -6,7 +6,7 @@ use std::marker::Model;
 
 /// How far a vertex is, or that no walk leads there, in 8 bytes: one more than the cost, or 0.
 #[derive(Clone, Copy, Debug)]
-pub struct Distance {
+pub(crate) struct Distance {
     code: u64,
 }
 
@@ -56,7 +56,7 @@ impl Distance {
 
 /// The nearer of a distance that is known and of one over an arc of this cost, from whose end it is `far`.
 #[inline(always)]
-pub fn nearer_over(known: Distance, far: Distance, cost: u32) -> Distance
+pub(crate) fn nearer_over(known: Distance, far: Distance, cost: u32) -> Distance
     requires { (d : ℕ) → far ≡ Some d → d + 2 ^ 32 < 2 ^ 64 }
     ensures { result ≡ least_cost_of known (total_with far cost) }
 {
@@ -72,7 +72,7 @@ pub fn nearer_over(known: Distance, far: Distance, cost: u32) -> Distance
 
 /// The nearer of two distances, of which either may be none.
 #[inline(always)]
-pub fn nearer_of(one: Distance, other: Distance) -> Distance
+pub(crate) fn nearer_of(one: Distance, other: Distance) -> Distance
     ensures { result ≡ least_cost_of one other }
 {
     match (one.get(), other.get()) {

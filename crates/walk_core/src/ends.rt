@@ -16,7 +16,7 @@ use std::alloc::Global;
 
 /// The vertices whose distances are to be found by those from the far ends of their links: in order of number each one
 /// that has one or two links and no other port, none to one that was taken before.
-pub fn roots_by_ends(alloc: Global, outlets: &[Outlets]) -> Result<Vec<bool>, OutOfMemory>
+pub(crate) fn roots_by_ends(alloc: Global, outlets: &[Outlets]) -> Result<Vec<bool>, OutOfMemory>
     ensures { IfOk result (λ by_ends. length by_ends.items ≡ length outlets.now) }
 {
     let mut by_ends = Vec::with_capacity(alloc, outlets.len())?;
@@ -47,7 +47,7 @@ fn is_free(outlet: Outlet, by_ends: &[bool]) -> bool {
 
 /// The distances from a root by those from the far ends of its ports, where all are on links and those rows are there: a
 /// least walk to another vertex goes over one of the links and on from its far end.
-pub fn row_by_ends(
+pub(crate) fn row_by_ends(
     alloc: Global,
     graph: &SegmentGraph<'_>,
     rows: &[Distances],

@@ -11,7 +11,7 @@ use crate::rows::Distances;
 
 /// A link of a root: where it leads, what it costs, and how far the vertices are from its end.
 #[derive(Clone, Copy)]
-pub struct Exit<'a> {
+pub(crate) struct Exit<'a> {
     to: u32,
     cost: u32,
     row: &'a [Distance],
@@ -19,14 +19,18 @@ pub struct Exit<'a> {
 
 /// A root of two ports, and its links, which these are, by ascending ends.
 #[derive(Clone, Copy)]
-pub struct TwoExits<'a> {
+pub(crate) struct TwoExits<'a> {
     root: u32,
     one: Exit<'a>,
     other: Exit<'a>,
 }
 
 /// The exits of a root that has these ports, by the rows of distances, if there are two over links to different vertices.
-pub fn two_exits<'a>(rows: &'a [Distances], outlets: &[Outlet], root: u32) -> Option<TwoExits<'a>>
+pub(crate) fn two_exits<'a>(
+    rows: &'a [Distances],
+    outlets: &[Outlet],
+    root: u32,
+) -> Option<TwoExits<'a>>
     ensures { IfSome result (AreTwoExits rows.now outlets.now root) }
 {
     let [first, second] = outlets else {
@@ -61,7 +65,7 @@ fn exit_of<'a>(rows: &'a [Distances], outlet: Outlet) -> Option<Exit<'a>>
 }
 
 /// The row of distances from u, unless u reaches itself alone.
-pub fn whole_row(rows: &[Distances], u: u32) -> Option<&[Distance]>
+pub(crate) fn whole_row(rows: &[Distances], u: u32) -> Option<&[Distance]>
     ensures { IfSome result (λ row. row.now ≡ slice_index_or rows.now u []) }
 {
     rows.get(u as usize)?.whole()
@@ -70,7 +74,11 @@ pub fn whole_row(rows: &[Distances], u: u32) -> Option<&[Distance]>
 /// Adds the list of the first hops towards v, in ascending order: the ends over which it is nearest, and none towards the
 /// root itself.
 #[inline(always)]
-pub fn push_exits(hops: &mut NumberLists, exits: TwoExits<'_>, v: u32) -> Result<(), OutOfMemory>
+pub(crate) fn push_exits(
+    hops: &mut NumberLists,
+    exits: TwoExits<'_>,
+    v: u32,
+) -> Result<(), OutOfMemory>
     requires one { FitsOver exits.one }
     requires other { FitsOver exits.other }
     ensures { OnOk result (AddsHops exits.entry v hops.old hops.new) }

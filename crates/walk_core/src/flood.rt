@@ -18,7 +18,7 @@ use crate::segment::{Segment, ports_at};
 use std::alloc::Global;
 
 /// The distances from a root over segments that join so many vertices, by their ports.
-pub fn distances_over(
+pub(crate) fn distances_over(
     alloc: Global,
     segments: &[Segment],
     outlets: &[Outlets],

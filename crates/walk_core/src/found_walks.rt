@@ -6,7 +6,7 @@ use std::marker::Model;
 
 /// How far each vertex is from where walks begin, and which vertices the walks there begin with.
 #[derive(Debug, Drop)]
-pub struct FoundWalks {
+pub(crate) struct FoundWalks {
     distances: Distances,
     hops: NumberLists,
 }

@@ -9,13 +9,13 @@ use std::alloc::Global;
 
 /// An arc from the root: where it leads, and what it costs.
 #[derive(Clone, Copy, Debug)]
-pub struct Departure {
+pub(crate) struct Departure {
     to: u32,
     cost: u32,
 }
 
 /// The arcs from the root.
-pub fn departures_from<G: CostGraph>(
+pub(crate) fn departures_from<G: CostGraph>(
     alloc: Global,
     graph: &G,
     root: u32,
@@ -32,7 +32,7 @@ pub fn departures_from<G: CostGraph>(
 }
 
 /// Finds the first hops towards v, which is at this distance from the root, in ascending order.
-pub fn find_first_hops(
+pub(crate) fn find_first_hops(
     found: &mut Vec<u32>,
     departures: &[Departure],
     rows: &[Distances],

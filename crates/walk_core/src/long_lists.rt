@@ -6,14 +6,14 @@ use std::marker::Model;
 
 /// Where a list stands among the numbers of all lists.
 #[derive(Clone, Copy, Debug)]
-pub struct Span {
+pub(crate) struct Span {
     start: usize,
     end: usize,
 }
 
 /// Lists of numbers, one after another in one vector, each of which has a place.
 #[derive(Debug, Drop)]
-pub struct LongLists {
+pub(crate) struct LongLists {
     numbers: Vec<u32>,
     spans: Vec<Span>,
 }

@@ -10,7 +10,7 @@ use std::slice;
 
 /// The numbers of a list: one alone stands here, and more of them at a place among the long lists.
 #[derive(Clone, Copy, Debug)]
-pub enum Numbers {
+pub(crate) enum Numbers {
     /// None.
     Nothing,
     /// This one alone.
@@ -21,7 +21,7 @@ pub enum Numbers {
 
 /// Lists of numbers, of which most have one or none.
 #[derive(Debug, Drop)]
-pub struct NumberLists {
+pub(crate) struct NumberLists {
     all: Vec<Numbers>,
     long: LongLists,
 }

@@ -10,7 +10,7 @@ use std::marker::Model;
 
 /// A port of a vertex: the place of its segment, what it costs, and where a link leads, which is no LAN.
 #[derive(Clone, Copy, Debug)]
-pub struct Outlet {
+pub(crate) struct Outlet {
     pub(crate) place: usize,
     pub(crate) cost: u32,
     pub(crate) to: Option<u32>,
@@ -18,7 +18,7 @@ pub struct Outlet {
 
 /// The ports of a vertex.
 #[derive(Debug, Drop)]
-pub struct Outlets {
+pub(crate) struct Outlets {
     all: Vec<Outlet>,
 }
 
@@ -60,14 +60,14 @@ impl Outlets {
 }
 
 /// Whether a vertex has no port, so that it reaches itself alone.
-pub fn is_lone(outlets: &[Outlet]) -> bool
+pub(crate) fn is_lone(outlets: &[Outlet]) -> bool
     ensures { IsTrue result ↔ (length outlets.now ≡ 0) }
 {
     outlets.is_empty()
 }
 
 /// The port of a vertex that has no other, if it is on a LAN.
-pub fn only_lan(outlets: &[Outlet]) -> Option<Outlet>
+pub(crate) fn only_lan(outlets: &[Outlet]) -> Option<Outlet>
     ensures { IfSome result (λ outlet. (outlets.now ≡ outlet ∷ []) × (outlet.to ≡ None)) }
 {
     match outlets {
@@ -77,7 +77,7 @@ pub fn only_lan(outlets: &[Outlet]) -> Option<Outlet>
 }
 
 /// The ports of every vertex. Each port of a segment is looked at once.
-pub fn all_outlets(
+pub(crate) fn all_outlets(
     alloc: Global,
     segments: &[Segment],
     count: u32,
@@ -128,7 +128,7 @@ fn push_outlets(
 }
 
 /// Whether a segment joins more than two ports. Of others the distances from the ends say all.
-pub fn is_lan(ports: &[Port]) -> bool
+pub(crate) fn is_lan(ports: &[Port]) -> bool
     ensures { IsTrue result ↔ IsLan ports.now }
 {
     ports.len() > 2

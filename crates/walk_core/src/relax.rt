@@ -10,7 +10,7 @@ use crate::{CostGraph, OutOfMemory};
 use std::alloc::Global;
 
 /// The distances from a root.
-pub fn distances_from<G: CostGraph>(
+pub(crate) fn distances_from<G: CostGraph>(
     alloc: Global,
     graph: &G,
     root: u32,
@@ -29,7 +29,7 @@ pub fn distances_from<G: CostGraph>(
 
 /// The distance of v.
 #[inline(always)]
-pub fn distance_in(distances: &[Distance], v: u32) -> Distance
+pub(crate) fn distance_in(distances: &[Distance], v: u32) -> Distance
     ensures { result ≡ distance_at distances.now v }
 {
     match distances.get(v as usize) {
@@ -40,7 +40,7 @@ pub fn distance_in(distances: &[Distance], v: u32) -> Distance
 
 /// How far v is, and None where there is no distance.
 #[inline(always)]
-pub fn distance_at(distances: &[Distance], v: u32) -> Option<u64>
+pub(crate) fn distance_at(distances: &[Distance], v: u32) -> Option<u64>
     ensures { result ≡ distance_at distances.now v }
 {
     distance_in(distances, v).get()
@@ -83,7 +83,7 @@ fn relax_from<G: CostGraph>(graph: &G, u: u32, distances: &mut [Distance]) -> bo
 }
 
 /// Notes that some walk to v costs `found`: whether none that was known cost as little.
-pub fn relax(distances: &mut [Distance], v: u32, found: u64) -> bool
+pub(crate) fn relax(distances: &mut [Distance], v: u32, found: u64) -> bool
     requires vertex { v < length distances.old }
     requires fits { found + 1 < 2 ^ 64 }
     ensures falls { IsTrue result ↔ (found < weight_of (distance_at distances.old v)) }

@@ -12,13 +12,13 @@ use std::marker::Model;
 /// The distances from one vertex, by the number of the other: the least cost of a walk there, and None where no walk
 /// leads. Those over segments from a vertex without a port take no memory.
 #[derive(Debug, Drop)]
-pub struct Distances {
+pub(crate) struct Distances {
     kept: Kept,
 }
 
 /// How distances are kept.
 #[derive(Debug, Drop)]
-pub enum Kept {
+pub(crate) enum Kept {
     /// Those of this vertex, which reaches itself alone.
     Lone(u32),
     /// Those of each vertex from the first on.
@@ -106,7 +106,7 @@ impl Distances {
 
 /// The distance of v from a vertex that reaches itself alone.
 #[inline(always)]
-pub fn distance_to_lone(root: u32, v: u32) -> Distance
+pub(crate) fn distance_to_lone(root: u32, v: u32) -> Distance
     ensures { result ≡ distance_at (lone_row root) v }
 {
     if v == root {
@@ -118,7 +118,7 @@ pub fn distance_to_lone(root: u32, v: u32) -> Distance
 
 /// The distance from u to v by these rows.
 #[inline(always)]
-pub fn row_distance(rows: &[Distances], u: u32, v: u32) -> Distance
+pub(crate) fn row_distance(rows: &[Distances], u: u32, v: u32) -> Distance
     ensures { result ≡ distance_between rows.now u v }
 {
     match rows.get(u as usize) {
@@ -129,14 +129,14 @@ pub fn row_distance(rows: &[Distances], u: u32, v: u32) -> Distance
 
 /// How far v is from u by these rows, and None where there is no distance.
 #[inline(always)]
-pub fn distance_between(rows: &[Distances], u: u32, v: u32) -> Option<u64>
+pub(crate) fn distance_between(rows: &[Distances], u: u32, v: u32) -> Option<u64>
     ensures { result ≡ distance_between rows.now u v }
 {
     row_distance(rows, u, v).get()
 }
 
 /// The distances from each vertex that an arc from the root leads to.
-pub fn rows_beyond<G: CostGraph>(
+pub(crate) fn rows_beyond<G: CostGraph>(
     alloc: Global,
     graph: &G,
     root: u32,

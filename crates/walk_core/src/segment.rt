@@ -54,7 +54,7 @@ impl Segment {
 }
 
 /// The ports of the segment of a place.
-pub fn ports_at(segments: &[Segment], place: usize) -> &[Port]
+pub(crate) fn ports_at(segments: &[Segment], place: usize) -> &[Port]
     requires { place < length segments.now }
     ensures { result.now ≡ segment_at segments.now place }
 {

@@ -15,7 +15,7 @@ use std::mem;
 
 /// So many vertices, the segments that join them, and the ports of each.
 #[derive(Drop)]
-pub struct SegmentGraph<'a> {
+pub(crate) struct SegmentGraph<'a> {
     count: u32,
     segments: &'a [Segment],
     outlets: &'a [Outlets],

@@ -43,7 +43,7 @@ pub fn put_in_order(numbers: &mut Vec<u32>)
 
 /// Adds a list of numbers behind others; most have one or none.
 #[inline(always)]
-pub fn add_behind(numbers: &mut Vec<u32>, list: &[u32]) -> Result<(), OutOfMemory>
+pub(crate) fn add_behind(numbers: &mut Vec<u32>, list: &[u32]) -> Result<(), OutOfMemory>
     ensures added { OnOk result (numbers.new.items ≡ numbers.old.items ++ list.now) }
     ensures kept { OnErr result (numbers.new.items ≡ numbers.old.items) }
 {

@@ -20,7 +20,7 @@ pub struct LeastWalks {
 
 /// What is known of the walks from a root.
 #[derive(Debug, Drop)]
-pub enum KeptWalks {
+pub(crate) enum KeptWalks {
     /// This is the root, which reaches itself alone.
     Lone(u32),
     /// How far the vertices are, and their first hops.

@@ -22,7 +22,7 @@ struct Aim {
 
 /// Segments, how far their vertices are from each other, and the walks that begin on LANs: what first hops are read from.
 #[derive(Drop)]
-pub struct Ways<'a> {
+pub(crate) struct Ways<'a> {
     count: u32,
     segments: &'a [Segment],
     rows: &'a [Distances],

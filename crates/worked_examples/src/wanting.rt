@@ -8,7 +8,7 @@ use order_search::{Answer, Oracle, Tag, Turn};
 /// Calls good the rankings that keep its base and the pairs that it wants kept besides. Of another one it tells the
 /// first wanted pair that isn't kept: its first number as Old, its second as New.
 #[derive(Drop)]
-pub struct Wanting<'a> {
+pub(crate) struct Wanting<'a> {
     size: u32,
     base: &'a [(u32, u32)],
     wants: &'a [(u32, u32)],
