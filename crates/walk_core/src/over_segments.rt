@@ -1,6 +1,5 @@
-ghost use Rattle.std.specs.Prelude.{◌≡◌, ◌<◌, [], length, slice_index_or, slice_set, IfOk};
+ghost use Rattle.std.specs.Prelude.{◌≡◌, ◌<◌, length, IfOk};
 ghost use Rattle.walk_core.specs.Reach.{AreWalksBelow};
-ghost use Rattle.walk_core.specs.steps.FirstHops.{AreAllHops};
 ghost use Rattle.walk_core.specs.steps.SegmentWalks.{IsJoinedEnd};
 ghost use Rattle.walk_core.specs.Segments.{AreSegments, SendsAcross};
 
