@@ -16,8 +16,3 @@ loop-byte-preserved c = record {
   within = omega (arith, c.in_ok-value.ensures);
 }
 
-pub returns : goal.returns
-returns c =
-    let some : 0 < length c.args.word.now = grind (arith, c.if-is_empty.ensures) in
-    whole_numeral c.args.most c.args.word.now c.loop-byte.byte-index c.loop-byte.value some
-    (omega arith) c.loop-byte.invariant.digits c.loop-byte.invariant.value c.loop-byte.invariant.within
