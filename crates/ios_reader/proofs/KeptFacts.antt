@@ -20,7 +20,7 @@ use Rattle.ios_lines.specs.Lookups.{last_of, replaced, first_seen, good_value, v
 use Rattle.ios_reader.specs.InterfaceFacts.{address_at, address_in, cost_said, metric_said, metric1_said, metric2_said, facts_of}
 use Rattle.ios_lines.specs.InterfaceLines.{counting}
 use Rattle.ios_sections.specs.Processes.{as_hostname, as_interface, merged, interfaces_in, process_of, ospf_lines, isis_lines}
-use Rattle.ios_reader.specs.Routers.{Router, router_of, range_said, is_same_range, ranges_in, stub_said, is_same_area, stub_lines_in, cost_if}
+use Rattle.ios_reader.specs.Routers.{Router, router_of, range_said, is_same_range, ranges_in, stub_said, is_same_area, stub_lines_in}
 use Rattle.ios_reader.specs.Routers.{default_cost_said, stub_of, stubs_in, title_said, router_metric_said, ospf_distance_said, isis_distance_said}
 use Rattle.ios_reader.specs.InterfacesAsRead.{address_given, is_loopback, interface_area, default_bandwidth, cost_of_bandwidth, cost_by_bandwidth}
 use Rattle.ios_reader.specs.InterfacesAsRead.{default_cost, cost_given, ospf_cost, is_isis_passive, runs_isis, metric_by, level_metric, subnet_field}
@@ -30,18 +30,12 @@ use Rattle.ios_lines.specs.MaskedAddress.{MaskedAddress}
 use Rattle.ios_lines.specs.declared.kind.ReadKind.{ReadKind}
 use Rattle.ios_reader.specs.declared.facts.PlacedAddress.{PlacedAddress}
 use Rattle.ios_lines.specs.declared.interface_line.InterfaceLine.{InterfaceLine}
-use Rattle.ios_lines.specs.declared.interface_line.InterfaceLine.TheVariants.{Address, NoAddress, Shutdown, Vrf, Bandwidth, Cost, Area, PointToPoint, Isis}
-use Rattle.ios_lines.specs.declared.interface_line.InterfaceLine.TheVariants.{Circuit, Metric, Metric1, Metric2, Faulty, Skipped}
 use Rattle.ios_lines.specs.declared.interface_line.InterfaceStatement.{InterfaceStatement}
 use Rattle.ios_lines.specs.declared.ospf_line.StubLine.{StubLine}
 use Rattle.ios_lines.specs.declared.ospf_line.OspfLine.{OspfLine}
-use Rattle.ios_lines.specs.declared.ospf_line.OspfLine.TheVariants.{Network, Passive, PassiveDefault, Reference, Stub as StubSaid, DefaultCost}
-use Rattle.ios_lines.specs.declared.ospf_line.OspfLine.TheVariants.{Range as RangeSaid, Distance, Rfc1583, Faulty as OspfFaulty, Skipped as OspfSkipped}
 use Rattle.ios_lines.specs.declared.ospf_line.OspfStatement.{OspfStatement}
 use Rattle.ios_lines.specs.declared.title.Title.{Title}
 use Rattle.ios_lines.specs.declared.isis_line.IsisLine.{IsisLine}
-use Rattle.ios_lines.specs.declared.isis_line.IsisLine.TheVariants.{Net, Levels, MetricStyle, Metric as IsisMetric, Distance as IsisDistance}
-use Rattle.ios_lines.specs.declared.isis_line.IsisLine.TheVariants.{Passive as IsisPassive, Leak as IsisLeak, Faulty as IsisFaulty, Skipped as IsisSkipped}
 use Rattle.ios_lines.specs.declared.isis_line.IsisStatement.{IsisStatement}
 use Rattle.ios_sections.specs.declared.section.InterfaceSection.{InterfaceSection}
 use Rattle.ios_sections.specs.declared.section.Section.{Section}
@@ -107,92 +101,22 @@ abbrev IsGoodValue : ℕ → ℕ → Result ℕ ReadKind → Type 0
 IsGoodValue least most r = IfOk r (IsFrom least most)
 
 cost_in : (s : InterfaceLine) → IsGoodInterfaceLine s → IfSome (cost_said s) (IsGoodValue 1 65535)
-cost_in (Cost r) h = h
-cost_in (Address r) h = tt
-cost_in NoAddress h = tt
-cost_in (Shutdown b) h = tt
-cost_in Vrf h = tt
-cost_in (Bandwidth r) h = tt
-cost_in (Area r) h = tt
-cost_in (PointToPoint r) h = tt
-cost_in (Isis tag) h = tt
-cost_in (Circuit r) h = tt
-cost_in (Metric r) h = tt
-cost_in (Metric1 r) h = tt
-cost_in (Metric2 r) h = tt
-cost_in (Faulty kind) h = tt
-cost_in Skipped h = tt
+cost_in s h = grind arith
 
 metric_in : (s : InterfaceLine) → IsGoodInterfaceLine s → IfSome (metric_said s) (IsGoodValue 1 16777214)
-metric_in (Metric r) h = h
-metric_in (Cost r) h = tt
-metric_in (Address r) h = tt
-metric_in NoAddress h = tt
-metric_in (Shutdown b) h = tt
-metric_in Vrf h = tt
-metric_in (Bandwidth r) h = tt
-metric_in (Area r) h = tt
-metric_in (PointToPoint r) h = tt
-metric_in (Isis tag) h = tt
-metric_in (Circuit r) h = tt
-metric_in (Metric1 r) h = tt
-metric_in (Metric2 r) h = tt
-metric_in (Faulty kind) h = tt
-metric_in Skipped h = tt
+metric_in s h = grind arith
 
 metric1_in : (s : InterfaceLine) → IsGoodInterfaceLine s → IfSome (metric1_said s) (IsGoodValue 1 16777214)
-metric1_in (Metric1 r) h = h
-metric1_in (Metric r) h = tt
-metric1_in (Cost r) h = tt
-metric1_in (Address r) h = tt
-metric1_in NoAddress h = tt
-metric1_in (Shutdown b) h = tt
-metric1_in Vrf h = tt
-metric1_in (Bandwidth r) h = tt
-metric1_in (Area r) h = tt
-metric1_in (PointToPoint r) h = tt
-metric1_in (Isis tag) h = tt
-metric1_in (Circuit r) h = tt
-metric1_in (Metric2 r) h = tt
-metric1_in (Faulty kind) h = tt
-metric1_in Skipped h = tt
+metric1_in s h = grind arith
 
 metric2_in : (s : InterfaceLine) → IsGoodInterfaceLine s → IfSome (metric2_said s) (IsGoodValue 1 16777214)
-metric2_in (Metric2 r) h = h
-metric2_in (Metric r) h = tt
-metric2_in (Cost r) h = tt
-metric2_in (Address r) h = tt
-metric2_in NoAddress h = tt
-metric2_in (Shutdown b) h = tt
-metric2_in Vrf h = tt
-metric2_in (Bandwidth r) h = tt
-metric2_in (Area r) h = tt
-metric2_in (PointToPoint r) h = tt
-metric2_in (Isis tag) h = tt
-metric2_in (Circuit r) h = tt
-metric2_in (Metric1 r) h = tt
-metric2_in (Faulty kind) h = tt
-metric2_in Skipped h = tt
+metric2_in s h = grind arith
 
 abbrev IsGoodPlaced : Option PlacedAddress → Type 0
 IsGoodPlaced o = IfSome o (λ (p : PlacedAddress). IfOk p.address IsGoodAddress)
 
 placed_in : (line : ℕ) (s : InterfaceLine) → IsGoodInterfaceLine s → IfSome (address_at line s) IsGoodPlaced
-placed_in line (Address r) h = h
-placed_in line NoAddress h = tt
-placed_in line (Metric2 r) h = tt
-placed_in line (Metric r) h = tt
-placed_in line (Cost r) h = tt
-placed_in line (Shutdown b) h = tt
-placed_in line Vrf h = tt
-placed_in line (Bandwidth r) h = tt
-placed_in line (Area r) h = tt
-placed_in line (PointToPoint r) h = tt
-placed_in line (Isis tag) h = tt
-placed_in line (Circuit r) h = tt
-placed_in line (Metric1 r) h = tt
-placed_in line (Faulty kind) h = tt
-placed_in line Skipped h = tt
+placed_in line s h = grind arith
 
 given_good : (o : Option (Option PlacedAddress)) → IfSome o IsGoodPlaced → IfSome (address_given o) IsGoodAddress
 given_good None h = tt
@@ -310,63 +234,16 @@ apart_interfaces router parts names h =
 -- ---- the OSPF process ----
 
 range_in : (s : OspfLine) → IsGoodOspfLine s → IfSome (range_said s) IsRange
-range_in (RangeSaid (Ok range)) h = h
-range_in (RangeSaid (Err kind)) h = tt
-range_in (Network r) h = tt
-range_in (Passive r) h = tt
-range_in (PassiveDefault r) h = tt
-range_in (Reference r) h = tt
-range_in (StubSaid r) h = tt
-range_in (DefaultCost r) h = tt
-range_in (Distance r) h = tt
-range_in (Rfc1583 r) h = tt
-range_in (OspfFaulty r) h = tt
-range_in OspfSkipped h = tt
+range_in s h = grind arith
 
 stub_in : (s : OspfLine) → IsGoodOspfLine s → IfSome (stub_said s) (λ (t : StubLine). 1 ≤ t.area)
-stub_in (StubSaid (Ok stub)) h = h
-stub_in (StubSaid (Err kind)) h = tt
-stub_in (RangeSaid r) h = tt
-stub_in (Network r) h = tt
-stub_in (Passive r) h = tt
-stub_in (PassiveDefault r) h = tt
-stub_in (Reference r) h = tt
-stub_in (DefaultCost r) h = tt
-stub_in (Distance r) h = tt
-stub_in (Rfc1583 r) h = tt
-stub_in (OspfFaulty r) h = tt
-stub_in OspfSkipped h = tt
+stub_in s h = grind arith
 
 default_in : (area : ℕ) (s : OspfLine) → IsGoodOspfLine s → IfSome (default_cost_said area s) (λ n. n ≤ 16777214)
-default_in area (DefaultCost (Ok said)) h = chosen (nat_eq said.area area) said.cost h
-  where
-    chosen : (t : Bool) (cost : ℕ) → cost ≤ 16777214 → IfSome (cost_if t cost) (λ n. n ≤ 16777214)
-    chosen true cost g = g
-    chosen false cost g = tt
-default_in area (DefaultCost (Err kind)) h = tt
-default_in area (StubSaid r) h = tt
-default_in area (RangeSaid r) h = tt
-default_in area (Network r) h = tt
-default_in area (Passive r) h = tt
-default_in area (PassiveDefault r) h = tt
-default_in area (Reference r) h = tt
-default_in area (Distance r) h = tt
-default_in area (Rfc1583 r) h = tt
-default_in area (OspfFaulty r) h = tt
-default_in area OspfSkipped h = tt
+default_in area s h = grind arith
 
 distance_in : (s : OspfLine) → IsGoodOspfLine s → IfSome (ospf_distance_said s) (λ (r : Result ℕ ReadKind). IfOk r IsOspfDistance)
-distance_in (Distance r) h = h
-distance_in (DefaultCost r) h = tt
-distance_in (StubSaid r) h = tt
-distance_in (RangeSaid r) h = tt
-distance_in (Network r) h = tt
-distance_in (Passive r) h = tt
-distance_in (PassiveDefault r) h = tt
-distance_in (Reference r) h = tt
-distance_in (Rfc1583 r) h = tt
-distance_in (OspfFaulty r) h = tt
-distance_in OspfSkipped h = tt
+distance_in s h = grind arith
 
 value_kept : {A : Type 0} (P : A → Type 0) (o : Option (Result A ReadKind)) (d : A) → P d → IfSome o (λ (r : Result A ReadKind). IfOk r P) → P (value_or o d)
 value_kept P None d h i = h
@@ -449,37 +326,13 @@ stubs_kept lines good =
 -- ---- the IS-IS process ----
 
 title_in : (s : IsisLine) → IsGoodIsisLine s → IfSome (title_said s) (λ (o : Option Title). IfSome o (λ (t : Title). t.system < 2 ^ 48))
-title_in (Net title) h = h
-title_in (Levels r) h = tt
-title_in (MetricStyle r) h = tt
-title_in (IsisMetric r) h = tt
-title_in (IsisDistance r) h = tt
-title_in (IsisPassive r) h = tt
-title_in IsisLeak h = tt
-title_in (IsisFaulty r) h = tt
-title_in IsisSkipped h = tt
+title_in s h = grind arith
 
 router_metric_in : (s : IsisLine) → IsGoodIsisLine s → IfSome (router_metric_said s) (IsGoodValue 1 16777214)
-router_metric_in (IsisMetric r) h = h
-router_metric_in (Net r) h = tt
-router_metric_in (Levels r) h = tt
-router_metric_in (MetricStyle r) h = tt
-router_metric_in (IsisDistance r) h = tt
-router_metric_in (IsisPassive r) h = tt
-router_metric_in IsisLeak h = tt
-router_metric_in (IsisFaulty r) h = tt
-router_metric_in IsisSkipped h = tt
+router_metric_in s h = grind arith
 
 isis_distance_in : (s : IsisLine) → IsGoodIsisLine s → IfSome (isis_distance_said s) (λ (r : Result ℕ ReadKind). IfOk r IsIsisDistance)
-isis_distance_in (IsisDistance r) h = h
-isis_distance_in (IsisMetric r) h = tt
-isis_distance_in (Net r) h = tt
-isis_distance_in (Levels r) h = tt
-isis_distance_in (MetricStyle r) h = tt
-isis_distance_in (IsisPassive r) h = tt
-isis_distance_in IsisLeak h = tt
-isis_distance_in (IsisFaulty r) h = tt
-isis_distance_in IsisSkipped h = tt
+isis_distance_in s h = grind arith
 
 system_kept : (o : Option (Option Title)) → IfSome o (λ (p : Option Title). IfSome p (λ (t : Title). t.system < 2 ^ 48)) → system_in (title_given o) < 2 ^ 48
 system_kept None h = omega arith

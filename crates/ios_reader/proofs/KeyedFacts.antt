@@ -1,6 +1,6 @@
 -- Tables whose values stand under their keys.
 use Rattle.std.proofs.Common.{sym, ◌≡◌, ℕ, ◌+◌, ◌<◌, Bool, true, false, ◌&&◌, List, [], ◌∷◌, length, take, get_or, Option, Some, None, refl}
-use Rattle.std.proofs.Common.{ap, ◌∙◌, cond, nat_eq}
+use Rattle.std.proofs.Common.{ap, ◌∙◌, cond, nat_eq, arith}
 use Rattle.std.specs.Cmp.{nat_eq_equiv}
 use Rattle.std.proofs.lemmas.Bool.{false≢true, eqb-true}
 use Rattle.std.proofs.lemmas.List.Elements.{All-cons, All-head, All-tail}
@@ -73,10 +73,7 @@ pub lookup_insert : (es : List (ℕ × ℕ)) (n v q : ℕ) → lookup (nat_eq q)
 lookup_insert [] n v q = first (nat_eq q n) (nat_eq n q) (nat_eq_equiv.symm q n)
   where
     first : (s t : Bool) → s ≡ t → cond s (Some v) None ≡ later None (cost_if t v)
-    first true true e = refl
-    first false false e = refl
-    first true false e = absurd (false≢true (sym e))
-    first false true e = absurd (false≢true e)
+    first s t e = grind arith
 lookup_insert (e ∷ es) n v q = said_cases (nat_eq n e.0) e es n v q refl (lookup_insert es n v q)
 
 -- one more line of a loop

@@ -1,7 +1,7 @@
 -- The first `network` line that takes an address: in the tables of the lines, and among the lines of the process.
 use Rattle.std.proofs.Common.{sym, ◌≡◌, ℕ, ◌+◌, ◌<◌, ◌≤◌, Bool, true, false, not, ◌&&◌, ◌||◌, List, [], ◌∷◌, ◌++◌, length, take, get_or, Option, Some, None}
 use Rattle.std.proofs.Common.{refl, ap, subst, ◌∙◌, cond, filter, nat_eq, arith, append_assoc}
-use Rattle.std.specs.Prelude.{Ok, Err, All, find, fold, option_map, bit_or, nat_lt}
+use Rattle.std.specs.Prelude.{All, find, fold, option_map, bit_or, nat_lt}
 use Rattle.std.specs.List.{list_any}
 use Rattle.std.specs.Map.{lookup}
 use Rattle.std.specs.Option.{option_or}
@@ -13,8 +13,6 @@ use Rattle.std.proofs.lemmas.List.Folds.{find-append}
 use Rattle.ios_lines.specs.Lookups.{earlier, first_of}
 use Rattle.ios_lines.specs.declared.ospf_line.NetworkLine.{NetworkLine}
 use Rattle.ios_lines.specs.declared.ospf_line.OspfLine.{OspfLine}
-use Rattle.ios_lines.specs.declared.ospf_line.OspfLine.TheVariants.{Network, Passive, PassiveDefault, Reference, Stub, DefaultCost, Range, Distance, Rfc1583}
-use Rattle.ios_lines.specs.declared.ospf_line.OspfLine.TheVariants.{Faulty, Skipped}
 use Rattle.ios_lines.specs.declared.ospf_line.OspfStatement.{OspfStatement}
 use Rattle.ios_reader.specs.declared.networks.PlacedNetwork.{PlacedNetwork}
 use Rattle.ios_reader.specs.Routers.{area_taken}
@@ -175,12 +173,7 @@ agrees address line w true e =
 agrees address line w false e = refl
 
 and_or : (a b c : Bool) → ((a && c) || (b && c)) ≡ ((a || b) && c)
-and_or true true true = refl
-and_or true true false = refl
-and_or true false true = refl
-and_or true false false = refl
-and_or false true c = refl
-and_or false false c = refl
+and_or a b c = grind arith
 
 same_blocks : (address : ℕ) (line : PlacedNetwork) (ws : List ℕ) →
     list_any (λ (w : ℕ). same_block (w, bit_or address w) (block_key line.network)) ws ≡ (has_wildcard ws line.network.wildcard && takes address line)
@@ -236,18 +229,7 @@ area_if address (Some network) =
     cond (nat_eq (bit_or address network.wildcard) (bit_or network.address network.wildcard)) (Some network.area) None
 
 area_said : (address : ℕ) (line : OspfLine) → area_taken address line ≡ area_if address (network_said line)
-area_said address (Network (Ok network)) = refl
-area_said address (Network (Err kind)) = refl
-area_said address (Passive said) = refl
-area_said address (PassiveDefault said) = refl
-area_said address (Reference said) = refl
-area_said address (Stub said) = refl
-area_said address (DefaultCost said) = refl
-area_said address (Range said) = refl
-area_said address (Distance said) = refl
-area_said address (Rfc1583 said) = refl
-area_said address (Faulty said) = refl
-area_said address Skipped = refl
+area_said address line = grind arith
 
 abbrev pub area_of_line : PlacedNetwork → ℕ
 area_of_line line = line.network.area
