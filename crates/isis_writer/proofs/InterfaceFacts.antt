@@ -16,8 +16,6 @@ use Rattle.ios_lines.specs.declared.fault.Fault.{Fault}
 use Rattle.ios_lines.specs.declared.kind.ReadKind.{ReadKind}
 use Rattle.ios_lines.specs.declared.interface_line.ProcessArea.{ProcessArea}
 use Rattle.ios_lines.specs.declared.interface_line.InterfaceLine.{InterfaceLine}
-use Rattle.ios_lines.specs.declared.interface_line.InterfaceLine.TheVariants.{Address, NoAddress, Shutdown, Vrf, Bandwidth, Cost, Area, PointToPoint, Isis}
-use Rattle.ios_lines.specs.declared.interface_line.InterfaceLine.TheVariants.{Circuit, Metric, Metric1, Metric2, Faulty, Skipped}
 use Rattle.ios_lines.specs.declared.interface_line.InterfaceStatement.{InterfaceStatement}
 use Rattle.ios_sections.specs.Processes.{mention_said}
 use Rattle.ios_sections.specs.declared.process.Mention.{Mention}
@@ -179,21 +177,7 @@ needs_none s e = by_says s.says e
   where
     by_says : (says : InterfaceLine) → faults_at s.line (interface_line_fault says) ++ faults_at s.line (membership_fault None says) ≡ [] →
         NeedsNoProcess (record { line = s.line; says = says })
-    by_says (Address r) e = record { fine = e; idle = refl }
-    by_says NoAddress e = record { fine = e; idle = refl }
-    by_says (Shutdown b) e = record { fine = e; idle = refl }
-    by_says Vrf e = record { fine = e; idle = refl }
-    by_says (Bandwidth r) e = record { fine = e; idle = refl }
-    by_says (Cost r) e = record { fine = e; idle = refl }
-    by_says (Area r) e = record { fine = e; idle = refl }
-    by_says (PointToPoint r) e = record { fine = e; idle = refl }
-    by_says (Isis tag) e = absurd cc
-    by_says (Circuit r) e = record { fine = e; idle = refl }
-    by_says (Metric r) e = record { fine = e; idle = refl }
-    by_says (Metric1 r) e = record { fine = e; idle = refl }
-    by_says (Metric2 r) e = record { fine = e; idle = refl }
-    by_says (Faulty kind) e = record { fine = e; idle = refl }
-    by_says Skipped e = record { fine = e; idle = refl }
+    by_says says e = grind arith
 
 -- the same of some lines
 pub record NeedNoProcess (lines : List InterfaceStatement) : Type 0 where
