@@ -99,10 +99,7 @@ IsGoodInterfaceLine _ = Unit {0}
 
 masked_good : (a len : Option ℕ) (secondary : Bool) → IfSome a (λ n. n < 2 ^ 32) → IfSome len (λ n. n ≤ 32) →
     IfOk (masked_address a len secondary) IsGoodAddress
-masked_good None len secondary h i = tt
-masked_good (Some a) None secondary h i = tt
-masked_good (Some a) (Some len) true h i = tt
-masked_good (Some a) (Some len) false h i = record { below = h; short = i }
+masked_good a len secondary h i = grind arith
 
 address_good : (words : List Word) → IfOk (address_line words) IsGoodAddress
 address_good words =
@@ -114,9 +111,7 @@ address_good words =
 
 area_good : (area : Option ℕ) (process : Result ℕ ReadKind) → IfOk process (IsFrom 1 65535) →
     IfOk (process_area area process) (λ (a : ProcessArea). IsFrom 1 65535 a.process)
-area_good None process h = tt
-area_good (Some area) (Err kind) h = tt
-area_good (Some area) (Ok process) h = h
+area_good area process h = grind arith
 
 ospf_good : (words : List Word) → IsGoodInterfaceLine (ospf_of_interface words)
 ospf_good words =
@@ -190,9 +185,7 @@ stub_good (Some n) no_summary = choice (nat_eq n 0) refl
 
 default_good : (cost : Result ℕ ReadKind) (area : Option ℕ) → IfOk cost (IsFrom 0 16777214) →
     IfOk (default_cost_values cost area) (λ (d : AreaCost). d.cost ≤ 16777214)
-default_good (Err kind) area h = tt
-default_good (Ok cost) None h = tt
-default_good (Ok cost) (Some n) h = h.high
+default_good cost area h = grind arith
 
 optional_good : (r : Result ℕ ReadKind) → IfOk r (IsFrom 0 16777214) → IfOk (optional_cost r) (λ (c : Option ℕ). IfSome c (λ n. n ≤ 16777214))
 optional_good (Err kind) h = tt

@@ -21,10 +21,7 @@ nat_eq-decides a b = dec (nat_eq a b) refl
 
 picked : (b : Bool) (start len : ℕ) (rest : Option ℕ) → (start ≢ len → b ≡ false) → (start ≡ len → b ≡ true) → (start ≢ len → rest ≡ Some len) →
     start ≤ len → cond b (Some start) rest ≡ Some len
-picked true start len rest miss hit later low = elim (nat_eq-decides start len) as
-    (λ _. Some start ≡ Some len) [ inl e ↦ ap Some e | inr n ↦ absurd (let e : true ≡ false = miss n in cc) ]
-picked false start len rest miss hit later low = elim (nat_eq-decides start len) as
-    (λ _. rest ≡ Some len) [ inl e ↦ absurd (let f : false ≡ true = hit e in cc) | inr n ↦ later n ]
+picked b start len rest miss hit later low = grind arith
 
 -- the first number of a run of numbers that passes
 find_in_run : (p : ℕ → Bool) (n start len : ℕ) → start ≤ len → len < start + n → p len ≡ true → ((k : ℕ) → k < len → p k ≡ false) →
@@ -44,12 +41,7 @@ record IsFound (p : ℕ → Bool) (start n len : ℕ) : Type 0 where
 
 found_first : (p : ℕ → Bool) (n start len : ℕ) (b : Bool) → p start ≡ b → (find p (range_with_len (start + 1) n) ≡ Some len → IsFound p (start + 1) n len) →
     cond b (Some start) (find p (range_with_len (start + 1) n)) ≡ Some len → IsFound p start (suc n) len
-found_first p n start len true passes later e =
-    let same : start ≡ len = cc in
-    record { passes = ap p (sym same) ∙ passes; low = omega arith; high = omega arith }
-found_first p n start len false passes later e =
-    let found = later e in
-    record { passes = found.passes; low = omega (arith, found.low); high = omega (arith, found.high) }
+found_first p n start len b passes later e = grind arith
 
 found_in_run : (p : ℕ → Bool) (n start len : ℕ) → find p (range_with_len start n) ≡ Some len → IsFound p start n len
 found_in_run p zero start len e = absurd cc

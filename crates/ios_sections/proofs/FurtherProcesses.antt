@@ -110,10 +110,7 @@ less_further k a b = grind (arith, nat_tests)
 
 first-further : (k : ℕ) (o : Option Mention) (m : Mention) →
     first_mention (option_map (mention_further k) o) (mention_further k m) ≡ option_map (mention_further k) (first_mention o m)
-first-further k None m = refl
-first-further k (Some n) m =
-    ap (λ (b : Bool). cond b (Some (mention_further k m)) (Some (mention_further k n))) (less_further k m.line n.line)
-    ∙ first_choice (nat_lt m.line n.line) k m n
+first-further k o m = grind arith
 
 least-fold : (k : ℕ) (o : Option Mention) (ms : List Mention) →
     fold first_mention (option_map (mention_further k) o) (map (mention_further k) ms) ≡ option_map (mention_further k) (fold first_mention o ms)
