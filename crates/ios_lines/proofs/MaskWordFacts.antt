@@ -1,6 +1,5 @@
 -- Masks as words: the reader of masks, as a function of the word.
 use Rattle.std.proofs.Common.{sym, ◌≡◌, ◌≢◌, ℕ, zero, suc, ◌+◌, ◌-◌, ◌^◌, ◌<◌, ◌≤◌, Bool, true, false, Option, Some, None, refl, ap, ◌∙◌, nat_eq, cond, arith}
-use Rattle.std.proofs.Common.{◌⊎◌, inl, inr}
 use Rattle.std.specs.List.{range_with_len}
 use Rattle.std.specs.Prelude.{find, IfSome}
 use Rattle.std.proofs.Math.Pow.{pow-lt, pow_mono}
@@ -11,13 +10,6 @@ use Rattle.net_addr.proofs.MaskFacts.{IsMask-sum, IsMask-from_sum}
 use Rattle.ios_lines.specs.Words.{Word, address_of, mask_with, mask_length, mask_of}
 use Rattle.ios_lines.proofs.AddressFacts.{address-some, address_back, none_of}
 use Rattle.ios_lines.proofs.Picked.{by_some}
-
-nat_eq-decides : (a b : ℕ) → (a ≡ b) ⊎ (a ≢ b)
-nat_eq-decides a b = dec (nat_eq a b) refl
-  where
-    dec : (t : Bool) → nat_eq a b ≡ t → (a ≡ b) ⊎ (a ≢ b)
-    dec true e = inl (grind (arith, nat_tests))
-    dec false e = inr (λ h. grind (arith, nat_tests))
 
 picked : (b : Bool) (start len : ℕ) (rest : Option ℕ) → (start ≢ len → b ≡ false) → (start ≡ len → b ≡ true) → (start ≢ len → rest ≡ Some len) →
     start ≤ len → cond b (Some start) rest ≡ Some len

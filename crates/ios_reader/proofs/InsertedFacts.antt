@@ -183,9 +183,7 @@ some_configuration text configurations read =
 -- ---- an `end` line ----
 
 middle : (a b c : Bool) → (a && b && c) ≡ true → b ≡ true
-middle true true c e = refl
-middle true false c e = absurd cc
-middle false b c e = absurd cc
+middle a b c e = grind arith
 
 end_word : (line : TextLine) → is_end line ≡ true → word_at line.words 0 ≡ codes "end"
 end_word line e =

@@ -1,7 +1,7 @@
 -- What is read keeps the facts of a configuration.
 use Rattle.std.proofs.Common.{◌≡◌, ◌≢◌, ℕ, ◌*◌, ◌/◌, ◌^◌, ◌<◌, ◌≤◌, Bool, true, false, not, ◌&&◌, ◌||◌, List, [], length, get_or, Option, Some, None, Result}
 use Rattle.std.proofs.Common.{Ok, Err, refl, ap, map, nat_eq, nat_le, min, max, arith, inl, inr, ◌⊎◌}
-use Rattle.std.specs.Prelude.{IfSome, IfOk, IsSome, All, AllPairs, is_some, unwrap_or, option_map, filter_map, take_while}
+use Rattle.std.specs.Prelude.{IfSome, IfOk, IsSome, All, AllPairs, is_some, unwrap_or, filter_map, take_while}
 use Rattle.std.specs.List.{list_all}
 use Rattle.std.specs.Char.{is_ascii_digit}
 use Rattle.std.proofs.lemmas.Bool.Decides.{nat_tests}
@@ -147,14 +147,8 @@ cost_from reference bandwidth = bounded (reference * 1000 / bandwidth)
 one_cost : IsCost 1
 one_cost = record { low = omega arith; high = omega arith }
 
-kind_cost : (reference : ℕ) (kind : Option ℕ) → IfSome (option_map (cost_of_bandwidth reference) kind) IsCost
-kind_cost reference None = tt
-kind_cost reference (Some bandwidth) = cost_from reference bandwidth
-
 bandwidth_cost : (reference : ℕ) (own : Option (Result ℕ ReadKind)) (kind : Option ℕ) → IfSome (cost_by_bandwidth reference own kind) IsCost
-bandwidth_cost reference (Some (Ok bandwidth)) kind = cost_from reference bandwidth
-bandwidth_cost reference (Some (Err _)) kind = one_cost
-bandwidth_cost reference None kind = kind_cost reference kind
+bandwidth_cost reference own kind = grind arith
 
 otherwise_cost : (reference : ℕ) (name : Word) (bandwidth : Option (Result ℕ ReadKind)) → IfSome (default_cost reference name bandwidth) IsCost
 otherwise_cost reference name bandwidth =
@@ -164,9 +158,7 @@ otherwise_cost reference name bandwidth =
 
 given_cost : (own : Option (Result ℕ ReadKind)) (otherwise : Option ℕ) → IfSome own (IsGoodValue 1 65535) → IfSome otherwise IsCost →
     IfSome (cost_given own otherwise) IsCost
-given_cost (Some (Ok cost)) otherwise h i = h
-given_cost (Some (Err _)) otherwise h i = one_cost
-given_cost None otherwise h i = i
+given_cost own otherwise h i = grind arith
 
 field_cost : (area cost : Option ℕ) → IfSome cost IsCost → IsCost (cost_field area cost)
 field_cost None cost h = one_cost
@@ -179,9 +171,7 @@ ten_metric : IsMetric 10
 ten_metric = record { low = omega arith; high = omega arith }
 
 value_metric : (o : Option (Result ℕ ReadKind)) → IfSome o (IsGoodValue 1 16777214) → IfSome (good_value o) IsMetric
-value_metric None h = tt
-value_metric (Some (Ok metric)) h = h
-value_metric (Some (Err _)) h = tt
+value_metric o h = grind arith
 
 by_metric : (own both : Option ℕ) (router : ℕ) → IfSome own IsMetric → IfSome both IsMetric → IsMetric router → IsMetric (metric_by own both router)
 by_metric (Some metric) both router h i j = h
@@ -246,9 +236,7 @@ distance_in : (s : OspfLine) → IsGoodOspfLine s → IfSome (ospf_distance_said
 distance_in s h = grind arith
 
 value_kept : {A : Type 0} (P : A → Type 0) (o : Option (Result A ReadKind)) (d : A) → P d → IfSome o (λ (r : Result A ReadKind). IfOk r P) → P (value_or o d)
-value_kept P None d h i = h
-value_kept P (Some (Ok a)) d h i = i
-value_kept P (Some (Err _)) d h i = h
+value_kept P o d h i = grind arith
 
 ranges_kept : (lines : List OspfStatement) → All IsGoodOspf lines → All IsRange (ranges_in lines)
 ranges_kept lines good =
@@ -335,9 +323,7 @@ isis_distance_in : (s : IsisLine) → IsGoodIsisLine s → IfSome (isis_distance
 isis_distance_in s h = grind arith
 
 system_kept : (o : Option (Option Title)) → IfSome o (λ (p : Option Title). IfSome p (λ (t : Title). t.system < 2 ^ 48)) → system_in (title_given o) < 2 ^ 48
-system_kept None h = omega arith
-system_kept (Some None) h = omega arith
-system_kept (Some (Some title)) h = h
+system_kept o h = grind arith
 
 process_kept : (o : Option ℕ) → IfSome o (IsFrom 1 65535) → IfSome o (λ p. (1 ≤ p) × (p ≤ 65535))
 process_kept None h = tt

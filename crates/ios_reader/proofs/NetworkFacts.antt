@@ -5,7 +5,6 @@ use Rattle.std.specs.Prelude.{All, find, fold, option_map, bit_or, nat_lt}
 use Rattle.std.specs.List.{list_any}
 use Rattle.std.specs.Map.{lookup}
 use Rattle.std.specs.Option.{option_or}
-use Rattle.std.proofs.lemmas.Bool.{eqb-true}
 use Rattle.std.proofs.lemmas.Bool.Decides.{nat_tests}
 use Rattle.std.proofs.lemmas.List.{append-nil, length-take-le, take_more}
 use Rattle.std.proofs.lemmas.List.Elements.{All-head, All-tail, All-more, All-weaker}
@@ -106,23 +105,10 @@ not_less m n le = grind (arith, nat_tests)
 less : (m n : ℕ) → m < n → nat_lt m n ≡ true
 less m n lt = grind (arith, nat_tests)
 
-stands_first : (line : PlacedNetwork) (rest : Option PlacedNetwork) → ((l : PlacedNetwork) → rest ≡ Some l → line.place + 1 ≤ l.place) →
-    earlier_line (Some line) rest ≡ Some line
-stands_first line None later = refl
-stands_first line (Some l) later = ap (λ (b : Bool). cond b (Some l) (Some line)) (not_less l.place line.place (omega (arith, later l refl)))
-
-stands_first_too : (line : PlacedNetwork) (rest : Option PlacedNetwork) → ((l : PlacedNetwork) → rest ≡ Some l → line.place + 1 ≤ l.place) →
-    earlier_line rest (Some line) ≡ Some line
-stands_first_too line None later = refl
-stands_first_too line (Some l) later = ap (λ (b : Bool). cond b (Some line) (Some l)) (less line.place l.place (omega (arith, later l refl)))
-
 either_cases : (b c : Bool) (line : PlacedNetwork) (x y rest : Option PlacedNetwork) →
     ((l : PlacedNetwork) → x ≡ Some l → line.place + 1 ≤ l.place) → ((l : PlacedNetwork) → y ≡ Some l → line.place + 1 ≤ l.place) → earlier_line x y ≡ rest →
     earlier_line (cond b (Some line) x) (cond c (Some line) y) ≡ cond (b || c) (Some line) rest
-either_cases true true line x y rest after_x after_y both = ap (λ (b : Bool). cond b (Some line) (Some line)) (not_less line.place line.place (omega arith))
-either_cases true false line x y rest after_x after_y both = stands_first line y after_y
-either_cases false true line x y rest after_x after_y both = stands_first_too line x after_x
-either_cases false false line x y rest after_x after_y both = both
+either_cases b c line x y rest after_x after_y both = grind arith
 
 find_either : (f g : PlacedNetwork → Bool) (place : ℕ) (all : List PlacedNetwork) → Ascend place all →
     earlier_line (find f all) (find g all) ≡ find (λ (line : PlacedNetwork). f line || g line) all
@@ -168,9 +154,7 @@ any_nothing (w ∷ ws) = any_nothing ws
 
 agrees : (address : ℕ) (line : PlacedNetwork) (w : ℕ) (b : Bool) → nat_eq w line.network.wildcard ≡ b →
     (b && nat_eq (bit_or address w) (bit_or line.network.address line.network.wildcard)) ≡ (b && takes address line)
-agrees address line w true e =
-    ap (λ (v : ℕ). nat_eq (bit_or address v) (bit_or line.network.address line.network.wildcard)) (eqb-true w line.network.wildcard e)
-agrees address line w false e = refl
+agrees address line w b e = grind arith
 
 and_or : (a b c : Bool) → ((a && c) || (b && c)) ≡ ((a || b) && c)
 and_or a b c = grind arith

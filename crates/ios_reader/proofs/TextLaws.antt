@@ -27,10 +27,7 @@ kind_back kind = grind arith
 
 -- of two faults neither comes after the other
 neither_after : (f g : Fault) → IsNotAfter f g → IsNotAfter g f → (f.line ≡ g.line) × (rank f.kind ≡ rank g.kind)
-neither_after f g (inl l) (inl m) = absurd (omega (arith, l, m))
-neither_after f g (inl l) (inr m) = absurd (omega (arith, l, m.0))
-neither_after f g (inr l) (inl m) = absurd (omega (arith, l.0, m))
-neither_after f g (inr l) (inr m) = (l.0, omega (arith, l.1, m.1))
+neither_after f g one other = grind arith
 
 -- faults have one least
 one_least : (faults : List Fault) (l m : ℕ) (k j : ReadKind) → IsLeastFault faults (fault_at l k) → IsLeastFault faults (fault_at m j) → (l ≡ m) × (k ≡ j)
