@@ -39,9 +39,6 @@ found_in_run : (p : ℕ → Bool) (n start len : ℕ) → find p (range_with_len
 found_in_run p zero start len e = absurd cc
 found_in_run p (suc n) start len e = found_first p n start len (p start) refl (λ f. found_in_run p n (start + 1) len f) e
 
-is_mask : ℕ → ℕ → Bool
-is_mask a len = nat_eq (mask_with len) a
-
 eq_true : (a b : ℕ) → a ≡ b → nat_eq a b ≡ true
 eq_true a b h = grind (arith, nat_tests)
 

@@ -138,12 +138,6 @@ subnet_there (Some a) h = refl
 abbrev IsCost : ℕ → Type 0
 IsCost = IsFrom 1 65535
 
-cost_from : (reference bandwidth : ℕ) → IsCost (cost_of_bandwidth reference bandwidth)
-cost_from reference bandwidth = bounded (reference * 1000 / bandwidth)
-  where
-    bounded : (q : ℕ) → IsCost (min 65535 (max 1 q))
-    bounded q = record { low = omega arith; high = omega arith }
-
 one_cost : IsCost 1
 one_cost = record { low = omega arith; high = omega arith }
 

@@ -99,12 +99,6 @@ find_place : (f : PlacedNetwork → Bool) (place : ℕ) (all : List PlacedNetwor
 find_place f place [] line asc e = absurd cc
 find_place f place (l ∷ all) line asc e = found_place (f l) place l line (find f all) asc.0 (find_place f (l.place + 1) all line asc.1) e
 
-not_less : (m n : ℕ) → n ≤ m → nat_lt m n ≡ false
-not_less m n le = grind (arith, nat_tests)
-
-less : (m n : ℕ) → m < n → nat_lt m n ≡ true
-less m n lt = grind (arith, nat_tests)
-
 either_cases : (b c : Bool) (line : PlacedNetwork) (x y rest : Option PlacedNetwork) →
     ((l : PlacedNetwork) → x ≡ Some l → line.place + 1 ≤ l.place) → ((l : PlacedNetwork) → y ≡ Some l → line.place + 1 ≤ l.place) → earlier_line x y ≡ rest →
     earlier_line (cond b (Some line) x) (cond c (Some line) y) ≡ cond (b || c) (Some line) rest

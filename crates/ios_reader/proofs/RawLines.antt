@@ -45,10 +45,6 @@ AreRaw (raw ∷ raws) = IsRaw raw × (IsWholeBefore raw raws × AreRaw raws)
 abbrev pub joined_raw : List (List ℕ) → List ℕ
 joined_raw raws = flat_map (λ (raw : List ℕ). raw) raws
 
-whole_more : (b : ℕ) (raw : List ℕ) → 0 < length raw → is_of_whole_lines (b ∷ raw) ≡ is_of_whole_lines raw
-whole_more b [] some = absurd (omega (arith, some))
-whole_more b (c ∷ raw) some = refl
-
 with_byte_raw : (b : ℕ) (raws : List (List ℕ)) → is_line_feed b ≡ false → AreRaw raws → AreRaw (with_byte b raws)
 with_byte_raw b raws plain are = grind arith
 

@@ -364,10 +364,6 @@ taken_spoken : {B : Type 0} (h : Section → Option B) → h Other ≡ None → 
 taken_spoken h none [] = refl
 taken_spoken h none (s ∷ ss) = grind (arith, none, taken_spoken h none ss)
 
-later_none : (o : Option Word) → later None o ≡ o
-later_none None = refl
-later_none (Some w) = refl
-
 name_spoken : (ss : List Section) → last_of as_hostname (spoken ss) ≡ last_of as_hostname ss
 name_spoken [] = refl
 name_spoken (s ∷ ss) = grind (arith, name_spoken ss)
