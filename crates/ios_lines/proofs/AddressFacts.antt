@@ -80,12 +80,7 @@ record FourOctets (a b c d : Option ℕ) (n : ℕ) : Type 0 where
   value : n ≡ 2 ^ 24 * w + 2 ^ 16 * x + 2 ^ 8 * y + z
 
 joined_back : (a b c d : Option ℕ) (n : ℕ) → joined_octets a b c d ≡ Some n → FourOctets a b c d n
-joined_back (Some w) (Some x) (Some y) (Some z) n e = record
-    { w = w; x = x; y = y; z = z; first = refl; second = refl; third = refl; fourth = refl; value = cc }
-joined_back None b c d n e = absurd cc
-joined_back (Some w) None c d n e = absurd cc
-joined_back (Some w) (Some x) None d n e = absurd cc
-joined_back (Some w) (Some x) (Some y) None n e = absurd cc
+joined_back a b c d n e = grind arith
 
 pub address-some : (word : Word) (a : ℕ) → IsAddressWord word a → address_of word ≡ Some a
 unfolding address_of

@@ -30,10 +30,7 @@ right_shape false f g h = refl
 
 same_shape : (t u v : Bool) (f g h : Option Fault) → (t ≡ true → u ≡ true → v ≡ true) → (t ≡ false → u ≡ false → v ≡ false) →
     cond t (cond u h g) (cond v h f) ≡ cond u (cond v h f) (cond t g f)
-same_shape true true v f g h p q = ap (λ (b : Bool). cond b h f) (sym (p refl refl))
-same_shape true false v f g h p q = refl
-same_shape false true v f g h p q = refl
-same_shape false false v f g h p q = ap (λ (b : Bool). cond b h f) (q refl refl)
+same_shape t u v f g h p q = grind arith
 
 none_after : (t : Bool) (f g : Fault) → lesser_fault (cond t (Some g) (Some f)) None ≡ cond t (Some g) (Some f)
 none_after true f g = refl

@@ -6,16 +6,17 @@ use Rattle.std.specs.List.{list_all}
 use Rattle.std.specs.Char.{is_ascii_digit}
 use Rattle.std.proofs.lemmas.Bool.Decides.{nat_tests}
 use Rattle.net_addr.specs.Numerals.{decimal_value}
-use Rattle.net_addr.specs.Addresses.{IsBlock}
+use Rattle.net_addr.specs.Addresses.{Block, IsBlock}
 use Rattle.net_addr.specs.AddressWords.{IsAddressWord}
 use Rattle.net_addr.proofs.Blocks.{IsBlock-around}
 use Rattle.net_model.specs.Configuration.{IsRange}
+use Rattle.net_model.specs.declared.area.Range.{Range}
 use Rattle.ios_lines.specs.Words.{Word, word_at, says, begins_with_two, begins_with_three, lacks, number_of, at_least, number_from, address_of, mask_of}
 use Rattle.ios_lines.specs.Words.{area_of}
 use Rattle.ios_lines.specs.InterfaceLines.{masked_address, address_line, process_area, ospf_of_interface, ip_of_interface, metric_line, isis_of_interface}
 use Rattle.ios_lines.specs.InterfaceLines.{bandwidth_line, plain_of_interface, interface_line}
-use Rattle.ios_lines.specs.OspfLines.{stub_values, default_cost_values, prefix_of, cost_place, optional_cost, range_cost, range_ends, range_values}
-use Rattle.ios_lines.specs.OspfLines.{range_line, is_unsupported_area, area_line as ospf_area_line, apart_distance, ospf_distance, ospf_passive}
+use Rattle.ios_lines.specs.OspfLines.{stub_values, default_cost_values, prefix_of, cost_place, optional_cost, range_cost, range_ends, range_prefix}
+use Rattle.ios_lines.specs.OspfLines.{range_values, range_line, is_unsupported_area, area_line as ospf_area_line, apart_distance, ospf_distance, ospf_passive}
 use Rattle.ios_lines.specs.OspfLines.{is_unsupported_ospf, plain_of_ospf, ospf_line}
 use Rattle.ios_lines.specs.IsisLines.{hex_value, group_value, system_value, system_part, is_title, title_of, isis_distance, isis_passive, is_leak}
 use Rattle.ios_lines.specs.IsisLines.{is_unsupported_isis, plain_of_isis, isis_line}
@@ -98,10 +99,7 @@ IsGoodInterfaceLine _ = Unit {0}
 
 masked_good : (a len : Option ℕ) (secondary : Bool) → IfSome a (λ n. n < 2 ^ 32) → IfSome len (λ n. n ≤ 32) →
     IfOk (masked_address a len secondary) IsGoodAddress
-masked_good None len secondary h i = tt
-masked_good (Some a) None secondary h i = tt
-masked_good (Some a) (Some len) true h i = tt
-masked_good (Some a) (Some len) false h i = record { below = h; short = i }
+masked_good a len secondary h i = grind arith
 
 address_good : (words : List Word) → IfOk (address_line words) IsGoodAddress
 address_good words =
@@ -113,9 +111,7 @@ address_good words =
 
 area_good : (area : Option ℕ) (process : Result ℕ ReadKind) → IfOk process (IsFrom 1 65535) →
     IfOk (process_area area process) (λ (a : ProcessArea). IsFrom 1 65535 a.process)
-area_good None process h = tt
-area_good (Some area) (Err kind) h = tt
-area_good (Some area) (Ok process) h = h
+area_good area process h = grind arith
 
 ospf_good : (words : List Word) → IsGoodInterfaceLine (ospf_of_interface words)
 ospf_good words =
@@ -189,9 +185,7 @@ stub_good (Some n) no_summary = choice (nat_eq n 0) refl
 
 default_good : (cost : Result ℕ ReadKind) (area : Option ℕ) → IfOk cost (IsFrom 0 16777214) →
     IfOk (default_cost_values cost area) (λ (d : AreaCost). d.cost ≤ 16777214)
-default_good (Err kind) area h = tt
-default_good (Ok cost) None h = tt
-default_good (Ok cost) (Some n) h = h.high
+default_good cost area h = grind arith
 
 optional_good : (r : Result ℕ ReadKind) → IfOk r (IsFrom 0 16777214) → IfOk (optional_cost r) (λ (c : Option ℕ). IfSome c (λ n. n ≤ 16777214))
 optional_good (Err kind) h = tt
@@ -203,21 +197,24 @@ range_cost_good words k =
     (optional_cost (number_from 0 16777214 BadCost (word_at words (k + 1)))) (Ok None)
     (optional_good (number_from 0 16777214 BadCost (word_at words (k + 1))) (number_good 0 16777214 BadCost (word_at words (k + 1)))) tt
 
-range_values_good : (a len : Option ℕ) (cost : Result (Option ℕ) ReadKind) (area : Option ℕ) (ends advertise : Bool) →
-    IfSome a (λ n. n < 2 ^ 32) → IfSome len (λ n. n ≤ 32) → IfOk cost (λ (c : Option ℕ). IfSome c (λ n. n ≤ 16777214)) →
-    IfOk (range_values a len cost area ends advertise) IsRange
-range_values_good None len cost area ends advertise h i j = tt
-range_values_good (Some a) None cost area ends advertise h i j = tt
-range_values_good (Some a) (Some len) (Err kind) area ends advertise h i j = tt
-range_values_good (Some a) (Some len) (Ok cost) None ends advertise h i j = tt
-range_values_good (Some a) (Some len) (Ok cost) (Some n) false advertise h i j = tt
-range_values_good (Some a) (Some len) (Ok cost) (Some n) true advertise h i j = record { prefix = prefix_good a len h i; cost = j }
+range_prefix_good : (a len : Option ℕ) → IfSome a (λ n. n < 2 ^ 32) → IfSome len (λ n. n ≤ 32) → IfOk (range_prefix a len) IsBlock
+range_prefix_good None len h i = tt
+range_prefix_good (Some a) None h i = tt
+range_prefix_good (Some a) (Some len) h i = prefix_good a len h i
+
+range_values_good : (words : List Word) (dest : Result Block ReadKind) (cost : Result (Option ℕ) ReadKind) (area : Option ℕ) →
+    IfOk dest IsBlock → IfOk cost (λ (c : Option ℕ). IfSome c (λ n. n ≤ 16777214)) → IfOk (range_values words dest cost area) IsRange
+range_values_good words (Err kind) cost area h i = tt
+range_values_good words (Ok dest) (Err kind) area h i = tt
+range_values_good words (Ok dest) (Ok cost) None h i = tt
+range_values_good words (Ok dest) (Ok cost) (Some n) h i =
+    by_if (λ (r : Result Range ReadKind). IfOk r IsRange) (range_ends words (cost_place words)) _ _ (record { prefix = h; cost = i }) tt
 
 range_good : (words : List Word) → IfOk (range_line words) IsRange
 range_good words =
-    range_values_good (address_of (word_at words 3)) (mask_of (word_at words 4)) (range_cost words (cost_place words))
-    (area_of (word_at words 1)) (range_ends words (cost_place words)) (not (says words 5 (codes "not-advertise")))
-    (address_within (word_at words 3)) (mask_within (word_at words 4)) (range_cost_good words (cost_place words))
+    range_values_good words (range_prefix (address_of (word_at words 3)) (mask_of (word_at words 4))) (range_cost words (cost_place words))
+    (area_of (word_at words 1))
+    (range_prefix_good _ _ (address_within (word_at words 3)) (mask_within (word_at words 4))) (range_cost_good words (cost_place words))
 
 area_line_good : (words : List Word) → IsGoodOspfLine (ospf_area_line words)
 area_line_good words =

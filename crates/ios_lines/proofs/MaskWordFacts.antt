@@ -1,6 +1,5 @@
 -- Masks as words: the reader of masks, as a function of the word.
 use Rattle.std.proofs.Common.{sym, ◌≡◌, ◌≢◌, ℕ, zero, suc, ◌+◌, ◌-◌, ◌^◌, ◌<◌, ◌≤◌, Bool, true, false, Option, Some, None, refl, ap, ◌∙◌, nat_eq, cond, arith}
-use Rattle.std.proofs.Common.{◌⊎◌, inl, inr}
 use Rattle.std.specs.List.{range_with_len}
 use Rattle.std.specs.Prelude.{find, IfSome}
 use Rattle.std.proofs.Math.Pow.{pow-lt, pow_mono}
@@ -12,19 +11,9 @@ use Rattle.ios_lines.specs.Words.{Word, address_of, mask_with, mask_length, mask
 use Rattle.ios_lines.proofs.AddressFacts.{address-some, address_back, none_of}
 use Rattle.ios_lines.proofs.Picked.{by_some}
 
-nat_eq-decides : (a b : ℕ) → (a ≡ b) ⊎ (a ≢ b)
-nat_eq-decides a b = dec (nat_eq a b) refl
-  where
-    dec : (t : Bool) → nat_eq a b ≡ t → (a ≡ b) ⊎ (a ≢ b)
-    dec true e = inl (grind (arith, nat_tests))
-    dec false e = inr (λ h. grind (arith, nat_tests))
-
 picked : (b : Bool) (start len : ℕ) (rest : Option ℕ) → (start ≢ len → b ≡ false) → (start ≡ len → b ≡ true) → (start ≢ len → rest ≡ Some len) →
     start ≤ len → cond b (Some start) rest ≡ Some len
-picked true start len rest miss hit later low = elim (nat_eq-decides start len) as
-    (λ _. Some start ≡ Some len) [ inl e ↦ ap Some e | inr n ↦ absurd (let e : true ≡ false = miss n in cc) ]
-picked false start len rest miss hit later low = elim (nat_eq-decides start len) as
-    (λ _. rest ≡ Some len) [ inl e ↦ absurd (let f : false ≡ true = hit e in cc) | inr n ↦ later n ]
+picked b start len rest miss hit later low = grind arith
 
 -- the first number of a run of numbers that passes
 find_in_run : (p : ℕ → Bool) (n start len : ℕ) → start ≤ len → len < start + n → p len ≡ true → ((k : ℕ) → k < len → p k ≡ false) →
@@ -44,19 +33,11 @@ record IsFound (p : ℕ → Bool) (start n len : ℕ) : Type 0 where
 
 found_first : (p : ℕ → Bool) (n start len : ℕ) (b : Bool) → p start ≡ b → (find p (range_with_len (start + 1) n) ≡ Some len → IsFound p (start + 1) n len) →
     cond b (Some start) (find p (range_with_len (start + 1) n)) ≡ Some len → IsFound p start (suc n) len
-found_first p n start len true passes later e =
-    let same : start ≡ len = cc in
-    record { passes = ap p (sym same) ∙ passes; low = omega arith; high = omega arith }
-found_first p n start len false passes later e =
-    let found = later e in
-    record { passes = found.passes; low = omega (arith, found.low); high = omega (arith, found.high) }
+found_first p n start len b passes later e = grind arith
 
 found_in_run : (p : ℕ → Bool) (n start len : ℕ) → find p (range_with_len start n) ≡ Some len → IsFound p start n len
 found_in_run p zero start len e = absurd cc
 found_in_run p (suc n) start len e = found_first p n start len (p start) refl (λ f. found_in_run p n (start + 1) len f) e
-
-is_mask : ℕ → ℕ → Bool
-is_mask a len = nat_eq (mask_with len) a
 
 eq_true : (a b : ℕ) → a ≡ b → nat_eq a b ≡ true
 eq_true a b h = grind (arith, nat_tests)

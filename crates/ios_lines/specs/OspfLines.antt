@@ -71,21 +71,27 @@ range_cost words k =
 abbrev pub range_ends : List Word → ℕ → Bool
 range_ends words k = if says words k (codes "cost") then lacks words (k + 2) else lacks words k
 
--- the values of a range line, faults in the order of their kinds
-abbrev pub range_values : Option ℕ → Option ℕ → Result (Option ℕ) ReadKind → Option ℕ → Bool → Bool → Result Range ReadKind
-range_values None _ _ _ _ _ = Err BadAddress
-range_values (Some a) None _ _ _ _ = Err BadMask
-range_values (Some a) (Some len) (Err kind) _ _ _ = Err kind
-range_values (Some a) (Some len) (Ok cost) None _ _ = Err BadArea
-range_values (Some a) (Some len) (Ok cost) (Some n) false _ = Err Unsupported
-range_values (Some a) (Some len) (Ok cost) (Some n) true advertise =
-    Ok (record { area = n; dest = prefix_of a len; advertise = advertise; cost = cost })
+-- the prefix of a range line; a bad address is the lesser fault
+abbrev pub range_prefix : Option ℕ → Option ℕ → Result Block ReadKind
+range_prefix None _ = Err BadAddress
+range_prefix (Some a) None = Err BadMask
+range_prefix (Some a) (Some len) = Ok (prefix_of a len)
+
+-- the range of a line with this prefix, cost and area, faults in the order of their kinds
+abbrev pub range_values : List Word → Result Block ReadKind → Result (Option ℕ) ReadKind → Option ℕ → Result Range ReadKind
+range_values words (Err kind) _ _ = Err kind
+range_values words (Ok dest) (Err kind) _ = Err kind
+range_values words (Ok dest) (Ok cost) None = Err BadArea
+range_values words (Ok dest) (Ok cost) (Some n) =
+    if range_ends words (cost_place words)
+    then Ok (record { area = n; dest = dest; advertise = not (says words 5 (codes "not-advertise")); cost = cost })
+    else Err Unsupported
 
 -- `area N range A M`, then optionally `advertise` or `not-advertise`, then optionally `cost C`
 abbrev pub range_line : List Word → Result Range ReadKind
 range_line words =
-    range_values (address_of (word_at words 3)) (mask_of (word_at words 4)) (range_cost words (cost_place words))
-    (area_of (word_at words 1)) (range_ends words (cost_place words)) (not (says words 5 (codes "not-advertise")))
+    range_values words (range_prefix (address_of (word_at words 3)) (mask_of (word_at words 4))) (range_cost words (cost_place words))
+    (area_of (word_at words 1))
 
 -- what an area can do that isn't supported
 abbrev pub is_unsupported_area : Word → Bool

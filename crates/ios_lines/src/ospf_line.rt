@@ -1,6 +1,6 @@
 ghost use Rattle.std.specs.Prelude.{◌≡◌, ◌≤◌, IfOk, IfSome};
 ghost use Rattle.ios_lines.specs.OspfLines.{network_values, network_line, stub_values, stub_line, default_cost_values, default_cost_line, prefix_of};
-ghost use Rattle.ios_lines.specs.OspfLines.{cost_place, range_cost, range_ends, range_values, range_line, is_unsupported_area, area_line, ospf_distance};
+ghost use Rattle.ios_lines.specs.OspfLines.{cost_place, range_cost, range_ends, range_prefix, range_line, is_unsupported_area, area_line, ospf_distance};
 ghost use Rattle.ios_lines.specs.OspfLines.{ospf_passive, is_unsupported_ospf, plain_of_ospf, ospf_line, ospf_line_fault};
 
 use crate::OutOfMemory;
@@ -206,58 +206,37 @@ pub(crate) fn prefix_of(address: u32, len: u8) -> Prefix
     Prefix::around(address, len).unwrap()
 }
 
-/// The values of a range line, faults in the order of their kinds.
-fn range_values(
-    address: Option<u32>,
-    len: Option<u8>,
-    cost: Result<Option<u32>, ReadKind>,
-    area: Option<u32>,
-    ends: bool,
-    advertise: bool,
-) -> Result<Range, ReadKind>
+/// The prefix of a range line; a bad address is the lesser fault.
+fn range_prefix(address: Option<u32>, len: Option<u8>) -> Result<Prefix, ReadKind>
     requires { IfSome len (λ n. n ≤ 32) }
-    ensures { result ≡ range_values address len cost area ends advertise }
+    ensures { result ≡ range_prefix address len }
 {
-    let Some(address) = address else {
-        return Err(ReadKind::BadAddress);
-    };
-    let Some(len) = len else {
-        return Err(ReadKind::BadMask);
-    };
-    match (cost, area) {
-        (Err(kind), _) => Err(kind),
-        (Ok(_), None) => Err(ReadKind::BadArea),
-        (Ok(cost), Some(area)) => {
-            if ends {
-                Ok(Range {
-                    area,
-                    dest: prefix_of(address, len),
-                    advertise,
-                    cost,
-                })
-            } else {
-                Err(ReadKind::Unsupported)
-            }
-        }
+    match (address, len) {
+        (None, _) => Err(ReadKind::BadAddress),
+        (Some(_), None) => Err(ReadKind::BadMask),
+        (Some(address), Some(len)) => Ok(prefix_of(address, len)),
     }
 }
 
-/// `area N range A M` and what follows
+/// `area N range A M` and what follows; faults in the order of their kinds.
 fn range_line(words: &Words) -> Result<Range, ReadKind>
     ensures { result ≡ range_line words.now }
 {
     let place = cost_place(words);
-    let cost = range_cost(words, place);
-    let ends = range_ends(words, place);
-    let advertise = !words.says(5, b"not-advertise");
-    range_values(
-        address_of(words.at(3)),
-        mask_of(words.at(4)),
+    let dest = range_prefix(address_of(words.at(3)), mask_of(words.at(4)))?;
+    let cost = range_cost(words, place)?;
+    let Some(area) = area_of(words.at(1)) else {
+        return Err(ReadKind::BadArea);
+    };
+    if !range_ends(words, place) {
+        return Err(ReadKind::Unsupported);
+    }
+    Ok(Range {
+        area,
+        dest,
+        advertise: !words.says(5, b"not-advertise"),
         cost,
-        area_of(words.at(1)),
-        ends,
-        advertise,
-    )
+    })
 }
 
 /// Whether an area can do this, which isn't supported.

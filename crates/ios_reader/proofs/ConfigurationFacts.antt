@@ -1,5 +1,5 @@
 -- A configuration and its least fault, from their parts.
-use Rattle.std.proofs.Common.{◌≡◌, ℕ, Bool, true, false, not, List, Option, Some, None, refl, ap, ◌∙◌}
+use Rattle.std.proofs.Common.{◌≡◌, ℕ, Bool, not, List, Option, ap, ◌∙◌, arith}
 use Rattle.std.specs.Prelude.{is_none, is_some}
 use Rattle.net_model.specs.declared.interface.Interface.{Interface}
 use Rattle.ios_lines.specs.Words.{Word}
@@ -13,10 +13,7 @@ use Rattle.ios_lines.specs.declared.kind.ReadKind.TheVariants.{NoHostname}
 use Rattle.ios_lines.specs.declared.fault.Fault.{Fault}
 
 pub is_missing : (o : Option Word) (b : Bool) → is_some o ≡ not b → b ≡ is_none o
-is_missing None true e = refl
-is_missing None false e = e
-is_missing (Some name) true e = e
-is_missing (Some name) false e = refl
+is_missing o b e = grind arith
 
 -- the least fault of a configuration, from those of its parts
 pub fault_joined : (s : Statements) (ends : ℕ) (o i p x n a r : Option Fault) (missing : Bool) →

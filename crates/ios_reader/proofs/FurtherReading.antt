@@ -1,6 +1,6 @@
 -- A configuration whose lines stand further on: it is read as the same, and its faults are further on.
-use Rattle.std.proofs.Common.{◌≡◌, ℕ, ◌+◌, Bool, true, false, not, ◌&&◌, List, [], ◌∷◌, ◌++◌, refl, ap, ◌∙◌, cond, map, nat_eq, Option, Some, None, Result}
-use Rattle.std.proofs.Common.{Ok, Err}
+use Rattle.std.proofs.Common.{◌≡◌, ℕ, ◌+◌, Bool, true, false, not, ◌&&◌, List, [], ◌∷◌, ◌++◌, refl, ap, ◌∙◌, cond, map, Option, Some, None}
+use Rattle.std.proofs.Common.{arith}
 use Rattle.std.specs.Prelude.{filter_map, flat_map, option_map, is_none, is_some, unwrap_or, fold}
 use Rattle.std.specs.List.{cons_option}
 use Rattle.net_model.specs.LevelSets.{has_level_one, has_level_two}
@@ -12,10 +12,8 @@ use Rattle.ios_lines.specs.FaultOrder.{faults_at, faults_if}
 use Rattle.ios_lines.specs.InterfaceLines.{interface_line_fault, counting}
 use Rattle.ios_lines.specs.declared.address.InterfaceAddress.{InterfaceAddress}
 use Rattle.ios_lines.specs.declared.fault.Fault.{Fault}
-use Rattle.ios_lines.specs.declared.kind.ReadKind.{ReadKind}
-use Rattle.ios_lines.specs.declared.kind.ReadKind.TheVariants.{NoHostname, LoopbackMask, NoBandwidth}
+use Rattle.ios_lines.specs.declared.kind.ReadKind.TheVariants.{NoHostname, NoBandwidth}
 use Rattle.ios_lines.specs.declared.interface_line.InterfaceLine.{InterfaceLine}
-use Rattle.ios_lines.specs.declared.interface_line.InterfaceLine.TheVariants.{Address, NoAddress}
 use Rattle.ios_lines.specs.declared.interface_line.InterfaceStatement.{InterfaceStatement}
 use Rattle.ios_lines.specs.declared.ospf_line.OspfStatement.{OspfStatement}
 use Rattle.ios_lines.specs.declared.ospf_line.StubLine.{StubLine}
@@ -41,7 +39,7 @@ use Rattle.ios_reader.specs.Routers.{stub_said, default_cost_said, ranges_in, st
 use Rattle.ios_reader.specs.InterfacesAsRead.{address_given, is_loopback, is_up, area_by, area_with, interface_area, ospf_cost, is_isis_passive}
 use Rattle.ios_reader.specs.InterfacesAsRead.{is_ospf_passive, interface_with, interface_as_read, runs_level, level_metric, address_field, subnet_field}
 use Rattle.ios_reader.specs.InterfacesAsRead.{cost_field}
-use Rattle.ios_reader.specs.Faults.{membership_fault, statement_faults, interface_line_faults, long_mask, address_mask_faults, is_point_to_point}
+use Rattle.ios_reader.specs.Faults.{membership_fault, statement_faults, interface_line_faults, address_mask_faults, is_point_to_point}
 use Rattle.ios_reader.specs.Faults.{loopback_faults, bandwidth_faults, interface_faults, section_faults, part_faults}
 use Rattle.ios_reader.specs.Configurations.{ospf_settings, isis_settings, configuration_of}
 use Rattle.ios_reader.proofs.ConfigurationFacts.{same_parts}
@@ -70,9 +68,7 @@ facts_further k facts = record {
 }
 
 address_at-further : (k line : ℕ) (says : InterfaceLine) → address_at (k + line) says ≡ given_further k (address_at line says)
-address_at-further k line (Address r) = refl
-address_at-further k line NoAddress = refl
-address_at-further k line _ = refl
+address_at-further k line says = grind arith
 
 later-further : (k : ℕ) (a b : Option (Option PlacedAddress)) → later (given_further k a) (given_further k b) ≡ given_further k (later a b)
 later-further k a None = refl
@@ -134,9 +130,7 @@ router-further k ss =
 -- ---- an interface ----
 
 given-further : (k : ℕ) (o : Option (Option PlacedAddress)) → address_given (given_further k o) ≡ address_given o
-given-further k None = refl
-given-further k (Some None) = refl
-given-further k (Some (Some p)) = refl
+given-further k o = grind arith
 
 first_of-map : {A B : Type 0} (h : A → Option B) (f : A → A) → ((x : A) → h (f x) ≡ h x) → (xs : List A) → first_of h (map f xs) ≡ first_of h xs
 first_of-map h f same [] = refl
@@ -211,14 +205,8 @@ statement-further k tag s =
     two-further k _ _ (faults_at s.line (interface_line_fault s.says)) (faults_at s.line (membership_fault tag s.says))
     (faults_at-further (interface_line_fault s.says) k s.line) (faults_at-further (membership_fault tag s.says) k s.line)
 
-long_mask-further : (k line : ℕ) (r : Result InterfaceAddress ReadKind) → long_mask (k + line) r ≡ map (fault_further k) (long_mask line r)
-long_mask-further k line (Ok given) = faults_if-further (not (nat_eq given.len 32)) k line LoopbackMask
-long_mask-further k line (Err kind) = refl
-
 mask-further : (k : ℕ) (o : Option (Option PlacedAddress)) → address_mask_faults (given_further k o) ≡ map (fault_further k) (address_mask_faults o)
-mask-further k None = refl
-mask-further k (Some None) = refl
-mask-further k (Some (Some p)) = long_mask-further k p.line p.address
+mask-further k o = grind arith
 
 loopback_choice : (t : Bool) (k : ℕ) (fs : List Fault) → cond t (map (fault_further k) fs) [] ≡ map (fault_further k) (cond t fs [])
 loopback_choice true k fs = refl

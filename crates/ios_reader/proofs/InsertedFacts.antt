@@ -183,9 +183,7 @@ some_configuration text configurations read =
 -- ---- an `end` line ----
 
 middle : (a b c : Bool) → (a && b && c) ≡ true → b ≡ true
-middle true true c e = refl
-middle true false c e = absurd cc
-middle false b c e = absurd cc
+middle a b c e = grind arith
 
 end_word : (line : TextLine) → is_end line ≡ true → word_at line.words 0 ≡ codes "end"
 end_word line e =
@@ -413,7 +411,7 @@ reads_around text after configurations outside first faultless around = record {
 
 pub inserted_lines : (before block after : List ℕ) (configurations : List Configuration) (grown : Configuration) →
     IsOutsideBanners before → IsLineBlock block → begins_with_end (lines_in after) ≡ true →
-    ReadsText (before ++ after) configurations → IsGrown before block grown → IsReadGrown before block after configurations grown
+    ReadsText (before ++ after) configurations → IsGrown before block grown → IsReadGrown before (before ++ block ++ after) configurations grown
 inserted_lines before block after configurations grown outside fits ends reads grows =
     let first : EndsFirst (lines_in after) = ends_first (lines_in after) ends in
     let around : IsReadAround before first.behind configurations = read_around before after configurations outside first reads in

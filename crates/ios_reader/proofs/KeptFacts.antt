@@ -1,7 +1,7 @@
 -- What is read keeps the facts of a configuration.
 use Rattle.std.proofs.Common.{◌≡◌, ◌≢◌, ℕ, ◌*◌, ◌/◌, ◌^◌, ◌<◌, ◌≤◌, Bool, true, false, not, ◌&&◌, ◌||◌, List, [], length, get_or, Option, Some, None, Result}
 use Rattle.std.proofs.Common.{Ok, Err, refl, ap, map, nat_eq, nat_le, min, max, arith, inl, inr, ◌⊎◌}
-use Rattle.std.specs.Prelude.{IfSome, IfOk, IsSome, All, AllPairs, is_some, unwrap_or, option_map, filter_map, take_while}
+use Rattle.std.specs.Prelude.{IfSome, IfOk, IsSome, All, AllPairs, is_some, unwrap_or, filter_map, take_while}
 use Rattle.std.specs.List.{list_all}
 use Rattle.std.specs.Char.{is_ascii_digit}
 use Rattle.std.proofs.lemmas.Bool.Decides.{nat_tests}
@@ -20,7 +20,7 @@ use Rattle.ios_lines.specs.Lookups.{last_of, replaced, first_seen, good_value, v
 use Rattle.ios_reader.specs.InterfaceFacts.{address_at, address_in, cost_said, metric_said, metric1_said, metric2_said, facts_of}
 use Rattle.ios_lines.specs.InterfaceLines.{counting}
 use Rattle.ios_sections.specs.Processes.{as_hostname, as_interface, merged, interfaces_in, process_of, ospf_lines, isis_lines}
-use Rattle.ios_reader.specs.Routers.{Router, router_of, range_said, is_same_range, ranges_in, stub_said, is_same_area, stub_lines_in, cost_if}
+use Rattle.ios_reader.specs.Routers.{Router, router_of, range_said, is_same_range, ranges_in, stub_said, is_same_area, stub_lines_in}
 use Rattle.ios_reader.specs.Routers.{default_cost_said, stub_of, stubs_in, title_said, router_metric_said, ospf_distance_said, isis_distance_said}
 use Rattle.ios_reader.specs.InterfacesAsRead.{address_given, is_loopback, interface_area, default_bandwidth, cost_of_bandwidth, cost_by_bandwidth}
 use Rattle.ios_reader.specs.InterfacesAsRead.{default_cost, cost_given, ospf_cost, is_isis_passive, runs_isis, metric_by, level_metric, subnet_field}
@@ -30,18 +30,12 @@ use Rattle.ios_lines.specs.MaskedAddress.{MaskedAddress}
 use Rattle.ios_lines.specs.declared.kind.ReadKind.{ReadKind}
 use Rattle.ios_reader.specs.declared.facts.PlacedAddress.{PlacedAddress}
 use Rattle.ios_lines.specs.declared.interface_line.InterfaceLine.{InterfaceLine}
-use Rattle.ios_lines.specs.declared.interface_line.InterfaceLine.TheVariants.{Address, NoAddress, Shutdown, Vrf, Bandwidth, Cost, Area, PointToPoint, Isis}
-use Rattle.ios_lines.specs.declared.interface_line.InterfaceLine.TheVariants.{Circuit, Metric, Metric1, Metric2, Faulty, Skipped}
 use Rattle.ios_lines.specs.declared.interface_line.InterfaceStatement.{InterfaceStatement}
 use Rattle.ios_lines.specs.declared.ospf_line.StubLine.{StubLine}
 use Rattle.ios_lines.specs.declared.ospf_line.OspfLine.{OspfLine}
-use Rattle.ios_lines.specs.declared.ospf_line.OspfLine.TheVariants.{Network, Passive, PassiveDefault, Reference, Stub as StubSaid, DefaultCost}
-use Rattle.ios_lines.specs.declared.ospf_line.OspfLine.TheVariants.{Range as RangeSaid, Distance, Rfc1583, Faulty as OspfFaulty, Skipped as OspfSkipped}
 use Rattle.ios_lines.specs.declared.ospf_line.OspfStatement.{OspfStatement}
 use Rattle.ios_lines.specs.declared.title.Title.{Title}
 use Rattle.ios_lines.specs.declared.isis_line.IsisLine.{IsisLine}
-use Rattle.ios_lines.specs.declared.isis_line.IsisLine.TheVariants.{Net, Levels, MetricStyle, Metric as IsisMetric, Distance as IsisDistance}
-use Rattle.ios_lines.specs.declared.isis_line.IsisLine.TheVariants.{Passive as IsisPassive, Leak as IsisLeak, Faulty as IsisFaulty, Skipped as IsisSkipped}
 use Rattle.ios_lines.specs.declared.isis_line.IsisStatement.{IsisStatement}
 use Rattle.ios_sections.specs.declared.section.InterfaceSection.{InterfaceSection}
 use Rattle.ios_sections.specs.declared.section.Section.{Section}
@@ -107,92 +101,22 @@ abbrev IsGoodValue : ℕ → ℕ → Result ℕ ReadKind → Type 0
 IsGoodValue least most r = IfOk r (IsFrom least most)
 
 cost_in : (s : InterfaceLine) → IsGoodInterfaceLine s → IfSome (cost_said s) (IsGoodValue 1 65535)
-cost_in (Cost r) h = h
-cost_in (Address r) h = tt
-cost_in NoAddress h = tt
-cost_in (Shutdown b) h = tt
-cost_in Vrf h = tt
-cost_in (Bandwidth r) h = tt
-cost_in (Area r) h = tt
-cost_in (PointToPoint r) h = tt
-cost_in (Isis tag) h = tt
-cost_in (Circuit r) h = tt
-cost_in (Metric r) h = tt
-cost_in (Metric1 r) h = tt
-cost_in (Metric2 r) h = tt
-cost_in (Faulty kind) h = tt
-cost_in Skipped h = tt
+cost_in s h = grind arith
 
 metric_in : (s : InterfaceLine) → IsGoodInterfaceLine s → IfSome (metric_said s) (IsGoodValue 1 16777214)
-metric_in (Metric r) h = h
-metric_in (Cost r) h = tt
-metric_in (Address r) h = tt
-metric_in NoAddress h = tt
-metric_in (Shutdown b) h = tt
-metric_in Vrf h = tt
-metric_in (Bandwidth r) h = tt
-metric_in (Area r) h = tt
-metric_in (PointToPoint r) h = tt
-metric_in (Isis tag) h = tt
-metric_in (Circuit r) h = tt
-metric_in (Metric1 r) h = tt
-metric_in (Metric2 r) h = tt
-metric_in (Faulty kind) h = tt
-metric_in Skipped h = tt
+metric_in s h = grind arith
 
 metric1_in : (s : InterfaceLine) → IsGoodInterfaceLine s → IfSome (metric1_said s) (IsGoodValue 1 16777214)
-metric1_in (Metric1 r) h = h
-metric1_in (Metric r) h = tt
-metric1_in (Cost r) h = tt
-metric1_in (Address r) h = tt
-metric1_in NoAddress h = tt
-metric1_in (Shutdown b) h = tt
-metric1_in Vrf h = tt
-metric1_in (Bandwidth r) h = tt
-metric1_in (Area r) h = tt
-metric1_in (PointToPoint r) h = tt
-metric1_in (Isis tag) h = tt
-metric1_in (Circuit r) h = tt
-metric1_in (Metric2 r) h = tt
-metric1_in (Faulty kind) h = tt
-metric1_in Skipped h = tt
+metric1_in s h = grind arith
 
 metric2_in : (s : InterfaceLine) → IsGoodInterfaceLine s → IfSome (metric2_said s) (IsGoodValue 1 16777214)
-metric2_in (Metric2 r) h = h
-metric2_in (Metric r) h = tt
-metric2_in (Cost r) h = tt
-metric2_in (Address r) h = tt
-metric2_in NoAddress h = tt
-metric2_in (Shutdown b) h = tt
-metric2_in Vrf h = tt
-metric2_in (Bandwidth r) h = tt
-metric2_in (Area r) h = tt
-metric2_in (PointToPoint r) h = tt
-metric2_in (Isis tag) h = tt
-metric2_in (Circuit r) h = tt
-metric2_in (Metric1 r) h = tt
-metric2_in (Faulty kind) h = tt
-metric2_in Skipped h = tt
+metric2_in s h = grind arith
 
 abbrev IsGoodPlaced : Option PlacedAddress → Type 0
 IsGoodPlaced o = IfSome o (λ (p : PlacedAddress). IfOk p.address IsGoodAddress)
 
 placed_in : (line : ℕ) (s : InterfaceLine) → IsGoodInterfaceLine s → IfSome (address_at line s) IsGoodPlaced
-placed_in line (Address r) h = h
-placed_in line NoAddress h = tt
-placed_in line (Metric2 r) h = tt
-placed_in line (Metric r) h = tt
-placed_in line (Cost r) h = tt
-placed_in line (Shutdown b) h = tt
-placed_in line Vrf h = tt
-placed_in line (Bandwidth r) h = tt
-placed_in line (Area r) h = tt
-placed_in line (PointToPoint r) h = tt
-placed_in line (Isis tag) h = tt
-placed_in line (Circuit r) h = tt
-placed_in line (Metric1 r) h = tt
-placed_in line (Faulty kind) h = tt
-placed_in line Skipped h = tt
+placed_in line s h = grind arith
 
 given_good : (o : Option (Option PlacedAddress)) → IfSome o IsGoodPlaced → IfSome (address_given o) IsGoodAddress
 given_good None h = tt
@@ -214,23 +138,11 @@ subnet_there (Some a) h = refl
 abbrev IsCost : ℕ → Type 0
 IsCost = IsFrom 1 65535
 
-cost_from : (reference bandwidth : ℕ) → IsCost (cost_of_bandwidth reference bandwidth)
-cost_from reference bandwidth = bounded (reference * 1000 / bandwidth)
-  where
-    bounded : (q : ℕ) → IsCost (min 65535 (max 1 q))
-    bounded q = record { low = omega arith; high = omega arith }
-
 one_cost : IsCost 1
 one_cost = record { low = omega arith; high = omega arith }
 
-kind_cost : (reference : ℕ) (kind : Option ℕ) → IfSome (option_map (cost_of_bandwidth reference) kind) IsCost
-kind_cost reference None = tt
-kind_cost reference (Some bandwidth) = cost_from reference bandwidth
-
 bandwidth_cost : (reference : ℕ) (own : Option (Result ℕ ReadKind)) (kind : Option ℕ) → IfSome (cost_by_bandwidth reference own kind) IsCost
-bandwidth_cost reference (Some (Ok bandwidth)) kind = cost_from reference bandwidth
-bandwidth_cost reference (Some (Err _)) kind = one_cost
-bandwidth_cost reference None kind = kind_cost reference kind
+bandwidth_cost reference own kind = grind arith
 
 otherwise_cost : (reference : ℕ) (name : Word) (bandwidth : Option (Result ℕ ReadKind)) → IfSome (default_cost reference name bandwidth) IsCost
 otherwise_cost reference name bandwidth =
@@ -240,9 +152,7 @@ otherwise_cost reference name bandwidth =
 
 given_cost : (own : Option (Result ℕ ReadKind)) (otherwise : Option ℕ) → IfSome own (IsGoodValue 1 65535) → IfSome otherwise IsCost →
     IfSome (cost_given own otherwise) IsCost
-given_cost (Some (Ok cost)) otherwise h i = h
-given_cost (Some (Err _)) otherwise h i = one_cost
-given_cost None otherwise h i = i
+given_cost own otherwise h i = grind arith
 
 field_cost : (area cost : Option ℕ) → IfSome cost IsCost → IsCost (cost_field area cost)
 field_cost None cost h = one_cost
@@ -255,9 +165,7 @@ ten_metric : IsMetric 10
 ten_metric = record { low = omega arith; high = omega arith }
 
 value_metric : (o : Option (Result ℕ ReadKind)) → IfSome o (IsGoodValue 1 16777214) → IfSome (good_value o) IsMetric
-value_metric None h = tt
-value_metric (Some (Ok metric)) h = h
-value_metric (Some (Err _)) h = tt
+value_metric o h = grind arith
 
 by_metric : (own both : Option ℕ) (router : ℕ) → IfSome own IsMetric → IfSome both IsMetric → IsMetric router → IsMetric (metric_by own both router)
 by_metric (Some metric) both router h i j = h
@@ -310,68 +218,19 @@ apart_interfaces router parts names h =
 -- ---- the OSPF process ----
 
 range_in : (s : OspfLine) → IsGoodOspfLine s → IfSome (range_said s) IsRange
-range_in (RangeSaid (Ok range)) h = h
-range_in (RangeSaid (Err kind)) h = tt
-range_in (Network r) h = tt
-range_in (Passive r) h = tt
-range_in (PassiveDefault r) h = tt
-range_in (Reference r) h = tt
-range_in (StubSaid r) h = tt
-range_in (DefaultCost r) h = tt
-range_in (Distance r) h = tt
-range_in (Rfc1583 r) h = tt
-range_in (OspfFaulty r) h = tt
-range_in OspfSkipped h = tt
+range_in s h = grind arith
 
 stub_in : (s : OspfLine) → IsGoodOspfLine s → IfSome (stub_said s) (λ (t : StubLine). 1 ≤ t.area)
-stub_in (StubSaid (Ok stub)) h = h
-stub_in (StubSaid (Err kind)) h = tt
-stub_in (RangeSaid r) h = tt
-stub_in (Network r) h = tt
-stub_in (Passive r) h = tt
-stub_in (PassiveDefault r) h = tt
-stub_in (Reference r) h = tt
-stub_in (DefaultCost r) h = tt
-stub_in (Distance r) h = tt
-stub_in (Rfc1583 r) h = tt
-stub_in (OspfFaulty r) h = tt
-stub_in OspfSkipped h = tt
+stub_in s h = grind arith
 
 default_in : (area : ℕ) (s : OspfLine) → IsGoodOspfLine s → IfSome (default_cost_said area s) (λ n. n ≤ 16777214)
-default_in area (DefaultCost (Ok said)) h = chosen (nat_eq said.area area) said.cost h
-  where
-    chosen : (t : Bool) (cost : ℕ) → cost ≤ 16777214 → IfSome (cost_if t cost) (λ n. n ≤ 16777214)
-    chosen true cost g = g
-    chosen false cost g = tt
-default_in area (DefaultCost (Err kind)) h = tt
-default_in area (StubSaid r) h = tt
-default_in area (RangeSaid r) h = tt
-default_in area (Network r) h = tt
-default_in area (Passive r) h = tt
-default_in area (PassiveDefault r) h = tt
-default_in area (Reference r) h = tt
-default_in area (Distance r) h = tt
-default_in area (Rfc1583 r) h = tt
-default_in area (OspfFaulty r) h = tt
-default_in area OspfSkipped h = tt
+default_in area s h = grind arith
 
 distance_in : (s : OspfLine) → IsGoodOspfLine s → IfSome (ospf_distance_said s) (λ (r : Result ℕ ReadKind). IfOk r IsOspfDistance)
-distance_in (Distance r) h = h
-distance_in (DefaultCost r) h = tt
-distance_in (StubSaid r) h = tt
-distance_in (RangeSaid r) h = tt
-distance_in (Network r) h = tt
-distance_in (Passive r) h = tt
-distance_in (PassiveDefault r) h = tt
-distance_in (Reference r) h = tt
-distance_in (Rfc1583 r) h = tt
-distance_in (OspfFaulty r) h = tt
-distance_in OspfSkipped h = tt
+distance_in s h = grind arith
 
 value_kept : {A : Type 0} (P : A → Type 0) (o : Option (Result A ReadKind)) (d : A) → P d → IfSome o (λ (r : Result A ReadKind). IfOk r P) → P (value_or o d)
-value_kept P None d h i = h
-value_kept P (Some (Ok a)) d h i = i
-value_kept P (Some (Err _)) d h i = h
+value_kept P o d h i = grind arith
 
 ranges_kept : (lines : List OspfStatement) → All IsGoodOspf lines → All IsRange (ranges_in lines)
 ranges_kept lines good =
@@ -449,42 +308,16 @@ stubs_kept lines good =
 -- ---- the IS-IS process ----
 
 title_in : (s : IsisLine) → IsGoodIsisLine s → IfSome (title_said s) (λ (o : Option Title). IfSome o (λ (t : Title). t.system < 2 ^ 48))
-title_in (Net title) h = h
-title_in (Levels r) h = tt
-title_in (MetricStyle r) h = tt
-title_in (IsisMetric r) h = tt
-title_in (IsisDistance r) h = tt
-title_in (IsisPassive r) h = tt
-title_in IsisLeak h = tt
-title_in (IsisFaulty r) h = tt
-title_in IsisSkipped h = tt
+title_in s h = grind arith
 
 router_metric_in : (s : IsisLine) → IsGoodIsisLine s → IfSome (router_metric_said s) (IsGoodValue 1 16777214)
-router_metric_in (IsisMetric r) h = h
-router_metric_in (Net r) h = tt
-router_metric_in (Levels r) h = tt
-router_metric_in (MetricStyle r) h = tt
-router_metric_in (IsisDistance r) h = tt
-router_metric_in (IsisPassive r) h = tt
-router_metric_in IsisLeak h = tt
-router_metric_in (IsisFaulty r) h = tt
-router_metric_in IsisSkipped h = tt
+router_metric_in s h = grind arith
 
 isis_distance_in : (s : IsisLine) → IsGoodIsisLine s → IfSome (isis_distance_said s) (λ (r : Result ℕ ReadKind). IfOk r IsIsisDistance)
-isis_distance_in (IsisDistance r) h = h
-isis_distance_in (IsisMetric r) h = tt
-isis_distance_in (Net r) h = tt
-isis_distance_in (Levels r) h = tt
-isis_distance_in (MetricStyle r) h = tt
-isis_distance_in (IsisPassive r) h = tt
-isis_distance_in IsisLeak h = tt
-isis_distance_in (IsisFaulty r) h = tt
-isis_distance_in IsisSkipped h = tt
+isis_distance_in s h = grind arith
 
 system_kept : (o : Option (Option Title)) → IfSome o (λ (p : Option Title). IfSome p (λ (t : Title). t.system < 2 ^ 48)) → system_in (title_given o) < 2 ^ 48
-system_kept None h = omega arith
-system_kept (Some None) h = omega arith
-system_kept (Some (Some title)) h = h
+system_kept o h = grind arith
 
 process_kept : (o : Option ℕ) → IfSome o (IsFrom 1 65535) → IfSome o (λ p. (1 ≤ p) × (p ≤ 65535))
 process_kept None h = tt

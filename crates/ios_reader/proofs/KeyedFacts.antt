@@ -1,6 +1,6 @@
 -- Tables whose values stand under their keys.
 use Rattle.std.proofs.Common.{sym, ◌≡◌, ℕ, ◌+◌, ◌<◌, Bool, true, false, ◌&&◌, List, [], ◌∷◌, length, take, get_or, Option, Some, None, refl}
-use Rattle.std.proofs.Common.{ap, ◌∙◌, cond, nat_eq}
+use Rattle.std.proofs.Common.{ap, ◌∙◌, cond, nat_eq, arith}
 use Rattle.std.specs.Cmp.{nat_eq_equiv}
 use Rattle.std.proofs.lemmas.Bool.{false≢true, eqb-true}
 use Rattle.std.proofs.lemmas.List.Elements.{All-cons, All-head, All-tail}
@@ -45,38 +45,17 @@ insert_keyed {K} {V} eq key alike (e ∷ es) v h =
 
 -- ---- numbers as keys ----
 
-here_cases : (b : Bool) (old v : ℕ) (rest : Option ℕ) → cond b (Some v) rest ≡ later (cond b (Some old) rest) (cost_if b v)
-here_cases true old v rest = refl
-here_cases false old v rest = refl
-
-there_cases : (b : Bool) (old : ℕ) (rest more new : Option ℕ) → (b ≡ true → new ≡ None) → more ≡ later rest new → cond b (Some old) more
-    ≡ later (cond b (Some old) rest) new
-there_cases true old rest more new none later_is = sym (ap (later (Some old)) (none refl))
-there_cases false old rest more new none later_is = later_is
-
 said_cases : (t : Bool) (e : ℕ × ℕ) (es : List (ℕ × ℕ)) (n v q : ℕ) → nat_eq n e.0 ≡ t →
     lookup (nat_eq q) (insert_entry nat_eq es n v) ≡ later (lookup (nat_eq q) es) (cost_if (nat_eq n q) v) →
     lookup (nat_eq q) (cond t ((e.0, v) ∷ es) (e ∷ insert_entry nat_eq es n v)) ≡ later (lookup (nat_eq q) (e ∷ es)) (cost_if (nat_eq n q) v)
-said_cases true e es n v q same rest =
-    let swap : nat_eq q e.0 ≡ nat_eq n q = nat_eq_equiv.symm q e.0 ∙ ap (λ (w : ℕ). nat_eq w q) (sym (eqb-true n e.0 same)) in
-    here_cases (nat_eq q e.0) e.1 v (lookup (nat_eq q) es)
-    ∙ ap (λ (b : Bool). later (cond (nat_eq q e.0) (Some e.1) (lookup (nat_eq q) es)) (cost_if b v)) swap
-said_cases false e es n v q same rest =
-    there_cases (nat_eq q e.0) e.1 (lookup (nat_eq q) es) (lookup (nat_eq q) (insert_entry nat_eq es n v)) (cost_if (nat_eq n q) v)
-    (λ there.
-    let other : nat_eq n q ≡ false = ap (nat_eq n) (eqb-true q e.0 there) ∙ same in
-    ap (λ (b : Bool). cost_if b v) other)
-    rest
+said_cases t e es n v q same rest = grind arith
 
 -- what a table says of a number after one more line
 pub lookup_insert : (es : List (ℕ × ℕ)) (n v q : ℕ) → lookup (nat_eq q) (insert_entry nat_eq es n v) ≡ later (lookup (nat_eq q) es) (cost_if (nat_eq n q) v)
 lookup_insert [] n v q = first (nat_eq q n) (nat_eq n q) (nat_eq_equiv.symm q n)
   where
     first : (s t : Bool) → s ≡ t → cond s (Some v) None ≡ later None (cost_if t v)
-    first true true e = refl
-    first false false e = refl
-    first true false e = absurd (false≢true (sym e))
-    first false true e = absurd (false≢true e)
+    first s t e = grind arith
 lookup_insert (e ∷ es) n v q = said_cases (nat_eq n e.0) e es n v q refl (lookup_insert es n v q)
 
 -- one more line of a loop

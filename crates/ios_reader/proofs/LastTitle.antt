@@ -1,5 +1,5 @@
 -- The title of the last `net` line, one more line at a time.
-use Rattle.std.proofs.Common.{◌≡◌, List, [], ◌∷◌, ◌++◌, Option, refl, ap, ◌∙◌}
+use Rattle.std.proofs.Common.{◌≡◌, List, [], ◌∷◌, ◌++◌, Option, ap, ◌∙◌, arith}
 use Rattle.ios_lines.specs.declared.isis_line.IsisStatement.{IsisStatement}
 use Rattle.ios_lines.specs.Lookups.{later, last_of}
 use Rattle.ios_reader.specs.Routers.{title_said}
@@ -7,19 +7,10 @@ use Rattle.ios_reader.specs.Configurations.{title_given, title_by}
 use Rattle.ios_reader.specs.steps.ProcessFacts.{title_after}
 use Rattle.ios_lines.specs.declared.title.Title.{Title}
 use Rattle.ios_lines.specs.declared.isis_line.IsisLine.{IsisLine}
-use Rattle.ios_lines.specs.declared.isis_line.IsisLine.TheVariants.{Net, Levels, MetricStyle, Metric, Distance, Passive, Leak, Faulty, Skipped}
 use Rattle.ios_lines.proofs.LineLookups.{last_of-push}
 
 title_cases : (before : Option (Option Title)) (says : IsisLine) → title_given (later before (title_said says)) ≡ title_after (title_given before) says
-title_cases before (Net title) = refl
-title_cases before (Levels r) = refl
-title_cases before (MetricStyle wide) = refl
-title_cases before (Metric r) = refl
-title_cases before (Distance r) = refl
-title_cases before (Passive said) = refl
-title_cases before Leak = refl
-title_cases before (Faulty kind) = refl
-title_cases before Skipped = refl
+title_cases before says = grind arith
 
 -- the title of the last `net` line, with one more line
 pub title_push : (xs : List IsisStatement) (x : IsisStatement) → title_by (xs ++ x ∷ []) ≡ title_after (title_by xs) x.says

@@ -1,23 +1,15 @@
 -- The least of some faults is on the least faulty line, with the least kind on it.
-use Rattle.std.proofs.Common.{◌≡◌, ℕ, ◌<◌, ◌≤◌, Bool, true, false, ◌&&◌, ◌||◌, List, [], ◌∷◌, Option, Some, None, refl, cond, nat_eq, nat_lt, arith, ◌⊎◌, inl}
-use Rattle.std.proofs.Common.{inr}
-use Rattle.std.proofs.lemmas.Bool.Decides.{nat_tests}
+use Rattle.std.proofs.Common.{◌≡◌, ℕ, ◌<◌, ◌≤◌, Bool, true, false, ◌&&◌, ◌||◌, List, [], ◌∷◌, Option, Some, None, refl, cond, nat_eq, nat_lt, arith, ◌⊎◌}
 use Rattle.ios_lines.specs.FaultOrder.{rank, is_before, lesser_fault, least_fault}
 use Rattle.ios_reader.specs.Configurations.{IsNotAfter}
 use Rattle.ios_lines.specs.declared.fault.Fault.{Fault}
 
 -- two pairs of numbers by the tests of their order
 passed : (l m r s : ℕ) (t u v : Bool) → nat_lt l m ≡ t → nat_eq l m ≡ u → nat_lt r s ≡ v → (t || (u && v)) ≡ true → (l < m) ⊎ ((l ≡ m) × (r ≤ s))
-passed l m r s true u v p q w h = inl (grind (arith, nat_tests))
-passed l m r s false true true p q w h = inr (grind (arith, nat_tests), grind (arith, nat_tests))
-passed l m r s false true false p q w h = absurd cc
-passed l m r s false false v p q w h = absurd cc
+passed l m r s t u v p q w h = grind arith
 
 failed : (l m r s : ℕ) (t u v : Bool) → nat_lt m l ≡ t → nat_eq m l ≡ u → nat_lt s r ≡ v → (t || (u && v)) ≡ false → (l < m) ⊎ ((l ≡ m) × (r ≤ s))
-failed l m r s true u v p q w h = absurd cc
-failed l m r s false true true p q w h = absurd cc
-failed l m r s false true false p q w h = inr (grind (arith, nat_tests), grind (arith, nat_tests))
-failed l m r s false false v p q w h = inl (grind (arith, nat_tests))
+failed l m r s t u v p q w h = grind arith
 
 -- a fault that comes before another doesn't come after it
 pub by_before : (f g : Fault) → is_before f g ≡ true → IsNotAfter f g

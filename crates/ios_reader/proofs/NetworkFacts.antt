@@ -1,11 +1,10 @@
 -- The first `network` line that takes an address: in the tables of the lines, and among the lines of the process.
 use Rattle.std.proofs.Common.{sym, ◌≡◌, ℕ, ◌+◌, ◌<◌, ◌≤◌, Bool, true, false, not, ◌&&◌, ◌||◌, List, [], ◌∷◌, ◌++◌, length, take, get_or, Option, Some, None}
 use Rattle.std.proofs.Common.{refl, ap, subst, ◌∙◌, cond, filter, nat_eq, arith, append_assoc}
-use Rattle.std.specs.Prelude.{Ok, Err, All, find, fold, option_map, bit_or, nat_lt}
+use Rattle.std.specs.Prelude.{All, find, fold, option_map, bit_or, nat_lt}
 use Rattle.std.specs.List.{list_any}
 use Rattle.std.specs.Map.{lookup}
 use Rattle.std.specs.Option.{option_or}
-use Rattle.std.proofs.lemmas.Bool.{eqb-true}
 use Rattle.std.proofs.lemmas.Bool.Decides.{nat_tests}
 use Rattle.std.proofs.lemmas.List.{append-nil, length-take-le, take_more}
 use Rattle.std.proofs.lemmas.List.Elements.{All-head, All-tail, All-more, All-weaker}
@@ -13,8 +12,6 @@ use Rattle.std.proofs.lemmas.List.Folds.{find-append}
 use Rattle.ios_lines.specs.Lookups.{earlier, first_of}
 use Rattle.ios_lines.specs.declared.ospf_line.NetworkLine.{NetworkLine}
 use Rattle.ios_lines.specs.declared.ospf_line.OspfLine.{OspfLine}
-use Rattle.ios_lines.specs.declared.ospf_line.OspfLine.TheVariants.{Network, Passive, PassiveDefault, Reference, Stub, DefaultCost, Range, Distance, Rfc1583}
-use Rattle.ios_lines.specs.declared.ospf_line.OspfLine.TheVariants.{Faulty, Skipped}
 use Rattle.ios_lines.specs.declared.ospf_line.OspfStatement.{OspfStatement}
 use Rattle.ios_reader.specs.declared.networks.PlacedNetwork.{PlacedNetwork}
 use Rattle.ios_reader.specs.Routers.{area_taken}
@@ -102,29 +99,10 @@ find_place : (f : PlacedNetwork → Bool) (place : ℕ) (all : List PlacedNetwor
 find_place f place [] line asc e = absurd cc
 find_place f place (l ∷ all) line asc e = found_place (f l) place l line (find f all) asc.0 (find_place f (l.place + 1) all line asc.1) e
 
-not_less : (m n : ℕ) → n ≤ m → nat_lt m n ≡ false
-not_less m n le = grind (arith, nat_tests)
-
-less : (m n : ℕ) → m < n → nat_lt m n ≡ true
-less m n lt = grind (arith, nat_tests)
-
-stands_first : (line : PlacedNetwork) (rest : Option PlacedNetwork) → ((l : PlacedNetwork) → rest ≡ Some l → line.place + 1 ≤ l.place) →
-    earlier_line (Some line) rest ≡ Some line
-stands_first line None later = refl
-stands_first line (Some l) later = ap (λ (b : Bool). cond b (Some l) (Some line)) (not_less l.place line.place (omega (arith, later l refl)))
-
-stands_first_too : (line : PlacedNetwork) (rest : Option PlacedNetwork) → ((l : PlacedNetwork) → rest ≡ Some l → line.place + 1 ≤ l.place) →
-    earlier_line rest (Some line) ≡ Some line
-stands_first_too line None later = refl
-stands_first_too line (Some l) later = ap (λ (b : Bool). cond b (Some line) (Some l)) (less line.place l.place (omega (arith, later l refl)))
-
 either_cases : (b c : Bool) (line : PlacedNetwork) (x y rest : Option PlacedNetwork) →
     ((l : PlacedNetwork) → x ≡ Some l → line.place + 1 ≤ l.place) → ((l : PlacedNetwork) → y ≡ Some l → line.place + 1 ≤ l.place) → earlier_line x y ≡ rest →
     earlier_line (cond b (Some line) x) (cond c (Some line) y) ≡ cond (b || c) (Some line) rest
-either_cases true true line x y rest after_x after_y both = ap (λ (b : Bool). cond b (Some line) (Some line)) (not_less line.place line.place (omega arith))
-either_cases true false line x y rest after_x after_y both = stands_first line y after_y
-either_cases false true line x y rest after_x after_y both = stands_first_too line x after_x
-either_cases false false line x y rest after_x after_y both = both
+either_cases b c line x y rest after_x after_y both = grind arith
 
 find_either : (f g : PlacedNetwork → Bool) (place : ℕ) (all : List PlacedNetwork) → Ascend place all →
     earlier_line (find f all) (find g all) ≡ find (λ (line : PlacedNetwork). f line || g line) all
@@ -170,17 +148,10 @@ any_nothing (w ∷ ws) = any_nothing ws
 
 agrees : (address : ℕ) (line : PlacedNetwork) (w : ℕ) (b : Bool) → nat_eq w line.network.wildcard ≡ b →
     (b && nat_eq (bit_or address w) (bit_or line.network.address line.network.wildcard)) ≡ (b && takes address line)
-agrees address line w true e =
-    ap (λ (v : ℕ). nat_eq (bit_or address v) (bit_or line.network.address line.network.wildcard)) (eqb-true w line.network.wildcard e)
-agrees address line w false e = refl
+agrees address line w b e = grind arith
 
 and_or : (a b c : Bool) → ((a && c) || (b && c)) ≡ ((a || b) && c)
-and_or true true true = refl
-and_or true true false = refl
-and_or true false true = refl
-and_or true false false = refl
-and_or false true c = refl
-and_or false false c = refl
+and_or a b c = grind arith
 
 same_blocks : (address : ℕ) (line : PlacedNetwork) (ws : List ℕ) →
     list_any (λ (w : ℕ). same_block (w, bit_or address w) (block_key line.network)) ws ≡ (has_wildcard ws line.network.wildcard && takes address line)
@@ -236,18 +207,7 @@ area_if address (Some network) =
     cond (nat_eq (bit_or address network.wildcard) (bit_or network.address network.wildcard)) (Some network.area) None
 
 area_said : (address : ℕ) (line : OspfLine) → area_taken address line ≡ area_if address (network_said line)
-area_said address (Network (Ok network)) = refl
-area_said address (Network (Err kind)) = refl
-area_said address (Passive said) = refl
-area_said address (PassiveDefault said) = refl
-area_said address (Reference said) = refl
-area_said address (Stub said) = refl
-area_said address (DefaultCost said) = refl
-area_said address (Range said) = refl
-area_said address (Distance said) = refl
-area_said address (Rfc1583 said) = refl
-area_said address (Faulty said) = refl
-area_said address Skipped = refl
+area_said address line = grind arith
 
 abbrev pub area_of_line : PlacedNetwork → ℕ
 area_of_line line = line.network.area

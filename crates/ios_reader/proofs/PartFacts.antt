@@ -153,10 +153,7 @@ open_more lines i x within read =
     ap (list_any begins_configuration) (rest_more lines i x within read) ∙ any_cases (is_end x) (rest_after [] (take i lines)) x
 
 empty_cases : (t : Bool) (ps : List Part) (p : Part) → is_empty (ps ++ cond t (p ∷ []) []) ≡ not (not (is_empty ps) || t)
-empty_cases true [] p = refl
-empty_cases false [] p = refl
-empty_cases true (q ∷ qs) p = refl
-empty_cases false (q ∷ qs) p = refl
+empty_cases t ps p = grind arith
 
 pub ended_more : (lines : List TextLine) (i : ℕ) (x : TextLine) → i < length lines → x ≡ get_or lines i x →
     is_empty (parts_after [] (take (i + 1) lines)) ≡ not (not (is_empty (parts_after [] (take i lines))) || is_end x)

@@ -178,7 +178,7 @@ module _ (block : List Section → List ℕ) (moved : Configuration → Configur
       open_fine before (raw ++ tail) line starts.behind shown outside starts.is e reads in
       let grown_by : Grows (open_sections before) (count + line.number) its (moved c) =
       grows (part_with (open_lines before) 0) (count + line.number) fine known in
-      let grown : IsReadGrown before its (raw ++ tail) shown (moved c) =
+      let grown : IsReadGrown before (before ++ its ++ (raw ++ tail)) shown (moved c) =
       inserted_lines before its (raw ++ tail) shown (moved c) outside grown_by.fits (ap begins_with_end starts.is ∙ e) reads
       (record { ends = count + line.number; faultless = grown_by.faultless count; made = grown_by.made count }) in
       let ours : front ++ c ∷ grown.last ≡ front ++ c ∷ back = sym grown.was ∙ ap (λ l. l ++ back) ended ∙ append_assoc front (c ∷ []) back in

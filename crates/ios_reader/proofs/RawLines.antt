@@ -45,25 +45,8 @@ AreRaw (raw ∷ raws) = IsRaw raw × (IsWholeBefore raw raws × AreRaw raws)
 abbrev pub joined_raw : List (List ℕ) → List ℕ
 joined_raw raws = flat_map (λ (raw : List ℕ). raw) raws
 
-whole_more : (b : ℕ) (raw : List ℕ) → 0 < length raw → is_of_whole_lines (b ∷ raw) ≡ is_of_whole_lines raw
-whole_more b [] some = absurd (omega (arith, some))
-whole_more b (c ∷ raw) some = refl
-
--- the place of the first line feed, behind a byte that is none
-place_more : (b : ℕ) (raw : List ℕ) → is_line_feed b ≡ false → position_or_len is_line_feed (b ∷ raw) ≡ 1 + position_or_len is_line_feed raw
-place_more b raw plain = ap (λ (t : Bool). cond (not t) (1 + position_or_len is_line_feed raw) 0) plain
-
-raw_more : (b : ℕ) (raw : List ℕ) → is_line_feed b ≡ false → IsRaw raw → IsRaw (b ∷ raw)
-raw_more b raw plain is =
-    let place = place_more b raw plain in
-    record { some = omega arith; one = let one = is.one in omega (arith, place, one) }
-
 with_byte_raw : (b : ℕ) (raws : List (List ℕ)) → is_line_feed b ≡ false → AreRaw raws → AreRaw (with_byte b raws)
-with_byte_raw b [] plain are =
-    let place : position_or_len is_line_feed (b ∷ []) ≡ 1 + 0 = place_more b [] plain in
-    (record { some = omega arith; one = omega (arith, place) }, (tt, tt))
-with_byte_raw b (raw ∷ []) plain are = (raw_more b raw plain are.0, (tt, tt))
-with_byte_raw b (raw ∷ next ∷ raws) plain are = (raw_more b raw plain are.0, (whole_more b raw are.0.some ∙ are.1.0, are.1.1))
+with_byte_raw b raws plain are = grind arith
 
 with_byte_joined : (b : ℕ) (raws : List (List ℕ)) → joined_raw (with_byte b raws) ≡ b ∷ joined_raw raws
 with_byte_joined b [] = refl

@@ -1,6 +1,6 @@
 -- The answer to a text, from what was read of its parts.
 use Rattle.std.proofs.Common.{sym, ◌≡◌, ℕ, ◌+◌, ◌≤◌, Bool, true, false, List, [], ◌∷◌, ◌++◌, length, Option, Some, None, refl, ap, subst, ◌∙◌, cond}
-use Rattle.std.proofs.Common.{arith, zero, suc, inl, inr}
+use Rattle.std.proofs.Common.{arith, zero, suc, inr}
 use Rattle.std.specs.Prelude.{flat_map, All, filter_map, is_none, is_some}
 use Rattle.std.specs.List.{slice_split}
 use Rattle.std.proofs.lemmas.List.{length-map}
@@ -116,10 +116,7 @@ part_faulty part s f e some = sym (part_fault part s e) ∙ some
 -- ---- the least fault of some ----
 
 not_after_trans : (f g h : Fault) → IsNotAfter f g → IsNotAfter g h → IsNotAfter f h
-not_after_trans f g h (inl p) (inl q) = inl (omega arith)
-not_after_trans f g h (inl p) (inr q) = inl (omega (arith, q.0))
-not_after_trans f g h (inr p) (inl q) = inl (omega (arith, p.0))
-not_after_trans f g h (inr p) (inr q) = inr (omega (arith, p.0, q.0), omega (arith, p.1, q.1))
+not_after_trans f g h p q = grind arith
 
 not_after_same : (f : Fault) → IsNotAfter f f
 not_after_same f = inr (refl, omega arith)

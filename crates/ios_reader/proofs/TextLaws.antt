@@ -23,28 +23,11 @@ kind_at n = get_or
     n NoHostname
 
 kind_back : (kind : ReadKind) → kind_at (rank kind) ≡ kind
-kind_back NoHostname = refl
-kind_back NoEnd = refl
-kind_back BadAddress = refl
-kind_back BadMask = refl
-kind_back BadCost = refl
-kind_back BadArea = refl
-kind_back SecondProcess = refl
-kind_back Unsupported = refl
-kind_back LoopbackMask = refl
-kind_back BadNet = refl
-kind_back BadLevel = refl
-kind_back BadMetric = refl
-kind_back BadDistance = refl
-kind_back DistanceClash = refl
-kind_back NoBandwidth = refl
+kind_back kind = grind arith
 
 -- of two faults neither comes after the other
 neither_after : (f g : Fault) → IsNotAfter f g → IsNotAfter g f → (f.line ≡ g.line) × (rank f.kind ≡ rank g.kind)
-neither_after f g (inl l) (inl m) = absurd (omega (arith, l, m))
-neither_after f g (inl l) (inr m) = absurd (omega (arith, l, m.0))
-neither_after f g (inr l) (inl m) = absurd (omega (arith, l.0, m))
-neither_after f g (inr l) (inr m) = (l.0, omega (arith, l.1, m.1))
+neither_after f g one other = grind arith
 
 -- faults have one least
 one_least : (faults : List Fault) (l m : ℕ) (k j : ReadKind) → IsLeastFault faults (fault_at l k) → IsLeastFault faults (fault_at m j) → (l ≡ m) × (k ≡ j)

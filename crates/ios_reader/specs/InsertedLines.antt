@@ -71,11 +71,11 @@ pub record IsGrown (before block : List ℕ) (grown : Configuration) : Type 0 wh
   pub faultless : section_faults (grown_sections before block) ends ≡ []
   pub made : grown ≡ configuration_of (grown_sections before block)
 
--- a text is read as these configurations, and so with another text between, but for the one that was open there
-pub record IsReadGrown (before block after : List ℕ) (configurations : List Configuration) (grown : Configuration) : Type 0 where
+-- a text that begins so is read as these configurations, but for the one that stands open behind this beginning: it has grown
+pub record IsReadGrown (before text : List ℕ) (configurations : List Configuration) (grown : Configuration) : Type 0 where
   pub last : List Configuration
   pub was : configurations ≡ configurations_in (lines_in before) ++ configuration_of (open_sections before) ∷ last
-  pub reads : ReadsText (before ++ block ++ after) (configurations_in (lines_in before) ++ grown ∷ last)
+  pub reads : ReadsText text (configurations_in (lines_in before) ++ grown ∷ last)
 
 -- a block put before an `end` line: the configuration that this line ends has the old sections and then the new ones, and
 -- each other configuration is as it was
@@ -84,4 +84,4 @@ InsertedLinesLaw =
     (before block after : List ℕ) (configurations : List Configuration) (grown : Configuration) →
     IsOutsideBanners before → IsLineBlock block → begins_with_end (lines_in after) ≡ true →
     ReadsText (before ++ after) configurations → IsGrown before block grown →
-    IsReadGrown before block after configurations grown
+    IsReadGrown before (before ++ block ++ after) configurations grown

@@ -86,4 +86,3 @@ facts_of lines = record {
   metric1 = last_of (λ s. metric1_said s.says) lines;
   metric2 = last_of (λ s. metric2_said s.says) lines;
 }
-

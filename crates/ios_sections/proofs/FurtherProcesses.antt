@@ -1,9 +1,8 @@
 -- What sections say that stand further on: the same of the two processes, and the same faults further on.
-use Rattle.std.proofs.Common.{sym, ◌≡◌, ℕ, ◌+◌, Bool, true, false, not, ◌&&◌, List, [], ◌∷◌, ◌++◌, drop, refl, ap, ◌∙◌, cond, map, nat_lt, nat_eq, bytes_eq}
+use Rattle.std.proofs.Common.{sym, ◌≡◌, ℕ, ◌+◌, Bool, true, false, not, ◌&&◌, List, [], ◌∷◌, ◌++◌, drop, refl, ap, ◌∙◌, cond, map, nat_eq, bytes_eq}
 use Rattle.std.proofs.Common.{Option, Some, None, Ok, arith}
 use Rattle.std.specs.Prelude.{filter, filter_map, flat_map, fold, option_map}
 use Rattle.std.specs.List.{list_any, list_all}
-use Rattle.std.proofs.lemmas.Bool.Decides.{nat_tests}
 use Rattle.std.proofs.lemmas.List.{map-append}
 use Rattle.ios_lines.specs.Words.{Word, is_printable}
 use Rattle.ios_lines.specs.Lookups.{last_of}
@@ -100,20 +99,9 @@ mentions-further k ss =
     ∙ ap (mentions_of (map (ospf_further k) (filter_map as_ospf ss))) (interfaces-further k ss)
     ∙ mentions_joined k (filter_map as_ospf ss) (interfaces_in ss)
 
-first_choice : (t : Bool) (k : ℕ) (m n : Mention) →
-    cond t (Some (mention_further k m)) (Some (mention_further k n)) ≡ option_map (mention_further k) (cond t (Some m) (Some n))
-first_choice true k m n = refl
-first_choice false k m n = refl
-
-less_further : (k a b : ℕ) → nat_lt (k + a) (k + b) ≡ nat_lt a b
-less_further k a b = grind (arith, nat_tests)
-
 first-further : (k : ℕ) (o : Option Mention) (m : Mention) →
     first_mention (option_map (mention_further k) o) (mention_further k m) ≡ option_map (mention_further k) (first_mention o m)
-first-further k None m = refl
-first-further k (Some n) m =
-    ap (λ (b : Bool). cond b (Some (mention_further k m)) (Some (mention_further k n))) (less_further k m.line n.line)
-    ∙ first_choice (nat_lt m.line n.line) k m n
+first-further k o m = grind arith
 
 least-fold : (k : ℕ) (o : Option Mention) (ms : List Mention) →
     fold first_mention (option_map (mention_further k) o) (map (mention_further k) ms) ≡ option_map (mention_further k) (fold first_mention o ms)

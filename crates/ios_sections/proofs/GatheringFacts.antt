@@ -1,6 +1,6 @@
 -- The sections gathered one after the other are the sections looked up by what they say.
 use Rattle.std.proofs.Common.{sym, ◌≡◌, ℕ, Bool, true, false, not, ◌&&◌, ◌||◌, List, [], ◌∷◌, ◌++◌, Option, refl, ap, subst, ◌∙◌, cond, map, bytes_eq}
-use Rattle.std.proofs.Common.{append_assoc, append-nil}
+use Rattle.std.proofs.Common.{append_assoc, append-nil, arith}
 use Rattle.std.specs.Prelude.{filter, filter_map, flat_map, fold}
 use Rattle.std.specs.List.{list_any, list_all}
 use Rattle.std.proofs.lemmas.List.Elements.{filter-append, filter_map-append}
@@ -181,9 +181,7 @@ has-gone m (x ∷ xs) = gone_cases (bytes_eq m x) m x xs refl (has-gone m xs)
 
 fewer_cases : (t : Bool) (n m x : Word) (xs : List Word) → (bytes_eq n x || has n xs) ≡ false → (has n xs ≡ false → has n (but m xs) ≡ false) →
     has n (cond t (x ∷ but m xs) (but m xs)) ≡ false
-fewer_cases true n m x xs h later = ap (λ (b : Bool). b || has n (but m xs)) (or_left (bytes_eq n x) (has n xs) h)
-    ∙ later (or_right (bytes_eq n x) (has n xs) h)
-fewer_cases false n m x xs h later = later (or_right (bytes_eq n x) (has n xs) h)
+fewer_cases t n m x xs h later = grind arith
 
 has-fewer : (n m : Word) (xs : List Word) → has n xs ≡ false → has n (but m xs) ≡ false
 has-fewer n m [] h = refl

@@ -1,5 +1,5 @@
 -- The values that sections give are in their ranges.
-use Rattle.std.proofs.Common.{◌≡◌, ℕ, Bool, true, false, not, bytes_eq, ◌&&◌, ◌||◌, List, [], get_or, Option, Some, None, Ok, Err, refl, cond, map}
+use Rattle.std.proofs.Common.{◌≡◌, ℕ, Bool, true, false, not, bytes_eq, ◌&&◌, ◌||◌, List, [], get_or, Option, Some, None, Ok, Err, refl, cond, map, arith}
 use Rattle.std.specs.Prelude.{IfSome, IfOk, All, codes, filter_map, flat_map, option_map}
 use Rattle.std.proofs.lemmas.List.Elements.{All-nil, All-append, All-map, All-filter}
 use Rattle.ios_lines.specs.Words.{Word, word_at, says, begins_with_two, lacks}
@@ -19,9 +19,6 @@ use Rattle.ios_lines.specs.declared.head.Head.TheVariants.{Hostname as NameHead,
 use Rattle.ios_lines.specs.declared.head.Head.TheVariants.{Faulty as FaultyHead, Other as OtherHead}
 use Rattle.ios_sections.specs.declared.process.Mention.{Mention}
 use Rattle.ios_lines.specs.declared.interface_line.InterfaceLine.{InterfaceLine}
-use Rattle.ios_lines.specs.declared.interface_line.InterfaceLine.TheVariants.{Address, NoAddress, Shutdown, Vrf, Bandwidth, Cost, Area, PointToPoint}
-use Rattle.ios_lines.specs.declared.interface_line.InterfaceLine.TheVariants.{Isis as IsisMember, Circuit, Metric, Metric1, Metric2, Faulty as FaultyLine}
-use Rattle.ios_lines.specs.declared.interface_line.InterfaceLine.TheVariants.{Skipped}
 use Rattle.ios_lines.specs.declared.interface_line.InterfaceStatement.{InterfaceStatement}
 use Rattle.ios_lines.specs.declared.ospf_line.OspfStatement.{OspfStatement}
 use Rattle.ios_lines.specs.declared.isis_line.IsisStatement.{IsisStatement}
@@ -29,7 +26,7 @@ use Rattle.ios_sections.specs.declared.section.InterfaceSection.{InterfaceSectio
 use Rattle.ios_sections.specs.declared.section.OspfSection.{OspfSection}
 use Rattle.ios_sections.specs.declared.section.IsisSection.{IsisSection}
 use Rattle.ios_sections.specs.declared.section.Section.{Section}
-use Rattle.ios_sections.specs.declared.section.Section.TheVariants.{Hostname, Interface, Ospf, Isis, Faulty, Other}
+use Rattle.ios_sections.specs.declared.section.Section.TheVariants.{Hostname, Interface, Ospf, Isis}
 use Rattle.ios_lines.proofs.Picked.{by_if, all_taken, all_flat, fold_keeps}
 use Rattle.ios_lines.proofs.GoodLines.{IsFrom, number_good, IsGoodInterfaceLine, interface_line_good, IsGoodOspfLine, ospf_line_good, IsGoodIsisLine}
 use Rattle.ios_lines.proofs.GoodLines.{isis_line_good}
@@ -126,36 +123,16 @@ sections_good part =
 -- ---- sections by what they say ----
 
 pub as_hostname_good : (s : Section) → IsGoodSection s → IfSome (as_hostname s) (λ (name : Word). is_router_name name ≡ true)
-as_hostname_good (Hostname name) h = h
-as_hostname_good (Interface s) h = tt
-as_hostname_good (Ospf s) h = tt
-as_hostname_good (Isis s) h = tt
-as_hostname_good (Faulty f) h = tt
-as_hostname_good Other h = tt
+as_hostname_good s h = grind arith
 
 as_interface_good : (s : Section) → IsGoodSection s → IfSome (as_interface s) IsGoodInterface
-as_interface_good (Hostname name) h = tt
-as_interface_good (Interface s) h = h
-as_interface_good (Ospf s) h = tt
-as_interface_good (Isis s) h = tt
-as_interface_good (Faulty f) h = tt
-as_interface_good Other h = tt
+as_interface_good s h = grind arith
 
 as_ospf_good : (s : Section) → IsGoodSection s → IfSome (as_ospf s) IsGoodProcess
-as_ospf_good (Hostname name) h = tt
-as_ospf_good (Interface s) h = tt
-as_ospf_good (Ospf s) h = h
-as_ospf_good (Isis s) h = tt
-as_ospf_good (Faulty f) h = tt
-as_ospf_good Other h = tt
+as_ospf_good s h = grind arith
 
 as_isis_good : (s : Section) → IsGoodSection s → IfSome (as_isis s) (λ (s : IsisSection). All IsGoodIsis s.lines)
-as_isis_good (Hostname name) h = tt
-as_isis_good (Interface s) h = tt
-as_isis_good (Ospf s) h = tt
-as_isis_good (Isis s) h = h
-as_isis_good (Faulty f) h = tt
-as_isis_good Other h = tt
+as_isis_good s h = grind arith
 
 -- the interfaces, each with all its lines
 pub interfaces_good : (sections : List Section) → All IsGoodSection sections → All IsGoodInterface (interfaces_in sections)
@@ -183,22 +160,7 @@ abbrev IsGoodMention : Mention → Type 0
 IsGoodMention m = IsFrom 1 65535 m.process
 
 said_good : (line : ℕ) (says : InterfaceLine) → IsGoodInterfaceLine says → IfSome (mention_said line says) IsGoodMention
-said_good line (Area (Ok area)) h = h
-said_good line (Area (Err kind)) h = tt
-said_good line (Address r) h = tt
-said_good line NoAddress h = tt
-said_good line (Shutdown b) h = tt
-said_good line Vrf h = tt
-said_good line (Bandwidth r) h = tt
-said_good line (Cost r) h = tt
-said_good line (PointToPoint r) h = tt
-said_good line (IsisMember tag) h = tt
-said_good line (Circuit r) h = tt
-said_good line (Metric r) h = tt
-said_good line (Metric1 r) h = tt
-said_good line (Metric2 r) h = tt
-said_good line (FaultyLine kind) h = tt
-said_good line Skipped h = tt
+said_good line says h = grind arith
 
 mentions_good : (ospf : List OspfSection) (interfaces : List InterfaceSection) → All IsGoodProcess ospf → All IsGoodInterface interfaces →
     All IsGoodMention (mentions_of ospf interfaces)

@@ -52,9 +52,7 @@ table_old (x ∷ xs) s d h =
 
 name_cases : (t b : Bool) (x s : InterfaceSection) (xs rest : List InterfaceSection) → names_of rest ≡ cond b (names_of xs) (names_of xs ++ s.name ∷ []) →
     names_of (cond t (joined x s ∷ xs) (x ∷ rest)) ≡ cond (t || b) (names_of (x ∷ xs)) (names_of (x ∷ xs) ++ s.name ∷ [])
-name_cases true b x s xs rest later = refl
-name_cases false true x s xs rest later = ap (λ (w : List Word). x.name ∷ w) later
-name_cases false false x s xs rest later = ap (λ (w : List Word). x.name ∷ w) later
+name_cases t b x s xs rest later = grind arith
 
 -- the names after one more section
 pub names-table : (xs : List InterfaceSection) (s : InterfaceSection) → names_of (with_interface xs s)

@@ -1,7 +1,7 @@
 -- Lines that tell nothing may be left out: the parts of a text are the same, and what their sections say.
-use Rattle.std.proofs.Common.{◌≡◌, ℕ, suc, ◌+◌, Bool, true, false, not, cond, ◌&&◌, ◌||◌, List, [], ◌∷◌, ◌++◌, Option, Some, None, Ok, Err, Result}
+use Rattle.std.proofs.Common.{◌≡◌, ℕ, suc, ◌+◌, Bool, true, false, not, cond, ◌&&◌, ◌||◌, List, [], ◌∷◌, ◌++◌, Option, Some, None, Result}
 use Rattle.std.proofs.Common.{map, take, filter, fold, filter_map, codes, bytes_eq, nat_eq, append-nil, refl, sym, ap, ◌∙◌, arith}
-use Rattle.std.specs.List.{cons_option, list_any, prefix_len, before_first}
+use Rattle.std.specs.List.{list_any, prefix_len, before_first}
 use Rattle.std.proofs.lemmas.Bool.{and_parts, or_parts, or_from}
 use Rattle.std.proofs.lemmas.Grind.{fold-append}
 use Rattle.std.proofs.lemmas.List.Elements.{filter-append}
@@ -23,7 +23,7 @@ use Rattle.ios_sections.specs.Processes.{as_hostname, as_interface, as_ospf, as_
 use Rattle.ios_sections.specs.Statements.{statements_of}
 use Rattle.ios_sections.specs.declared.text.TextPlace.{TextPlace}
 use Rattle.ios_sections.specs.declared.section.Section.{Section}
-use Rattle.ios_sections.specs.declared.section.Section.TheVariants.{Hostname, Interface, Ospf, Isis, Faulty, Other}
+use Rattle.ios_sections.specs.declared.section.Section.TheVariants.{Other}
 
 -- ---- one more line ----
 
@@ -287,10 +287,7 @@ lone_head_is x no_interface no_router = rw no_interface (rw no_router refl)
 
 lone_section : (named route : Bool) (name : Result Word ReadKind) (n : ℕ) (one other : List TextLine) →
     section_with (lone_head named route name) n one ≡ section_with (lone_head named route name) n other
-lone_section true route (Ok name) n one other = refl
-lone_section true route (Err kind) n one other = refl
-lone_section false true name n one other = refl
-lone_section false false name n one other = refl
+lone_section named route name n one other = grind arith
 
 -- the section of such a line says the same with any lines
 lone_says : (x : TextLine) (one other : List TextLine) → has_lines x ≡ false → section_of (text_section x one) ≡ section_of (text_section x other)
@@ -365,25 +362,11 @@ spoken_told below (x ∷ xs) = by_indent (opens_section x) refl (λ b. spoken_to
 
 taken_spoken : {B : Type 0} (h : Section → Option B) → h Other ≡ None → (ss : List Section) → filter_map h (spoken ss) ≡ filter_map h ss
 taken_spoken h none [] = refl
-taken_spoken h none (Other ∷ ss) = taken_spoken h none ss ∙ sym (ap (λ o. cons_option o (filter_map h ss)) none)
-taken_spoken h none (Hostname name ∷ ss) = ap (cons_option (h (Hostname name))) (taken_spoken h none ss)
-taken_spoken h none (Interface s ∷ ss) = ap (cons_option (h (Interface s))) (taken_spoken h none ss)
-taken_spoken h none (Ospf s ∷ ss) = ap (cons_option (h (Ospf s))) (taken_spoken h none ss)
-taken_spoken h none (Isis s ∷ ss) = ap (cons_option (h (Isis s))) (taken_spoken h none ss)
-taken_spoken h none (Faulty f ∷ ss) = ap (cons_option (h (Faulty f))) (taken_spoken h none ss)
-
-later_none : (o : Option Word) → later None o ≡ o
-later_none None = refl
-later_none (Some w) = refl
+taken_spoken h none (s ∷ ss) = grind (arith, none, taken_spoken h none ss)
 
 name_spoken : (ss : List Section) → last_of as_hostname (spoken ss) ≡ last_of as_hostname ss
 name_spoken [] = refl
-name_spoken (Other ∷ ss) = name_spoken ss ∙ sym (later_none (last_of as_hostname ss))
-name_spoken (Hostname name ∷ ss) = ap (later (Some name)) (name_spoken ss)
-name_spoken (Interface s ∷ ss) = ap (later None) (name_spoken ss)
-name_spoken (Ospf s ∷ ss) = ap (later None) (name_spoken ss)
-name_spoken (Isis s ∷ ss) = ap (later None) (name_spoken ss)
-name_spoken (Faulty f ∷ ss) = ap (later None) (name_spoken ss)
+name_spoken (s ∷ ss) = grind (arith, name_spoken ss)
 
 statements_spoken : (ss : List Section) → statements_of (spoken ss) ≡ statements_of ss
 statements_spoken ss =

@@ -1,6 +1,6 @@
 -- An interface with the lines that are written for it: it has no fault, and its IS-IS is what is settled.
 use Rattle.std.proofs.Common.{◌≡◌, ℕ, Bool, true, false, ◌&&◌, ◌||◌, cond, List, [], ◌++◌, Option, Some, None, Result}
-use Rattle.std.proofs.Common.{refl, sym, ap, subst, ◌∙◌}
+use Rattle.std.proofs.Common.{refl, sym, ap, subst, ◌∙◌, arith}
 use Rattle.std.specs.Prelude.{filter_map, unwrap_or, is_some, IsSome}
 use Rattle.std.specs.List.{list_any}
 use Rattle.net_model.specs.LevelSets.{has_level_one, has_level_two}
@@ -46,20 +46,14 @@ runs_written : (has : Levels → Bool) (levels : Levels) (passive : Bool) (circu
     (said : Option (Result Levels ReadKind)) → (old ≡ false → said ≡ None) →
     ((passive || is_some (later isis (isis_fact passive))) && has levels && (passive || has (value_or (later said (circuit_fact old passive circuit)) Both)))
     ≡ (has levels && (passive || has (unwrap_or circuit Both)))
-runs_written has levels true circuit old isis said none = refl
-runs_written has levels false (Some own) old isis said none = refl
-runs_written has levels false None true isis said none = refl
-runs_written has levels false None false isis said none = ap (λ o. has levels && has (value_or o Both)) (none refl)
+runs_written has levels passive circuit old isis said none = grind arith
 
 -- the metric of a level, with the lines that are written
 metric_written : (passive : Bool) (old : Bool) (isis : Option Bool) (metric router : ℕ) (said : Option (Result ℕ ReadKind)) →
     (old ≡ false → said ≡ None) →
     cond (passive || is_some (later isis (isis_fact passive)))
     (metric_by (good_value (later said (level_fact old metric))) (Some metric) router) DEFAULT_METRIC ≡ metric
-metric_written true true isis metric router said none = refl
-metric_written true false isis metric router said none = ap (λ o. metric_by (good_value o) (Some metric) router) (none refl)
-metric_written false true isis metric router said none = refl
-metric_written false false isis metric router said none = ap (λ o. metric_by (good_value o) (Some metric) router) (none refl)
+metric_written passive old isis metric router said none = grind arith
 
 -- a section with the lines that are written from here on
 abbrev pub with_written : InterfaceSection → ℕ → Bool → SettledInterface → InterfaceSection

@@ -1,6 +1,6 @@
 -- What an interface says in the end, with the lines that are written for it behind its own.
 use Rattle.std.proofs.Common.{◌≡◌, ℕ, ◌+◌, Bool, true, false, cond, List, [], ◌∷◌, ◌++◌, Option, Some, None, Result, Ok, refl, sym}
-use Rattle.std.proofs.Common.{ap, ◌∙◌, append-nil}
+use Rattle.std.proofs.Common.{ap, ◌∙◌, append-nil, arith}
 use Rattle.std.specs.Prelude.{filter_map}
 use Rattle.std.specs.List.{list_any}
 use Rattle.std.proofs.lemmas.Bool.{or_parts, or_from}
@@ -16,8 +16,6 @@ use Rattle.ios_lines.specs.declared.fault.Fault.{Fault}
 use Rattle.ios_lines.specs.declared.kind.ReadKind.{ReadKind}
 use Rattle.ios_lines.specs.declared.interface_line.ProcessArea.{ProcessArea}
 use Rattle.ios_lines.specs.declared.interface_line.InterfaceLine.{InterfaceLine}
-use Rattle.ios_lines.specs.declared.interface_line.InterfaceLine.TheVariants.{Address, NoAddress, Shutdown, Vrf, Bandwidth, Cost, Area, PointToPoint, Isis}
-use Rattle.ios_lines.specs.declared.interface_line.InterfaceLine.TheVariants.{Circuit, Metric, Metric1, Metric2, Faulty, Skipped}
 use Rattle.ios_lines.specs.declared.interface_line.InterfaceStatement.{InterfaceStatement}
 use Rattle.ios_sections.specs.Processes.{mention_said}
 use Rattle.ios_sections.specs.declared.process.Mention.{Mention}
@@ -118,12 +116,7 @@ written_facts old passive circuit metric =
 
 facts_written : (n : ℕ) (old passive : Bool) (circuit : Option Levels) (metric : ℕ) →
     facts_of (says_from n (interface_says old passive circuit metric)) ≡ written_facts old passive circuit metric
-facts_written n true true circuit metric = refl
-facts_written n false true circuit metric = refl
-facts_written n true false None metric = refl
-facts_written n false false None metric = refl
-facts_written n true false (Some levels) metric = refl
-facts_written n false false (Some levels) metric = refl
+facts_written n old passive circuit metric = grind arith
 
 -- the facts with the lines that are written
 abbrev pub grown_facts : InterfaceFacts → Bool → Bool → Option Levels → ℕ → InterfaceFacts
@@ -141,12 +134,7 @@ facts_grown lines n old passive circuit metric =
 -- ---- whether they count ----
 
 no_vrf : (n : ℕ) (old passive : Bool) (circuit : Option Levels) (metric : ℕ) → in_vrf (says_from n (interface_says old passive circuit metric)) ≡ false
-no_vrf n true true circuit metric = refl
-no_vrf n false true circuit metric = refl
-no_vrf n true false None metric = refl
-no_vrf n false false None metric = refl
-no_vrf n true false (Some levels) metric = refl
-no_vrf n false false (Some levels) metric = refl
+no_vrf n old passive circuit metric = grind arith
 
 pub counting_outside : (lines : List InterfaceStatement) → in_vrf lines ≡ false → counting lines ≡ lines
 counting_outside lines outside = ap (λ (b : Bool). cond b [] lines) outside
@@ -163,12 +151,7 @@ counting_grown lines n old passive circuit metric outside =
 
 no_mention : (n : ℕ) (old passive : Bool) (circuit : Option Levels) (metric : ℕ) →
     filter_map (λ (t : InterfaceStatement). mention_said t.line t.says) (says_from n (interface_says old passive circuit metric)) ≡ []
-no_mention n true true circuit metric = refl
-no_mention n false true circuit metric = refl
-no_mention n true false None metric = refl
-no_mention n false false None metric = refl
-no_mention n true false (Some levels) metric = refl
-no_mention n false false (Some levels) metric = refl
+no_mention n old passive circuit metric = grind arith
 
 pub mentions_grown : (lines : List InterfaceStatement) (n : ℕ) (old passive : Bool) (circuit : Option Levels) (metric : ℕ) →
     filter_map (λ (t : InterfaceStatement). mention_said t.line t.says) (lines ++ says_from n (interface_says old passive circuit metric))
@@ -182,12 +165,7 @@ mentions_grown lines n old passive circuit metric =
 
 no_written_fault : (n : ℕ) (old passive : Bool) (circuit : Option Levels) (metric : ℕ) →
     interface_line_faults (Some []) (says_from n (interface_says old passive circuit metric)) ≡ []
-no_written_fault n true true circuit metric = refl
-no_written_fault n false true circuit metric = refl
-no_written_fault n true false None metric = refl
-no_written_fault n false false None metric = refl
-no_written_fault n true false (Some levels) metric = refl
-no_written_fault n false false (Some levels) metric = refl
+no_written_fault n old passive circuit metric = grind arith
 
 -- a line that has no fault without a process has none with one, and it doesn't run IS-IS
 record NeedsNoProcess (s : InterfaceStatement) : Type 0 where
@@ -199,21 +177,7 @@ needs_none s e = by_says s.says e
   where
     by_says : (says : InterfaceLine) → faults_at s.line (interface_line_fault says) ++ faults_at s.line (membership_fault None says) ≡ [] →
         NeedsNoProcess (record { line = s.line; says = says })
-    by_says (Address r) e = record { fine = e; idle = refl }
-    by_says NoAddress e = record { fine = e; idle = refl }
-    by_says (Shutdown b) e = record { fine = e; idle = refl }
-    by_says Vrf e = record { fine = e; idle = refl }
-    by_says (Bandwidth r) e = record { fine = e; idle = refl }
-    by_says (Cost r) e = record { fine = e; idle = refl }
-    by_says (Area r) e = record { fine = e; idle = refl }
-    by_says (PointToPoint r) e = record { fine = e; idle = refl }
-    by_says (Isis tag) e = absurd cc
-    by_says (Circuit r) e = record { fine = e; idle = refl }
-    by_says (Metric r) e = record { fine = e; idle = refl }
-    by_says (Metric1 r) e = record { fine = e; idle = refl }
-    by_says (Metric2 r) e = record { fine = e; idle = refl }
-    by_says (Faulty kind) e = record { fine = e; idle = refl }
-    by_says Skipped e = record { fine = e; idle = refl }
+    by_says says e = grind arith
 
 -- the same of some lines
 pub record NeedNoProcess (lines : List InterfaceStatement) : Type 0 where
@@ -253,21 +217,7 @@ record SaysNoOld (says : InterfaceLine) : Type 0 where
   metric2 : metric2_said says ≡ None
 
 says_no_old : (says : InterfaceLine) → is_old_line says ≡ false → SaysNoOld says
-says_no_old (Address r) e = record { circuit = refl; metric1 = refl; metric2 = refl }
-says_no_old NoAddress e = record { circuit = refl; metric1 = refl; metric2 = refl }
-says_no_old (Shutdown b) e = record { circuit = refl; metric1 = refl; metric2 = refl }
-says_no_old Vrf e = record { circuit = refl; metric1 = refl; metric2 = refl }
-says_no_old (Bandwidth r) e = record { circuit = refl; metric1 = refl; metric2 = refl }
-says_no_old (Cost r) e = record { circuit = refl; metric1 = refl; metric2 = refl }
-says_no_old (Area r) e = record { circuit = refl; metric1 = refl; metric2 = refl }
-says_no_old (PointToPoint r) e = record { circuit = refl; metric1 = refl; metric2 = refl }
-says_no_old (Isis tag) e = record { circuit = refl; metric1 = refl; metric2 = refl }
-says_no_old (Circuit r) e = absurd cc
-says_no_old (Metric r) e = absurd cc
-says_no_old (Metric1 r) e = absurd cc
-says_no_old (Metric2 r) e = absurd cc
-says_no_old (Faulty kind) e = record { circuit = refl; metric1 = refl; metric2 = refl }
-says_no_old Skipped e = record { circuit = refl; metric1 = refl; metric2 = refl }
+says_no_old says e = grind arith
 
 still_none : {A B : Type 0} (form : A → Option B) (x : A) (xs : List A) → form x ≡ None → last_of form xs ≡ None → last_of form (x ∷ xs) ≡ None
 still_none form x xs one rest = ap (λ o. later o (last_of form xs)) one ∙ later_none (last_of form xs) ∙ rest

@@ -10,13 +10,11 @@ use Rattle.net_addr.proofs.JoinedFacts.{is_of_whole_lines-append}
 use Rattle.net_model.specs.Configuration.{Configuration}
 use Rattle.net_model.specs.Network.{Network}
 use Rattle.net_model.specs.Refusals.{NamesAscend}
-use Rattle.printed_lines.specs.Texts.{text_of}
 use Rattle.ios_lines.specs.FaultOrder.{faults_if}
 use Rattle.ios_lines.specs.declared.kind.ReadKind.TheVariants.{NoEnd}
 use Rattle.ios_sections.specs.TextLines.{TextLine, Part, lines_in, counted_lines, is_end, rest_after, parts_of}
 use Rattle.ios_sections.specs.TextLines.{begins_configuration, is_empty, lacks_end}
 use Rattle.ios_sections.specs.Sections.{sections_in}
-use Rattle.ios_sections.specs.declared.section.Section.{Section}
 use Rattle.ios_sections.specs.JoinedLines.{further_on, is_in_banner, begins_with_end}
 use Rattle.ios_sections.proofs.JoinedFacts.{lines_in-append}
 use Rattle.ios_reader.specs.Faults.{part_faults}
@@ -30,7 +28,7 @@ use Rattle.ios_reader.proofs.RawLines.{IsWholeBefore, AreRaw, joined_raw, HasOne
 use Rattle.ios_reader.proofs.RawLines.{whole_next, whole_start}
 use Rattle.design_file.specs.Settling.{FitsNetwork}
 use Rattle.design_file.specs.declared.settled.SettledRouter.{SettledRouter}
-use Rattle.isis_writer.specs.Prepared.{new_lines}
+use Rattle.isis_writer.specs.Prepared.{new_block}
 use Rattle.isis_writer.specs.PreparedConfigurations.{prepared}
 use Rattle.isis_writer.proofs.ListFacts.{none_left}
 use Rattle.isis_writer.proofs.PreparedGrows.{prepared_grows}
@@ -41,10 +39,6 @@ use Rattle.isis_writer.proofs.PreparedGrows.{prepared_grows}
 abbrev pub ends_among : List ℕ → List (List ℕ) → Bool
 ends_among before [] = false
 ends_among before (raw ∷ raws) = ends_here before raw || ends_among (before ++ raw) raws
-
--- the new lines before the `end` line of a configuration with these sections
-abbrev pub new_block : Network → List SettledRouter → List Section → List ℕ
-new_block net settled sections = text_of (new_lines net settled sections)
 
 -- what stands behind a text up to the last `end` line, with the new lines before each `end` line
 abbrev pub put_lines : Network → List SettledRouter → List ℕ → List (List ℕ) → List ℕ

@@ -6,7 +6,6 @@ use Rattle.std.proofs.lemmas.Bool.{and_parts, not-true}
 use Rattle.std.proofs.lemmas.List.{drop-append-le, drop_all, drop_at}
 use Rattle.net_addr.specs.JoinedLines.{is_of_whole_lines}
 use Rattle.net_model.specs.Network.{Network}
-use Rattle.printed_lines.specs.Texts.{text_of}
 use Rattle.ios_sections.specs.TextLines.{TextLine, Part, lines_in, is_end, parts_of}
 use Rattle.ios_sections.specs.JoinedLines.{further_on, is_in_banner, begins_with_end, open_sections}
 use Rattle.ios_sections.proofs.JoinedFacts.{lines_in-append}
@@ -15,13 +14,16 @@ use Rattle.design_file.specs.declared.settled.SettledRouter.{SettledRouter}
 use Rattle.ios_reader.specs.Places.{between, start_of}
 use Rattle.ios_reader.proofs.RawLines.{IsWholeBefore, AreRaw, joined_raw, HasOneLine, one_line, parts_stay, parts_at_end, open_lines, part_with, whole_next}
 use Rattle.ios_reader.proofs.LinePlaces.{next_begins, up_to}
-use Rattle.isis_writer.specs.Prepared.{new_lines, prepared_parts}
+use Rattle.isis_writer.specs.Prepared.{new_block, prepared_parts}
 use Rattle.ios_reader.specs.PutBlocks.{ends_here}
 use Rattle.isis_writer.proofs.PreparedLines.{ends_among, put_lines, put_none}
 
 module _ (net : Network) (settled : List SettledRouter) (text : List ℕ) where
   abbrev block : List ℕ → List ℕ
-  block before = text_of (new_lines net settled (open_sections before))
+  block before = new_block net settled (open_sections before)
+
+  abbrev parts_from : ℕ → List Part → List ℕ
+  parts_from = prepared_parts (new_block net settled) text
 
   abbrev put : List ℕ → List (List ℕ) → List ℕ
   put before raws = put_lines net settled before raws
@@ -31,7 +33,7 @@ module _ (net : Network) (settled : List SettledRouter) (text : List ℕ) where
     later : List Part
     parts : parts_of (lines_in text) ≡ parts_of (lines_in before) ++ later
     some : ends_among before raws ≡ true → (from : ℕ) → from ≤ length before →
-        prepared_parts text net settled from later ≡ drop from before ++ put before raws
+        parts_from from later ≡ drop from before ++ put before raws
     none : ends_among before raws ≡ false → later ≡ []
 
   -- a line that is no `end` line outside banners
@@ -84,7 +86,7 @@ module _ (net : Network) (settled : List SettledRouter) (text : List ℕ) where
       let its : between text (length before) (length (before ++ raw)) ≡ raw =
       up_to (before ++ raw) (joined_raw raws) text (length before) joined (omega (arith, long)) ∙ drop_at before raw (length before) refl in
       let tail : List ℕ = put (before ++ raw) raws in
-      let after : prepared_parts text net settled (length (before ++ raw)) rest.later ≡ put (before ++ raw) raws =
+      let after : parts_from (length (before ++ raw)) rest.later ≡ put (before ++ raw) raws =
       by_more (ends_among (before ++ raw) raws) refl in
       record {
         later = part ∷ rest.later;
@@ -93,14 +95,12 @@ module _ (net : Network) (settled : List SettledRouter) (text : List ℕ) where
             ∙ ap (λ (ps : List Part). ps ++ rest.later) (parts_at_end before raw line [] outside is e)
             ∙ append_assoc (parts_of (lines_in before)) (part ∷ []) rest.later;
         some = λ ends from low.
-            ap (λ (s : ℕ). (between text from s ++ block before ++ between text s (start_of text (n + line.number + 1))) ++ prepared_parts
-            text net settled (start_of text (n + line.number + 1)) rest.later) start
-            ∙ ap (λ (s : ℕ). (between text from (length before) ++ block before ++ between text (length before) s) ++ prepared_parts text
-            net settled s rest.later) next
-            ∙ ap (λ (l : List ℕ). (l ++ block before ++ between text (length before) (length (before ++ raw))) ++ prepared_parts text net
-            settled (length (before ++ raw)) rest.later)
-            (up_to before (raw ++ joined_raw raws) text from split low)
-            ∙ ap (λ (l : List ℕ). (drop from before ++ block before ++ l) ++ prepared_parts text net settled (length (before ++ raw)) rest.later) its
+            ap (λ (s : ℕ). (between text from s ++ block before ++ between text s (start_of text (n + line.number + 1)))
+            ++ parts_from (start_of text (n + line.number + 1)) rest.later) start
+            ∙ ap (λ (s : ℕ). (between text from (length before) ++ block before ++ between text (length before) s) ++ parts_from s rest.later) next
+            ∙ ap (λ (l : List ℕ). (l ++ block before ++ between text (length before) (length (before ++ raw)))
+            ++ parts_from (length (before ++ raw)) rest.later) (up_to before (raw ++ joined_raw raws) text from split low)
+            ∙ ap (λ (l : List ℕ). (drop from before ++ block before ++ l) ++ parts_from (length (before ++ raw)) rest.later) its
             ∙ ap (λ (l : List ℕ). (drop from before ++ block before ++ raw) ++ l) after
             ∙ append_assoc (drop from before ++ block before) raw tail
             ∙ append_assoc (drop from before) (block before) (raw ++ tail)
@@ -111,10 +111,10 @@ module _ (net : Network) (settled : List SettledRouter) (text : List ℕ) where
       }
     where
       by_more : (b : Bool) → ends_among (before ++ raw) raws ≡ b →
-          prepared_parts text net settled (length (before ++ raw)) rest.later ≡ put (before ++ raw) raws
+          parts_from (length (before ++ raw)) rest.later ≡ put (before ++ raw) raws
       by_more true more = rest.some more (length (before ++ raw)) (omega arith)
           ∙ ap (λ (l : List ℕ). l ++ put (before ++ raw) raws) (drop_all (length (before ++ raw)) (before ++ raw) (omega arith))
-      by_more false more = ap (prepared_parts text net settled (length (before ++ raw))) (rest.none more)
+      by_more false more = ap (parts_from (length (before ++ raw))) (rest.none more)
           ∙ sym (put_none net settled (before ++ raw) raws more)
 
   all_behind : (raws : List (List ℕ)) (before : List ℕ) → IsWholeBefore before raws → AreRaw raws →
@@ -145,7 +145,7 @@ module _ (net : Network) (settled : List SettledRouter) (text : List ℕ) where
 
   -- where a line of the text is an `end` line
   pub prepared_by_parts : (raws : List (List ℕ)) → IsWholeBefore [] raws → AreRaw raws → joined_raw raws ≡ text → ends_among [] raws ≡ true →
-      prepared_parts text net settled 0 (parts_of (lines_in text)) ≡ put [] raws
+      parts_from 0 (parts_of (lines_in text)) ≡ put [] raws
   prepared_by_parts raws whole are split ends =
       let all : Behind [] raws = all_behind raws [] whole are split in
-      ap (prepared_parts text net settled 0) all.parts ∙ all.some ends 0 (omega arith)
+      ap (parts_from 0) all.parts ∙ all.some ends 0 (omega arith)

@@ -11,7 +11,7 @@ use Rattle.std.proofs.lemmas.List.{map-append}
 use Rattle.std.proofs.lemmas.List.Folds.{list_all-append}
 use Rattle.net_model.specs.declared.bounds.TheConstants.{MOST_DISTANCE, MOST_METRIC}
 use Rattle.net_model.specs.declared.config.Levels.{Levels}
-use Rattle.net_model.specs.declared.config.Levels.TheVariants.{One, Two, Both}
+use Rattle.net_model.specs.declared.config.Levels.TheVariants.{Both}
 use Rattle.printed_lines.specs.Words.{spaced, joined}
 use Rattle.printed_lines.proofs.NumberFacts.{numbers_read_back}
 use Rattle.ios_lines.specs.Words.{Word, is_printable, levels_of, at_least, number_from}
@@ -39,9 +39,7 @@ use Rattle.printed_sections.proofs.SectionFacts.{number_fine}
 -- ---- words ----
 
 levels_read : (levels : Levels) → levels_of (level_word levels) ≡ Ok levels
-levels_read One = refl
-levels_read Two = refl
-levels_read Both = refl
+levels_read levels = grind arith
 
 -- an interface's name is a word
 some_name : (n : ℕ) → nat_le 1 n ≡ true → nat_lt 0 n ≡ true
@@ -102,9 +100,7 @@ runs_spaced true = refl
 runs_spaced false = refl
 
 levels_spaced : (old : Bool) (circuit : Option Levels) → map spaced (level_words old circuit) ≡ level_lines old circuit
-levels_spaced old (Some levels) = refl
-levels_spaced true None = refl
-levels_spaced false None = refl
+levels_spaced old circuit = grind arith
 
 circuits_spaced : (old passive : Bool) (circuit : Option Levels) → map spaced (circuit_bodies old passive circuit) ≡ cond passive []
     (level_lines old circuit)
@@ -164,9 +160,7 @@ one_circuit : (levels : Levels) → interface_line (circuit_words levels) ≡ Ci
 one_circuit levels = ap (λ r. Circuit r) (levels_read levels)
 
 level_lines_read : (old : Bool) (circuit : Option Levels) → map interface_line (level_words old circuit) ≡ level_says old circuit
-level_lines_read old (Some levels) = ap (λ (l : InterfaceLine). l ∷ []) (one_circuit levels)
-level_lines_read true None = ap (λ (l : InterfaceLine). l ∷ []) (one_circuit Both)
-level_lines_read false None = refl
+level_lines_read old circuit = grind arith
 
 circuits_read : (old passive : Bool) (circuit : Option Levels) → map interface_line (circuit_bodies old passive circuit) ≡ circuit_says old passive circuit
 circuits_read old true circuit = refl
@@ -200,14 +194,10 @@ runs_fine true = refl
 runs_fine false = refl
 
 circuit_fine : (levels : Levels) → is_fine_line (circuit_words levels) ≡ true
-circuit_fine One = refl
-circuit_fine Two = refl
-circuit_fine Both = refl
+circuit_fine levels = grind arith
 
 level_bodies_fine : (old : Bool) (circuit : Option Levels) → list_all is_fine_line (level_words old circuit) ≡ true
-level_bodies_fine old (Some levels) = ap (λ (b : Bool). b && true) (circuit_fine levels)
-level_bodies_fine true None = refl
-level_bodies_fine false None = refl
+level_bodies_fine old circuit = grind arith
 
 circuits_fine : (old passive : Bool) (circuit : Option Levels) → list_all is_fine_line (circuit_bodies old passive circuit) ≡ true
 circuits_fine old true circuit = refl
@@ -388,9 +378,7 @@ passives_fine (i ∷ is) named = both_fine (passive_words i) (flat_map passive_w
     by_passive false = refl
 
 type_fine : (levels : Levels) → is_fine_line (type_words levels) ≡ true
-type_fine One = refl
-type_fine Two = refl
-type_fine Both = refl
+type_fine levels = grind arith
 
 pub process_bodies_fine : (number : ℕ) (router : SettledRouter) → is_area router.area ≡ true → AreNamed router.interfaces →
     list_all is_fine_line (process_bodies number router) ≡ true

@@ -11,8 +11,7 @@ use Rattle.ios_lines.specs.Words.{Word, says, begins_with_two, lacks}
 use Rattle.ios_lines.specs.Heads.{is_interface_name, interface_name, interface_of, router_head, head_of}
 use Rattle.ios_lines.specs.Lookups.{first_seen}
 use Rattle.ios_lines.specs.declared.head.Head.{Head}
-use Rattle.ios_lines.specs.declared.head.Head.TheVariants.{Hostname as NameHead, Interface as InterfaceHead, Ospf as OspfHead, Isis as IsisHead}
-use Rattle.ios_lines.specs.declared.head.Head.TheVariants.{Faulty as FaultyHead, Other as OtherHead}
+use Rattle.ios_lines.specs.declared.head.Head.TheVariants.{Interface as InterfaceHead}
 use Rattle.ios_lines.specs.declared.kind.ReadKind.TheVariants.{Unsupported}
 use Rattle.ios_lines.specs.declared.interface_line.InterfaceStatement.{InterfaceStatement}
 use Rattle.ios_lines.proofs.Picked.{by_if, all_taken, names_apart}
@@ -20,7 +19,7 @@ use Rattle.ios_sections.specs.TextLines.{TextLine, Part, sections_of}
 use Rattle.ios_sections.specs.Sections.{section_with, section_of, sections_in}
 use Rattle.ios_sections.specs.Processes.{as_interface, merged, interfaces_in}
 use Rattle.ios_sections.specs.declared.section.Section.{Section}
-use Rattle.ios_sections.specs.declared.section.Section.TheVariants.{Hostname, Interface as InterfaceShown, Ospf, Isis, Faulty, Other}
+use Rattle.ios_sections.specs.declared.section.Section.TheVariants.{Interface as InterfaceShown}
 use Rattle.ios_sections.specs.declared.section.InterfaceSection.{InterfaceSection}
 use Rattle.design_file.specs.Designs.{IsMetric}
 use Rattle.design_file.specs.Settling.{AreForSome, IsFor}
@@ -62,15 +61,7 @@ head_named words =
     (by_if IsNamedHead (begins_with_two words (codes "ip") (codes "route") && not (says words 2 (codes "vrf"))) _ _ tt tt)))
 
 with_named : (h : Head) (line : ℕ) (body : List TextLine) → IsNamedHead h → IsNamedSection (section_with h line body)
-with_named (NameHead (Ok name)) line body h = tt
-with_named (NameHead (Err kind)) line body h = tt
-with_named (InterfaceHead (Ok name)) line body h = h
-with_named (InterfaceHead (Err kind)) line body h = tt
-with_named (OspfHead (Ok process)) line body h = tt
-with_named (OspfHead (Err kind)) line body h = tt
-with_named (IsisHead tag) line body h = tt
-with_named (FaultyHead kind) line body h = tt
-with_named OtherHead line body h = tt
+with_named head line body h = grind arith
 
 sections_named : (part : Part) → All IsNamedSection (sections_in part)
 sections_named part =
@@ -79,12 +70,7 @@ sections_named part =
     (get_or (sections_of part.lines) k d).body (head_named (get_or (sections_of part.lines) k d).head.words))
 
 as_interface_named : (s : Section) → IsNamedSection s → IfSome (as_interface s) (λ (i : InterfaceSection). is_interface_name i.name ≡ true)
-as_interface_named (Hostname name) h = tt
-as_interface_named (InterfaceShown s) h = h
-as_interface_named (Ospf s) h = tt
-as_interface_named (Isis s) h = tt
-as_interface_named (Faulty f) h = tt
-as_interface_named Other h = tt
+as_interface_named s h = grind arith
 
 seen_named : (ns : List Word) → All (λ (n : Word). is_interface_name n ≡ true) ns → All (λ (n : Word). is_interface_name n ≡ true) (first_seen ns)
 seen_named [] all = All-nil (λ (n : Word). is_interface_name n ≡ true)

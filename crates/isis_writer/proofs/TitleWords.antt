@@ -68,11 +68,7 @@ abbrev groups : ℕ → ℕ → ℕ → ℕ → List ℕ
 groups a b c d = codes ".0000.0000." ++ (a ∷ b ∷ c ∷ d ∷ [])
 
 four : (p q r s : Bool) → p ≡ true → q ≡ true → r ≡ true → s ≡ true → (p && (q && (r && (s && true)))) ≡ true
-four true true true true a b c d = refl
-four false q r s a b c d = absurd cc
-four true false r s a b c d = absurd cc
-four true true false s a b c d = absurd cc
-four true true true false a b c d = absurd cc
+four p q r s a b c d = grind arith
 
 groups_good : (a b c d : ℕ) → is_hex a ≡ true → is_hex b ≡ true → is_hex c ≡ true → is_hex d ≡ true →
     grouped_from 0 (groups a b c d) ≡ true

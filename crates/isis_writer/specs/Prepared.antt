@@ -35,20 +35,23 @@ abbrev pub new_lines : Network → List SettledRouter → List Section → List 
 new_lines net settled sections =
     numbered_lines (interfaces_in sections) settled (numbered_from 0 (unwrap_or (last_of as_hostname sections) []) net)
 
+-- the same as a block of text
+abbrev pub new_block : Network → List SettledRouter → List Section → List ℕ
+new_block net settled sections = text_of (new_lines net settled sections)
+
 -- ---- the text ----
 
--- a part with its new lines: what stands before its `end` line, the new lines, and the `end` line
-abbrev pub prepared_part : List ℕ → Network → List SettledRouter → ℕ → Part → List ℕ
-prepared_part text net settled from part =
-    between text from (start_of text part.ends) ++ text_of (new_lines net settled (sections_in part))
-    ++ between text (start_of text part.ends) (start_of text (part.ends + 1))
+-- a part with the block for its sections: what stands before its `end` line, the block, and the `end` line
+abbrev pub prepared_part : (List Section → List ℕ) → List ℕ → ℕ → Part → List ℕ
+prepared_part block text from part =
+    between text from (start_of text part.ends) ++ block (sections_in part) ++ between text (start_of text part.ends) (start_of text (part.ends + 1))
 
--- the parts with their new lines, from a place of the text on
-abbrev pub prepared_parts : List ℕ → Network → List SettledRouter → ℕ → List Part → List ℕ
-prepared_parts text net settled from [] = []
-prepared_parts text net settled from (part ∷ more) =
-    prepared_part text net settled from part ++ prepared_parts text net settled (start_of text (part.ends + 1)) more
+-- the parts with their blocks, from a place of the text on
+abbrev pub prepared_parts : (List Section → List ℕ) → List ℕ → ℕ → List Part → List ℕ
+prepared_parts block text from [] = []
+prepared_parts block text from (part ∷ more) =
+    prepared_part block text from part ++ prepared_parts block text (start_of text (part.ends + 1)) more
 
 -- the prepared text
 abbrev pub prepared_text : List ℕ → Network → List SettledRouter → List ℕ
-prepared_text text net settled = prepared_parts text net settled 0 (parts_of (lines_in text))
+prepared_text text net settled = prepared_parts (new_block net settled) text 0 (parts_of (lines_in text))

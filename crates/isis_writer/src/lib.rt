@@ -2,10 +2,12 @@
 //!
 //! | Notion | Definition | Code |
 //! |---|---|---|
-//! | the lines of one router: its process with a network entity title (ISO 10589), wide metrics (RFC 5305) and leaking (RFC 5302), idle at distance 255, and its interfaces | `specs/RouterLines.antt` | `router_lines.rt` |
+//! | the lines of one router: its process, with a title (ISO 10589), and its interfaces | `specs/RouterLines.antt` | `router_lines.rt` |
 //! | where they stand in a text | `specs/Prepared.antt` | `prepared_text` (`prepared.rt`) |
 //! | what a settled design makes of a configuration | `specs/PreparedConfigurations.antt` | none: `prepared_laws` says that the prepared text is read so |
 //! | what several texts are read as | `specs/ReadTexts.antt` | none: the laws of several texts cite it |
+//!
+//! The process of a router has wide metrics (RFC 5305) and leaking (RFC 5302), and is idle at distance 255.
 //!
 //! The proof of `prepared_laws` goes from the lines to the text: what the printed words say (`proofs/TitleWords.antt`,
 //! `RouterWords`, `RouterBlocks`, over the law of `printed_sections`), what the sections say together with those of the old configuration

@@ -5,7 +5,7 @@ ghost use Rattle.ios_sections.specs.Sections.{section_of};
 ghost use Rattle.ios_sections.specs.TextLines.{parts_after, sections_of};
 ghost use Rattle.std.specs.Prelude.{map};
 ghost use Rattle.ios_reader.specs.Places.{between, start_of};
-ghost use Rattle.isis_writer.specs.Prepared.{new_lines, numbered_from, numbered_lines, prepared_parts, prepared_text};
+ghost use Rattle.isis_writer.specs.Prepared.{new_block, numbered_from, numbered_lines, prepared_parts, prepared_text};
 
 use crate::OutOfMemory;
 use crate::router_lines::with_router;
@@ -56,7 +56,7 @@ fn with_parts(
     settled: &Settled,
 ) -> Result<Vec<u8>, OutOfMemory>
     requires { lines.now ≡ text_lines text.now }
-    ensures { IfOk result (λ all. all.items ≡ prepared_parts text.now net.now settled.now 0 (parts_after [] counted.now)) }
+    ensures { IfOk result (λ all. all.items ≡ prepared_parts (new_block net.now settled.now) text.now 0 (parts_after [] counted.now)) }
 {
     let mut all = Vec::new(alloc);
     let mut from = 0;
@@ -108,7 +108,7 @@ fn new_text(
     settled: &Settled,
     lines: &[TextLine],
 ) -> Result<Bytes, OutOfMemory>
-    ensures { IfOk result (λ new. new ≡ text_of (new_lines net.now settled.now (map section_of (sections_of lines.now)))) }
+    ensures { IfOk result (λ new. new ≡ new_block net.now settled.now (map section_of (sections_of lines.now))) }
 {
     let statements = statements_of(alloc, read_sections(alloc, lines)?)?;
     let number = number_of(net, &statements.name);

@@ -157,10 +157,7 @@ place_of (first u) = 2 * u
 place_of (second u) = 2 * u + 1
 
 places_apart : (c d : Change) → c ≢ d → place_of c ≢ place_of d
-places_apart (first u) (first v) apart same = apart (ap first (let e : u ≡ v = omega (arith, same) in e))
-places_apart (second u) (second v) apart same = apart (ap second (let e : u ≡ v = omega (arith, same) in e))
-places_apart (first u) (second v) apart same = omega (arith, same)
-places_apart (second u) (first v) apart same = omega (arith, same)
+places_apart c d apart same = grind arith
 
 place_below : (n : ℕ) (c : Change) → changed c < n → place_of c < 2 * n
 place_below n (first u) below = omega (arith, below)

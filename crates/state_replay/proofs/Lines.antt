@@ -1,5 +1,5 @@
 -- The lines of a journal: each tells one change at most.
-use Rattle.std.proofs.Common.{◌≡◌, ℕ, ◌+◌, ◌-◌, ◌<◌, ◌≤◌, List, ◌++◌, length, get_or, take, drop, refl, sym, ap}
+use Rattle.std.proofs.Common.{◌≡◌, ℕ, ◌+◌, ◌-◌, ◌<◌, ◌≤◌, List, ◌++◌, length, take, drop, refl, sym, ap}
 use Rattle.std.proofs.Common.{subst, ◌∙◌, length-append, arith}
 use Rattle.std.proofs.lemmas.List.{take-append-le, drop-append-le, take_all, drop_all}
 use Rattle.net_model.specs.Lookups.{IsNamed}
@@ -40,10 +40,7 @@ parted line name end same two =
     }
 
 one_half : (half other : Half) → ending_of half ≡ ending_of other → half ≡ other
-one_half First First same = refl
-one_half Second Second same = refl
-one_half First Second same = let apart : 49 ≡ 50 = ap (λ (l : List ℕ). get_or l 1 0) same in absurd (omega (arith, apart))
-one_half Second First same = let apart : 50 ≡ 49 = ap (λ (l : List ℕ). get_or l 1 0) same in absurd (omega (arith, apart))
+one_half half other same = grind arith
 
 -- a line tells one change at most
 pub told_once : (net : Network) → NamesAscend net → (line : List ℕ) (c d : Change) → TellsChange net line c → TellsChange net line d → c ≡ d

@@ -39,9 +39,6 @@ not_yet : (ranks : List ℕ) (changes : List Change) (d : Change) → AllPairs (
 not_yet ranks changes d pairs here = (pairs_across (MayPrecede ranks) changes (d ∷ []) pairs d d here (Contains-first d [])).other refl
 
 module _ (n : ℕ) (ranks : List ℕ) (changes : List Change) (front : AreInFront n ranks changes) where
-  count_on : ℕ → ℕ
-  count_on u = changes_on u (map changed changes)
-
   -- a change that isn't made, where those before it are
   one_fits : (d : Change) → changed d < n → (Contains changes d → ⊥) →
       ((c : Change) → changed c < n → rank_of ranks (changed c) < rank_of ranks (changed d) → Contains changes c) →
@@ -109,10 +106,7 @@ module _ (n : ℕ) (ranks : List ℕ) (changes : List Change) (front : AreInFron
 
 -- the two changes of a router don't fit together
 fit_alone : (ranks done : List ℕ) (u : ℕ) (half next : Half) → FitsCounts ranks done u half → FitsCounts ranks done u next → half ≡ next
-fit_alone ranks done u First First one other = refl
-fit_alone ranks done u Second Second one other = refl
-fit_alone ranks done u First Second one other = let none = one.none in absurd (omega (arith, none, other))
-fit_alone ranks done u Second First one other = let none = other.none in absurd (omega (arith, none, one))
+fit_alone ranks done u half next one other = grind arith
 
 -- what fits is what may come next
 pub fitting : (ranks done : List ℕ) (u : ℕ) (next : Option Half) → IsRanking (length ranks) ranks → u < length ranks →

@@ -6,7 +6,9 @@
 //! |---|---|---|
 //! | the two changes of a router, and how a line writes them | `specs/Halves.antt` | `half.rt` |
 //! | the change that a line tells | `TellsChange` in `specs/Journals.antt` | `told.rt` |
-//! | how a journal line is judged: its change may come next and is made, or the line fits no run (`IsMisfit` in `specs/Journals.antt`) | `MakesChange` in `specs/steps/Making.antt` | `judge_line` in `journal.rt` |
+//! | how line 1 is judged: it is `journal 1` | `BeginsWithHeader` in `specs/steps/Making.antt` | `begins_journal` in `journal.rt` |
+//! | how a further line is judged: its change is made, or it fits no run | `MakesChange` in `specs/steps/Making.antt` | `judge_line` in `journal.rt` |
+//! | a line that fits no run | `IsMisfit` in `specs/Journals.antt` | `judge_line` in `journal.rt` |
 //! | where a whole journal stands | `IsPlace` in `specs/Journals.antt` | `replay` in `journal.rt`, `place.rt` |
 //! | which change of a router may come next | `IsNextOn` in `specs/Journals.antt` | `next_change` in `next.rt` |
 //! | that a journal stands at one place | `specs/ReplayLaws.antt` | `laws.rt` |

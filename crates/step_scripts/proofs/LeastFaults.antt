@@ -142,11 +142,7 @@ module _ (net : Network) (network : NamesAscend net) (version : Version) where
   -- a line that is no wave has no lower kind
   not_lower : (e : FileEntry) → ((names : List (List ℕ)) → IsWaveBehind e names → ⊥) → (its : OrderKind) → IsFaultBehind net e its →
       5 ≤ order_kind_rank its
-  not_lower e bare Header f = absurd f
-  not_lower e bare NotInNetwork f = absurd (bare f.names f.wave)
-  not_lower e bare Twice f = absurd (bare f.names f.wave)
-  not_lower e bare Missing f = absurd f
-  not_lower e bare its f = omega arith
+  not_lower e bare its f = grind arith
 
   -- neither a wave nor a chain
   pub lowest_no_wave : (before : List (List ℕ)) (line : List ℕ) → wave_on version line ≡ None → chain_on version line ≡ None →

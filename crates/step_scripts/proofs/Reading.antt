@@ -132,7 +132,7 @@ module _ (net : Network) (network : NamesAscend net) (version : Version) (text :
       record {
         waves = read.waves ++ names ∷ [];
         each = subst (λ l. AllZip (Says version) l (read.waves ++ names ∷ [])) (sym step)
-            (all_zipped_more (Says version) (take i (bytes_of_lines text entries)) read.waves (get_or (bytes_of_lines text entries) i []) names read.each here);
+            (all_zipped_more (Says version) (take i (bytes_of_lines text entries)) read.waves _ names read.each here);
         named = subst (λ s. AllZip (AllZip (IsNamed net)) (read.waves ++ names ∷ []) s) (sym takes.added)
             (all_zipped_more (AllZip (IsNamed net)) read.waves old names takes.routers read.named takes.named);
         once =

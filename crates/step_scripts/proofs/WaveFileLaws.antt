@@ -91,12 +91,7 @@ abbrev kind_at : ℕ → OrderKind
 kind_at n = get_or (Header ∷ Header ∷ NotInNetwork ∷ Twice ∷ Missing ∷ Wave ∷ Chain ∷ []) n Header
 
 kind_back : (kind : OrderKind) → kind_at (order_kind_rank kind) ≡ kind
-kind_back Header = refl
-kind_back NotInNetwork = refl
-kind_back Twice = refl
-kind_back Missing = refl
-kind_back Wave = refl
-kind_back Chain = refl
+kind_back kind = grind arith
 
 -- a text has one least faulty line, and one lowest kind on it
 pub one_faulty_line : (net : Network) (text : List ℕ) (l m : ℕ) (k j : OrderKind) → IsLeastFaultyLine net text l k →

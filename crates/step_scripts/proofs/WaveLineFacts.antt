@@ -1,9 +1,9 @@
 -- What a line of an order file can say: a wave or a chain, and not both.
-use Rattle.std.proofs.Common.{◌≡◌, ℕ, ◌<◌, Bool, true, false, cond, ◌&&◌, Option, Some, None, List, [], ◌∷◌, length, get_or, refl, sym}
+use Rattle.std.proofs.Common.{◌≡◌, ℕ, ◌<◌, Bool, true, false, cond, ◌&&◌, Option, Some, None, List, [], ◌∷◌, length, refl, sym}
 use Rattle.std.proofs.Common.{ap, subst, arith}
-use Rattle.std.specs.Prelude.{codes, bytes_eq, nat_lt}
-use Rattle.std.specs.List.{AllZip, list_all, slice_split}
-use Rattle.std.proofs.lemmas.Bool.{and_parts, ltb-true}
+use Rattle.std.specs.Prelude.{codes, bytes_eq}
+use Rattle.std.specs.List.{AllZip, slice_split}
+use Rattle.std.proofs.lemmas.Bool.{and_parts}
 use Rattle.std.proofs.lemmas.Slice.Eq.{bytes_eq-Decides}
 use Rattle.net_addr.specs.Blanks.{is_blank}
 use Rattle.step_scripts.specs.WaveLines.{header_of, are_names, named_pieces, wave_on, chain_on, waves_on, chains_on}
@@ -17,10 +17,7 @@ Says version line wave = wave_on version line ≡ Some wave
 
 -- two headers are of one version
 pub one_header : (version its : Version) → header_of version ≡ header_of its → version ≡ its
-one_header One One same = refl
-one_header One Two same = absurd (omega (arith, ap (λ (l : List ℕ). get_or l 6 0) same))
-one_header Two One same = absurd (omega (arith, ap (λ (l : List ℕ). get_or l 6 0) same))
-one_header Two Two same = refl
+one_header version its same = grind arith
 
 -- what stands behind a word
 pub record IsBehind (word first : List ℕ) (rest names : List (List ℕ)) : Type 0 where
@@ -59,14 +56,8 @@ wave_no_chain version line names says = by_case (chain_on version line) refl
     by_case None is = is
     by_case (Some other) is = absurd (let none = chain_no_wave version line other is in cc)
 
-some_names : (names : List (List ℕ)) → are_names names ≡ true → 0 < length names
-some_names names are = ltb-true 0 (length names) (and_parts (nat_lt 0 (length names)) (list_all (λ name. nat_lt 0 (length name)) names) are).0
-
 some_behind : (word : List ℕ) (pieces names : List (List ℕ)) → named_pieces word pieces ≡ Some names → 0 < length names
-some_behind word [] names same = absurd cc
-some_behind word (first ∷ rest) names same =
-    let is = behind_first word first rest names same in
-    subst (λ l. 0 < length l) (sym is.names_are) (some_names rest is.are)
+some_behind word pieces names same = grind arith
 
 -- a wave has a name
 pub wave_some : (version : Version) (line : List ℕ) (names : List (List ℕ)) → Says version line names → 0 < length names

@@ -94,7 +94,6 @@ fn seat_waves(
     text: &[u8],
     entries: &[Line],
 ) -> Result<Seats, OrderRefusal>
-    requires network { IsNetwork net.now }
     requires entries { AreFileEntries version text.now entries.now }
     ensures ok { IfOk result (AreFirstWaves net.now version (bytes_of_lines text.now entries.now)) }
     ensures err { IfErr result (RefusesWaves net.now text.now) }

@@ -2,7 +2,7 @@ use Rattle.std.proofs.Common.{◌≡◌, ◌+◌, ◌++◌, ℕ, true, false, Li
 use Rattle.std.specs.List.{slice_range}
 use Rattle.ios_sections.specs.TextLines.{is_end, parts_after}
 use Rattle.ios_reader.specs.Places.{between, start_of}
-use Rattle.isis_writer.specs.Prepared.{prepared_parts}
+use Rattle.isis_writer.specs.Prepared.{new_block, prepared_parts}
 use Rattle.ios_reader.proofs.PartSteps.{at_end, at_other}
 use Rattle.isis_writer.proofs.prepared.with_parts.Goals.{then-is_end+in_ok-new+in_ok-from, else-is_end}
 use Rattle.isis_writer.proofs.prepared.with_parts.Goals as goal
@@ -10,12 +10,11 @@ use Rattle.isis_writer.proofs.prepared.with_parts.Goals as goal
 pub loop-i-preserved : goal.loop-i-preserved
 loop-i-preserved c =
     let text = c.args.text.now in
-    let net = c.args.net.now in
-    let settled = c.args.settled.now in
+    let parts = prepared_parts (new_block c.args.net.now c.args.settled.now) text in
     let counted = c.args.counted.now in
     let i = c.loop-i.i in
     let x = c.index-counted-i.result in
-    let F : List ℕ → ℕ → ℕ → List ℕ = λ all from start. all ++ prepared_parts text net settled from
+    let F : List ℕ → ℕ → ℕ → List ℕ = λ all from start. all ++ parts from
     (parts_after (slice_range counted start (i + 1)) (drop (i + 1) counted)) in
     elim c.if-is_end.branch [
       | then-is_end+in_ok-new+in_ok-from w ↦
@@ -29,9 +28,9 @@ loop-i-preserved c =
             rest = ap (λ (v : Vec ℕ Global). F v.items c.if-is_end.from c.if-is_end.start) w.all-is
                 ∙ ap₂ (F w.add_part.new.all.items) w.from-is w.start-is
                 ∙ ap (λ (items : List ℕ). F items w.in_ok-from.from (i + 1)) added
-                ∙ at_end (prepared_parts text net settled) counted i x c.loop-i-test.true c.index-counted-i.is c.loop-i.start c.loop-i.from
+                ∙ at_end parts counted i x c.loop-i-test.true c.index-counted-i.is c.loop-i.start c.loop-i.from
                 w.in_ok-from.from c.loop-i.all.items (head ++ w.as_slice.result.now ++ last) _ ends
-                (λ more. sym (ap₂ (λ (n : ℕ) (t : List ℕ). (head ++ t ++ last) ++ prepared_parts text net settled n more) next
+                (λ more. sym (ap₂ (λ (n : ℕ) (t : List ℕ). (head ++ t ++ last) ++ parts n more) next
                 (w.as_slice.ensures ∙ w.in_ok-new.ensures)))
                 c.loop-i.invariant.rest;
           }
@@ -41,7 +40,7 @@ loop-i-preserved c =
             start = omega (arith, w.start-is, c.loop-i.invariant.start);
             rest = ap (λ (v : Vec ℕ Global). F v.items c.if-is_end.from c.if-is_end.start) w.all-is
                 ∙ ap₂ (F c.loop-i.all.items) w.from-is w.start-is
-                ∙ at_other (prepared_parts text net settled) counted i x c.loop-i-test.true c.index-counted-i.is c.loop-i.start
+                ∙ at_other parts counted i x c.loop-i-test.true c.index-counted-i.is c.loop-i.start
                 c.loop-i.from c.loop-i.all.items _
                 c.loop-i.invariant.start other c.loop-i.invariant.rest;
           }

@@ -1,12 +1,12 @@
 use Rattle.std.proofs.Common.{◌≡◌, ◌≤◌, ◌++◌, [], drop}
 use Rattle.std.specs.List.{slice_range}
 use Rattle.ios_sections.specs.TextLines.{parts_after}
-use Rattle.isis_writer.specs.Prepared.{prepared_parts}
+use Rattle.isis_writer.specs.Prepared.{new_block, prepared_parts}
 use Rattle.isis_writer.proofs.prepared.with_parts.Given as goal
 
 abbrev pub invariant-loop-i : goal.invariant-loop-i
 invariant-loop-i l = record {
   start : l.start ≤ l.i;
-  rest : l.all.items ++ prepared_parts l.text l.net l.settled l.from (parts_after (slice_range l.counted l.start l.i) (drop l.i l.counted))
-      ≡ prepared_parts l.text l.net l.settled 0 (parts_after [] l.counted);
+  rest : l.all.items ++ prepared_parts (new_block l.net l.settled) l.text l.from (parts_after (slice_range l.counted l.start l.i) (drop l.i l.counted))
+      ≡ prepared_parts (new_block l.net l.settled) l.text 0 (parts_after [] l.counted);
 }
