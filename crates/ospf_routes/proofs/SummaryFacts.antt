@@ -24,8 +24,8 @@ use Rattle.ospf_routes.specs.steps.Destinations.{IsDestination}
 use Rattle.ospf_routes.specs.Lists.{Exactly, Adds}
 use Rattle.ospf_routes.specs.steps.Members.{IsBorderIn}
 use Rattle.ospf_routes.specs.steps.Offered.{AreOffers, OutsideOf}
-use Rattle.ospf_routes.specs.steps.Ranges.{IsComponentOfSome, AreActiveRanges}
-use Rattle.ospf_routes.specs.steps.Summarized.{IsAreaSubnet, IsSubnetSummary, SummarizedSubnet, IsRangeRoute}
+use Rattle.ospf_routes.specs.steps.Ranges.{IsComponentOfSome, AreActiveRanges, AreRangesBelow}
+use Rattle.ospf_routes.specs.steps.Summarized.{IsAreaSubnet, IsSubnetSummary, SummarizedSubnet, IsListedRange, IsRangeRoute}
 use Rattle.ospf_routes.specs.steps.Summarized.{SummarizedRange, SummarizedFrom, AreSummarized, OutsideSummary}
 use Rattle.ospf_routes.specs.steps.Summarized.{Announces, IsPassedOn, IsHeard, IsOutgoing, IsAlone, IsDefault, RouterDefault, HasDefault}
 use Rattle.ospf_routes.specs.declared.intra_area.AreaOffers.{AreaOffers}
@@ -96,37 +96,40 @@ subnets_are net d given is same r = (
       (subst (λ (l : List AreaOffers). Contains l has.part) (sym same) has.among) (record { area = sym has.area; summarized = s }),
 )
 
-pub ranges_are : (net : Network) (p : Block) (b : ℕ) (actives given : List ActiveRange) → AreActiveRanges net b actives → given ≡ actives → (r : AreaRoute) →
-    Any (λ (a : ActiveRange). IsRangeRoute a p b r) given ↔ SummarizedRange net p b r
-ranges_are net p b actives given are same r =
-    let listed : AreActiveRanges net b given = subst (AreActiveRanges net b) (sym same) are in (
-      λ any.
-          let f = any_in (λ (a : ActiveRange). IsRangeRoute a p b r) given any in
-          let costs = (listed.exact f.item).0 f.among in
-          record {
-            at = f.holds.at;
-            range = f.item.range;
-            has = (range_cost_active net b f.item.range f.item.cost costs).component.range;
-            dest = f.holds.dest;
-            area = sym f.holds.area;
-            advertised = f.holds.advertised;
-            costs = subst (λ (c : ℕ). RangeCost net b f.item.range c) (sym f.holds.costs) costs;
-          },
-      λ s.
-          let a : ActiveRange = record { range = s.range; cost = r.asks } in
-          any_of (λ (x : ActiveRange). IsRangeRoute x p b r) given a ((listed.exact a).1 s.costs)
-          (record { dest = s.dest; advertised = s.advertised; area = sym s.area; at = s.at; costs = refl }),
-    )
+ranges_are : (net : Network) (p : Block) (b : ℕ) (actives : List ActiveRange) → AreActiveRanges net b actives → (r : AreaRoute) →
+    Any (λ (a : ActiveRange). IsRangeRoute a p b r) actives ↔ SummarizedRange net p b r
+ranges_are net p b actives are r = (
+  λ any.
+      let f = any_in (λ (a : ActiveRange). IsRangeRoute a p b r) actives any in
+      let costs = (are.exact f.item).0 f.among in
+      record {
+        at = f.holds.at;
+        range = f.item.range;
+        has = (range_cost_active net b f.item.range f.item.cost costs).component.range;
+        dest = f.holds.dest;
+        area = sym f.holds.area;
+        advertised = f.holds.advertised;
+        costs = subst (λ (c : ℕ). RangeCost net b f.item.range c) (sym f.holds.costs) costs;
+      },
+  λ s.
+      let a : ActiveRange = record { range = s.range; cost = r.asks } in
+      any_of (λ (x : ActiveRange). IsRangeRoute x p b r) actives a ((are.exact a).1 s.costs)
+      (record { dest = s.dest; advertised = s.advertised; area = sym s.area; at = s.at; costs = refl }),
+)
 
 -- the ranges of all border routers
-pub all_ranges_are : (net : Network) (p : Block) (borders : List ℕ) → Exactly (IsBorderRouter net) borders → (r : AreaRoute) →
-    Any (λ (b : ℕ). SummarizedRange net p b r) borders ↔ SummarizedRange net p r.at r
-all_ranges_are net p borders are r = (
+pub all_ranges_are : (net : Network) (p : Block) (ranges : List (List ActiveRange)) (borders : List ℕ) → AreRangesBelow net (length net) ranges →
+    Exactly (IsBorderRouter net) borders → (r : AreaRoute) → Any (λ (b : ℕ). IsListedRange ranges p b r) borders ↔ SummarizedRange net p r.at r
+all_ranges_are net p ranges borders known are r = (
   λ any.
-      let f = any_in (λ (b : ℕ). SummarizedRange net p b r) borders any in
-      subst (λ (b : ℕ). SummarizedRange net p b r) (sym f.holds.at) f.holds,
-  λ is. any_of (λ (b : ℕ). SummarizedRange net p b r) borders r.at ((are r.at).1 is.has.border) is,
+      let f = any_in (λ (b : ℕ). IsListedRange ranges p b r) borders any in
+      let is = (listed f.item ((are f.item).0 f.among)).0 f.holds in
+      subst (λ (b : ℕ). SummarizedRange net p b r) (sym is.at) is,
+  λ is. any_of (λ (b : ℕ). IsListedRange ranges p b r) borders r.at ((are r.at).1 is.has.border) ((listed r.at is.has.border).1 is),
 )
+  where
+    listed : (b : ℕ) → IsBorderRouter net b → IsListedRange ranges p b r ↔ SummarizedRange net p b r
+    listed b border = ranges_are net p b (get_or ranges b []) (known.each b (border_is_router net b border)) r
 
 pub summarized_both : (net : Network) (p : Block) (b : ℕ) (r : AreaRoute) →
     SummarizedFrom net p b r ↔ (SummarizedSubnet net p b r ⊎ SummarizedRange net p b r)

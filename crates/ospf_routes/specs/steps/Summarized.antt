@@ -1,5 +1,5 @@
 -- What border routers summarize of a prefix, and announce into each area.
-use Rattle.std.specs.Prelude.{◌≡◌, ◌≢◌, ℕ, List, IsTrue}
+use Rattle.std.specs.Prelude.{◌≡◌, ◌≢◌, ℕ, List, [], Any, IsTrue, slice_index_or}
 use Rattle.net_addr.specs.Addresses.{Block, default_prefix}
 use Rattle.net_model.specs.Network.{Network, InArea, IsBorderRouter}
 use Rattle.net_model.specs.declared.area.Range.{Range}
@@ -39,6 +39,10 @@ pub record IsRangeRoute (a : ActiveRange) (p : Block) (b : ℕ) (r : AreaRoute) 
   pub area : r.area ≡ a.range.area
   pub at : r.at ≡ b
   pub costs : r.asks ≡ a.cost
+
+-- among the active ranges of all routers, one of router b is so
+abbrev pub IsListedRange : List (List ActiveRange) → Block → ℕ → AreaRoute → Type 0
+IsListedRange ranges p b r = Any (λ (a : ActiveRange). IsRangeRoute a p b r) (slice_index_or ranges b [])
 
 -- b has the active range p of the route's area, which it advertises, at the range's cost
 pub record SummarizedRange (net : Network) (p : Block) (b : ℕ) (r : AreaRoute) : Type 0 where
