@@ -16,7 +16,7 @@ use Rattle.walk_core.specs.declared.offers.Offer.{Offer}
 use Rattle.igp_theory.specs.Ospf.{OffersSubnet, IntraAreaCost, IsIntraArea}
 use Rattle.ospf_routes.specs.steps.Areas.{AreAreas, HasArea, IsAreaAt, IsReach}
 use Rattle.ospf_routes.specs.declared.areas.AreaWalks.{AreaWalks}
-use Rattle.ospf_routes.specs.steps.Destinations.{AddsPart, HasAreaPart, IsDestination, IsDestinationIn, IsPartIn, IsPartOf}
+use Rattle.ospf_routes.specs.steps.Destinations.{AddsPart, HasAreaPart, IsDestination, IsDestinationIn, IsPartFor, IsPartIn, IsPartOf}
 use Rattle.ospf_routes.specs.Lists.{Exactly}
 use Rattle.ospf_routes.specs.steps.Offered.{AreOffers, InsideOf}
 use Rattle.ospf_routes.specs.declared.intra_area.AreaOffers.{AreaOffers}
@@ -120,21 +120,26 @@ no_intra_given net d given n u is same none cost costs =
     let best = costs.best in
     none (subst (λ (l : List AreaOffers). HasAreaPart l n) (sym same) (is.every n best.at best.attained.asks best.attained.offered))
 
-pub part_is : (net : Network) (d : Destination) (part : AreaOffers) → IsDestination net d → Contains d.parts.items part →
-    AreOffers (OffersSubnet net part.area d.dest) part.offers.items
-part_is net d part is among =
-    All-contains (λ (x : AreaOffers). AreOffers (OffersSubnet net x.area d.dest) x.offers.items) d.parts.items part is.exact among
+-- a part of a destination
+pub part_for : (net : Network) (areas : List AreaWalks) (d : Destination) (part : AreaOffers) → IsDestinationIn net areas d → Contains d.parts.items part →
+    IsPartFor net areas d.dest part
+part_for net areas d part is among = record {
+  offers = All-contains (λ (x : AreaOffers). AreOffers (OffersSubnet net x.area d.dest) x.offers.items) d.parts.items part is.is.exact among;
+  at = All-contains (λ (x : AreaOffers). IsAreaAt areas x.area x.zone) d.parts.items part is.placed among;
+}
 
-pub part_place : (net : Network) (areas : List AreaWalks) (d : Destination) (part : AreaOffers) → IsDestinationIn net areas d → Contains d.parts.items part →
-    IsAreaAt areas part.area part.zone
-part_place net areas d part is among = All-contains (λ (x : AreaOffers). IsAreaAt areas x.area x.zone) d.parts.items part is.placed among
+-- read at its place
+pub part_at : (net : Network) (areas : List AreaWalks) (d : Destination) (given : List AreaOffers) (i : ℕ) (part : AreaOffers) →
+    IsDestinationIn net areas d → given ≡ d.parts.items → i < length given → part ≡ get_or given i part → IsPartFor net areas d.dest part
+part_at net areas d given i part is same within here =
+    part_for net areas d part is (subst (λ (l : List AreaOffers). Contains l part) same (i, within, sym here))
 
 -- what a part offers is in range over the walks in its area
-pub part_in_range : (net : Network) (areas : List AreaWalks) (d : Destination) (part : AreaOffers) (u : ℕ) (reach : Reach) → IsNetwork net →
-    IsDestinationIn net areas d → Contains d.parts.items part → IsReach net part.area u reach → AreInRange reach part.offers.items
-part_in_range net areas d part u reach network is among reach_is =
-    in_range reach (OffersSubnet net part.area d.dest) part.offers.items part.offers.items reach_is.near (part_is net d part is.is among) refl
-    (λ at asks offers. let small : asks < 2 ^ 24 = subnet_is_small net part.area d.dest at asks network offers in omega arith)
+pub part_in_range : (net : Network) (areas : List AreaWalks) (p : Block) (part : AreaOffers) (u : ℕ) (reach : Reach) → IsNetwork net →
+    IsPartFor net areas p part → IsReach net part.area u reach → AreInRange reach part.offers.items
+part_in_range net areas p part u reach network is reach_is =
+    in_range reach (OffersSubnet net part.area p) part.offers.items part.offers.items reach_is.near is.offers refl
+    (λ at asks offers. let small : asks < 2 ^ 24 = subnet_is_small net part.area p at asks network offers in omega arith)
 
 -- a router that reaches an offer of an area is in the area
 pub reaches_inside : (net : Network) (n : ℕ) (p : Block) (u cost : ℕ) → BestCost (Adjacent net (Area n)) (OffersSubnet net n p) u cost → InArea net u n

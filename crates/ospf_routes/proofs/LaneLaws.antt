@@ -32,7 +32,7 @@ use Rattle.ospf_routes.specs.declared.areas.AreaWalks.{AreaWalks}
 use Rattle.ospf_routes.specs.declared.intra_area.AreaOffers.{AreaOffers}
 use Rattle.ospf_routes.specs.declared.intra_area.Destination.{Destination}
 use Rattle.ospf_routes.proofs.AreaFacts.{number_at, reach_is, reach_within}
-use Rattle.ospf_routes.proofs.IntraFacts.{no_intra_given, part_in_range, part_is}
+use Rattle.ospf_routes.proofs.IntraFacts.{no_intra_given, part_for, part_in_range}
 use Rattle.ospf_routes.proofs.EntryFacts.{heard_in_range, listened_entry, no_route_no_entry}
 use Rattle.ospf_routes.proofs.RouteFacts.{area_route_is, listened_route_is}
 use Rattle.ospf_routes.proofs.ZoneRoutes.{route_of_area}
@@ -177,10 +177,10 @@ inside_decides l u d part given decision are is below listens alone among at sam
     let walks : IsReach net part.area u reach = reach_at net l.domain.areas part.area u l.zone are at below in
     few_decide l u d.dest given decision few told (λ away.
     leads_by l u d.dest given at.within
-    (subst (AreInRange reach) (sym same) (part_in_range net l.domain.areas d part u reach are.network is among walks))
+    (subst (AreInRange reach) (sym same) (part_in_range net l.domain.areas d.dest part u reach are.network (part_for net l.domain.areas d part is among) walks))
     (λ hops best.
     let route = route_of_area net part.area d.dest u hops (λ h m inside hop. only_inside net u part.area m alone listens inside)
-    (area_route_is net part.area d.dest u reach part.offers.items given walks (part_is net d part is.is among) same (length net) refl (Some hops) best) in
+    (area_route_is net part.area d.dest u reach part.offers.items given walks (part_for net l.domain.areas d part is among).offers same (length net) refl (Some hops) best) in
     intra_area away route.is route.hops_are))
 
 -- the router has no intra-area route, and listens to these offers

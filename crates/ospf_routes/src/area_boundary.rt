@@ -80,7 +80,7 @@ fn subnet_summary(
     requires part { Contains destination.now.parts.items part.now }
     ensures { (r : Route) → (result ≡ Some r) ↔ IsSubnetSummary domain.now.net destination.now.dest part.now.area b r }
 {
-    let asks = part_cost(domain, destination, part, b)?;
+    let asks = part_cost(domain, part, b)?;
     if is_component(domain, destination, b) {
         return None;
     }

@@ -1,4 +1,5 @@
 ghost use Rattle.std.specs.Prelude.{◌≡◌, ◌<◌, ℕ, length, Contains, IfOk, IfSome, IsTrue, MatchOption};
+ghost use Rattle.net_addr.specs.Addresses.{Block};
 ghost use Rattle.net_model.specs.Network.{Connected};
 ghost use Rattle.igp_theory.specs.Ospf.{IntraAreaCost, IsActiveRange, IsIntraArea};
 ghost use Rattle.walk_core.specs.BestOffers.{NoneTotals};
@@ -6,7 +7,7 @@ ghost use Rattle.route_tables.specs.Routings.{ForwardsBy, IsRouteFor};
 ghost use Rattle.ospf_routes.specs.steps.AreaReach.{area_reach};
 ghost use Rattle.ospf_routes.specs.steps.Areas.{IsListenedPlace};
 ghost use Rattle.ospf_routes.specs.steps.Asked.{HasNoEntry, IsQuestion, IsDeciding, IsFoundRoute, IsRoute, IsRouteTowards};
-ghost use Rattle.ospf_routes.specs.steps.Destinations.{IsDestinationIn};
+ghost use Rattle.ospf_routes.specs.steps.Destinations.{IsDestinationIn, IsPart, IsPartFor};
 ghost use Rattle.ospf_routes.specs.steps.Heard.{AreHeardAt};
 ghost use Rattle.ospf_routes.specs.steps.Routing.{AreAreaRoutes, IsAreaRoute, IsIntraRoute};
 
@@ -87,7 +88,7 @@ fn decided_in<'a>(asked: Asked<'a>, part: &'a AreaOffers) -> Option<Deciding<'a>
     requires part { Contains asked.destination.now.parts.items part.now }
     ensures { IfSome result (IsDeciding asked.entry) }
 {
-    match part_reach(asked.domain, asked.destination, part, asked.router) {
+    match part_reach(asked.domain, part, asked.router) {
         Some(walks) => {
             let offers = part.offers.as_slice();
             Some(Deciding {
@@ -164,7 +165,7 @@ fn is_unheard_outside(asked: Asked, part: &AreaOffers) -> bool
     requires part { Contains asked.destination.now.parts.items part.now }
     ensures { IsTrue result → HasNoEntry asked.entry }
 {
-    match part_reach(asked.domain, asked.destination, part, asked.router) {
+    match part_reach(asked.domain, part, asked.router) {
         Some(_) => false,
         None => hears_nothing(asked),
     }
@@ -230,7 +231,7 @@ fn intra_route(
         (IsRouteFor (area_reach domain.now.areas u) (length domain.now.areas) (length domain.now.net) (ForwardsBy (IsIntraRoute domain.now.net destination.now.dest u)))) }
 {
     if destination.parts.len() == 1 {
-        return area_route(alloc, domain, destination, &destination.parts[0], u);
+        return area_route(alloc, domain, destination, u);
     }
     match intra_hops(alloc, domain, destination, u)? {
         Some(hops) => Ok(Some(Route::Through(hops))),
@@ -243,18 +244,17 @@ fn area_route(
     alloc: Global,
     domain: &Domain<'_>,
     destination: &Destination,
-    part: &AreaOffers,
     u: u32,
 ) -> Result<Option<Route>, OutOfMemory>
     requires router { u < length domain.now.net }
     requires destination { IsDestinationIn domain.now.net domain.now.areas destination.now }
     requires one { length destination.now.parts.items ≡ 1 }
-    requires part { Contains destination.now.parts.items part.now }
     ensures { IfOk result (λ found. MatchOption found
         (IsIntraArea domain.now.net destination.now.dest u → ⊥)
         (IsRouteFor (area_reach domain.now.areas u) (length domain.now.areas) (length domain.now.net) (ForwardsBy (IsIntraRoute domain.now.net destination.now.dest u)))) }
 {
-    match part_reach(domain, destination, part, u) {
+    let part = &destination.parts[0];
+    match part_reach(domain, part, u) {
         Some(walks) => {
             let offers = part.offers.as_slice();
             best_route(alloc, walks, part.zone, offers, domain.routers())
@@ -293,7 +293,7 @@ fn area_lists(
 {
     let mut lists = Vec::new(alloc);
     for part in destination.parts.as_slice() {
-        let hops = area_hops(alloc, domain, destination, part, u)?;
+        let hops = area_hops(alloc, domain, part, u)?;
         push_option(&mut lists, hops)?;
     }
     Ok(lists)
@@ -303,18 +303,16 @@ fn area_lists(
 fn area_hops(
     alloc: Global,
     domain: &Domain<'_>,
-    destination: &Destination,
     part: &AreaOffers,
     u: u32,
 ) -> Result<Option<Hops>, OutOfMemory>
     requires router { u < length domain.now.net }
-    requires destination { IsDestinationIn domain.now.net domain.now.areas destination.now }
-    requires part { Contains destination.now.parts.items part.now }
-    ensures { IfOk result (λ found. MatchOption found
-        ((cost : ℕ) → IntraAreaCost domain.now.net part.now.area destination.now.dest u cost → ⊥)
-        (IsAreaRoute domain.now.net part.now.area destination.now.dest u)) }
+    requires part { IsPart domain.now.net domain.now.areas part.now }
+    ensures { (p : Block) → IsPartFor domain.now.net domain.now.areas p part.now → IfOk result (λ found. MatchOption found
+        ((cost : ℕ) → IntraAreaCost domain.now.net part.now.area p u cost → ⊥)
+        (IsAreaRoute domain.now.net part.now.area p u)) }
 {
-    match part_reach(domain, destination, part, u) {
+    match part_reach(domain, part, u) {
         Some(walks) => best_hops(alloc, walks, part.offers.as_slice(), domain.routers()),
         None => Ok(None),
     }

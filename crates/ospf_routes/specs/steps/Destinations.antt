@@ -53,6 +53,15 @@ pub record IsDestinationIn (net : Network) (areas : List AreaWalks) (d : Destina
   pub is : IsDestination net d
   pub placed : All (λ (part : AreaOffers). IsAreaAt areas part.area part.zone) d.parts.items
 
+-- the part has what its area offers of prefix p, and says at which place its area is
+pub record IsPartFor (net : Network) (areas : List AreaWalks) (p : Block) (part : AreaOffers) : Type 0 where
+  pub offers : AreOffers (OffersSubnet net part.area p) part.offers.items
+  pub at : IsAreaAt areas part.area part.zone
+
+-- it has those of some prefix
+abbrev pub IsPart : Network → List AreaWalks → AreaOffers → Type 0
+IsPart net areas part = (p : Block) × IsPartFor net areas p part
+
 -- the prefixes of destinations
 abbrev pub ospf_prefixes : List Destination → List Block
 ospf_prefixes destinations = map (λ (d : Destination). d.dest) destinations

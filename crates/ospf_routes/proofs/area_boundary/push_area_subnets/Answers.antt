@@ -2,7 +2,7 @@ use Rattle.std.proofs.Common.{ℕ}
 use Rattle.route_tables.proofs.ListFacts.{adds_start, adds_at, adds_end}
 use Rattle.ospf_routes.proofs.AreaFacts.{borders_at}
 use Rattle.ospf_routes.proofs.BorderLists.{inner_at, inner_is_router}
-use Rattle.ospf_routes.proofs.IntraFacts.{part_place}
+use Rattle.ospf_routes.proofs.IntraFacts.{part_for}
 use Rattle.ospf_routes.proofs.SummaryFacts.{area_subnets_are}
 use Rattle.ospf_routes.specs.steps.Summarized.{IsSubnetSummary}
 use Rattle.ospf_routes.specs.declared.area_route.AreaRoute.{AreaRoute}
@@ -10,12 +10,12 @@ use Rattle.ospf_routes.proofs.area_boundary.push_area_subnets.Goals as goal
 
 pub area-requires : goal.area-requires
 area-requires c =
-    (part_place c.args.domain.now.net c.args.domain.now.areas c.args.destination.now c.args.part.now c.requires.destination c.requires.part).within
+    (part_for c.args.domain.now.net c.args.domain.now.areas c.args.destination.now c.args.part.now c.requires.destination c.requires.part).at.within
 
 pub subnet_summary-requires-clause-border : goal.subnet_summary-requires-clause-border
 subnet_summary-requires-clause-border c =
     let n : ℕ = c.args.part.now.area in
-    let at = part_place c.args.domain.now.net c.args.domain.now.areas c.args.destination.now c.args.part.now c.requires.destination c.requires.part in
+    let at = (part_for c.args.domain.now.net c.args.domain.now.areas c.args.destination.now c.args.part.now c.requires.destination c.requires.part).at in
     let d = c.area.result.now in
     (inner_at c.args.domain.now.net n d.borders c.as_slice-b-items.result.now c.loop-b.b-index 0
     (borders_at c.args.domain.now.net c.args.domain.now.areas n c.args.part.now.zone d c.area.ensures.known at c.area.ensures.is)
@@ -24,7 +24,7 @@ subnet_summary-requires-clause-border c =
 pub subnet_summary-requires-clause-router : goal.subnet_summary-requires-clause-router
 subnet_summary-requires-clause-router c =
     let n : ℕ = c.args.part.now.area in
-    let at = part_place c.args.domain.now.net c.args.domain.now.areas c.args.destination.now c.args.part.now c.requires.destination c.requires.part in
+    let at = (part_for c.args.domain.now.net c.args.domain.now.areas c.args.destination.now c.args.part.now c.requires.destination c.requires.part).at in
     let d = c.area.result.now in
     inner_is_router c.args.domain.now.net n d.borders c.as_slice-b-items.result.now c.loop-b.b-index 0
     (borders_at c.args.domain.now.net c.args.domain.now.areas n c.args.part.now.zone d c.area.ensures.known at c.area.ensures.is)
@@ -47,7 +47,7 @@ returns c =
     let p = c.args.destination.now.dest in
     let n : ℕ = c.args.part.now.area in
     let given = c.as_slice-b-items.result.now in
-    let at = part_place net c.args.domain.now.areas c.args.destination.now c.args.part.now c.requires.destination c.requires.part in
+    let at = (part_for net c.args.domain.now.areas c.args.destination.now c.args.part.now c.requires.destination c.requires.part).at in
     let d = c.area.result.now in
     area_subnets_are net p n d.borders given c.args.routes.now.items c.loop-b.routes.items
     (borders_at net c.args.domain.now.areas n c.args.part.now.zone d c.area.ensures.known at c.area.ensures.is) c.as_slice-b-items.ensures

@@ -1,8 +1,7 @@
 use Rattle.std.proofs.Common.{[], arith, subst, List, ℕ, sym, take}
 use Rattle.std.proofs.lemmas.List.{take_all}
-use Rattle.std.specs.List.{Contains}
 use Rattle.net_addr.proofs.SomeElement.{one_more}
-use Rattle.route_tables.proofs.ListFacts.{contains_at}
+use Rattle.ospf_routes.proofs.IntraFacts.{part_at}
 use Rattle.ospf_routes.proofs.RouteFacts.{AreaListsSoFar, area_lists_more, area_lists_all}
 use Rattle.ospf_routes.specs.declared.intra_area.AreaOffers.{AreaOffers}
 use Rattle.ospf_routes.proofs.entry.area_lists.Goals as goal
@@ -14,16 +13,18 @@ loop-part-init c =
 
 pub area_hops-requires-clause-part : goal.area_hops-requires-clause-part
 area_hops-requires-clause-part c =
-    subst (λ (l : List AreaOffers). Contains l c.part-item.result) c.as_slice-part-items.ensures.value
-    (contains_at c.as_slice-part-items.result.now c.loop-part.part-index c.part-item.result c.loop-part-test.true c.part-item.is)
+    (c.args.destination.now.dest, part_at c.args.domain.now.net c.args.domain.now.areas c.args.destination.now c.as_slice-part-items.result.now c.loop-part.part-index
+    c.part-item.result c.requires.destination c.as_slice-part-items.ensures.value c.loop-part-test.true c.part-item.is)
 
 pub loop-part-preserved : goal.loop-part-preserved
 loop-part-preserved c =
     let a : AreaOffers = c.part-item.result in
+    let part_is = part_at c.args.domain.now.net c.args.domain.now.areas c.args.destination.now c.as_slice-part-items.result.now c.loop-part.part-index
+    c.part-item.result c.requires.destination c.as_slice-part-items.ensures.value c.loop-part-test.true c.part-item.is in
     subst (λ (l : List AreaOffers). AreaListsSoFar c.args.domain.now.net c.args.destination.now.dest c.args.u l c.push_option.new.all.items)
     (one_more c.as_slice-part-items.result.now c.loop-part.part-index a c.loop-part-test.true c.part-item.is)
     (area_lists_more c.args.domain.now.net c.args.destination.now.dest c.args.u (take c.loop-part.part-index c.as_slice-part-items.result.now)
-    a c.loop-part.lists.items c.push_option.new.all.items c.in_ok-hops.hops c.loop-part.invariant c.in_ok-hops.ensures c.in_ok-push_option.ensures.ok)
+    a c.loop-part.lists.items c.push_option.new.all.items c.in_ok-hops.hops c.loop-part.invariant (c.in_ok-hops.ensures c.args.destination.now.dest part_is) c.in_ok-push_option.ensures.ok)
 
 pub returns : goal.returns
 returns c =

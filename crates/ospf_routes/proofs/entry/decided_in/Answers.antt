@@ -3,10 +3,16 @@ use Rattle.walk_core.specs.declared.offers.Offer.{Offer}
 use Rattle.walk_core.specs.BestOffers.{AreInRange}
 use Rattle.igp_theory.specs.Ospf.{intra_area}
 use Rattle.ospf_routes.specs.steps.Routing.{IsIntraRoute}
-use Rattle.ospf_routes.proofs.IntraFacts.{part_is, part_place}
+use Rattle.ospf_routes.proofs.IntraFacts.{part_for}
 use Rattle.ospf_routes.proofs.RouteFacts.{area_route_is}
 use Rattle.ospf_routes.proofs.ZoneRoutes.{only_follows, only_none}
 use Rattle.ospf_routes.proofs.entry.decided_in.Goals as goal
+
+pub part_reach-requires-clause-part : goal.part_reach-requires-clause-part
+part_reach-requires-clause-part c =
+    let asked = c.args.asked in
+    let d = asked.destination.now in
+    (d.dest, part_for asked.domain.now.net asked.domain.now.areas d c.args.part.now c.requires.asked.destination c.requires.part)
 
 pub returns-in-Some : goal.returns-in-Some
 returns-in-Some c =
@@ -15,17 +21,18 @@ returns-in-Some c =
     let u = asked.router in
     let d = asked.destination.now in
     let part = c.args.part.now in
+    let is = part_for net asked.domain.now.areas d part c.requires.asked.destination c.requires.part in
     let reach = c.in-Some.walks.now in
     let given : List Offer = c.as_slice-offers.result.now in
     record {
-      zone = (part_place net asked.domain.now.areas d part c.requires.asked.destination c.requires.part).within;
+      zone = is.at.within;
       same = c.in-Some.ensures.same;
       range = subst (λ (l : List Offer). AreInRange reach l) (sym c.as_slice-offers.ensures.value) c.in-Some.ensures.range;
       entry = λ away hops best.
           let route : IsIntraRoute net d.dest u hops =
           only_follows net d part u (Some hops) c.requires.asked.destination.is c.requires.one c.requires.part
-          (area_route_is net part.area d.dest u reach part.offers.items given c.in-Some.ensures.reach
-          (part_is net d part c.requires.asked.destination.is c.requires.part) c.as_slice-offers.ensures.value (length net) refl (Some hops) best) in
+          (area_route_is net part.area d.dest u reach part.offers.items given c.in-Some.ensures.reach is.offers
+          c.as_slice-offers.ensures.value (length net) refl (Some hops) best) in
           intra_area away route.is route.hops_are;
     }
 
