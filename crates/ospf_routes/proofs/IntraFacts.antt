@@ -16,7 +16,7 @@ use Rattle.walk_core.specs.declared.offers.Offer.{Offer}
 use Rattle.igp_theory.specs.Ospf.{OffersSubnet, IntraAreaCost, IsIntraArea}
 use Rattle.ospf_routes.specs.steps.Areas.{AreAreas, HasArea, IsAreaAt, IsReach}
 use Rattle.ospf_routes.specs.declared.areas.AreaWalks.{AreaWalks}
-use Rattle.ospf_routes.specs.steps.Destinations.{AddsPart, HasAreaPart, IsDestination, IsDestinationIn, IsPartFor, IsPartIn, IsPartOf}
+use Rattle.ospf_routes.specs.steps.Destinations.{AddsPart, HasAreaPart, IsDestination, IsDestinationIn, IsPart, IsPartFor, IsPartIn, IsPartOf}
 use Rattle.ospf_routes.specs.Lists.{Exactly}
 use Rattle.ospf_routes.specs.steps.Offered.{AreOffers, InsideOf}
 use Rattle.ospf_routes.specs.declared.intra_area.AreaOffers.{AreaOffers}
@@ -127,6 +127,9 @@ part_for net areas d part is among = record {
   offers = All-contains (λ (x : AreaOffers). AreOffers (OffersSubnet net x.area d.dest) x.offers.items) d.parts.items part is.is.exact among;
   at = All-contains (λ (x : AreaOffers). IsAreaAt areas x.area x.zone) d.parts.items part is.placed among;
 }
+
+pub some_part : {net : Network} {areas : List AreaWalks} {p : Block} {part : AreaOffers} → IsPartFor net areas p part → IsPart net areas part
+some_part {net} {areas} {p} {part} is = (p, is)
 
 -- read at its place
 pub part_at : (net : Network) (areas : List AreaWalks) (d : Destination) (given : List AreaOffers) (i : ℕ) (part : AreaOffers) →

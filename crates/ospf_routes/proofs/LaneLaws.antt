@@ -174,13 +174,14 @@ pub inside_decides : (l : LaneOf) (u : ℕ) (d : Destination) (part : AreaOffers
 inside_decides l u d part given decision are is below listens alone among at same few told =
     let net : Network = l.domain.net in
     let reach : Reach = area_reach l.domain.areas u l.zone in
+    let part_is = part_for net l.domain.areas d part is among in
     let walks : IsReach net part.area u reach = reach_at net l.domain.areas part.area u l.zone are at below in
     few_decide l u d.dest given decision few told (λ away.
     leads_by l u d.dest given at.within
-    (subst (AreInRange reach) (sym same) (part_in_range net l.domain.areas d.dest part u reach are.network (part_for net l.domain.areas d part is among) walks))
+    (subst (AreInRange reach) (sym same) (part_in_range net l.domain.areas d.dest part u reach are.network part_is walks))
     (λ hops best.
     let route = route_of_area net part.area d.dest u hops (λ h m inside hop. only_inside net u part.area m alone listens inside)
-    (area_route_is net part.area d.dest u reach part.offers.items given walks (part_for net l.domain.areas d part is among).offers same (length net) refl (Some hops) best) in
+    (area_route_is net part.area d.dest u reach part.offers.items given walks part_is.offers same (length net) refl (Some hops) best) in
     intra_area away route.is route.hops_are))
 
 -- the router has no intra-area route, and listens to these offers

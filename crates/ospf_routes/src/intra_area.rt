@@ -76,7 +76,8 @@ fn area_parts(
 ) -> Result<Vec<AreaOffers>, OutOfMemory>
     ensures known { AreAreas domain.now.net domain.now.areas }
     ensures each { IfOk result (λ parts. All (IsPartIn domain.now.areas routes.now) parts.items) }
-    ensures every { IfOk result (λ parts. (n : ℕ) (o : OfferValue) → HasArea domain.now.areas n → Any (λ r. InsideOf n r o) routes.now → HasAreaPart parts.items n) }
+    ensures every { IfOk result (λ parts. (n : ℕ) (o : OfferValue) → HasArea domain.now.areas n →
+        Any (λ r. InsideOf n r o) routes.now → HasAreaPart parts.items n) }
 {
     let mut parts = Vec::new(alloc);
     for zone in 0..domain.zones() {
@@ -137,11 +138,7 @@ pub fn part_cost(domain: &Domain<'_>, part: &AreaOffers, u: u32) -> Option<u64>
 }
 
 /// The least walks from the router in the area of a part, where the router is in that area.
-pub fn part_reach<'a>(
-    domain: &'a Domain<'_>,
-    part: &AreaOffers,
-    u: u32,
-) -> Option<&'a LeastWalks>
+pub fn part_reach<'a>(domain: &'a Domain<'_>, part: &AreaOffers, u: u32) -> Option<&'a LeastWalks>
     requires router { u < length domain.now.net }
     requires part { IsPart domain.now.net domain.now.areas part.now }
     ensures none { IfNone result (InArea domain.now.net u part.now.area → ⊥) }

@@ -41,12 +41,12 @@ mod members;
 mod subnets;
 
 // Between areas
-mod originating;
+mod area_boundary;
 mod backbone_routes;
+mod originating;
 mod ranges;
 mod stub_areas;
 mod summaries;
-mod area_boundary;
 
 // The routes of each router
 mod entry;

@@ -11,6 +11,7 @@ ghost use Rattle.ospf_routes.specs.steps.Heard.{AddsRow, AreSummaries};
 ghost use Rattle.ospf_routes.specs.steps.Summarized.{Announces, AreSummarized, IsHeard, IsOutgoing};
 
 use crate::OutOfMemory;
+use crate::area_boundary::summarized;
 use crate::area_route::{AreaRoute, offers_outside, outside_offer};
 use crate::areas::AreaWalks;
 use crate::backbone_routes::push_reached;
@@ -19,7 +20,6 @@ use crate::intra_area::Destination;
 use crate::ranges::ActiveRanges;
 use crate::stub_areas::{is_totally_stubby, push_defaults};
 use crate::summaries::Summaries;
-use crate::area_boundary::summarized;
 use net_addr::Prefix;
 use route_tables::push_option;
 use std::alloc::Global;

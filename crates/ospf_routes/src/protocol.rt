@@ -8,7 +8,6 @@ ghost use Rattle.ospf_routes.specs.steps.Lanes.{DecidesLane};
 ghost use Rattle.ospf_routes.specs.steps.Networks.{AreEarlierIn, lane_in};
 
 use crate::OutOfMemory;
-use crate::originating::all_summaries;
 use crate::areas::AreaWalks;
 use crate::destinations::destinations;
 use crate::domain::Domain;
@@ -16,6 +15,7 @@ use crate::entry::{Asked, route_of, target_of};
 use crate::intra_area::Destination;
 use crate::lane_twins::{LaneTwins, all_lane_twins};
 use crate::lanes::decision;
+use crate::originating::all_summaries;
 use crate::ranges::{ActiveRanges, all_ranges};
 use crate::summaries::Summaries;
 use crate::twins::all_twins;
@@ -45,23 +45,23 @@ impl<'a> Model for Ospf<'a> {
     ghost Value = { OspfNetwork };
 
     ghost view = { λ x. record {
-        domain = x.domain;
-        destinations = x.destinations.items;
-        listens = x.listens.items;
-        ranges = x.ranges.items;
-        summaries = x.summaries;
-        twins = x.twins.items;
-        lane_twins = x.lane_twins.items
+      domain = x.domain;
+      destinations = x.destinations.items;
+      listens = x.listens.items;
+      ranges = x.ranges.items;
+      summaries = x.summaries;
+      twins = x.twins.items;
+      lane_twins = x.lane_twins.items;
     } };
 
     ghost invariant = { λ x. IsOspf (record {
-        domain = x.domain;
-        destinations = x.destinations.items;
-        listens = x.listens.items;
-        ranges = x.ranges.items;
-        summaries = x.summaries;
-        twins = x.twins.items;
-        lane_twins = x.lane_twins.items
+      domain = x.domain;
+      destinations = x.destinations.items;
+      listens = x.listens.items;
+      ranges = x.ranges.items;
+      summaries = x.summaries;
+      twins = x.twins.items;
+      lane_twins = x.lane_twins.items;
     }) };
 }
 

@@ -1,7 +1,7 @@
 use Rattle.std.proofs.Common.{◌≡◌, ◌↔◌, Option, Some, refl, subst, sym}
 use Rattle.std.proofs.lemmas.Bool.{false≢true}
 use Rattle.std.proofs.lemmas.Option.{none-some}
-use Rattle.ospf_routes.proofs.IntraFacts.{part_for}
+use Rattle.ospf_routes.proofs.IntraFacts.{part_for, some_part}
 use Rattle.ospf_routes.proofs.SummaryFacts.{subnet_summary_some}
 use Rattle.ospf_routes.specs.steps.Summarized.{IsSubnetSummary}
 use Rattle.ospf_routes.specs.declared.area_route.AreaRoute.{AreaRoute}
@@ -9,8 +9,7 @@ use Rattle.ospf_routes.proofs.area_boundary.subnet_summary.Goals as goal
 
 pub part_cost-requires-clause-part : goal.part_cost-requires-clause-part
 part_cost-requires-clause-part c =
-    let d = c.args.destination.now in
-    (d.dest, part_for c.args.domain.now.net c.args.domain.now.areas d c.args.part.now c.requires.destination c.requires.part)
+    some_part (part_for c.args.domain.now.net c.args.domain.now.areas c.args.destination.now c.args.part.now c.requires.destination c.requires.part)
 
 pub returns-in_err-asks : goal.returns-in_err-asks
 returns-in_err-asks c =

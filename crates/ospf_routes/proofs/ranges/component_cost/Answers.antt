@@ -4,7 +4,7 @@ use Rattle.std.proofs.lemmas.Bool.{false≢true}
 use Rattle.std.proofs.lemmas.Option.{none-some}
 use Rattle.net_model.specs.Configuration.{Configuration}
 use Rattle.igp_theory.specs.Ospf.{IntraAreaCost, IsComponent}
-use Rattle.ospf_routes.proofs.IntraFacts.{no_intra_given, part_for}
+use Rattle.ospf_routes.proofs.IntraFacts.{no_intra_given, part_for, some_part}
 use Rattle.ospf_routes.proofs.RangeFacts.{component_at}
 use Rattle.ospf_routes.specs.declared.intra_area.AreaOffers.{AreaOffers}
 use Rattle.ospf_routes.proofs.ranges.component_cost.Goals as goal
@@ -22,8 +22,7 @@ returns-in_err-part c =
 
 pub part_cost-requires-clause-part : goal.part_cost-requires-clause-part
 part_cost-requires-clause-part c =
-    let d = c.args.destination.now in
-    (d.dest, part_for c.args.domain.now.net c.args.domain.now.areas d c.in_ok-part.part.now c.requires.destination
+    some_part (part_for c.args.domain.now.net c.args.domain.now.areas c.args.destination.now c.in_ok-part.part.now c.requires.destination
     (subst (λ (l : List AreaOffers). Contains l c.in_ok-part.part.now) c.as_slice.ensures.value c.in_ok-part.ensures.among))
 
 pub returns : goal.returns
