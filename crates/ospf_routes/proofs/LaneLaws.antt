@@ -195,7 +195,7 @@ pub record IsOutside (l : LaneOf) (u : ℕ) (p : Block) (offers : List Offer) : 
 -- which is so where nothing is offered in its area
 pub outside_where : (l : LaneOf) (d : Destination) (offers : List Offer) (u : ℕ) → AreListeners l.domain.net l.domain.areas (length l.domain.net) l.listens →
     IsDestination l.domain.net d → ((n : ℕ) → IsAreaAt l.domain.areas n l.zone → HasAreaPart d.parts.items n → ⊥) →
-    AreHeardAt l.domain.net l.domain.areas d.dest l.zone offers → u < length l.domain.net → IsInner l.domain.net l.listens l.zone u →
+    AreHeardAt l.domain d.dest l.zone offers → u < length l.domain.net → IsInner l.domain.net l.listens l.zone u →
     IsOutside l u d.dest offers
 outside_where l d offers u listeners is no_part heard below inner =
     let place = inner_place l.domain.net l.domain.areas l.listens l.zone u listeners below inner in
@@ -211,7 +211,7 @@ outside_where l d offers u listeners is no_part heard below inner =
 
 pub outside_at : (l : LaneOf) (d : Destination) (a : AreaWalks) (given : List AreaOffers) (offers : List Offer) →
     a ≡ get_or l.domain.areas l.zone a → AreListeners l.domain.net l.domain.areas (length l.domain.net) l.listens → IsDestination l.domain.net d →
-    AreHeardAt l.domain.net l.domain.areas d.dest l.zone offers →
+    AreHeardAt l.domain d.dest l.zone offers →
     given ≡ d.parts.items → (HasAreaPart given a.number → ⊥) →
     (u : ℕ) → u < length l.domain.net → IsInner l.domain.net l.listens l.zone u → IsOutside l u d.dest offers
 outside_at l d a given offers here listeners is heard same no_part u =
