@@ -16,7 +16,7 @@ use Rattle.walk_core.specs.declared.offers.Offer.{Offer}
 use Rattle.igp_theory.specs.Ospf.{OffersSubnet, IntraAreaCost, IsIntraArea}
 use Rattle.ospf_routes.specs.steps.Areas.{AreAreas, HasArea, IsAreaAt, IsReach}
 use Rattle.ospf_routes.specs.declared.areas.AreaWalks.{AreaWalks}
-use Rattle.ospf_routes.specs.steps.Destinations.{AddsPart, HasAreaPart, IsDestination, IsDestinationIn, IsPart, IsPartFor, IsPartIn, IsPartOf}
+use Rattle.ospf_routes.specs.steps.Destinations.{AddsPart, HasAreaPart, IsDestination, IsDestinationIn, IsPart, IsPartAt, IsPartFor, IsPartIn, IsPartOf}
 use Rattle.ospf_routes.specs.Lists.{Exactly}
 use Rattle.ospf_routes.specs.steps.Offered.{AreOffers, InsideOf}
 use Rattle.ospf_routes.specs.declared.intra_area.AreaOffers.{AreaOffers}
@@ -82,7 +82,8 @@ pub record PartsSoFar (routes : List AreaRoute) (areas : List AreaWalks) (k : �
   pub every : (n : ℕ) (o : Offer) → HasArea (take k areas) n → Any (λ (r : AreaRoute). InsideOf n r o) routes → HasAreaPart parts n
 
 pub parts_more : (routes : List AreaRoute) (areas : List AreaWalks) (k : ℕ) (a : AreaWalks) (old new : List AreaOffers) →
-    PartsSoFar routes areas k old → k < length areas → a ≡ get_or areas k a → AddsPart routes a.number k old new → PartsSoFar routes areas (k + 1) new
+    PartsSoFar routes areas k old → k < length areas → a ≡ get_or areas k a →
+    AddsPart (IsPartAt routes a.number k) (Any (λ (r : AreaRoute). r.area ≡ a.number) routes) old new → PartsSoFar routes areas (k + 1) new
 parts_more routes areas k a old new before within here adds = record {
   each = λ j d below. ⊎_elim
       (λ among. All-contains (IsPartIn areas routes) old (get_or new j d) before.each among)
@@ -98,8 +99,9 @@ parts_more routes areas k a old new before within here adds = record {
       (λ same.
       let number : a.number ≡ n = ap (λ (x : AreaWalks). x.number) same ∙ has.number in
       let found = any_in (λ (r : AreaRoute). InsideOf n r o) routes given in
-      subst (HasAreaPart new) number
-      (adds.added (any_of (λ (r : AreaRoute). r.area ≡ a.number) routes found.item found.among (found.holds.area ∙ sym number))))
+      let part = any_in (IsPartAt routes a.number k) new
+      (adds.added (any_of (λ (r : AreaRoute). r.area ≡ a.number) routes found.item found.among (found.holds.area ∙ sym number))) in
+      record { part = part.item; among = part.among; area = part.holds.area ∙ number })
       (Contains-push_cases (take k areas) a has.area (subst (λ (l : List AreaWalks). Contains l has.area) (sym (one_more areas k a within here)) has.among));
 }
 

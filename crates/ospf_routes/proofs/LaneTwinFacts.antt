@@ -140,4 +140,5 @@ lane_earlier domain ds listens twins lane here are within here_is =
     earlier_then (AreLaneAlike l) (AreAlikeFor (IsOfOspfLane l) (OspfEntry domain.net)) dests (length dests) here
     (λ p q same u e is. same u e (is.below, is.inner within))
     (subst (λ (n : ℕ). AreEarlierBy (AreLaneAlike l) dests n here) (sym long)
-    (place_read (AreTwinsAlone domain ds listens) [] (length domain.areas) twins lane here are within here_is))
+    (place_read (λ (zone : ℕ). AreTwinsAlone ds (record { domain = domain; listens = listens; zone = zone })) [] (length domain.areas) twins lane here are
+    within here_is))

@@ -25,7 +25,7 @@ use Rattle.ospf_routes.specs.Lists.{Exactly, Adds}
 use Rattle.ospf_routes.specs.steps.Members.{IsBorderIn}
 use Rattle.ospf_routes.specs.steps.Offered.{AreOffers, OutsideOf}
 use Rattle.ospf_routes.specs.steps.Ranges.{IsComponentOfSome, AreActiveRanges, AreRangesBelow}
-use Rattle.ospf_routes.specs.steps.Summarized.{IsAreaSubnet, IsSubnetSummary, SummarizedSubnet, IsListedRange, IsRangeRoute}
+use Rattle.ospf_routes.specs.steps.Summarized.{IsAreaSubnet, SummarizedSubnet, IsListedRange, IsRangeRoute}
 use Rattle.ospf_routes.specs.steps.Summarized.{SummarizedRange, SummarizedFrom, AreSummarized, OutsideSummary}
 use Rattle.ospf_routes.specs.steps.Summarized.{Announces, IsPassedOn, IsHeard, IsOutgoing, IsAlone, IsDefault, RouterDefault, HasDefault}
 use Rattle.ospf_routes.specs.declared.intra_area.AreaOffers.{AreaOffers}
@@ -41,49 +41,49 @@ use Rattle.ospf_routes.proofs.RangeFacts.{range_cost_active}
 
 -- What one router summarizes
 
-pub subnet_summary_some : (net : Network) (p : Block) (n b asks : ℕ) → IntraAreaCost net n p b asks → (IsComponentOfSome net b p → ⊥) → (r : AreaRoute) →
-    (Some (record { area = n; at = b; asks = asks }) ≡ Some r) ↔ IsSubnetSummary net p n b r
-subnet_summary_some net p n b asks costs alone r =
+-- a subnet that router b summarizes out of area n has a cost there, and is no component
+pub subnet_costs : {net : Network} {p : Block} {n b : ℕ} {r : AreaRoute} → r.at ≡ b → IsAreaSubnet net p n r → IntraAreaCost net n p b r.asks
+subnet_costs {net} {p} {n} {b} {r} at is =
+    subst (λ (u : ℕ). IntraAreaCost net n p u r.asks) at (subst (λ (m : ℕ). IntraAreaCost net m p r.at r.asks) is.area is.summarized.costs)
+
+pub subnet_alone : {net : Network} {p : Block} {n b : ℕ} {r : AreaRoute} → r.at ≡ b → IsAreaSubnet net p n r → IsComponentOfSome net b p → ⊥
+subnet_alone {net} {p} at is =
+    subst (λ (u : ℕ). IsComponentOfSome net u p → ⊥) at (λ some. is.summarized.alone some.range some.cost some.component)
+
+pub subnet_summary_some : (net : Network) (p : Block) (n b asks : ℕ) → IsBorderRouter net b → IntraAreaCost net n p b asks →
+    (IsComponentOfSome net b p → ⊥) → (r : AreaRoute) →
+    (Some (record { area = n; at = b; asks = asks }) ≡ Some r) ↔ ((r.at ≡ b) × IsAreaSubnet net p n r)
+subnet_summary_some net p n b asks border costs alone r =
     let one : AreaRoute = record { area = n; at = b; asks = asks } in (
-      λ same. subst (λ (x : AreaRoute). IsSubnetSummary net p n b x) (same_Some one r same)
-          (record { area = refl; at = refl; costs = costs; alone = alone }),
-      λ is. ap Some (same_route is),
+      λ same. subst (λ (x : AreaRoute). (x.at ≡ b) × IsAreaSubnet net p n x) (same_Some one r same) (
+        refl,
+        record {
+          area = refl;
+          summarized = record {
+            at = refl;
+            border = border;
+            costs = costs;
+            alone = λ range c is. alone (record { range = range; cost = c; component = is });
+          };
+        },
+      ),
+      λ is. ap Some (same_route is.0 is.1),
     )
   where
-    same_route : IsSubnetSummary net p n b r → ◌≡◌ {A = AreaRoute} (record { area = n; at = b; asks = asks }) r
-    same_route is =
-        let e : asks ≡ r.asks = best_cost_unique costs.best is.costs.best in
-        λ i. record { area = (sym is.area) i; at = (sym is.at) i; asks = e i }
+    same_route : r.at ≡ b → IsAreaSubnet net p n r → ◌≡◌ {A = AreaRoute} (record { area = n; at = b; asks = asks }) r
+    same_route at is =
+        let e : asks ≡ r.asks = best_cost_unique costs.best (subnet_costs at is).best in
+        λ i. record { area = (sym is.area) i; at = (sym at) i; asks = e i }
 
 pub area_subnets_are : (net : Network) (p : Block) (n : ℕ) (borders given : List ℕ) (old new : List AreaRoute) → Exactly (IsBorderIn net n) borders →
-    given ≡ borders → Adds old new (λ (r : AreaRoute). Any (λ (b : ℕ). IsSubnetSummary net p n b r) given) → Adds old new (IsAreaSubnet net p n)
+    given ≡ borders → Adds old new (λ (r : AreaRoute). Any (λ (b : ℕ). (r.at ≡ b) × IsAreaSubnet net p n r) given) → Adds old new (IsAreaSubnet net p n)
 area_subnets_are net p n borders given old new are same adds =
-    adds_same old new (λ (r : AreaRoute). Any (λ (b : ℕ). IsSubnetSummary net p n b r) given) (IsAreaSubnet net p n) adds (λ r. (there r, back r))
-  where
-    listed : Exactly (IsBorderIn net n) given
-    listed = subst (Exactly (IsBorderIn net n)) (sym same) are
-
-    there : (r : AreaRoute) → Any (λ (b : ℕ). IsSubnetSummary net p n b r) given → IsAreaSubnet net p n r
-    there r any =
-        let f = any_in (λ (b : ℕ). IsSubnetSummary net p n b r) given any in
-        let b : ℕ = f.item in
-        let is : IsSubnetSummary net p n b r = f.holds in
-        record {
-          area = is.area;
-          summarized = subst (λ (u : ℕ). SummarizedSubnet net p u r) (sym is.at) (record {
-            at = is.at;
-            border = ((listed b).0 f.among).border;
-            costs = subst (λ (m : ℕ). IntraAreaCost net m p b r.asks) (sym is.area) is.costs;
-            alone = λ range c component. is.alone (record { range = range; cost = c; component = component });
-          });
-        }
-
-    back : (r : AreaRoute) → IsAreaSubnet net p n r → Any (λ (b : ℕ). IsSubnetSummary net p n b r) given
-    back r is =
-        let costs = subst (λ (m : ℕ). IntraAreaCost net m p r.at r.asks) is.area is.summarized.costs in
-        any_of (λ (b : ℕ). IsSubnetSummary net p n b r) given r.at
-        ((listed r.at).1 (record { inside = costs.inside; border = is.summarized.border }))
-        (record { area = is.area; at = refl; costs = costs; alone = λ one. is.summarized.alone one.range one.cost one.component })
+    adds_same old new (λ (r : AreaRoute). Any (λ (b : ℕ). (r.at ≡ b) × IsAreaSubnet net p n r) given) (IsAreaSubnet net p n) adds (λ r. (
+      λ any. (any_in (λ (b : ℕ). (r.at ≡ b) × IsAreaSubnet net p n r) given any).holds.1,
+      λ is. any_of (λ (b : ℕ). (r.at ≡ b) × IsAreaSubnet net p n r) given r.at
+          ((subst (Exactly (IsBorderIn net n)) (sym same) are r.at).1 (record { inside = (subnet_costs refl is).inside; border = is.summarized.border }))
+          (refl, is),
+    ))
 
 pub subnets_are : (net : Network) (d : Destination) (given : List AreaOffers) → IsDestination net d → given ≡ d.parts.items → (r : AreaRoute) →
     Any (λ (part : AreaOffers). IsAreaSubnet net d.dest part.area r) given ↔ SummarizedSubnet net d.dest r.at r

@@ -3,7 +3,7 @@ ghost use Rattle.ospf_routes.specs.steps.Destinations.{IsDestinationIn};
 ghost use Rattle.net_model.specs.Network.{IsBorderRouter};
 ghost use Rattle.ospf_routes.specs.Lists.{Adds, Exactly};
 ghost use Rattle.ospf_routes.specs.steps.Ranges.{AreRangesBelow};
-ghost use Rattle.ospf_routes.specs.steps.Summarized.{AreSummarized, IsAreaSubnet, IsListedRange, IsRangeRoute, IsSubnetSummary, SummarizedSubnet};
+ghost use Rattle.ospf_routes.specs.steps.Summarized.{AreSummarized, IsAreaSubnet, IsListedRange, IsRangeRoute, SummarizedSubnet};
 ghost use Rattle.ospf_routes.specs.declared.area_route.AreaRoute.{AreaRoute as Route};
 
 use crate::OutOfMemory;
@@ -78,7 +78,7 @@ fn subnet_summary(
     requires router { b < length domain.now.net }
     requires destination { IsDestinationIn domain.now.net domain.now.areas destination.now }
     requires part { Contains destination.now.parts.items part.now }
-    ensures { (r : Route) → (result ≡ Some r) ↔ IsSubnetSummary domain.now.net destination.now.dest part.now.area b r }
+    ensures { (r : Route) → (result ≡ Some r) ↔ ((r.at ≡ b) × IsAreaSubnet domain.now.net destination.now.dest part.now.area r) }
 {
     let asks = part_cost(domain, part, b)?;
     if is_component(domain, destination, b) {

@@ -4,7 +4,7 @@ ghost use Rattle.net_model.specs.Network.{InArea};
 ghost use Rattle.igp_theory.specs.Ospf.{IntraAreaCost, IsIntraArea};
 ghost use Rattle.ospf_routes.specs.steps.AreaReach.{area_reach};
 ghost use Rattle.ospf_routes.specs.steps.Areas.{AreAreas, HasArea, IsReach};
-ghost use Rattle.ospf_routes.specs.steps.Destinations.{AddsPart, HasAreaPart, IsDestinationIn, IsPart, IsPartFor, IsPartIn};
+ghost use Rattle.ospf_routes.specs.steps.Destinations.{AddsPart, HasAreaPart, IsDestinationIn, IsPart, IsPartAt, IsPartFor, IsPartIn};
 ghost use Rattle.ospf_routes.specs.steps.Offered.{InsideOf};
 ghost use Rattle.ospf_routes.specs.steps.Subnets.{IsUpSubnet};
 ghost use Rattle.ospf_routes.specs.Lists.{Exactly};
@@ -94,7 +94,7 @@ fn push_part(
     area: u32,
     zone: usize,
 ) -> Result<(), OutOfMemory>
-    ensures { OnOk result (AddsPart routes.now area zone parts.old.items parts.new.items) }
+    ensures { OnOk result (AddsPart (IsPartAt routes.now area zone) (Any (λ r. r.area ≡ area) routes.now) parts.old.items parts.new.items) }
 {
     if !has_route(routes, area) {
         return Ok(());

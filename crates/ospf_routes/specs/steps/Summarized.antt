@@ -9,16 +9,8 @@ use Rattle.igp_theory.specs.Ospf.{IntraAreaCost, BorderCost, HasRange, IsCompone
 use Rattle.igp_theory.specs.Ospf.{SummarizesRange, HasStub, IsTotallyStubby, Summary}
 use Rattle.ospf_routes.specs.Lists.{Exactly}
 use Rattle.ospf_routes.specs.steps.Offered.{OutsideOf}
-use Rattle.ospf_routes.specs.steps.Ranges.{IsComponentOfSome}
 use Rattle.ospf_routes.specs.declared.ranges.ActiveRange.{ActiveRange}
 use Rattle.ospf_routes.specs.declared.area_route.AreaRoute.{AreaRoute}
-
--- b has an intra-area cost for p in area n, which the route says, and p is no component at b
-pub record IsSubnetSummary (net : Network) (p : Block) (n b : ℕ) (r : AreaRoute) : Type 0 where
-  pub area : r.area ≡ n
-  pub at : r.at ≡ b
-  pub costs : IntraAreaCost net n p b r.asks
-  pub alone : IsComponentOfSome net b p → ⊥
 
 -- b is a border router with an intra-area cost for p in the route's area, and p is no component
 pub record SummarizedSubnet (net : Network) (p : Block) (b : ℕ) (r : AreaRoute) : Type 0 where

@@ -1,10 +1,10 @@
-use Rattle.std.proofs.Common.{ℕ}
+use Rattle.std.proofs.Common.{◌≡◌, ℕ}
 use Rattle.route_tables.proofs.ListFacts.{adds_start, adds_at, adds_end}
 use Rattle.ospf_routes.proofs.AreaFacts.{borders_at}
 use Rattle.ospf_routes.proofs.BorderLists.{inner_at, inner_is_router}
 use Rattle.ospf_routes.proofs.IntraFacts.{part_for}
 use Rattle.ospf_routes.proofs.SummaryFacts.{area_subnets_are}
-use Rattle.ospf_routes.specs.steps.Summarized.{IsSubnetSummary}
+use Rattle.ospf_routes.specs.steps.Summarized.{IsAreaSubnet}
 use Rattle.ospf_routes.specs.declared.area_route.AreaRoute.{AreaRoute}
 use Rattle.ospf_routes.proofs.area_boundary.push_area_subnets.Goals as goal
 
@@ -32,12 +32,12 @@ subnet_summary-requires-clause-router c =
 
 pub loop-b-init : goal.loop-b-init
 loop-b-init c =
-    adds_start (λ (r : AreaRoute) (b : ℕ). IsSubnetSummary c.args.domain.now.net c.args.destination.now.dest c.args.part.now.area b r)
+    adds_start (λ (r : AreaRoute) (b : ℕ). (r.at ≡ b) × IsAreaSubnet c.args.domain.now.net c.args.destination.now.dest c.args.part.now.area r)
     c.args.routes.now.items c.as_slice-b-items.result.now
 
 pub loop-b-preserved : goal.loop-b-preserved
 loop-b-preserved c =
-    adds_at (λ (r : AreaRoute) (b : ℕ). IsSubnetSummary c.args.domain.now.net c.args.destination.now.dest c.args.part.now.area b r)
+    adds_at (λ (r : AreaRoute) (b : ℕ). (r.at ≡ b) × IsAreaSubnet c.args.domain.now.net c.args.destination.now.dest c.args.part.now.area r)
     c.args.routes.now.items c.loop-b.routes.items c.push_option.new.all.items c.as_slice-b-items.result.now c.loop-b.b-index 0
     c.subnet_summary.result c.loop-b-test.true c.loop-b.invariant c.in_ok-push_option.ensures.ok c.subnet_summary.ensures
 
@@ -51,5 +51,5 @@ returns c =
     let d = c.area.result.now in
     area_subnets_are net p n d.borders given c.args.routes.now.items c.loop-b.routes.items
     (borders_at net c.args.domain.now.areas n c.args.part.now.zone d c.area.ensures.known at c.area.ensures.is) c.as_slice-b-items.ensures
-    (adds_end (λ (r : AreaRoute) (b : ℕ). IsSubnetSummary net p n b r) c.args.routes.now.items c.loop-b.routes.items given c.loop-b.b-index
+    (adds_end (λ (r : AreaRoute) (b : ℕ). (r.at ≡ b) × IsAreaSubnet net p n r) c.args.routes.now.items c.loop-b.routes.items given c.loop-b.b-index
     c.loop-b-test.false c.loop-b.invariant)
