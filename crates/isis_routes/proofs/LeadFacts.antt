@@ -24,7 +24,7 @@ use Rattle.isis_routes.specs.steps.Domain.{IsisDomain, IsKnown}
 use Rattle.isis_routes.specs.steps.LevelReach.{level_reach}
 use Rattle.isis_routes.specs.steps.Levels.{zone_in}
 use Rattle.isis_routes.specs.steps.Offered.{AreSmall, HoldsOffers}
-use Rattle.isis_routes.specs.steps.Routes.{IsBestIn, IsIsisRoute, LeadIn}
+use Rattle.isis_routes.specs.steps.Routes.{IsBestIn, IsIsisRoute, LeadIn, in_level}
 use Rattle.isis_routes.specs.steps.Routing.{HasBest, IsRouteToBest, NoDefaultRoute}
 use Rattle.isis_routes.specs.declared.destinations.Destination.{Destination}
 use Rattle.isis_routes.specs.declared.level.Level.{Level}
@@ -45,12 +45,12 @@ as_good {given} {all} same =
     subst (λ (l : List Offer). AreAsGood l all) (sym same) (record { alike = record { more = 0; dearer = inl (sym (dearer_by_nothing all)) }; small = λ s. s })
 
 pub route_by : {E : Type 0} {domain : IsisDomain} {level : Level} {u : ℕ} {p : Block} {none : Type 0} {offers : List Offer} (r : Result (Option Route) E) →
-    LeadIn domain level u p none offers → IfOk r (IsBestIn domain level u offers) → IfOk r (λ found. MatchOption found none (IsIsisRoute domain u p))
+    LeadIn (in_level domain level u) p none offers → IfOk r (IsBestIn (in_level domain level u) offers) → IfOk r (λ found. MatchOption found none (IsIsisRoute domain u p))
 route_by {E} {domain} {level} {u} {p} {none} {offers} r lead best =
-    IfOk-weaker r (IsBestIn domain level u offers) (λ found. MatchOption found none (IsIsisRoute domain u p)) lead.route best
+    IfOk-weaker r (IsBestIn (in_level domain level u) offers) (λ found. MatchOption found none (IsIsisRoute domain u p)) lead.route best
 
 pub target_by : {domain : IsisDomain} {level : Level} {u : ℕ} {p : Block} {none : Type 0} {offers : List Offer} (found : Option Target) →
-    LeadIn domain level u p none offers → IfSome found (λ target. IsBestIn domain level u offers (Some (Towards target))) →
+    LeadIn (in_level domain level u) p none offers → IfSome found (λ target. IsBestIn (in_level domain level u) offers (Some (Towards target))) →
     IfSome found (λ target. IsIsisRoute domain u p (Towards target))
 target_by found lead best = IfSome_then found best (λ target is. lead.route (Some (Towards target)) is)
 
@@ -59,7 +59,7 @@ leads : (domain : IsisDomain) (level : Level) (u : ℕ) (p : Block) (offer : Off
     u < length domain.net → HoldsOffers offer all → AreSmall all → AreAsGood given all →
     ((HasBest (Adjacent domain.net (zone_in level)) offer u → ⊥) → none) →
     ((hops : List ℕ) → IsRouteToBest (Adjacent domain.net (zone_in level)) offer u hops → IsisEntry domain.net u p (Via hops)) →
-    LeadIn domain level u p none given
+    LeadIn (in_level domain level u) p none given
 leads domain level u p offer given all none known within are small good without by = record {
   range = small_in_range domain.net level domain.walks u given known.walks within (good.small small);
   route = λ found best. go found (listed_route domain level u given known.walks within found best);
@@ -81,7 +81,7 @@ leads domain level u p offer given all none known within are small good without 
 
 pub one_leads : (domain : IsisDomain) (u : ℕ) (d : Destination) (given : List Offer) → IsKnown domain → HasAnnouncements domain.net d →
     u < length domain.net → (Connected domain.net u d.one.dest → ⊥) → RunsLevelOne domain.net u → AreAsGood given d.one.offers.items →
-    LeadIn domain One u d.one.dest (HasLevelOneRoute domain.net d.one.dest u → ⊥) given
+    LeadIn (in_level domain One u) d.one.dest (HasLevelOneRoute domain.net d.one.dest u → ⊥) given
 one_leads domain u d given known has within away runs good =
     let net : Network = domain.net in
     let p : Block = d.one.dest in
@@ -91,7 +91,7 @@ one_leads domain u d given known has within away runs good =
 
 pub two_leads : (domain : IsisDomain) (u : ℕ) (d : Destination) (given : List Offer) → IsKnown domain → HasAnnouncements domain.net d →
     u < length domain.net → (Connected domain.net u d.one.dest → ⊥) → (HasLevelOneRoute domain.net d.one.dest u → ⊥) → RunsLevelTwo domain.net u →
-    AreAsGood given d.two.items → LeadIn domain Two u d.one.dest (HasLevelTwoRoute domain.net d.one.dest u → ⊥) given
+    AreAsGood given d.two.items → LeadIn (in_level domain Two u) d.one.dest (HasLevelTwoRoute domain.net d.one.dest u → ⊥) given
 two_leads domain u d given known has within away no_one runs good =
     let net : Network = domain.net in
     let p : Block = d.one.dest in
@@ -103,7 +103,7 @@ two_leads domain u d given known has within away no_one runs good =
 pub down_leads : (domain : IsisDomain) (u : ℕ) (d : Destination) (given : List Offer) → IsKnown domain → HasAnnouncements domain.net d →
     u < length domain.net → (Connected domain.net u d.one.dest → ⊥) → (HasLevelOneRoute domain.net d.one.dest u → ⊥) →
     (HasLevelTwoRoute domain.net d.one.dest u → ⊥) → RunsLevelOne domain.net u → AreAsGood given d.down.items →
-    LeadIn domain One u d.one.dest (HasDownRoute domain.net d.one.dest u → ⊥) given
+    LeadIn (in_level domain One u) d.one.dest (HasDownRoute domain.net d.one.dest u → ⊥) given
 down_leads domain u d given known has within away no_one no_two runs good =
     let net : Network = domain.net in
     let p : Block = d.one.dest in
@@ -116,7 +116,7 @@ down_leads domain u d given known has within away no_one no_two runs good =
 pub default_leads : (domain : IsisDomain) (u : ℕ) (p : Block) (attached : List Offer) → IsKnown domain → HoldsOffers (OffersDefault domain.net) attached →
     u < length domain.net → (Connected domain.net u p → ⊥) → (HasLevelOneRoute domain.net p u → ⊥) → (HasLevelTwoRoute domain.net p u → ⊥) →
     (HasDownRoute domain.net p u → ⊥) → p ≡ default_prefix → RunsLevelOne domain.net u → (RunsLevelTwo domain.net u → ⊥) →
-    LeadIn domain One u p (NoDefaultRoute domain.net p u) attached
+    LeadIn (in_level domain One u) p (NoDefaultRoute domain.net p u) attached
 default_leads domain u p attached known are within away no_one no_two no_down all runs alone =
     leads domain One u p (OffersDefault domain.net) attached attached (NoDefaultRoute domain.net p u) known within are
     (default_small domain.net attached attached are refl) (as_good refl) (λ none k is costs. none (record { cost = k; best = costs.best }))

@@ -1,7 +1,7 @@
 ghost use Rattle.std.specs.Prelude.{◌<◌, length, MatchOption};
 ghost use Rattle.net_model.specs.Network.{Connected};
 ghost use Rattle.isis_routes.specs.steps.Destinations.{HasAnnouncements};
-ghost use Rattle.isis_routes.specs.steps.Routes.{HasRouteBefore, HasRouteIn, LeadIn};
+ghost use Rattle.isis_routes.specs.steps.Routes.{HasRouteBefore, HasRouteIn, LeadIn, in_level};
 
 use crate::destinations::Destination;
 use crate::domain::Domain;
@@ -22,7 +22,7 @@ pub fn leading_offers<'a>(
     requires away { Connected domain.now.net router destination.now.one.dest → ⊥ }
     requires first { HasRouteBefore domain.now.net destination.now.one.dest router level → ⊥ }
     ensures { MatchOption result (HasRouteIn domain.now.net destination.now.one.dest router level → ⊥)
-        (λ offers. LeadIn domain.now level router destination.now.one.dest
+        (λ offers. LeadIn (in_level domain.now level router) destination.now.one.dest
         (HasRouteIn domain.now.net destination.now.one.dest router level → ⊥) offers.now) }
 {
     match level {
