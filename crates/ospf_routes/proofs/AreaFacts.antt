@@ -163,11 +163,6 @@ pub area_is : (net : Network) (areas : List AreaWalks) (zone : ℕ) (a : AreaWal
     IsArea net a
 area_is net areas zone a are within here = subst (IsArea net) (sym here) (are.each zone a within)
 
-pub borders_at : (net : Network) (areas : List AreaWalks) (n zone : ℕ) (a : AreaWalks) → AreAreas net areas → IsAreaAt areas n zone →
-    a ≡ get_or areas zone a → Exactly (IsBorderIn net n) a.borders
-borders_at net areas n zone a are at here =
-    subst (λ (m : ℕ). Exactly (IsBorderIn net m) a.borders) (number_at areas n zone a at here) (area_is net areas zone a are at.within here).borders
-
 -- as many walks as routers
 pub reach_within : (net : Network) (areas : List AreaWalks) (u zone : ℕ) (a : AreaWalks) → AreAreas net areas → zone < length areas →
     a ≡ get_or areas zone a → u < length net → u < length a.walks

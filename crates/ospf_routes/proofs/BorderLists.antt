@@ -5,6 +5,8 @@ use Rattle.net_model.proofs.NetworkFacts.{InArea-within}
 use Rattle.net_model.specs.Network.{Network, IsBorderRouter}
 use Rattle.route_tables.proofs.ListFacts.{AnyBelow}
 use Rattle.ospf_routes.specs.steps.AreaReach.{IsThisBorder}
+use Rattle.ospf_routes.specs.steps.Areas.{IsArea}
+use Rattle.ospf_routes.specs.declared.areas.AreaWalks.{AreaWalks}
 use Rattle.ospf_routes.specs.Lists.{Exactly}
 use Rattle.ospf_routes.specs.steps.Members.{AreMembersBelow, IsBorderIn, IsThisBorderAmong}
 
@@ -42,12 +44,11 @@ pub inner_is : (net : Network) (area : ℕ) (members : List Bool) (u v : ℕ) �
 inner_is net area members u v are is = record { inside = (are.each v (border_is_router net v is.border)).0 is.member; border = is.border }
 
 -- the border routers of an area, one by one
-pub inner_at : (net : Network) (area : ℕ) (borders given : List ℕ) (i d : ℕ) → Exactly (IsBorderIn net area) borders → given ≡ borders →
-    i < length given → IsBorderIn net area (get_or given i d)
-inner_at net area borders given i d are same within =
-    (subst (Exactly (IsBorderIn net area)) (sym same) are (get_or given i d)).0 (Contains-get_or given i d within)
+pub inner_at : (net : Network) (area : AreaWalks) (given : List ℕ) (i d : ℕ) → IsArea net area → given ≡ area.borders → i < length given →
+    IsBorderIn net area.number (get_or given i d)
+inner_at net area given i d is same within =
+    (subst (Exactly (IsBorderIn net area.number)) (sym same) is.borders (get_or given i d)).0 (Contains-get_or given i d within)
 
-pub inner_is_router : (net : Network) (area : ℕ) (borders given : List ℕ) (i d : ℕ) → Exactly (IsBorderIn net area) borders → given ≡ borders →
-    i < length given → get_or given i d < length net
-inner_is_router net area borders given i d are same within =
-    border_is_router net (get_or given i d) (inner_at net area borders given i d are same within).border
+pub inner_is_router : (net : Network) (area : AreaWalks) (given : List ℕ) (i d : ℕ) → IsArea net area → given ≡ area.borders → i < length given →
+    get_or given i d < length net
+inner_is_router net area given i d is same within = border_is_router net (get_or given i d) (inner_at net area given i d is same within).border

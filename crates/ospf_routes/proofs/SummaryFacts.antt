@@ -19,7 +19,8 @@ use Rattle.walk_core.specs.declared.offers.Offer.{Offer}
 use Rattle.walk_core.proofs.WalkLaws.{SameArcs, SameOffers, best_cost_unique, best_cost_same}
 use Rattle.igp_theory.specs.Ospf.{IntraAreaCost, IsIntraArea, IsActiveRange, BackboneSummary, AreaSummary, BorderCost, RangeCost, HasStub, IsTotallyStubby}
 use Rattle.igp_theory.specs.Ospf.{Summary, into_backbone, into_area, OfOthers, ListensTo, backbone, one_area}
-use Rattle.ospf_routes.specs.steps.Areas.{IsReach}
+use Rattle.ospf_routes.specs.steps.Areas.{IsArea, IsReach}
+use Rattle.ospf_routes.specs.declared.areas.AreaWalks.{AreaWalks}
 use Rattle.ospf_routes.specs.steps.Destinations.{IsDestination}
 use Rattle.ospf_routes.specs.Lists.{Exactly, Adds}
 use Rattle.ospf_routes.specs.steps.Members.{IsBorderIn}
@@ -75,15 +76,17 @@ subnet_summary_some net p n b asks border costs alone r =
         let e : asks ≡ r.asks = best_cost_unique costs.best (subnet_costs at is).best in
         λ i. record { area = (sym is.area) i; at = (sym at) i; asks = e i }
 
-pub area_subnets_are : (net : Network) (p : Block) (n : ℕ) (borders given : List ℕ) (old new : List AreaRoute) → Exactly (IsBorderIn net n) borders →
-    given ≡ borders → Adds old new (λ (r : AreaRoute). Any (λ (b : ℕ). (r.at ≡ b) × IsAreaSubnet net p n r) given) → Adds old new (IsAreaSubnet net p n)
-area_subnets_are net p n borders given old new are same adds =
+pub area_subnets_are : (net : Network) (p : Block) (n : ℕ) (a : AreaWalks) (given : List ℕ) (old new : List AreaRoute) → IsArea net a → a.number ≡ n →
+    given ≡ a.borders → Adds old new (λ (r : AreaRoute). Any (λ (b : ℕ). (r.at ≡ b) × IsAreaSubnet net p n r) given) → Adds old new (IsAreaSubnet net p n)
+area_subnets_are net p n a given old new is_area number same adds =
     adds_same old new (λ (r : AreaRoute). Any (λ (b : ℕ). (r.at ≡ b) × IsAreaSubnet net p n r) given) (IsAreaSubnet net p n) adds (λ r. (
       λ any. (any_in (λ (b : ℕ). (r.at ≡ b) × IsAreaSubnet net p n r) given any).holds.1,
       λ is. any_of (λ (b : ℕ). (r.at ≡ b) × IsAreaSubnet net p n r) given r.at
-          ((subst (Exactly (IsBorderIn net n)) (sym same) are r.at).1 (record { inside = (subnet_costs refl is).inside; border = is.summarized.border }))
-          (refl, is),
+          ((listed r.at).1 (record { inside = (subnet_costs refl is).inside; border = is.summarized.border })) (refl, is),
     ))
+  where
+    listed : Exactly (IsBorderIn net n) given
+    listed = subst (Exactly (IsBorderIn net n)) (sym same) (subst (λ (m : ℕ). Exactly (IsBorderIn net m) a.borders) number is_area.borders)
 
 pub subnets_are : (net : Network) (d : Destination) (given : List AreaOffers) → IsDestination net d → given ≡ d.parts.items → (r : AreaRoute) →
     Any (λ (part : AreaOffers). IsAreaSubnet net d.dest part.area r) given ↔ SummarizedSubnet net d.dest r.at r

@@ -4,14 +4,8 @@ use Rattle.ospf_routes.specs.steps.Heard.{AddsRow, IsRow}
 use Rattle.ospf_routes.specs.steps.Offered.{AreOffers}
 use Rattle.ospf_routes.specs.steps.Summarized.{IsHeard}
 use Rattle.ospf_routes.specs.declared.areas.AreaWalks.{AreaWalks}
-use Rattle.ospf_routes.proofs.AreaFacts.{area_is}
 use Rattle.ospf_routes.proofs.HeardFacts.{heard_here, row_more, row_none}
 use Rattle.ospf_routes.proofs.originating.keep_into_areas.Goals as goal
-
-pub put_summaries-requires-clause-area : goal.put_summaries-requires-clause-area
-put_summaries-requires-clause-area c =
-    area_is c.args.domain.now.net c.args.domain.now.areas c.loop-zone.zone c.area.result.now c.area.ensures.known
-    (omega (arith, c.loop-zone-test.true, c.zones-zone-end.ensures.count)) c.area.ensures.is
 
 pub loop-zone-init : goal.loop-zone-init
 loop-zone-init c = row_none c.args.domain.now c.args.destination.now.dest c.args.summaries.now

@@ -15,12 +15,12 @@ returns-then-not-is_all_addresses c =
 
 pub push_router_defaults-requires-clause-border : goal.push_router_defaults-requires-clause-border
 push_router_defaults-requires-clause-border c =
-    inner_at c.args.domain.now.net c.args.area.now.number c.args.area.now.borders c.as_slice-b-items.result.now c.loop-b.b-index 0 c.requires.borders
+    inner_at c.args.domain.now.net c.args.area.now c.as_slice-b-items.result.now c.loop-b.b-index 0 c.requires
     c.as_slice-b-items.ensures c.loop-b-test.true
 
 pub push_router_defaults-requires-clause-router : goal.push_router_defaults-requires-clause-router
 push_router_defaults-requires-clause-router c =
-    inner_is_router c.args.domain.now.net c.args.area.now.number c.args.area.now.borders c.as_slice-b-items.result.now c.loop-b.b-index 0 c.requires.borders
+    inner_is_router c.args.domain.now.net c.args.area.now c.as_slice-b-items.result.now c.loop-b.b-index 0 c.requires
     c.as_slice-b-items.ensures c.loop-b-test.true
 
 pub loop-b-init : goal.loop-b-init
