@@ -19,8 +19,8 @@ use Rattle.zone_graph.specs.Segments.{AreZoneSegments}
 use Rattle.zone_graph.specs.Walks.{AreZoneWalks}
 use Rattle.igp_theory.specs.Ospf.{ListensTo, backbone, one_area}
 use Rattle.ospf_routes.specs.steps.Areas.{RunsOther, HasArea, IsAreaAt, AreAreas, AreJoinedAreas, IsArea, IsListener, IsListenerAt, IsReach}
-use Rattle.ospf_routes.specs.steps.Members.{IsBorderIn, IsMember}
-use Rattle.ospf_routes.specs.Lists.{Adds, Exactly}
+use Rattle.ospf_routes.specs.steps.Members.{IsMember}
+use Rattle.ospf_routes.specs.Lists.{Adds}
 use Rattle.ospf_routes.specs.declared.areas.AreaWalks.{AreaWalks}
 use Rattle.net_addr.proofs.SomeElement.{any_of, any_in}
 use Rattle.ospf_routes.proofs.SegmentFacts.{joined_more}

@@ -1,4 +1,4 @@
-use Rattle.std.proofs.Common.{[], arith, subst, List, ℕ, sym, take}
+use Rattle.std.proofs.Common.{[], arith, subst, List, sym, take}
 use Rattle.std.proofs.lemmas.List.{take_all}
 use Rattle.net_addr.proofs.SomeElement.{one_more}
 use Rattle.ospf_routes.proofs.IntraFacts.{part_at, some_part}
