@@ -274,8 +274,8 @@ reached_inside net n u at d reached apart = start reached.legs reached.walk.lead
     start (leg ∷ legs) over = ends legs leg.to (Adjacent-in_area net n u leg.to leg.cost over.0).1 over.1
 
 -- so what others announce and what is heard cost the same
-heard_costs : (net : Network) (p : Block) (n u : ℕ) → (IsIntraArea net p u → ⊥) → (IsActiveRange net p u → ⊥) → ListensTo net u n → (at c : ℕ) →
-    OfferCosts (Adjacent net (Area n)) (OfOthers (Summary net p n) u) u at c ↔ OfferCosts (Adjacent net (Area n)) (IsHeard net p n) u at c
+heard_costs : (net : Network) (p : Block) (n u : ℕ) → (IsIntraArea net p u → ⊥) → (IsActiveRange net p u → ⊥) → ListensTo net u n →
+    (at c : ℕ) → OfferCosts (Adjacent net (Area n)) (OfOthers (Summary net p n) u) u at c ↔ OfferCosts (Adjacent net (Area n)) (IsHeard net p n) u at c
 heard_costs net p n u no_intra no_range listens at c = (
   λ costs. record {
     asks = costs.asks;
@@ -297,41 +297,30 @@ heard_costs net p n u no_intra no_range listens at c = (
   },
 )
 
+-- two kinds of offers that come at the same costs at u
+abbrev CostsAlike : Arcs → Offers → Offers → ℕ → Type 0
+CostsAlike arc one other u = (at c : ℕ) → OfferCosts arc one u at c ↔ OfferCosts arc other u at c
+
+-- have the same least cost and the same hops there
+best_alike : {arc : Arcs} {one other : Offers} {u cost : ℕ} → CostsAlike arc one other u → BestCost arc one u cost → BestCost arc other u cost
+best_alike {cost = cost} same best = record {
+  at = best.at;
+  attained = (same best.at cost).0 best.attained;
+  least = λ at less costs. best.least at less ((same at less).1 costs);
+}
+
+hop_alike : {arc : Arcs} {one other : Offers} {u h : ℕ} → CostsAlike arc one other u → BestHop arc one u h → BestHop arc other u h
+hop_alike same hop = record { cost = hop.cost; best = best_alike same hop.best; at = hop.at; attained = (same hop.at hop.cost).0 hop.attained; hop = hop.hop }
+
 pub listened_cost : (net : Network) (p : Block) (n u cost : ℕ) → (IsIntraArea net p u → ⊥) → (IsActiveRange net p u → ⊥) → ListensTo net u n →
     BestCost (Adjacent net (Area n)) (OfOthers (Summary net p n) u) u cost ↔ BestCost (Adjacent net (Area n)) (IsHeard net p n) u cost
 listened_cost net p n u cost no_intra no_range listens =
-    let same = heard_costs net p n u no_intra no_range listens in (
-      λ best. record {
-        at = best.at;
-        attained = (same best.at cost).0 best.attained;
-        least = λ other less costs. best.least other less ((same other less).1 costs);
-      },
-      λ best. record {
-        at = best.at;
-        attained = (same best.at cost).1 best.attained;
-        least = λ other less costs. best.least other less ((same other less).0 costs);
-      },
-    )
+    let same = heard_costs net p n u no_intra no_range listens in (best_alike same, best_alike (λ at c. ((same at c).1, (same at c).0)))
 
 pub listened_hop : (net : Network) (p : Block) (n u h : ℕ) → (IsIntraArea net p u → ⊥) → (IsActiveRange net p u → ⊥) → ListensTo net u n →
     BestHop (Adjacent net (Area n)) (OfOthers (Summary net p n) u) u h ↔ BestHop (Adjacent net (Area n)) (IsHeard net p n) u h
 listened_hop net p n u h no_intra no_range listens =
-    let same = heard_costs net p n u no_intra no_range listens in (
-      λ hop. record {
-        cost = hop.cost;
-        best = (listened_cost net p n u hop.cost no_intra no_range listens).0 hop.best;
-        at = hop.at;
-        attained = (same hop.at hop.cost).0 hop.attained;
-        hop = hop.hop;
-      },
-      λ hop. record {
-        cost = hop.cost;
-        best = (listened_cost net p n u hop.cost no_intra no_range listens).1 hop.best;
-        at = hop.at;
-        attained = (same hop.at hop.cost).1 hop.attained;
-        hop = hop.hop;
-      },
-    )
+    let same = heard_costs net p n u no_intra no_range listens in (hop_alike same, hop_alike (λ at c. ((same at c).1, (same at c).0)))
 
 -- Border routers
 
