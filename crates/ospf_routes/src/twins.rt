@@ -59,7 +59,8 @@ fn twin_of(
     requires latest { AreKnownBelow place latest.old }
     ensures latest { AreKnownBelow (place + 1) latest.new }
     ensures below { IfSome result (λ earlier. earlier < place) }
-    ensures twins { IfSome result (λ earlier. AreTwinsAt (record { destinations = destinations.now; heard = summaries.now; ranged = ranged.now }) earlier place) }
+    ensures twins { IfSome result (λ earlier.
+        AreTwinsAt (record { destinations = destinations.now; heard = summaries.now; ranged = ranged.now }) earlier place) }
 {
     let home = only_home(&destinations[place])?;
     let earlier = latest.replace(home as usize, place)?;
