@@ -20,7 +20,7 @@ use Rattle.isis_routes.specs.steps.Lanes.{of_two, of_none}
 use Rattle.isis_routes.specs.steps.LevelReach.{level_reach}
 use Rattle.isis_routes.specs.steps.Levels.{zone_number}
 use Rattle.isis_routes.specs.steps.Offered.{AreSmall}
-use Rattle.isis_routes.specs.steps.Routes.{IsIsisRoute, LeadIn, given_by_isis}
+use Rattle.isis_routes.specs.steps.Routes.{IsIsisRoute, LeadIn, given_by_isis, in_level}
 use Rattle.isis_routes.specs.declared.destinations.Destination.{Destination}
 use Rattle.isis_routes.specs.declared.level.Level.{Level}
 use Rattle.isis_routes.specs.declared.level.Level.TheVariants.{One, Two}
@@ -59,7 +59,7 @@ decided u offers entry lead Unknown law is = tt
 -- a decision by offers, one of which is made at each home
 decided_by : (domain : IsisDomain) (level : Level) (u : ℕ) (p : Block) (none : Type 0) (homes : List ℕ) (offers : List Offer) (decision : Decision) →
     AreRoutersAt domain.net p homes → IsDecisionBy homes offers decision →
-    ((Connected domain.net u p → ⊥) → (given : List Offer) → AreAsGood given offers → LeadIn domain level u p none given) →
+    ((Connected domain.net u p → ⊥) → (given : List Offer) → AreAsGood given offers → LeadIn (in_level domain level u) p none given) →
     DecidesAt (given_by_isis domain) (zone_number level) u p decision
 decided_by domain level u p none homes offers decision are (left_open is) law = subst (DecidesAt (given_by_isis domain) (zone_number level) u p) (sym is) tt
 decided_by domain level u p none homes offers decision are (made_at_homes at_home is) law =

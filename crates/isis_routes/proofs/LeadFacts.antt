@@ -19,12 +19,14 @@ use Rattle.route_tables.specs.declared.route.Route.TheVariants.{Towards}
 use Rattle.route_tables.specs.declared.route.Target.{Target}
 use Rattle.route_tables.proofs.AlikeRoutes.{AskAlike, alike_lists, alike_turned, dearer_by_nothing}
 use Rattle.route_tables.proofs.BestRoutes.{route_by_hops}
+use Rattle.isis_routes.specs.steps.Asked.{HasNoDownRoute, HasNoLevelRoute, IsAway, IsQuestion}
 use Rattle.isis_routes.specs.steps.Destinations.{HasAnnouncements}
+use Rattle.isis_routes.specs.declared.asked.Asked.{Asked}
 use Rattle.isis_routes.specs.steps.Domain.{IsisDomain, IsKnown}
 use Rattle.isis_routes.specs.steps.LevelReach.{level_reach}
 use Rattle.isis_routes.specs.steps.Levels.{zone_in}
 use Rattle.isis_routes.specs.steps.Offered.{AreSmall, HoldsOffers}
-use Rattle.isis_routes.specs.steps.Routes.{IsBestIn, IsIsisRoute, LeadIn}
+use Rattle.isis_routes.specs.steps.Routes.{InLevel, IsBestIn, IsIsisRoute, LeadIn, in_level}
 use Rattle.isis_routes.specs.steps.Routing.{HasBest, IsRouteToBest, NoDefaultRoute}
 use Rattle.isis_routes.specs.declared.destinations.Destination.{Destination}
 use Rattle.isis_routes.specs.declared.level.Level.{Level}
@@ -44,14 +46,13 @@ pub as_good : {given all : List Offer} → given ≡ all → AreAsGood given all
 as_good {given} {all} same =
     subst (λ (l : List Offer). AreAsGood l all) (sym same) (record { alike = record { more = 0; dearer = inl (sym (dearer_by_nothing all)) }; small = λ s. s })
 
-pub route_by : {E : Type 0} {domain : IsisDomain} {level : Level} {u : ℕ} {p : Block} {none : Type 0} {offers : List Offer} (r : Result (Option Route) E) →
-    LeadIn domain level u p none offers → IfOk r (IsBestIn domain level u offers) → IfOk r (λ found. MatchOption found none (IsIsisRoute domain u p))
-route_by {E} {domain} {level} {u} {p} {none} {offers} r lead best =
-    IfOk-weaker r (IsBestIn domain level u offers) (λ found. MatchOption found none (IsIsisRoute domain u p)) lead.route best
+pub route_by : {E : Type 0} {at : InLevel} {p : Block} {none : Type 0} {offers : List Offer} (r : Result (Option Route) E) → LeadIn at p none offers →
+    IfOk r (IsBestIn at offers) → IfOk r (λ found. MatchOption found none (IsIsisRoute at.domain at.router p))
+route_by {E} {at} {p} {none} {offers} r lead best =
+    IfOk-weaker r (IsBestIn at offers) (λ found. MatchOption found none (IsIsisRoute at.domain at.router p)) lead.route best
 
-pub target_by : {domain : IsisDomain} {level : Level} {u : ℕ} {p : Block} {none : Type 0} {offers : List Offer} (found : Option Target) →
-    LeadIn domain level u p none offers → IfSome found (λ target. IsBestIn domain level u offers (Some (Towards target))) →
-    IfSome found (λ target. IsIsisRoute domain u p (Towards target))
+pub target_by : {at : InLevel} {p : Block} {none : Type 0} {offers : List Offer} (found : Option Target) → LeadIn at p none offers →
+    IfSome found (λ target. IsBestIn at offers (Some (Towards target))) → IfSome found (λ target. IsIsisRoute at.domain at.router p (Towards target))
 target_by found lead best = IfSome_then found best (λ target is. lead.route (Some (Towards target)) is)
 
 -- the offers are up to a constant those whose best makes the entry
@@ -59,7 +60,7 @@ leads : (domain : IsisDomain) (level : Level) (u : ℕ) (p : Block) (offer : Off
     u < length domain.net → HoldsOffers offer all → AreSmall all → AreAsGood given all →
     ((HasBest (Adjacent domain.net (zone_in level)) offer u → ⊥) → none) →
     ((hops : List ℕ) → IsRouteToBest (Adjacent domain.net (zone_in level)) offer u hops → IsisEntry domain.net u p (Via hops)) →
-    LeadIn domain level u p none given
+    LeadIn (in_level domain level u) p none given
 leads domain level u p offer given all none known within are small good without by = record {
   range = small_in_range domain.net level domain.walks u given known.walks within (good.small small);
   route = λ found best. go found (listed_route domain level u given known.walks within found best);
@@ -81,7 +82,7 @@ leads domain level u p offer given all none known within are small good without 
 
 pub one_leads : (domain : IsisDomain) (u : ℕ) (d : Destination) (given : List Offer) → IsKnown domain → HasAnnouncements domain.net d →
     u < length domain.net → (Connected domain.net u d.one.dest → ⊥) → RunsLevelOne domain.net u → AreAsGood given d.one.offers.items →
-    LeadIn domain One u d.one.dest (HasLevelOneRoute domain.net d.one.dest u → ⊥) given
+    LeadIn (in_level domain One u) d.one.dest (HasLevelOneRoute domain.net d.one.dest u → ⊥) given
 one_leads domain u d given known has within away runs good =
     let net : Network = domain.net in
     let p : Block = d.one.dest in
@@ -91,7 +92,7 @@ one_leads domain u d given known has within away runs good =
 
 pub two_leads : (domain : IsisDomain) (u : ℕ) (d : Destination) (given : List Offer) → IsKnown domain → HasAnnouncements domain.net d →
     u < length domain.net → (Connected domain.net u d.one.dest → ⊥) → (HasLevelOneRoute domain.net d.one.dest u → ⊥) → RunsLevelTwo domain.net u →
-    AreAsGood given d.two.items → LeadIn domain Two u d.one.dest (HasLevelTwoRoute domain.net d.one.dest u → ⊥) given
+    AreAsGood given d.two.items → LeadIn (in_level domain Two u) d.one.dest (HasLevelTwoRoute domain.net d.one.dest u → ⊥) given
 two_leads domain u d given known has within away no_one runs good =
     let net : Network = domain.net in
     let p : Block = d.one.dest in
@@ -103,7 +104,7 @@ two_leads domain u d given known has within away no_one runs good =
 pub down_leads : (domain : IsisDomain) (u : ℕ) (d : Destination) (given : List Offer) → IsKnown domain → HasAnnouncements domain.net d →
     u < length domain.net → (Connected domain.net u d.one.dest → ⊥) → (HasLevelOneRoute domain.net d.one.dest u → ⊥) →
     (HasLevelTwoRoute domain.net d.one.dest u → ⊥) → RunsLevelOne domain.net u → AreAsGood given d.down.items →
-    LeadIn domain One u d.one.dest (HasDownRoute domain.net d.one.dest u → ⊥) given
+    LeadIn (in_level domain One u) d.one.dest (HasDownRoute domain.net d.one.dest u → ⊥) given
 down_leads domain u d given known has within away no_one no_two runs good =
     let net : Network = domain.net in
     let p : Block = d.one.dest in
@@ -112,12 +113,22 @@ down_leads domain u d given known has within away no_one no_two runs good =
     (leaked_small net p domain.walks d.down.items d.down.items known.network known.walks has.down refl) good
     (λ none route. none (record { cost = route.cost; best = route.costs.best })) (λ hops. entry_by_down net u p hops away no_one no_two runs)
 
+pub asked_down : (asked : Asked) (given : List Offer) → IsKnown asked.domain.now → IsQuestion asked → IsAway asked → HasNoLevelRoute asked →
+    RunsLevelOne asked.domain.now.net asked.router → given ≡ asked.destination.now.down.items →
+    LeadIn (in_level asked.domain.now One asked.router) asked.destination.now.one.dest (HasNoDownRoute asked) given
+asked_down asked given known is away without runs same =
+    down_leads asked.domain.now asked.router asked.destination.now given known is.announced is.router away without.one without.two runs (as_good same)
+
 -- the attached routers
-pub default_leads : (domain : IsisDomain) (u : ℕ) (p : Block) (attached : List Offer) → IsKnown domain → HoldsOffers (OffersDefault domain.net) attached →
-    u < length domain.net → (Connected domain.net u p → ⊥) → (HasLevelOneRoute domain.net p u → ⊥) → (HasLevelTwoRoute domain.net p u → ⊥) →
-    (HasDownRoute domain.net p u → ⊥) → p ≡ default_prefix → RunsLevelOne domain.net u → (RunsLevelTwo domain.net u → ⊥) →
-    LeadIn domain One u p (NoDefaultRoute domain.net p u) attached
-default_leads domain u p attached known are within away no_one no_two no_down all runs alone =
-    leads domain One u p (OffersDefault domain.net) attached attached (NoDefaultRoute domain.net p u) known within are
-    (default_small domain.net attached attached are refl) (as_good refl) (λ none k is costs. none (record { cost = k; best = costs.best }))
-    (λ hops. entry_by_default domain.net u p hops away no_one no_two no_down all runs alone)
+pub default_leads : (asked : Asked) (attached : List Offer) → IsKnown asked.domain.now → HoldsOffers (OffersDefault asked.domain.now.net) attached →
+    IsQuestion asked → IsAway asked → HasNoLevelRoute asked → HasNoDownRoute asked → asked.destination.now.one.dest ≡ default_prefix →
+    RunsLevelOne asked.domain.now.net asked.router → (RunsLevelTwo asked.domain.now.net asked.router → ⊥) →
+    LeadIn (in_level asked.domain.now One asked.router) asked.destination.now.one.dest
+    (NoDefaultRoute asked.domain.now.net asked.destination.now.one.dest asked.router) attached
+default_leads asked attached known are is away without no_down all runs alone =
+    let net : Network = asked.domain.now.net in
+    let u = asked.router in
+    let p : Block = asked.destination.now.one.dest in
+    leads asked.domain.now One u p (OffersDefault net) attached attached (NoDefaultRoute net p u) known is.router are
+    (default_small net attached attached are refl) (as_good refl) (λ none k is costs. none (record { cost = k; best = costs.best }))
+    (λ hops. entry_by_default net u p hops away without.one without.two no_down all runs alone)

@@ -20,7 +20,7 @@ use Rattle.isis_routes.specs.steps.Domain.{IsisDomain}
 use Rattle.isis_routes.specs.steps.LevelReach.{level_reach}
 use Rattle.isis_routes.specs.steps.Levels.{zone_in, zone_number}
 use Rattle.isis_routes.specs.steps.Offered.{AreSmall}
-use Rattle.isis_routes.specs.steps.Routes.{IsBestIn}
+use Rattle.isis_routes.specs.steps.Routes.{IsBestIn, in_level}
 use Rattle.isis_routes.specs.steps.Routing.{AreLevelWalks, HasBest, IsRouteToBest}
 use Rattle.isis_routes.specs.declared.level.Level.{Level}
 use Rattle.isis_routes.specs.declared.level.Level.TheVariants.{One, Two}
@@ -83,7 +83,7 @@ listed_hops net zone u reach offers walks (Some hops) best = record {
 
 -- and so is the route to it
 pub listed_route : (domain : IsisDomain) (level : Level) (u : ℕ) (offers : List Offer) → AreLevelWalks domain.net domain.walks → u < length domain.net →
-    (found : Option Route) → IsBestIn domain level u offers found →
+    (found : Option Route) → IsBestIn (in_level domain level u) offers found →
     MatchOption found (HasBest (Adjacent domain.net (zone_in level)) (ListsOffer offers) u → ⊥)
     (IsRouteFor (level_reach domain.walks u) 2 (length domain.net) (ForwardsBy (IsRouteToBest (Adjacent domain.net (zone_in level)) (ListsOffer offers) u)))
 listed_route domain level u offers are within found best =

@@ -70,6 +70,8 @@ isis_is_lawful net small = record {
 
 -- What is asked for
 
--- what is so of the domain and the prefix that are read is so of those that are meant
-pub asked_as : (P : IsisDomain → Block → Type 0) {read domain : IsisDomain} {p q : Block} → read ≡ domain → p ≡ q → P read p → P domain q
-asked_as P {read} {domain} {p} {q} same dest is = subst (λ (d : IsisDomain). P d q) same (subst (P read) dest is)
+-- what is so of the domain, the router and the prefix that are read is so of those that are meant
+pub asked_as : (P : IsisDomain → ℕ → Block → Type 0) {read domain : IsisDomain} {v u : ℕ} {p q : Block} → read ≡ domain → v ≡ u → p ≡ q → P read v p →
+    P domain u q
+asked_as P {read} {domain} {v} {u} {p} {q} same router dest is =
+    subst (λ (d : IsisDomain). P d u q) same (subst (λ (w : ℕ). P read w q) router (subst (P read v) dest is))

@@ -1,8 +1,8 @@
 -- The routers of which something holds, router by router.
-use Rattle.std.proofs.Common.{◌≡◌, ℕ, ◌<◌, ◌↔◌, List, length, Option, Some, Bool, IsTrue, sym, subst, refl}
+use Rattle.std.proofs.Common.{◌≡◌, ℕ, ◌<◌, ◌↔◌, List, [], length, Option, Some, Bool, IsTrue, sym, subst, refl}
 use Rattle.net_model.specs.Network.{Network}
-use Rattle.route_tables.specs.Lists.{Adds}
-use Rattle.route_tables.proofs.ListFacts.{AnyBelow, adds_same}
+use Rattle.route_tables.specs.Lists.{Adds, Exactly}
+use Rattle.route_tables.proofs.ListFacts.{AnyBelow, adds_same, exactly_below}
 use Rattle.isis_routes.specs.steps.Routing.{IsThisRouter}
 
 -- one more router, where it is so
@@ -15,10 +15,10 @@ where_added holds u so found old new said is adds =
       λ this. (is v).1 (record { this = this.this; holds_of = said.1 this.holds_of }),
     ))
 
-pub this_holds : (holds : ℕ → Type 0) (u v : ℕ) → IsThisRouter holds u v → holds v
-this_holds holds u v is = subst holds (sym is.this) is.holds_of
-
--- a router of the network of which it holds is one of those below n
-pub router_below : (net : Network) (holds : ℕ → Type 0) (n u : ℕ) → length net ≡ n → u < length net → holds u → AnyBelow (IsThisRouter holds) n u
-router_below net holds n u count inside is =
-    record { source = u; below = subst (λ (m : ℕ). u < m) count inside; given = record { this = refl; holds_of = is } }
+-- those below the count of the network's routers are all of which it holds
+pub routers_all : (net : Network) (holds : ℕ → Type 0) (first all : List ℕ) (n : ℕ) → first ≡ [] → Adds first all (AnyBelow (IsThisRouter holds) n) →
+    length net ≡ n → ((u : ℕ) → holds u → u < length net) → Exactly holds all
+routers_all net holds first all n empty adds count inside =
+    exactly_below (IsThisRouter holds) holds first all n empty adds
+    (λ u is. record { source = u; below = subst (λ (m : ℕ). u < m) count (inside u is); given = record { this = refl; holds_of = is } })
+    (λ u v is. subst holds (sym is.this) is.holds_of)

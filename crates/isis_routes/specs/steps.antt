@@ -8,6 +8,7 @@ pub mod LevelReach
 pub mod Domain
 pub mod Routes
 pub mod Destinations
+pub mod Asked
 pub mod Alike
 pub mod Lanes
 pub mod Isis

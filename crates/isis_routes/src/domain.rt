@@ -9,7 +9,7 @@ ghost use Rattle.isis_routes.specs.steps.Domain.{IsKnown};
 ghost use Rattle.isis_routes.specs.steps.LevelReach.{level_reach};
 ghost use Rattle.isis_routes.specs.steps.Levels.{zone_in, zone_number};
 ghost use Rattle.isis_routes.specs.steps.Offered.{AreSmall, HoldsOffers};
-ghost use Rattle.isis_routes.specs.steps.Routes.{IsBestIn};
+ghost use Rattle.isis_routes.specs.steps.Routes.{IsBestIn, in_level};
 ghost use Rattle.isis_routes.specs.steps.Routing.{AreLevelSegments, RunsBothLevels};
 
 use crate::OutOfMemory;
@@ -144,7 +144,7 @@ impl<'a> Domain<'a> {
     ) -> Result<Option<Route>, OutOfMemory>
         requires router { router < length self.now.net }
         requires range { AreInRange (level_reach self.now.walks router (zone_number level)) offers.now }
-        ensures { IfOk result (IsBestIn self.now level router offers.now) }
+        ensures { IfOk result (IsBestIn (in_level self.now level router) offers.now) }
     {
         let number = level.zone();
         let walks = self.walks(router, number);
@@ -156,7 +156,7 @@ impl<'a> Domain<'a> {
     pub fn best_target(&self, level: Level, offers: &[Offer], router: u32) -> Option<Target>
         requires router { router < length self.now.net }
         requires range { AreInRange (level_reach self.now.walks router (zone_number level)) offers.now }
-        ensures { IfSome result (λ target. IsBestIn self.now level router offers.now (Some (Towards target))) }
+        ensures { IfSome result (λ target. IsBestIn (in_level self.now level router) offers.now (Some (Towards target))) }
     {
         let number = level.zone();
         let walks = self.walks(router, number);

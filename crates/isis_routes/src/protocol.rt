@@ -1,11 +1,13 @@
 ghost use Rattle.std.specs.Prelude.{◌≡◌, ◌<◌, length, IfOk};
 ghost use Rattle.route_tables.specs.Prefixes.{prefix_at};
+ghost use Rattle.isis_routes.specs.steps.Asked.{IsQuestion};
 ghost use Rattle.isis_routes.specs.steps.Destinations.{AreIsisDestinations, HasAnnouncements, isis_prefixes};
 ghost use Rattle.isis_routes.specs.steps.Domain.{IsKnown};
 ghost use Rattle.isis_routes.specs.steps.Routing.{AreLevelSegments};
 
 use crate::OutOfMemory;
 use crate::alike::{earlier_alike, named_at};
+use crate::asked::Asked;
 use crate::destinations::{Destination, destinations};
 use crate::domain::Domain;
 use crate::entry::route_of;
@@ -86,6 +88,24 @@ impl<'a> Isis<'a> {
     {
         &self.known()[place]
     }
+
+    /// What is known of a router and of the prefix of this number.
+    #[inline(always)]
+    fn asked(&self, place: usize, router: u32) -> Asked<'_>
+        requires place { place < length (isis_prefixes self.now.destinations) }
+        requires router { router < length self.now.domain.net }
+        ensures asked { IsQuestion result }
+        ensures domain { result.domain.now ≡ self.now.domain }
+        ensures router { result.router ≡ router }
+        ensures dest { result.destination.now.one.dest ≡ prefix_at (isis_prefixes self.now.destinations) place }
+    {
+        let destination = self.destination(place);
+        Asked {
+            domain: &self.domain,
+            destination,
+            router,
+        }
+    }
 }
 
 impl<'a> Protocol for Isis<'a> {
@@ -143,12 +163,12 @@ impl<'a> Protocol for Isis<'a> {
         place: usize,
         router: u32,
     ) -> Result<Option<Route>, OutOfMemory> {
-        route_of(alloc, self.domain(), self.destination(place), router)
+        route_of(alloc, self.asked(place, router))
     }
 
     #[inline(always)]
     fn target(&self, place: usize, router: u32) -> Option<Target> {
-        target_of(self.domain(), self.destination(place), router)
+        target_of(self.asked(place, router))
     }
 
     fn walks(&self, router: u32, zone: usize) -> &LeastWalks {

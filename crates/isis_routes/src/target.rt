@@ -1,11 +1,7 @@
-ghost use Rattle.std.specs.Prelude.{◌<◌, length, IfSome};
-ghost use Rattle.net_model.specs.Network.{Connected};
-ghost use Rattle.route_tables.specs.declared.route.Route.TheVariants.{Towards};
-ghost use Rattle.isis_routes.specs.steps.Destinations.{HasAnnouncements};
-ghost use Rattle.isis_routes.specs.steps.Routes.{HasRouteBefore, IsIsisRoute};
+ghost use Rattle.std.specs.Prelude.{IfSome};
+ghost use Rattle.isis_routes.specs.steps.Asked.{HasNoneBefore, IsAway, IsQuestion, IsRouteTowards};
 
-use crate::destinations::Destination;
-use crate::domain::Domain;
+use crate::asked::Asked;
 use crate::leading::leading_offers;
 use crate::level::Level;
 use route_tables::Target;
@@ -13,51 +9,48 @@ use route_tables::Target;
 /// Where the route of a router for a prefix leads, where it is a level 1 or level 2 route that goes as those towards one
 /// router do. It takes no memory; `route_of` has all routes.
 #[inline(always)]
-pub fn target_of(domain: &Domain<'_>, destination: &Destination, router: u32) -> Option<Target>
-    requires router { router < length domain.now.net }
-    requires announced { HasAnnouncements domain.now.net destination.now }
-    ensures { IfSome result (λ target. IsIsisRoute domain.now router destination.now.one.dest (Towards target)) }
+pub fn target_of(asked: Asked) -> Option<Target>
+    requires { IsQuestion asked }
+    ensures { IfSome result (IsRouteTowards asked.entry) }
 {
-    if destination.one.is_connected(router) {
+    if asked.destination.one.is_connected(asked.router) {
         return None;
     }
-    if destination.one.offers.as_slice().is_empty() {
-        return level_target(domain, destination, Level::Two, router);
+    if asked.destination.one.offers.as_slice().is_empty() {
+        return level_target(asked, Level::Two);
     }
-    target_by_levels(domain, destination, router)
+    target_by_levels(asked)
 }
 
 /// Where the level 1 route leads, and where there is none the level 2 route.
 #[inline(never)]
-fn target_by_levels(domain: &Domain<'_>, destination: &Destination, router: u32) -> Option<Target>
-    requires router { router < length domain.now.net }
-    requires announced { HasAnnouncements domain.now.net destination.now }
-    requires away { Connected domain.now.net router destination.now.one.dest → ⊥ }
-    ensures { IfSome result (λ target. IsIsisRoute domain.now router destination.now.one.dest (Towards target)) }
+fn target_by_levels(asked: Asked) -> Option<Target>
+    requires asked { IsQuestion asked }
+    requires away { IsAway asked }
+    ensures { IfSome result (IsRouteTowards asked.entry) }
 {
-    if let Some(target) = level_target(domain, destination, Level::One, router) {
+    if let Some(target) = level_target(asked, Level::One) {
         return Some(target);
     }
-    if destination.one.cost(domain, router).is_some() {
+    if asked
+        .destination
+        .one
+        .cost(asked.domain, asked.router)
+        .is_some()
+    {
         return None;
     }
-    level_target(domain, destination, Level::Two, router)
+    level_target(asked, Level::Two)
 }
 
 /// Where the route in a level leads, where there is none in a level that comes first.
 #[inline(always)]
-fn level_target(
-    domain: &Domain<'_>,
-    destination: &Destination,
-    level: Level,
-    router: u32,
-) -> Option<Target>
-    requires router { router < length domain.now.net }
-    requires announced { HasAnnouncements domain.now.net destination.now }
-    requires away { Connected domain.now.net router destination.now.one.dest → ⊥ }
-    requires first { HasRouteBefore domain.now.net destination.now.one.dest router level → ⊥ }
-    ensures { IfSome result (λ target. IsIsisRoute domain.now router destination.now.one.dest (Towards target)) }
+fn level_target(asked: Asked, level: Level) -> Option<Target>
+    requires asked { IsQuestion asked }
+    requires away { IsAway asked }
+    requires first { HasNoneBefore asked level }
+    ensures { IfSome result (IsRouteTowards asked.entry) }
 {
-    let offers = leading_offers(domain, destination, level, router)?;
-    domain.best_target(level, offers, router)
+    let offers = leading_offers(asked, level)?;
+    asked.domain.best_target(level, offers, asked.router)
 }

@@ -19,8 +19,8 @@ use Rattle.zone_graph.specs.Segments.{AreZoneSegments}
 use Rattle.zone_graph.specs.Walks.{AreZoneWalks}
 use Rattle.igp_theory.specs.Ospf.{ListensTo, backbone, one_area}
 use Rattle.ospf_routes.specs.steps.Areas.{RunsOther, HasArea, IsAreaAt, AreAreas, AreJoinedAreas, IsArea, IsListener, IsListenerAt, IsReach}
-use Rattle.ospf_routes.specs.steps.Members.{IsBorderIn, IsMember}
-use Rattle.ospf_routes.specs.Lists.{Adds, Exactly}
+use Rattle.ospf_routes.specs.steps.Members.{IsMember}
+use Rattle.ospf_routes.specs.Lists.{Adds}
 use Rattle.ospf_routes.specs.declared.areas.AreaWalks.{AreaWalks}
 use Rattle.net_addr.proofs.SomeElement.{any_of, any_in}
 use Rattle.ospf_routes.proofs.SegmentFacts.{joined_more}
@@ -162,11 +162,6 @@ number_at areas n zone a at here =
 pub area_is : (net : Network) (areas : List AreaWalks) (zone : ℕ) (a : AreaWalks) → AreAreas net areas → zone < length areas → a ≡ get_or areas zone a →
     IsArea net a
 area_is net areas zone a are within here = subst (IsArea net) (sym here) (are.each zone a within)
-
-pub borders_at : (net : Network) (areas : List AreaWalks) (n zone : ℕ) (a : AreaWalks) → AreAreas net areas → IsAreaAt areas n zone →
-    a ≡ get_or areas zone a → Exactly (IsBorderIn net n) a.borders
-borders_at net areas n zone a are at here =
-    subst (λ (m : ℕ). Exactly (IsBorderIn net m) a.borders) (number_at areas n zone a at here) (area_is net areas zone a are at.within here).borders
 
 -- as many walks as routers
 pub reach_within : (net : Network) (areas : List AreaWalks) (u zone : ℕ) (a : AreaWalks) → AreAreas net areas → zone < length areas →

@@ -1,18 +1,19 @@
 -- The entries of a router, by its routes.
-use Rattle.std.proofs.Common.{◌≡◌, ℕ, List, Option, None, Some, MatchOption, length, refl, subst}
+use Rattle.std.proofs.Common.{◌≡◌, ◌↔◌, ℕ, List, Option, None, Some, MatchOption, length, refl, subst}
 use Rattle.net_addr.specs.Addresses.{Block}
 use Rattle.net_model.specs.Network.{Network, Connected}
 use Rattle.route_core.specs.declared.entry.Entry.{Entry}
 use Rattle.route_core.specs.declared.entry.Entry.TheVariants.{Via}
 use Rattle.walk_core.specs.BestOffers.{AreInRange, NoneTotals}
 use Rattle.walk_core.specs.declared.offers.Offer.{Offer}
-use Rattle.ospf_routes.specs.steps.Areas.{AreAreas, IsReach}
+use Rattle.ospf_routes.specs.steps.Areas.{AreAreas, IsListenedPlace, IsReach}
 use Rattle.ospf_routes.specs.steps.Domain.{OspfDomain}
 use Rattle.ospf_routes.specs.steps.Offered.{AreOffers}
 use Rattle.ospf_routes.specs.steps.Summarized.{IsHeard}
 use Rattle.ospf_routes.proofs.CostBounds.{in_range, summary_is_small}
 use Rattle.ospf_routes.proofs.RouteFacts.{listened_route_is}
-use Rattle.igp_theory.specs.Ospf.{ListensTo, IsIntraArea, IsActiveRange, SummarizesSubnet, SummarizesRange, BackboneSummary, BorderCost, AreaSummary, Summary}
+use Rattle.igp_theory.specs.Ospf.{ListensTo, IsIntraArea, IsActiveRange, SummarizesSubnet, SummarizesRange}
+use Rattle.igp_theory.specs.Ospf.{BackboneSummary, BorderCost, AreaSummary, Summary}
 use Rattle.igp_theory.specs.Ospf.{into_backbone, into_area, InterAreaCost, OspfEntry, intra_area, discard, inter_area}
 use Rattle.walk_core.specs.Reach.{Reach}
 use Rattle.route_tables.specs.declared.route.Route.{Route}
@@ -21,15 +22,18 @@ use Rattle.net_addr.proofs.SomeElement.{any_of}
 use Rattle.ospf_routes.specs.declared.areas.AreaWalks.{AreaWalks}
 use Rattle.ospf_routes.specs.declared.entry.Asked.{Asked}
 use Rattle.ospf_routes.specs.declared.entry.Deciding.{Deciding}
-use Rattle.ospf_routes.specs.steps.Asked.{HasNoEntry, IsDeciding, IsFoundRoute, IsRoute, IsRouteTowards}
+use Rattle.ospf_routes.specs.steps.Asked.{HasNoEntry, IsDeciding, IsFoundRoute, IsInside, IsQuestion, IsRoute, IsRouteTowards}
 use Rattle.ospf_routes.specs.steps.AreaReach.{area_reach}
 use Rattle.route_tables.specs.BestRoutes.{AreBestHops, IsBestRoute}
 use Rattle.route_tables.specs.declared.route.Route.TheVariants.{Towards}
 use Rattle.route_tables.specs.declared.route.Target.{Target}
 use Rattle.std.specs.Option.{IfSome}
+use Rattle.std.specs.List.{Any, Contains}
+use Rattle.std.proofs.lemmas.Option.{MatchOption-at_some, MatchOption-at_none}
+use Rattle.ospf_routes.specs.declared.ranges.ActiveRange.{ActiveRange}
 use Rattle.ospf_routes.specs.steps.Candidates.{IsOspfCandidate, IsRangeOf, all, range}
 use Rattle.ospf_routes.specs.steps.Routing.{IsListenedRoute, ListenedCost}
-use Rattle.ospf_routes.proofs.RangeFacts.{intra_is_candidate, range_cost_active}
+use Rattle.ospf_routes.proofs.RangeFacts.{active_range_is, intra_is_candidate, range_cost_active}
 
 -- a connected prefix has no entry
 pub connected_has_none : (net : Network) (u : ℕ) (p : Block) → Connected net u p → (e : Entry) → OspfEntry net u p e → ⊥
@@ -79,7 +83,36 @@ asked_as P asked domain u p domains routers dests is =
     (subst (λ (v : ℕ). P domain v asked.destination.now.dest) routers
     (subst (λ (d : OspfDomain). P d asked.router asked.destination.now.dest) domains is))
 
+-- the place of the area that the router listens to
+pub listened_place : (asked : Asked) (zone : ℕ) → IsQuestion asked → asked.listens ≡ Some zone →
+    IsListenedPlace asked.domain.now.net asked.domain.now.areas asked.router zone
+listened_place asked zone is here =
+    MatchOption-at_some ((n : ℕ) → ListensTo asked.domain.now.net asked.router n → ⊥)
+    (IsListenedPlace asked.domain.now.net asked.domain.now.areas asked.router) zone here is.listens
+
+pub listens_nowhere : (asked : Asked) → IsQuestion asked → asked.listens ≡ None → (n : ℕ) → ListensTo asked.domain.now.net asked.router n → ⊥
+listens_nowhere asked is none =
+    MatchOption-at_none ((n : ℕ) → ListensTo asked.domain.now.net asked.router n → ⊥)
+    (IsListenedPlace asked.domain.now.net asked.domain.now.areas asked.router) none is.listens
+
+-- the prefix is connected at the router where it is at home, and has an active range where one is found
+pub home_is : (asked : Asked) → IsQuestion asked → Contains asked.destination.now.homes.items asked.router ↔
+    Connected asked.domain.now.net asked.router asked.destination.now.dest
+home_is asked is = is.destination.is.homes asked.router
+
+pub range_is : (asked : Asked) → IsQuestion asked → Any (λ (a : ActiveRange). a.range.dest ≡ asked.destination.now.dest) asked.ranges.now ↔
+    IsActiveRange asked.domain.now.net asked.destination.now.dest asked.router
+range_is asked is = active_range_is asked.domain.now.net asked.router asked.destination.now.dest asked.ranges.now is.ranges
+
 -- Deciding offers
+
+pub inside_decides : (asked : Asked) (d : Deciding) → IsInside asked d → IsDeciding asked d
+inside_decides asked d is = record {
+  zone = is.zone;
+  same = is.same;
+  range = is.range;
+  entry = λ away hops best. let route = is.hops (Some hops) best in intra_area away route.is route.hops_are;
+}
 
 -- a route to the best of deciding offers makes the entry
 pub decided_route : (asked : Asked) (d : Deciding) (n : ℕ) (route : Route) → IsDeciding asked d →

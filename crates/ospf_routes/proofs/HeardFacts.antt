@@ -15,7 +15,7 @@ use Rattle.route_tables.proofs.DestinationLists.{prefix_is}
 use Rattle.walk_core.specs.declared.offers.Offer.{Offer}
 use Rattle.igp_theory.specs.Ospf.{ListensTo}
 use Rattle.ospf_routes.specs.steps.Areas.{AreListeners, IsListenedPlace, IsListenerAt}
-use Rattle.ospf_routes.specs.steps.Heard.{AddsRow, AreHeardAt, AreHeardBelow, AreSummaries}
+use Rattle.ospf_routes.specs.steps.Heard.{AddsRow, IsRow, AreHeardAt, AreHeardBelow, AreSummaries}
 use Rattle.ospf_routes.specs.steps.Offered.{AreOffers}
 use Rattle.ospf_routes.specs.steps.OfferLists.{offers_of, offer_lists_of, AreOfferSpans, AreSummariesOf, HeardLists, heard_into}
 use Rattle.ospf_routes.specs.steps.Summarized.{IsHeard}
@@ -58,65 +58,66 @@ offer_lists_more offers more spans span are starts counts =
 below_product : (k a place zone : ℕ) → place < k → zone < a → place * a + zone < k * a
 below_product k a place zone below within = let fits = row_fits place a k a below (omega arith) in omega (arith, within, fits)
 
-pub heard_within : (net : Network) (areas : List AreaWalks) (dests : List Block) (k : ℕ) (heard : HeardLists) → AreHeardBelow net areas dests k heard →
+pub heard_within : (domain : OspfDomain) (dests : List Block) (k : ℕ) (heard : HeardLists) → AreHeardBelow domain dests k heard →
     AreSummariesOf k heard
-heard_within net areas dests k heard are place below zone within =
+heard_within domain dests k heard are place below zone within =
     subst (λ (n : ℕ). place * heard.areas + zone < n) (sym are.count) (below_product k heard.areas place zone below within)
 
-pub heard_none : (net : Network) (areas : List AreaWalks) (dests : List Block) (count : ℕ) → count ≡ length areas →
-    AreHeardBelow net areas dests 0 (record { areas = count; lists = [] })
-heard_none net areas dests count same =
+pub heard_none : (domain : OspfDomain) (dests : List Block) (count : ℕ) → count ≡ length domain.areas →
+    AreHeardBelow domain dests 0 (record { areas = count; lists = [] })
+heard_none domain dests count same =
     record { areas_are = same; count = omega arith; each = λ place zone below within. absurd (omega (arith, below)) }
 
 abbrev pub lists_with : ℕ → List (List Offer) → HeardLists
 lists_with areas lists = record { areas = areas; lists = lists }
 
-pub row_none : (net : Network) (areas : List AreaWalks) (p : Block) (heard : HeardLists) → AddsRow net areas p 0 heard heard
-row_none net areas p heard = record {
+pub row_none : (domain : OspfDomain) (p : Block) (heard : HeardLists) → AddsRow (IsRow domain p 0) heard heard
+row_none domain p heard = record {
   row = [];
   behind = λ i. record { areas = heard.areas; lists = (sym (append-nil heard.lists)) i };
-  count = refl;
-  each = λ zone below. absurd (omega (arith, below));
+  is = record { count = refl; each = λ zone below. absurd (omega (arith, below)) };
 }
 
-pub row_more : (net : Network) (areas : List AreaWalks) (p : Block) (m : ℕ) (old mid new : HeardLists) (list : List Offer) →
-    AddsRow net areas p m old mid → new ≡ record { areas = mid.areas; lists = mid.lists ++ list ∷ [] } → AreHeardAt net areas p m list →
-    AddsRow net areas p (m + 1) old new
-row_more net areas p m old mid new list r is next = record {
+pub row_more : (domain : OspfDomain) (p : Block) (m : ℕ) (old mid new : HeardLists) (list : List Offer) →
+    AddsRow (IsRow domain p m) old mid → new ≡ record { areas = mid.areas; lists = mid.lists ++ list ∷ [] } → AreHeardAt domain p m list →
+    AddsRow (IsRow domain p (m + 1)) old new
+row_more domain p m old mid new list r same next = record {
   row = r.row ++ list ∷ [];
-  behind = is
+  behind = same
       ∙ ap (λ (h : HeardLists). lists_with h.areas (h.lists ++ list ∷ [])) r.behind
       ∙ ap (λ (l : List (List Offer)). lists_with old.areas l) (append_assoc old.lists r.row (list ∷ []));
-  count = let long = length-append r.row (list ∷ []) in omega (arith, long, r.count);
-  each = each_more (AreHeardAt net areas p) r.row m list [] r.count r.each next;
+  is = record {
+    count = let long = length-append r.row (list ∷ []) in omega (arith, long, r.is.count);
+    each = each_more (AreHeardAt domain p) r.row m list [] r.is.count r.is.each next;
+  };
 }
 
-pub heard_more : (net : Network) (areas : List AreaWalks) (dests : List Block) (k : ℕ) (old new : HeardLists) → AreHeardBelow net areas dests k old →
-    AddsRow net areas (prefix_at dests k) (length areas) old new → AreHeardBelow net areas dests (k + 1) new
-heard_more net areas dests k old new are r =
-    subst (AreHeardBelow net areas dests (k + 1)) (sym r.behind) (record {
+pub heard_more : (domain : OspfDomain) (dests : List Block) (k : ℕ) (old new : HeardLists) → AreHeardBelow domain dests k old →
+    AddsRow (IsRow domain (prefix_at dests k) (length domain.areas)) old new → AreHeardBelow domain dests (k + 1) new
+heard_more domain dests k old new are r =
+    subst (AreHeardBelow domain dests (k + 1)) (sym r.behind) (record {
       areas_are = are.areas_are;
-      count = let long = length-append old.lists r.row in omega (arith, long, r.count, are.count, are.areas_are);
+      count = let long = length-append old.lists r.row in omega (arith, long, r.is.count, are.count, are.areas_are);
       each = λ place zone below within. elim (cases_lt place k) [
-        | inl less ↦ subst (AreHeardAt net areas (prefix_at dests place) zone)
-            (sym (get_or_append_left old.lists r.row [] (place * old.areas + zone) (heard_within net areas dests k old are place less zone within)))
+        | inl less ↦ subst (AreHeardAt domain (prefix_at dests place) zone)
+            (sym (get_or_append_left old.lists r.row [] (place * old.areas + zone) (heard_within domain dests k old are place less zone within)))
             (are.each place zone less within)
         | inr past ↦
             let same : place ≡ k = omega (arith, below, past) in
-            subst (λ (j : ℕ). AreHeardAt net areas (prefix_at dests j) zone (get_or (old.lists ++ r.row) (j * old.areas + zone) [])) (sym same)
-            (subst (λ (j : ℕ). AreHeardAt net areas (prefix_at dests k) zone (get_or (old.lists ++ r.row) (j + zone) [])) are.count
-            (subst (AreHeardAt net areas (prefix_at dests k) zone) (sym (get_or-append-add old.lists r.row zone []))
-            (r.each zone (subst (λ (n : ℕ). zone < n) are.areas_are within))))
+            subst (λ (j : ℕ). AreHeardAt domain (prefix_at dests j) zone (get_or (old.lists ++ r.row) (j * old.areas + zone) [])) (sym same)
+            (subst (λ (j : ℕ). AreHeardAt domain (prefix_at dests k) zone (get_or (old.lists ++ r.row) (j + zone) [])) are.count
+            (subst (AreHeardAt domain (prefix_at dests k) zone) (sym (get_or-append-add old.lists r.row zone []))
+            (r.is.each zone (subst (λ (n : ℕ). zone < n) are.areas_are within))))
       ];
     })
 
 -- what is announced of one prefix into an area
 pub heard_of : (domain : OspfDomain) (ds : List Destination) (heard : HeardLists) (k : ℕ) (d : Destination) → AreSummaries domain ds heard →
     k < length ds → d ≡ get_or ds k d → (zone : ℕ) → zone < length domain.areas →
-    AreHeardAt domain.net domain.areas d.dest zone (heard_into heard k zone)
+    AreHeardAt domain d.dest zone (heard_into heard k zone)
 heard_of domain ds heard k d are within at zone inside =
     let long = length-map ds (λ (x : Destination). x.dest) in
-    subst (λ (p : Block). AreHeardAt domain.net domain.areas p zone (heard_into heard k zone))
+    subst (λ (p : Block). AreHeardAt domain p zone (heard_into heard k zone))
     (sym (prefix_is (λ (x : Destination). x.dest) ds k d (omega (arith, long, within)) at))
     (are.each k zone within (subst (λ (n : ℕ). zone < n) (sym are.areas_are) inside))
 
@@ -124,14 +125,14 @@ heard_of domain ds heard k d are within at zone inside =
 pub announced_within : (domain : OspfDomain) (ds : List Destination) (heard : HeardLists) (place zone : ℕ) → AreSummaries domain ds heard →
     place < length ds → zone < length domain.areas → place * heard.areas + zone < length heard.lists
 announced_within domain ds heard place zone are within inside =
-    heard_within domain.net domain.areas (ospf_prefixes ds) (length ds) heard are place within zone
+    heard_within domain (ospf_prefixes ds) (length ds) heard are place within zone
     (subst (λ (n : ℕ). zone < n) (sym are.areas_are) inside)
 
 -- what an area's routers announce into it is that of its place
-pub heard_here : (net : Network) (areas : List AreaWalks) (p : Block) (zone : ℕ) (a : AreaWalks) (offers : List Offer) → a ≡ get_or areas zone a →
-    AreOffers (IsHeard net p a.number) offers → AreHeardAt net areas p zone offers
-heard_here net areas p zone a offers here are n at =
-    subst (λ (m : ℕ). AreOffers (IsHeard net p m) offers) (number_at areas n zone a at here) are
+pub heard_here : (domain : OspfDomain) (p : Block) (zone : ℕ) (a : AreaWalks) (offers : List Offer) → a ≡ get_or domain.areas zone a →
+    AreOffers (IsHeard domain.net p a.number) offers → AreHeardAt domain p zone offers
+heard_here domain p zone a offers here are n at =
+    subst (λ (m : ℕ). AreOffers (IsHeard domain.net p m) offers) (number_at domain.areas n zone a at here) are
 
 -- an area that a router listens to is at a place within
 pub listened_inside : (net : Network) (areas : List AreaWalks) (all : List (Option ℕ)) (u zone : ℕ) (here : Option ℕ) →

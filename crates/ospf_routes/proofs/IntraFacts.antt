@@ -16,7 +16,7 @@ use Rattle.walk_core.specs.declared.offers.Offer.{Offer}
 use Rattle.igp_theory.specs.Ospf.{OffersSubnet, IntraAreaCost, IsIntraArea}
 use Rattle.ospf_routes.specs.steps.Areas.{AreAreas, HasArea, IsAreaAt, IsReach}
 use Rattle.ospf_routes.specs.declared.areas.AreaWalks.{AreaWalks}
-use Rattle.ospf_routes.specs.steps.Destinations.{AddsPart, HasAreaPart, IsDestination, IsDestinationIn, IsPartIn, IsPartOf}
+use Rattle.ospf_routes.specs.steps.Destinations.{AddsPart, HasAreaPart, IsDestination, IsDestinationIn, IsPart, IsPartAt, IsPartFor, IsPartIn, IsPartOf}
 use Rattle.ospf_routes.specs.Lists.{Exactly}
 use Rattle.ospf_routes.specs.steps.Offered.{AreOffers, InsideOf}
 use Rattle.ospf_routes.specs.declared.intra_area.AreaOffers.{AreaOffers}
@@ -82,7 +82,8 @@ pub record PartsSoFar (routes : List AreaRoute) (areas : List AreaWalks) (k : �
   pub every : (n : ℕ) (o : Offer) → HasArea (take k areas) n → Any (λ (r : AreaRoute). InsideOf n r o) routes → HasAreaPart parts n
 
 pub parts_more : (routes : List AreaRoute) (areas : List AreaWalks) (k : ℕ) (a : AreaWalks) (old new : List AreaOffers) →
-    PartsSoFar routes areas k old → k < length areas → a ≡ get_or areas k a → AddsPart routes a.number k old new → PartsSoFar routes areas (k + 1) new
+    PartsSoFar routes areas k old → k < length areas → a ≡ get_or areas k a →
+    AddsPart (IsPartAt routes a.number k) (Any (λ (r : AreaRoute). r.area ≡ a.number) routes) old new → PartsSoFar routes areas (k + 1) new
 parts_more routes areas k a old new before within here adds = record {
   each = λ j d below. ⊎_elim
       (λ among. All-contains (IsPartIn areas routes) old (get_or new j d) before.each among)
@@ -98,8 +99,9 @@ parts_more routes areas k a old new before within here adds = record {
       (λ same.
       let number : a.number ≡ n = ap (λ (x : AreaWalks). x.number) same ∙ has.number in
       let found = any_in (λ (r : AreaRoute). InsideOf n r o) routes given in
-      subst (HasAreaPart new) number
-      (adds.added (any_of (λ (r : AreaRoute). r.area ≡ a.number) routes found.item found.among (found.holds.area ∙ sym number))))
+      let part = any_in (IsPartAt routes a.number k) new
+      (adds.added (any_of (λ (r : AreaRoute). r.area ≡ a.number) routes found.item found.among (found.holds.area ∙ sym number))) in
+      record { part = part.item; among = part.among; area = part.holds.area ∙ number })
       (Contains-push_cases (take k areas) a has.area (subst (λ (l : List AreaWalks). Contains l has.area) (sym (one_more areas k a within here)) has.among));
 }
 
@@ -120,21 +122,29 @@ no_intra_given net d given n u is same none cost costs =
     let best = costs.best in
     none (subst (λ (l : List AreaOffers). HasAreaPart l n) (sym same) (is.every n best.at best.attained.asks best.attained.offered))
 
-pub part_is : (net : Network) (d : Destination) (part : AreaOffers) → IsDestination net d → Contains d.parts.items part →
-    AreOffers (OffersSubnet net part.area d.dest) part.offers.items
-part_is net d part is among =
-    All-contains (λ (x : AreaOffers). AreOffers (OffersSubnet net x.area d.dest) x.offers.items) d.parts.items part is.exact among
+-- a part of a destination
+pub part_for : (net : Network) (areas : List AreaWalks) (d : Destination) (part : AreaOffers) → IsDestinationIn net areas d → Contains d.parts.items part →
+    IsPartFor net areas d.dest part
+part_for net areas d part is among = record {
+  offers = All-contains (λ (x : AreaOffers). AreOffers (OffersSubnet net x.area d.dest) x.offers.items) d.parts.items part is.is.exact among;
+  at = All-contains (λ (x : AreaOffers). IsAreaAt areas x.area x.zone) d.parts.items part is.placed among;
+}
 
-pub part_place : (net : Network) (areas : List AreaWalks) (d : Destination) (part : AreaOffers) → IsDestinationIn net areas d → Contains d.parts.items part →
-    IsAreaAt areas part.area part.zone
-part_place net areas d part is among = All-contains (λ (x : AreaOffers). IsAreaAt areas x.area x.zone) d.parts.items part is.placed among
+pub some_part : {net : Network} {areas : List AreaWalks} {p : Block} {part : AreaOffers} → IsPartFor net areas p part → IsPart net areas part
+some_part {net} {areas} {p} {part} is = (p, is)
+
+-- read at its place
+pub part_at : (net : Network) (areas : List AreaWalks) (d : Destination) (given : List AreaOffers) (i : ℕ) (part : AreaOffers) →
+    IsDestinationIn net areas d → given ≡ d.parts.items → i < length given → part ≡ get_or given i part → IsPartFor net areas d.dest part
+part_at net areas d given i part is same within here =
+    part_for net areas d part is (subst (λ (l : List AreaOffers). Contains l part) same (i, within, sym here))
 
 -- what a part offers is in range over the walks in its area
-pub part_in_range : (net : Network) (areas : List AreaWalks) (d : Destination) (part : AreaOffers) (u : ℕ) (reach : Reach) → IsNetwork net →
-    IsDestinationIn net areas d → Contains d.parts.items part → IsReach net part.area u reach → AreInRange reach part.offers.items
-part_in_range net areas d part u reach network is among reach_is =
-    in_range reach (OffersSubnet net part.area d.dest) part.offers.items part.offers.items reach_is.near (part_is net d part is.is among) refl
-    (λ at asks offers. let small : asks < 2 ^ 24 = subnet_is_small net part.area d.dest at asks network offers in omega arith)
+pub part_in_range : (net : Network) (areas : List AreaWalks) (p : Block) (part : AreaOffers) (u : ℕ) (reach : Reach) → IsNetwork net →
+    IsPartFor net areas p part → IsReach net part.area u reach → AreInRange reach part.offers.items
+part_in_range net areas p part u reach network is reach_is =
+    in_range reach (OffersSubnet net part.area p) part.offers.items part.offers.items reach_is.near is.offers refl
+    (λ at asks offers. let small : asks < 2 ^ 24 = subnet_is_small net part.area p at asks network offers in omega arith)
 
 -- a router that reaches an offer of an area is in the area
 pub reaches_inside : (net : Network) (n : ℕ) (p : Block) (u cost : ℕ) → BestCost (Adjacent net (Area n)) (OffersSubnet net n p) u cost → InArea net u n

@@ -32,7 +32,7 @@ use Rattle.ospf_routes.specs.declared.areas.AreaWalks.{AreaWalks}
 use Rattle.ospf_routes.specs.declared.intra_area.AreaOffers.{AreaOffers}
 use Rattle.ospf_routes.specs.declared.intra_area.Destination.{Destination}
 use Rattle.ospf_routes.proofs.AreaFacts.{number_at, reach_is, reach_within}
-use Rattle.ospf_routes.proofs.IntraFacts.{no_intra_given, part_in_range, part_is}
+use Rattle.ospf_routes.proofs.IntraFacts.{no_intra_given, part_for, part_in_range}
 use Rattle.ospf_routes.proofs.EntryFacts.{heard_in_range, listened_entry, no_route_no_entry}
 use Rattle.ospf_routes.proofs.RouteFacts.{area_route_is, listened_route_is}
 use Rattle.ospf_routes.proofs.ZoneRoutes.{route_of_area}
@@ -174,13 +174,14 @@ pub inside_decides : (l : LaneOf) (u : ℕ) (d : Destination) (part : AreaOffers
 inside_decides l u d part given decision are is below listens alone among at same few told =
     let net : Network = l.domain.net in
     let reach : Reach = area_reach l.domain.areas u l.zone in
+    let part_is = part_for net l.domain.areas d part is among in
     let walks : IsReach net part.area u reach = reach_at net l.domain.areas part.area u l.zone are at below in
     few_decide l u d.dest given decision few told (λ away.
     leads_by l u d.dest given at.within
-    (subst (AreInRange reach) (sym same) (part_in_range net l.domain.areas d part u reach are.network is among walks))
+    (subst (AreInRange reach) (sym same) (part_in_range net l.domain.areas d.dest part u reach are.network part_is walks))
     (λ hops best.
     let route = route_of_area net part.area d.dest u hops (λ h m inside hop. only_inside net u part.area m alone listens inside)
-    (area_route_is net part.area d.dest u reach part.offers.items given walks (part_is net d part is.is among) same (length net) refl (Some hops) best) in
+    (area_route_is net part.area d.dest u reach part.offers.items given walks part_is.offers same (length net) refl (Some hops) best) in
     intra_area away route.is route.hops_are))
 
 -- the router has no intra-area route, and listens to these offers
@@ -194,7 +195,7 @@ pub record IsOutside (l : LaneOf) (u : ℕ) (p : Block) (offers : List Offer) : 
 -- which is so where nothing is offered in its area
 pub outside_where : (l : LaneOf) (d : Destination) (offers : List Offer) (u : ℕ) → AreListeners l.domain.net l.domain.areas (length l.domain.net) l.listens →
     IsDestination l.domain.net d → ((n : ℕ) → IsAreaAt l.domain.areas n l.zone → HasAreaPart d.parts.items n → ⊥) →
-    AreHeardAt l.domain.net l.domain.areas d.dest l.zone offers → u < length l.domain.net → IsInner l.domain.net l.listens l.zone u →
+    AreHeardAt l.domain d.dest l.zone offers → u < length l.domain.net → IsInner l.domain.net l.listens l.zone u →
     IsOutside l u d.dest offers
 outside_where l d offers u listeners is no_part heard below inner =
     let place = inner_place l.domain.net l.domain.areas l.listens l.zone u listeners below inner in
@@ -210,7 +211,7 @@ outside_where l d offers u listeners is no_part heard below inner =
 
 pub outside_at : (l : LaneOf) (d : Destination) (a : AreaWalks) (given : List AreaOffers) (offers : List Offer) →
     a ≡ get_or l.domain.areas l.zone a → AreListeners l.domain.net l.domain.areas (length l.domain.net) l.listens → IsDestination l.domain.net d →
-    AreHeardAt l.domain.net l.domain.areas d.dest l.zone offers →
+    AreHeardAt l.domain d.dest l.zone offers →
     given ≡ d.parts.items → (HasAreaPart given a.number → ⊥) →
     (u : ℕ) → u < length l.domain.net → IsInner l.domain.net l.listens l.zone u → IsOutside l u d.dest offers
 outside_at l d a given offers here listeners is heard same no_part u =

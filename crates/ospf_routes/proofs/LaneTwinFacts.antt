@@ -34,7 +34,7 @@ use Rattle.ospf_routes.proofs.TwinLaws.{IsTwinFor, alike_offers_back, twin_entri
 pub record IsAnnouncedOutside (l : LaneOf) (d : Destination) (offers : List Offer) : Type 0 where
   pub is : IsDestination l.domain.net d
   pub outside : IsOutsideLane l d
-  pub heard : AreHeardAt l.domain.net l.domain.areas d.dest l.zone offers
+  pub heard : AreHeardAt l.domain d.dest l.zone offers
 
 -- prefixes of which alike offers are announced are twins at a router that the second one isn't connected at
 outside_twins : (l : LaneOf) (u : ℕ) (p q : Block) (ones others : List Offer) → IsOutside l u p ones → IsOutside l u q others →
@@ -76,7 +76,7 @@ pub announced_at : (domain : OspfDomain) (ds : List Destination) (listens : List
 announced_at domain ds listens heard zone place d offers is are inside within at outside read = record {
   is = (destination_read domain ds place d is within at).is.is;
   outside = outside;
-  heard = subst (AreHeardAt domain.net domain.areas d.dest zone) (sym read) (heard_of domain ds heard place d are within at zone inside);
+  heard = subst (AreHeardAt domain d.dest zone) (sym read) (heard_of domain ds heard place d are within at zone inside);
 }
 
 -- an earlier prefix that is announced alike
@@ -140,4 +140,5 @@ lane_earlier domain ds listens twins lane here are within here_is =
     earlier_then (AreLaneAlike l) (AreAlikeFor (IsOfOspfLane l) (OspfEntry domain.net)) dests (length dests) here
     (λ p q same u e is. same u e (is.below, is.inner within))
     (subst (λ (n : ℕ). AreEarlierBy (AreLaneAlike l) dests n here) (sym long)
-    (place_read (AreTwinsAlone domain ds listens) [] (length domain.areas) twins lane here are within here_is))
+    (place_read (λ (zone : ℕ). AreTwinsAlone ds (record { domain = domain; listens = listens; zone = zone })) [] (length domain.areas) twins lane here are
+    within here_is))

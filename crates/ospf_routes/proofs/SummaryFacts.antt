@@ -19,13 +19,14 @@ use Rattle.walk_core.specs.declared.offers.Offer.{Offer}
 use Rattle.walk_core.proofs.WalkLaws.{SameArcs, SameOffers, best_cost_unique, best_cost_same}
 use Rattle.igp_theory.specs.Ospf.{IntraAreaCost, IsIntraArea, IsActiveRange, BackboneSummary, AreaSummary, BorderCost, RangeCost, HasStub, IsTotallyStubby}
 use Rattle.igp_theory.specs.Ospf.{Summary, into_backbone, into_area, OfOthers, ListensTo, backbone, one_area}
-use Rattle.ospf_routes.specs.steps.Areas.{IsReach}
+use Rattle.ospf_routes.specs.steps.Areas.{IsArea, IsReach}
+use Rattle.ospf_routes.specs.declared.areas.AreaWalks.{AreaWalks}
 use Rattle.ospf_routes.specs.steps.Destinations.{IsDestination}
 use Rattle.ospf_routes.specs.Lists.{Exactly, Adds}
 use Rattle.ospf_routes.specs.steps.Members.{IsBorderIn}
 use Rattle.ospf_routes.specs.steps.Offered.{AreOffers, OutsideOf}
-use Rattle.ospf_routes.specs.steps.Ranges.{IsComponentOfSome, AreActiveRanges}
-use Rattle.ospf_routes.specs.steps.Summarized.{IsAreaSubnet, IsSubnetSummary, SummarizedSubnet, IsRangeRoute}
+use Rattle.ospf_routes.specs.steps.Ranges.{IsComponentOfSome, AreActiveRanges, AreRangesBelow}
+use Rattle.ospf_routes.specs.steps.Summarized.{IsAreaSubnet, SummarizedSubnet, IsListedRange, IsRangeRoute}
 use Rattle.ospf_routes.specs.steps.Summarized.{SummarizedRange, SummarizedFrom, AreSummarized, OutsideSummary}
 use Rattle.ospf_routes.specs.steps.Summarized.{Announces, IsPassedOn, IsHeard, IsOutgoing, IsAlone, IsDefault, RouterDefault, HasDefault}
 use Rattle.ospf_routes.specs.declared.intra_area.AreaOffers.{AreaOffers}
@@ -41,49 +42,51 @@ use Rattle.ospf_routes.proofs.RangeFacts.{range_cost_active}
 
 -- What one router summarizes
 
-pub subnet_summary_some : (net : Network) (p : Block) (n b asks : ℕ) → IntraAreaCost net n p b asks → (IsComponentOfSome net b p → ⊥) → (r : AreaRoute) →
-    (Some (record { area = n; at = b; asks = asks }) ≡ Some r) ↔ IsSubnetSummary net p n b r
-subnet_summary_some net p n b asks costs alone r =
+-- a subnet that router b summarizes out of area n has a cost there, and is no component
+pub subnet_costs : {net : Network} {p : Block} {n b : ℕ} {r : AreaRoute} → r.at ≡ b → IsAreaSubnet net p n r → IntraAreaCost net n p b r.asks
+subnet_costs {net} {p} {n} {b} {r} at is =
+    subst (λ (u : ℕ). IntraAreaCost net n p u r.asks) at (subst (λ (m : ℕ). IntraAreaCost net m p r.at r.asks) is.area is.summarized.costs)
+
+pub subnet_alone : {net : Network} {p : Block} {n b : ℕ} {r : AreaRoute} → r.at ≡ b → IsAreaSubnet net p n r → IsComponentOfSome net b p → ⊥
+subnet_alone {net} {p} at is =
+    subst (λ (u : ℕ). IsComponentOfSome net u p → ⊥) at (λ some. is.summarized.alone some.range some.cost some.component)
+
+pub subnet_summary_some : (net : Network) (p : Block) (n b asks : ℕ) → IsBorderRouter net b → IntraAreaCost net n p b asks →
+    (IsComponentOfSome net b p → ⊥) → (r : AreaRoute) →
+    (Some (record { area = n; at = b; asks = asks }) ≡ Some r) ↔ ((r.at ≡ b) × IsAreaSubnet net p n r)
+subnet_summary_some net p n b asks border costs alone r =
     let one : AreaRoute = record { area = n; at = b; asks = asks } in (
-      λ same. subst (λ (x : AreaRoute). IsSubnetSummary net p n b x) (same_Some one r same)
-          (record { area = refl; at = refl; costs = costs; alone = alone }),
-      λ is. ap Some (same_route is),
+      λ same. subst (λ (x : AreaRoute). (x.at ≡ b) × IsAreaSubnet net p n x) (same_Some one r same) (
+        refl,
+        record {
+          area = refl;
+          summarized = record {
+            at = refl;
+            border = border;
+            costs = costs;
+            alone = λ range c is. alone (record { range = range; cost = c; component = is });
+          };
+        },
+      ),
+      λ is. ap Some (same_route is.0 is.1),
     )
   where
-    same_route : IsSubnetSummary net p n b r → ◌≡◌ {A = AreaRoute} (record { area = n; at = b; asks = asks }) r
-    same_route is =
-        let e : asks ≡ r.asks = best_cost_unique costs.best is.costs.best in
-        λ i. record { area = (sym is.area) i; at = (sym is.at) i; asks = e i }
+    same_route : r.at ≡ b → IsAreaSubnet net p n r → ◌≡◌ {A = AreaRoute} (record { area = n; at = b; asks = asks }) r
+    same_route at is =
+        let e : asks ≡ r.asks = best_cost_unique costs.best (subnet_costs at is).best in
+        λ i. record { area = (sym is.area) i; at = (sym at) i; asks = e i }
 
-pub area_subnets_are : (net : Network) (p : Block) (n : ℕ) (borders given : List ℕ) (old new : List AreaRoute) → Exactly (IsBorderIn net n) borders →
-    given ≡ borders → Adds old new (λ (r : AreaRoute). Any (λ (b : ℕ). IsSubnetSummary net p n b r) given) → Adds old new (IsAreaSubnet net p n)
-area_subnets_are net p n borders given old new are same adds =
-    adds_same old new (λ (r : AreaRoute). Any (λ (b : ℕ). IsSubnetSummary net p n b r) given) (IsAreaSubnet net p n) adds (λ r. (there r, back r))
+pub area_subnets_are : (net : Network) (p : Block) (n : ℕ) (a : AreaWalks) (given : List ℕ) (old new : List AreaRoute) → IsArea net a → a.number ≡ n →
+    given ≡ a.borders → Adds old new (λ (r : AreaRoute). Any (λ (b : ℕ). (r.at ≡ b) × IsAreaSubnet net p n r) given) → Adds old new (IsAreaSubnet net p n)
+area_subnets_are net p n a given old new is_area number same adds =
+    adds_same old new (λ (r : AreaRoute). Any (λ (b : ℕ). (r.at ≡ b) × IsAreaSubnet net p n r) given) (IsAreaSubnet net p n) adds (λ r. (
+      λ any. (any_in (λ (b : ℕ). (r.at ≡ b) × IsAreaSubnet net p n r) given any).holds.1,
+      λ is. any_of (λ (b : ℕ). (r.at ≡ b) × IsAreaSubnet net p n r) given r.at
+          ((listed r.at).1 (record { inside = (subnet_costs refl is).inside; border = is.summarized.border })) (refl, is),
+    ))
   where
     listed : Exactly (IsBorderIn net n) given
-    listed = subst (Exactly (IsBorderIn net n)) (sym same) are
-
-    there : (r : AreaRoute) → Any (λ (b : ℕ). IsSubnetSummary net p n b r) given → IsAreaSubnet net p n r
-    there r any =
-        let f = any_in (λ (b : ℕ). IsSubnetSummary net p n b r) given any in
-        let b : ℕ = f.item in
-        let is : IsSubnetSummary net p n b r = f.holds in
-        record {
-          area = is.area;
-          summarized = subst (λ (u : ℕ). SummarizedSubnet net p u r) (sym is.at) (record {
-            at = is.at;
-            border = ((listed b).0 f.among).border;
-            costs = subst (λ (m : ℕ). IntraAreaCost net m p b r.asks) (sym is.area) is.costs;
-            alone = λ range c component. is.alone (record { range = range; cost = c; component = component });
-          });
-        }
-
-    back : (r : AreaRoute) → IsAreaSubnet net p n r → Any (λ (b : ℕ). IsSubnetSummary net p n b r) given
-    back r is =
-        let costs = subst (λ (m : ℕ). IntraAreaCost net m p r.at r.asks) is.area is.summarized.costs in
-        any_of (λ (b : ℕ). IsSubnetSummary net p n b r) given r.at
-        ((listed r.at).1 (record { inside = costs.inside; border = is.summarized.border }))
-        (record { area = is.area; at = refl; costs = costs; alone = λ one. is.summarized.alone one.range one.cost one.component })
+    listed = subst (Exactly (IsBorderIn net n)) (sym same) (subst (λ (m : ℕ). Exactly (IsBorderIn net m) a.borders) number is_area.borders)
 
 pub subnets_are : (net : Network) (d : Destination) (given : List AreaOffers) → IsDestination net d → given ≡ d.parts.items → (r : AreaRoute) →
     Any (λ (part : AreaOffers). IsAreaSubnet net d.dest part.area r) given ↔ SummarizedSubnet net d.dest r.at r
@@ -96,37 +99,40 @@ subnets_are net d given is same r = (
       (subst (λ (l : List AreaOffers). Contains l has.part) (sym same) has.among) (record { area = sym has.area; summarized = s }),
 )
 
-pub ranges_are : (net : Network) (p : Block) (b : ℕ) (actives given : List ActiveRange) → AreActiveRanges net b actives → given ≡ actives → (r : AreaRoute) →
-    Any (λ (a : ActiveRange). IsRangeRoute a p b r) given ↔ SummarizedRange net p b r
-ranges_are net p b actives given are same r =
-    let listed : AreActiveRanges net b given = subst (AreActiveRanges net b) (sym same) are in (
-      λ any.
-          let f = any_in (λ (a : ActiveRange). IsRangeRoute a p b r) given any in
-          let costs = (listed.exact f.item).0 f.among in
-          record {
-            at = f.holds.at;
-            range = f.item.range;
-            has = (range_cost_active net b f.item.range f.item.cost costs).component.range;
-            dest = f.holds.dest;
-            area = sym f.holds.area;
-            advertised = f.holds.advertised;
-            costs = subst (λ (c : ℕ). RangeCost net b f.item.range c) (sym f.holds.costs) costs;
-          },
-      λ s.
-          let a : ActiveRange = record { range = s.range; cost = r.asks } in
-          any_of (λ (x : ActiveRange). IsRangeRoute x p b r) given a ((listed.exact a).1 s.costs)
-          (record { dest = s.dest; advertised = s.advertised; area = sym s.area; at = s.at; costs = refl }),
-    )
+ranges_are : (net : Network) (p : Block) (b : ℕ) (actives : List ActiveRange) → AreActiveRanges net b actives → (r : AreaRoute) →
+    Any (λ (a : ActiveRange). IsRangeRoute a p b r) actives ↔ SummarizedRange net p b r
+ranges_are net p b actives are r = (
+  λ any.
+      let f = any_in (λ (a : ActiveRange). IsRangeRoute a p b r) actives any in
+      let costs = (are.exact f.item).0 f.among in
+      record {
+        at = f.holds.at;
+        range = f.item.range;
+        has = (range_cost_active net b f.item.range f.item.cost costs).component.range;
+        dest = f.holds.dest;
+        area = sym f.holds.area;
+        advertised = f.holds.advertised;
+        costs = subst (λ (c : ℕ). RangeCost net b f.item.range c) (sym f.holds.costs) costs;
+      },
+  λ s.
+      let a : ActiveRange = record { range = s.range; cost = r.asks } in
+      any_of (λ (x : ActiveRange). IsRangeRoute x p b r) actives a ((are.exact a).1 s.costs)
+      (record { dest = s.dest; advertised = s.advertised; area = sym s.area; at = s.at; costs = refl }),
+)
 
 -- the ranges of all border routers
-pub all_ranges_are : (net : Network) (p : Block) (borders : List ℕ) → Exactly (IsBorderRouter net) borders → (r : AreaRoute) →
-    Any (λ (b : ℕ). SummarizedRange net p b r) borders ↔ SummarizedRange net p r.at r
-all_ranges_are net p borders are r = (
+pub all_ranges_are : (net : Network) (p : Block) (ranges : List (List ActiveRange)) (borders : List ℕ) → AreRangesBelow net (length net) ranges →
+    Exactly (IsBorderRouter net) borders → (r : AreaRoute) → Any (λ (b : ℕ). IsListedRange ranges p b r) borders ↔ SummarizedRange net p r.at r
+all_ranges_are net p ranges borders known are r = (
   λ any.
-      let f = any_in (λ (b : ℕ). SummarizedRange net p b r) borders any in
-      subst (λ (b : ℕ). SummarizedRange net p b r) (sym f.holds.at) f.holds,
-  λ is. any_of (λ (b : ℕ). SummarizedRange net p b r) borders r.at ((are r.at).1 is.has.border) is,
+      let f = any_in (λ (b : ℕ). IsListedRange ranges p b r) borders any in
+      let is = (listed f.item ((are f.item).0 f.among)).0 f.holds in
+      subst (λ (b : ℕ). SummarizedRange net p b r) (sym is.at) is,
+  λ is. any_of (λ (b : ℕ). IsListedRange ranges p b r) borders r.at ((are r.at).1 is.has.border) ((listed r.at is.has.border).1 is),
 )
+  where
+    listed : (b : ℕ) → IsBorderRouter net b → IsListedRange ranges p b r ↔ SummarizedRange net p b r
+    listed b border = ranges_are net p b (get_or ranges b []) (known.each b (border_is_router net b border)) r
 
 pub summarized_both : (net : Network) (p : Block) (b : ℕ) (r : AreaRoute) →
     SummarizedFrom net p b r ↔ (SummarizedSubnet net p b r ⊎ SummarizedRange net p b r)
@@ -268,8 +274,8 @@ reached_inside net n u at d reached apart = start reached.legs reached.walk.lead
     start (leg ∷ legs) over = ends legs leg.to (Adjacent-in_area net n u leg.to leg.cost over.0).1 over.1
 
 -- so what others announce and what is heard cost the same
-heard_costs : (net : Network) (p : Block) (n u : ℕ) → (IsIntraArea net p u → ⊥) → (IsActiveRange net p u → ⊥) → ListensTo net u n → (at c : ℕ) →
-    OfferCosts (Adjacent net (Area n)) (OfOthers (Summary net p n) u) u at c ↔ OfferCosts (Adjacent net (Area n)) (IsHeard net p n) u at c
+heard_costs : (net : Network) (p : Block) (n u : ℕ) → (IsIntraArea net p u → ⊥) → (IsActiveRange net p u → ⊥) → ListensTo net u n →
+    (at c : ℕ) → OfferCosts (Adjacent net (Area n)) (OfOthers (Summary net p n) u) u at c ↔ OfferCosts (Adjacent net (Area n)) (IsHeard net p n) u at c
 heard_costs net p n u no_intra no_range listens at c = (
   λ costs. record {
     asks = costs.asks;
@@ -291,41 +297,30 @@ heard_costs net p n u no_intra no_range listens at c = (
   },
 )
 
+-- two kinds of offers that come at the same costs at u
+abbrev CostsAlike : Arcs → Offers → Offers → ℕ → Type 0
+CostsAlike arc one other u = (at c : ℕ) → OfferCosts arc one u at c ↔ OfferCosts arc other u at c
+
+-- have the same least cost and the same hops there
+best_alike : {arc : Arcs} {one other : Offers} {u cost : ℕ} → CostsAlike arc one other u → BestCost arc one u cost → BestCost arc other u cost
+best_alike {cost = cost} same best = record {
+  at = best.at;
+  attained = (same best.at cost).0 best.attained;
+  least = λ at less costs. best.least at less ((same at less).1 costs);
+}
+
+hop_alike : {arc : Arcs} {one other : Offers} {u h : ℕ} → CostsAlike arc one other u → BestHop arc one u h → BestHop arc other u h
+hop_alike same hop = record { cost = hop.cost; best = best_alike same hop.best; at = hop.at; attained = (same hop.at hop.cost).0 hop.attained; hop = hop.hop }
+
 pub listened_cost : (net : Network) (p : Block) (n u cost : ℕ) → (IsIntraArea net p u → ⊥) → (IsActiveRange net p u → ⊥) → ListensTo net u n →
     BestCost (Adjacent net (Area n)) (OfOthers (Summary net p n) u) u cost ↔ BestCost (Adjacent net (Area n)) (IsHeard net p n) u cost
 listened_cost net p n u cost no_intra no_range listens =
-    let same = heard_costs net p n u no_intra no_range listens in (
-      λ best. record {
-        at = best.at;
-        attained = (same best.at cost).0 best.attained;
-        least = λ other less costs. best.least other less ((same other less).1 costs);
-      },
-      λ best. record {
-        at = best.at;
-        attained = (same best.at cost).1 best.attained;
-        least = λ other less costs. best.least other less ((same other less).0 costs);
-      },
-    )
+    let same = heard_costs net p n u no_intra no_range listens in (best_alike same, best_alike (λ at c. ((same at c).1, (same at c).0)))
 
 pub listened_hop : (net : Network) (p : Block) (n u h : ℕ) → (IsIntraArea net p u → ⊥) → (IsActiveRange net p u → ⊥) → ListensTo net u n →
     BestHop (Adjacent net (Area n)) (OfOthers (Summary net p n) u) u h ↔ BestHop (Adjacent net (Area n)) (IsHeard net p n) u h
 listened_hop net p n u h no_intra no_range listens =
-    let same = heard_costs net p n u no_intra no_range listens in (
-      λ hop. record {
-        cost = hop.cost;
-        best = (listened_cost net p n u hop.cost no_intra no_range listens).0 hop.best;
-        at = hop.at;
-        attained = (same hop.at hop.cost).0 hop.attained;
-        hop = hop.hop;
-      },
-      λ hop. record {
-        cost = hop.cost;
-        best = (listened_cost net p n u hop.cost no_intra no_range listens).1 hop.best;
-        at = hop.at;
-        attained = (same hop.at hop.cost).1 hop.attained;
-        hop = hop.hop;
-      },
-    )
+    let same = heard_costs net p n u no_intra no_range listens in (hop_alike same, hop_alike (λ at c. ((same at c).1, (same at c).0)))
 
 -- Border routers
 

@@ -40,7 +40,7 @@ destination_read domain ds place d is within d_at =
 pub twin_at : (domain : OspfDomain) (ds : List Destination) (ranged : List Block) (heard : HeardLists) (one other : ℕ) → AreAreas domain.net domain.areas →
     AreOspfDestinations domain.net domain.areas ds →
     HoldRanges domain.net ranged → AreSummaries domain ds heard → one < length ds →
-    other < length ds → AreTwinsAt ds heard ranged one other →
+    other < length ds → AreTwinsAt (record { destinations = ds; heard = heard; ranged = ranged }) one other →
     AreAlikePrefixes (length domain.net) (OspfEntry domain.net) (prefix_at (ospf_prefixes ds) one)
     (prefix_at (ospf_prefixes ds) other)
 twin_at domain ds ranged heard one other known is hold announced within_one within_other at u f _ =
@@ -58,7 +58,7 @@ pub twin_found : (domain : OspfDomain) (ds : List Destination) (ranged : List Bl
     (found : Option ℕ) → AreAreas domain.net domain.areas → AreOspfDestinations domain.net domain.areas ds → HoldRanges domain.net ranged →
     AreSummaries domain ds heard →
     place < length ds → IfSome found (λ one. one < place) →
-    IfSome found (λ one. AreTwinsAt ds heard ranged one place) → (earlier : ℕ) → found ≡ Some earlier →
+    IfSome found (λ one. AreTwinsAt (record { destinations = ds; heard = heard; ranged = ranged }) one place) → (earlier : ℕ) → found ≡ Some earlier →
     IsEarlierBy (AreAlikePrefixes (length domain.net) (OspfEntry domain.net)) (ospf_prefixes ds) place earlier
 twin_found domain ds ranged heard place None known is hold announced within below at earlier wrong = absurd (none-some earlier wrong)
 twin_found domain ds ranged heard place (Some one) known is hold announced within below at earlier found =

@@ -25,17 +25,15 @@ use Rattle.ospf_routes.specs.declared.intra_area.Destination.{Destination}
 
 -- what follows of the hops of the best offers follows of the route to them
 pub zone_route : {E : Type 0} (net : Network) (areas : List AreaWalks) (u zone n : ℕ) (reach : Reach) (offers : List Offer) (none : Type 0)
-    (some : List ℕ → Type 0)
-    (r : Result (Option Route) E) → zone < length areas → area_reach areas u zone ≡ reach → n ≡ length net →
-    ((hops : Option (List ℕ)) → MatchOption hops (NoneTotals reach offers) (AreBestHops reach offers n) → MatchOption hops none some) →
+    (some : List ℕ → Type 0) (r : Result (Option Route) E) → zone < length areas → area_reach areas u zone ≡ reach → n ≡ length net →
+    ((hops : Option (List ℕ)) → MatchOption hops (NoneTotals reach offers) (AreBestHops reach offers (length net)) → MatchOption hops none some) →
     IfOk r (λ found. MatchOption found (NoneTotals reach offers) (IsBestRoute reach offers zone n)) →
     IfOk r (λ found. MatchOption found none (IsRouteFor (area_reach areas u) (length areas) (length net) (ForwardsBy some)))
 zone_route net areas u zone n reach offers none some r within same count follows is =
-    subst (λ (m : ℕ). IfOk r (λ found. MatchOption found none (IsRouteFor (area_reach areas u) (length areas) m (ForwardsBy some)))) count
-    (IfOk-weaker r
-    (λ found. MatchOption found (NoneTotals reach offers) (IsBestRoute reach offers zone n))
-    (λ found. MatchOption found none (IsRouteFor (area_reach areas u) (length areas) n (ForwardsBy some)))
-    (λ found best. best_route_is (area_reach areas u) (length areas) n zone reach offers none some within same follows found best) is)
+    IfOk-weaker r (λ found. MatchOption found (NoneTotals reach offers) (IsBestRoute reach offers zone n))
+    (λ found. MatchOption found none (IsRouteFor (area_reach areas u) (length areas) (length net) (ForwardsBy some)))
+    (λ found best. best_route_is (area_reach areas u) (length areas) (length net) zone reach offers none some within same follows found
+    (subst (λ (m : ℕ). MatchOption found (NoneTotals reach offers) (IsBestRoute reach offers zone m)) count best)) is
 
 -- One area alone
 

@@ -1,9 +1,9 @@
-ghost use Rattle.std.specs.Prelude.{◌≡◌, ◌<◌, ◌↔◌, length, Some, Any, Contains, IfOk, OnOk};
+ghost use Rattle.std.specs.Prelude.{◌≡◌, ◌<◌, ◌↔◌, length, Some, All, Any, Contains, IfOk, OnOk};
 ghost use Rattle.ospf_routes.specs.steps.Destinations.{IsDestinationIn};
 ghost use Rattle.net_model.specs.Network.{IsBorderRouter};
 ghost use Rattle.ospf_routes.specs.Lists.{Adds, Exactly};
 ghost use Rattle.ospf_routes.specs.steps.Ranges.{AreRangesBelow};
-ghost use Rattle.ospf_routes.specs.steps.Summarized.{AreSummarized, IsAreaSubnet, IsRangeRoute, IsSubnetSummary, SummarizedRange, SummarizedSubnet};
+ghost use Rattle.ospf_routes.specs.steps.Summarized.{AreSummarized, IsAreaSubnet, IsListedRange, IsRangeRoute, SummarizedSubnet};
 ghost use Rattle.ospf_routes.specs.declared.area_route.AreaRoute.{AreaRoute as Route};
 
 use crate::OutOfMemory;
@@ -30,7 +30,7 @@ pub fn summarized(
 {
     let mut routes = Vec::new(alloc);
     push_subnets(&mut routes, domain, destination)?;
-    push_ranges(&mut routes, domain, borders, ranges, destination.dest)?;
+    push_ranges(&mut routes, borders, ranges, destination.dest)?;
     Ok(routes)
 }
 
@@ -78,9 +78,9 @@ fn subnet_summary(
     requires router { b < length domain.now.net }
     requires destination { IsDestinationIn domain.now.net domain.now.areas destination.now }
     requires part { Contains destination.now.parts.items part.now }
-    ensures { (r : Route) → (result ≡ Some r) ↔ IsSubnetSummary domain.now.net destination.now.dest part.now.area b r }
+    ensures { (r : Route) → (result ≡ Some r) ↔ ((r.at ≡ b) × IsAreaSubnet domain.now.net destination.now.dest part.now.area r) }
 {
-    let asks = part_cost(domain, destination, part, b)?;
+    let asks = part_cost(domain, part, b)?;
     if is_component(domain, destination, b) {
         return None;
     }
@@ -94,14 +94,12 @@ fn subnet_summary(
 /// Adds the active ranges of this prefix that border routers advertise.
 fn push_ranges(
     routes: &mut Vec<AreaRoute>,
-    domain: &Domain<'_>,
     borders: &[u32],
     ranges: &[ActiveRanges],
     dest: Prefix,
 ) -> Result<(), OutOfMemory>
-    requires borders { Exactly (IsBorderRouter domain.now.net) borders.now }
-    requires ranges { AreRangesBelow domain.now.net (length domain.now.net) ranges.now }
-    ensures { OnOk result (Adds routes.old.items routes.new.items (λ r. SummarizedRange domain.now.net dest r.at r)) }
+    requires { All (λ b. b < length ranges.now) borders.now }
+    ensures { OnOk result (Adds routes.old.items routes.new.items (λ r. Any (λ b. IsListedRange ranges.now dest b r) borders.now)) }
 {
     for b in borders {
         push_router_ranges(routes, ranges[*b as usize].as_slice(), dest, *b)?;

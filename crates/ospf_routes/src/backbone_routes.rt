@@ -4,6 +4,7 @@ ghost use Rattle.walk_core.specs.declared.offers.Offer.{Offer as OfferValue};
 ghost use Rattle.ospf_routes.specs.steps.Destinations.{IsDestinationIn};
 ghost use Rattle.net_model.specs.Network.{IsBorderRouter};
 ghost use Rattle.ospf_routes.specs.Lists.{Adds, Exactly};
+ghost use Rattle.ospf_routes.specs.steps.Areas.{IsArea};
 ghost use Rattle.ospf_routes.specs.steps.Members.{IsBorderIn};
 ghost use Rattle.ospf_routes.specs.steps.Offered.{AreOffers};
 ghost use Rattle.ospf_routes.specs.steps.Ranges.{AreActiveRanges, AreRangesBelow};
@@ -29,7 +30,7 @@ pub fn push_reached(
     destination: &Destination,
     backbone: &[Offer],
 ) -> Result<(), OutOfMemory>
-    requires borders { Exactly (IsBorderIn domain.now.net area.now.number) area.now.borders }
+    requires area { IsArea domain.now.net area.now }
     requires ranges { AreRangesBelow domain.now.net (length domain.now.net) ranges.now }
     requires destination { IsDestinationIn domain.now.net domain.now.areas destination.now }
     requires backbone { AreOffers (BackboneSummary domain.now.net destination.now.dest) backbone.now }

@@ -2,7 +2,7 @@ ghost use Rattle.std.specs.Prelude.{◌≡◌, ◌<◌, ◌↔◌, ℕ, length, 
 ghost use Rattle.net_model.specs.Network.{HasConfiguration, IsBorderRouter};
 ghost use Rattle.ospf_routes.specs.Lists.{Exactly};
 ghost use Rattle.ospf_routes.specs.steps.AreaReach.{IsThisBorder, area_reach};
-ghost use Rattle.ospf_routes.specs.steps.Areas.{AreAreas, AreListeners, HasArea, IsAreaAt, IsListenerAt, IsReach};
+ghost use Rattle.ospf_routes.specs.steps.Areas.{AreAreas, AreListeners, HasArea, IsArea, IsAreaAt, IsListenerAt, IsReach};
 
 use crate::OutOfMemory;
 use crate::areas::{AreaWalks, is_border, listens_to, place_of};
@@ -92,6 +92,7 @@ impl<'a> Domain<'a> {
     pub fn area(&self, zone: usize) -> &AreaWalks
         requires { zone < length self.now.areas }
         ensures is { result.now ≡ slice_index_or self.now.areas zone result.now }
+        ensures area { IsArea self.now.net result.now }
         ensures known { AreAreas self.now.net self.now.areas }
     {
         &self.areas()[zone]

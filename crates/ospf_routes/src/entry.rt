@@ -1,14 +1,12 @@
-ghost use Rattle.std.specs.Prelude.{◌≡◌, ◌<◌, ℕ, length, Contains, IfOk, IfSome, IsTrue, MatchOption};
+ghost use Rattle.std.specs.Prelude.{◌≡◌, ◌<◌, ℕ, length, Contains, IfOk, IfNone, IfSome, IsTrue, MatchOption};
+ghost use Rattle.net_addr.specs.Addresses.{Block};
 ghost use Rattle.net_model.specs.Network.{Connected};
-ghost use Rattle.igp_theory.specs.Ospf.{IntraAreaCost, IsActiveRange, IsIntraArea};
+ghost use Rattle.igp_theory.specs.Ospf.{IntraAreaCost, IsActiveRange};
 ghost use Rattle.walk_core.specs.BestOffers.{NoneTotals};
-ghost use Rattle.route_tables.specs.Routings.{ForwardsBy, IsRouteFor};
-ghost use Rattle.ospf_routes.specs.steps.AreaReach.{area_reach};
-ghost use Rattle.ospf_routes.specs.steps.Areas.{IsListenedPlace};
-ghost use Rattle.ospf_routes.specs.steps.Asked.{HasNoEntry, IsQuestion, IsDeciding, IsFoundRoute, IsRoute, IsRouteTowards};
-ghost use Rattle.ospf_routes.specs.steps.Destinations.{IsDestinationIn};
-ghost use Rattle.ospf_routes.specs.steps.Heard.{AreHeardAt};
-ghost use Rattle.ospf_routes.specs.steps.Routing.{AreAreaRoutes, IsAreaRoute, IsIntraRoute};
+ghost use Rattle.ospf_routes.specs.steps.Asked.{HasIntraRoute, HasNoEntry, HasNoIntraRoute, IsDeciding, IsFoundRoute, IsInside};
+ghost use Rattle.ospf_routes.specs.steps.Asked.{IsQuestion, IsRoute, IsRouteTowards, MakesIntraRoute};
+ghost use Rattle.ospf_routes.specs.steps.Destinations.{IsPart, IsPartFor};
+ghost use Rattle.ospf_routes.specs.steps.Routing.{AreAreaRoutes, IsAreaRoute};
 
 use crate::OutOfMemory;
 use crate::domain::Domain;
@@ -75,19 +73,32 @@ fn decided_by(asked: Asked<'_>) -> Option<Deciding<'_>>
     ensures { IfSome result (IsDeciding asked.entry) }
 {
     if asked.destination.parts.len() == 1 {
-        return decided_in(asked, &asked.destination.parts[0]);
+        return decided_in(asked);
     }
     None
 }
 
 /// The offers that decide the route of a prefix that one area alone offers.
-fn decided_in<'a>(asked: Asked<'a>, part: &'a AreaOffers) -> Option<Deciding<'a>>
+fn decided_in(asked: Asked<'_>) -> Option<Deciding<'_>>
     requires asked { IsQuestion asked }
     requires one { length asked.destination.now.parts.items ≡ 1 }
-    requires part { Contains asked.destination.now.parts.items part.now }
     ensures { IfSome result (IsDeciding asked.entry) }
 {
-    match part_reach(asked.domain, asked.destination, part, asked.router) {
+    match inside(asked) {
+        Some(deciding) => Some(deciding),
+        None => listened(asked),
+    }
+}
+
+/// The offers of the one area that offers the prefix, where the router is in that area.
+fn inside(asked: Asked<'_>) -> Option<Deciding<'_>>
+    requires asked { IsQuestion asked }
+    requires one { length asked.destination.now.parts.items ≡ 1 }
+    ensures some { IfSome result (IsInside asked.entry) }
+    ensures none { IfNone result (HasNoIntraRoute asked.entry) }
+{
+    let part = &asked.destination.parts[0];
+    match part_reach(asked.domain, part, asked.router) {
         Some(walks) => {
             let offers = part.offers.as_slice();
             Some(Deciding {
@@ -96,41 +107,43 @@ fn decided_in<'a>(asked: Asked<'a>, part: &'a AreaOffers) -> Option<Deciding<'a>
                 offers,
             })
         }
-        None => listened(asked),
+        None => None,
     }
 }
 
 /// The summaries that decide the route of a prefix without an intra-area route, where it is no active range.
 fn listened(asked: Asked<'_>) -> Option<Deciding<'_>>
     requires asked { IsQuestion asked }
-    requires no_intra { IsIntraArea asked.domain.now.net asked.destination.now.dest asked.router → ⊥ }
+    requires no_intra { HasNoIntraRoute asked }
     ensures some { IfSome result (IsDeciding asked.entry) }
-    ensures none { IfSome result (λ d. NoneTotals d.walks.now d.offers.now → HasNoEntry asked.entry) }
+    ensures reached { IfSome result (λ d. NoneTotals d.walks.now d.offers.now → HasNoEntry asked.entry) }
 {
     if asked.ranges.contains(asked.destination.dest) {
         return None;
     }
-    match asked.listens {
-        Some(zone) => Some(listened_at(asked, zone)),
-        None => None,
-    }
+    announced(asked)
 }
 
-/// The summaries into the area at this place, to which the router listens.
-fn listened_at(asked: Asked<'_>, zone: usize) -> Deciding<'_>
+/// The summaries that decide the route of a prefix that is no active range and has no intra-area route: those into the area
+/// that the router listens to.
+fn announced(asked: Asked<'_>) -> Option<Deciding<'_>>
     requires asked { IsQuestion asked }
-    requires listens { IsListenedPlace asked.domain.now.net asked.domain.now.areas asked.router zone }
-    requires heard { AreHeardAt asked.domain.now.net asked.domain.now.areas asked.destination.now.dest zone asked.heard.now }
-    requires no_intra { IsIntraArea asked.domain.now.net asked.destination.now.dest asked.router → ⊥ }
+    requires no_intra { HasNoIntraRoute asked }
     requires no_range { IsActiveRange asked.domain.now.net asked.destination.now.dest asked.router → ⊥ }
-    ensures some { IsDeciding asked.entry result }
-    ensures none { NoneTotals result.walks.now result.offers.now → HasNoEntry asked.entry }
+    ensures some { IfSome result (IsDeciding asked.entry) }
+    ensures reached { IfSome result (λ d. NoneTotals d.walks.now d.offers.now → HasNoEntry asked.entry) }
+    ensures none { IfNone result (HasNoEntry asked.entry) }
 {
-    let walks = asked.domain.walks(zone, asked.router);
-    Deciding {
-        walks,
-        zone,
-        offers: asked.heard,
+    match asked.listens {
+        Some(zone) => {
+            let walks = asked.domain.walks(zone, asked.router);
+            Some(Deciding {
+                walks,
+                zone,
+                offers: asked.heard,
+            })
+        }
+        None => None,
     }
 }
 
@@ -152,19 +165,18 @@ fn is_unheard(asked: Asked) -> bool
     ensures { IsTrue result → HasNoEntry asked.entry }
 {
     if asked.destination.parts.len() == 1 {
-        return is_unheard_outside(asked, &asked.destination.parts[0]);
+        return is_unheard_outside(asked);
     }
     false
 }
 
 /// Whether it is known at once that there is no route for a prefix that one area alone offers.
-fn is_unheard_outside(asked: Asked, part: &AreaOffers) -> bool
+fn is_unheard_outside(asked: Asked) -> bool
     requires asked { IsQuestion asked }
     requires one { length asked.destination.now.parts.items ≡ 1 }
-    requires part { Contains asked.destination.now.parts.items part.now }
     ensures { IsTrue result → HasNoEntry asked.entry }
 {
-    match part_reach(asked.domain, asked.destination, part, asked.router) {
+    match inside(asked) {
         Some(_) => false,
         None => hears_nothing(asked),
     }
@@ -173,7 +185,7 @@ fn is_unheard_outside(asked: Asked, part: &AreaOffers) -> bool
 /// Whether nothing is announced of a prefix without an intra-area route, where it is no active range.
 fn hears_nothing(asked: Asked) -> bool
     requires asked { IsQuestion asked }
-    requires no_intra { IsIntraArea asked.domain.now.net asked.destination.now.dest asked.router → ⊥ }
+    requires no_intra { HasNoIntraRoute asked }
     ensures { IsTrue result → HasNoEntry asked.entry }
 {
     match listened(asked) {
@@ -189,18 +201,17 @@ fn full_route(alloc: Global, asked: Asked) -> Result<Option<Route>, OutOfMemory>
     requires { IsQuestion asked }
     ensures { IfOk result (IsFoundRoute asked.entry) }
 {
-    let (domain, destination, u) = (asked.domain, asked.destination, asked.router);
-    if destination.is_home(u) {
+    if asked.destination.is_home(asked.router) {
         return Ok(None);
     }
-    if let Some(route) = intra_route(alloc, domain, destination, u)? {
+    if let Some(route) = intra_route(alloc, asked)? {
         return Ok(Some(route));
     }
-    if asked.ranges.contains(destination.dest) {
+    if asked.ranges.contains(asked.destination.dest) {
         return Ok(Some(Route::Drops));
     }
-    match asked.listens {
-        Some(zone) => route_by(alloc, asked, listened_at(asked, zone)),
+    match announced(asked) {
+        Some(deciding) => route_by(alloc, asked, deciding),
         None => Ok(None),
     }
 }
@@ -217,84 +228,54 @@ fn route_by(alloc: Global, asked: Asked, deciding: Deciding) -> Result<Option<Ro
 
 /// The intra-area route, of all areas that the router is in (RFC 2328, section 16.1). Mostly one area alone offers a
 /// prefix.
-fn intra_route(
-    alloc: Global,
-    domain: &Domain<'_>,
-    destination: &Destination,
-    u: u32,
-) -> Result<Option<Route>, OutOfMemory>
-    requires router { u < length domain.now.net }
-    requires destination { IsDestinationIn domain.now.net domain.now.areas destination.now }
-    ensures { IfOk result (λ found. MatchOption found
-        (IsIntraArea domain.now.net destination.now.dest u → ⊥)
-        (IsRouteFor (area_reach domain.now.areas u) (length domain.now.areas) (length domain.now.net) (ForwardsBy (IsIntraRoute domain.now.net destination.now.dest u)))) }
+fn intra_route(alloc: Global, asked: Asked) -> Result<Option<Route>, OutOfMemory>
+    requires { IsQuestion asked }
+    ensures { IfOk result (λ found. MatchOption found (HasNoIntraRoute asked.entry) (MakesIntraRoute asked.entry)) }
 {
-    if destination.parts.len() == 1 {
-        return area_route(alloc, domain, destination, &destination.parts[0], u);
+    if asked.destination.parts.len() == 1 {
+        return area_route(alloc, asked);
     }
-    match intra_hops(alloc, domain, destination, u)? {
+    match intra_hops(alloc, asked)? {
         Some(hops) => Ok(Some(Route::Through(hops))),
         None => Ok(None),
     }
 }
 
 /// The intra-area route in the one area that offers the prefix.
-fn area_route(
-    alloc: Global,
-    domain: &Domain<'_>,
-    destination: &Destination,
-    part: &AreaOffers,
-    u: u32,
-) -> Result<Option<Route>, OutOfMemory>
-    requires router { u < length domain.now.net }
-    requires destination { IsDestinationIn domain.now.net domain.now.areas destination.now }
-    requires one { length destination.now.parts.items ≡ 1 }
-    requires part { Contains destination.now.parts.items part.now }
-    ensures { IfOk result (λ found. MatchOption found
-        (IsIntraArea domain.now.net destination.now.dest u → ⊥)
-        (IsRouteFor (area_reach domain.now.areas u) (length domain.now.areas) (length domain.now.net) (ForwardsBy (IsIntraRoute domain.now.net destination.now.dest u)))) }
+fn area_route(alloc: Global, asked: Asked) -> Result<Option<Route>, OutOfMemory>
+    requires asked { IsQuestion asked }
+    requires one { length asked.destination.now.parts.items ≡ 1 }
+    ensures { IfOk result (λ found. MatchOption found (HasNoIntraRoute asked.entry) (MakesIntraRoute asked.entry)) }
 {
-    match part_reach(domain, destination, part, u) {
-        Some(walks) => {
-            let offers = part.offers.as_slice();
-            best_route(alloc, walks, part.zone, offers, domain.routers())
+    match inside(asked) {
+        Some(inside) => {
+            let count = asked.domain.routers();
+            best_route(alloc, inside.walks, inside.zone, inside.offers, count)
         }
         None => Ok(None),
     }
 }
 
 /// The hops of the intra-area routes, of all areas that the router is in (RFC 2328, section 16.1).
-fn intra_hops(
-    alloc: Global,
-    domain: &Domain<'_>,
-    destination: &Destination,
-    u: u32,
-) -> Result<Option<Hops>, OutOfMemory>
-    requires router { u < length domain.now.net }
-    requires destination { IsDestinationIn domain.now.net domain.now.areas destination.now }
-    ensures { IfOk result (λ found. MatchOption found
-        (IsIntraArea domain.now.net destination.now.dest u → ⊥)
-        (IsIntraRoute domain.now.net destination.now.dest u)) }
+fn intra_hops(alloc: Global, asked: Asked) -> Result<Option<Hops>, OutOfMemory>
+    requires { IsQuestion asked }
+    ensures { IfOk result (λ found. MatchOption found (HasNoIntraRoute asked.entry) (HasIntraRoute asked.entry)) }
 {
-    let lists = area_lists(alloc, domain, destination, u)?;
-    united_some(alloc, lists.as_slice(), domain.routers())
+    let lists = area_lists(alloc, asked)?;
+    united_some(alloc, lists.as_slice(), asked.domain.routers())
 }
 
 /// The hops of the intra-area route in each area that has one.
-fn area_lists(
-    alloc: Global,
-    domain: &Domain<'_>,
-    destination: &Destination,
-    u: u32,
-) -> Result<Vec<Hops>, OutOfMemory>
-    requires router { u < length domain.now.net }
-    requires destination { IsDestinationIn domain.now.net domain.now.areas destination.now }
-    ensures { IfOk result (λ lists. AreAreaRoutes domain.now.net destination.now.dest u lists.items) }
+fn area_lists(alloc: Global, asked: Asked) -> Result<Vec<Hops>, OutOfMemory>
+    requires { IsQuestion asked }
+    ensures { IfOk result (λ lists. AreAreaRoutes asked.entry.domain.now.net asked.entry.destination.now.dest asked.entry.router lists.items) }
 {
     let mut lists = Vec::new(alloc);
-    for part in destination.parts.as_slice() {
-        let hops = area_hops(alloc, domain, destination, part, u)?;
-        push_option(&mut lists, hops)?;
+    for part in asked.destination.parts.as_slice() {
+        push_option(
+            &mut lists,
+            area_hops(alloc, asked.domain, part, asked.router)?,
+        )?;
     }
     Ok(lists)
 }
@@ -303,18 +284,16 @@ fn area_lists(
 fn area_hops(
     alloc: Global,
     domain: &Domain<'_>,
-    destination: &Destination,
     part: &AreaOffers,
     u: u32,
 ) -> Result<Option<Hops>, OutOfMemory>
     requires router { u < length domain.now.net }
-    requires destination { IsDestinationIn domain.now.net domain.now.areas destination.now }
-    requires part { Contains destination.now.parts.items part.now }
-    ensures { IfOk result (λ found. MatchOption found
-        ((cost : ℕ) → IntraAreaCost domain.now.net part.now.area destination.now.dest u cost → ⊥)
-        (IsAreaRoute domain.now.net part.now.area destination.now.dest u)) }
+    requires part { IsPart domain.now.net domain.now.areas part.now }
+    ensures { (p : Block) → IsPartFor domain.now.net domain.now.areas p part.now → IfOk result (λ found. MatchOption found
+        ((cost : ℕ) → IntraAreaCost domain.now.net part.now.area p u cost → ⊥)
+        (IsAreaRoute domain.now.net part.now.area p u)) }
 {
-    match part_reach(domain, destination, part, u) {
+    match part_reach(domain, part, u) {
         Some(walks) => best_hops(alloc, walks, part.offers.as_slice(), domain.routers()),
         None => Ok(None),
     }

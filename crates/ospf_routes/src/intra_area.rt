@@ -1,9 +1,10 @@
 ghost use Rattle.std.specs.Prelude.{◌≡◌, ◌<◌, ◌↔◌, ℕ, length, Some, All, Any, Contains, IfOk, IfNone, IfSome, IsTrue, OnOk};
+ghost use Rattle.net_addr.specs.Addresses.{Block};
 ghost use Rattle.net_model.specs.Network.{InArea};
 ghost use Rattle.igp_theory.specs.Ospf.{IntraAreaCost, IsIntraArea};
 ghost use Rattle.ospf_routes.specs.steps.AreaReach.{area_reach};
 ghost use Rattle.ospf_routes.specs.steps.Areas.{AreAreas, HasArea, IsReach};
-ghost use Rattle.ospf_routes.specs.steps.Destinations.{AddsPart, HasAreaPart, IsDestinationIn, IsPartIn};
+ghost use Rattle.ospf_routes.specs.steps.Destinations.{AddsPart, HasAreaPart, IsDestinationIn, IsPart, IsPartAt, IsPartFor, IsPartIn};
 ghost use Rattle.ospf_routes.specs.steps.Offered.{InsideOf};
 ghost use Rattle.ospf_routes.specs.steps.Subnets.{IsUpSubnet};
 ghost use Rattle.ospf_routes.specs.Lists.{Exactly};
@@ -75,7 +76,8 @@ fn area_parts(
 ) -> Result<Vec<AreaOffers>, OutOfMemory>
     ensures known { AreAreas domain.now.net domain.now.areas }
     ensures each { IfOk result (λ parts. All (IsPartIn domain.now.areas routes.now) parts.items) }
-    ensures every { IfOk result (λ parts. (n : ℕ) (o : OfferValue) → HasArea domain.now.areas n → Any (λ r. InsideOf n r o) routes.now → HasAreaPart parts.items n) }
+    ensures every { IfOk result (λ parts. (n : ℕ) (o : OfferValue) → HasArea domain.now.areas n →
+        Any (λ r. InsideOf n r o) routes.now → HasAreaPart parts.items n) }
 {
     let mut parts = Vec::new(alloc);
     for zone in 0..domain.zones() {
@@ -92,7 +94,7 @@ fn push_part(
     area: u32,
     zone: usize,
 ) -> Result<(), OutOfMemory>
-    ensures { OnOk result (AddsPart routes.now area zone parts.old.items parts.new.items) }
+    ensures { OnOk result (AddsPart (IsPartAt routes.now area zone) (Any (λ r. r.area ≡ area) routes.now) parts.old.items parts.new.items) }
 {
     if !has_route(routes, area) {
         return Ok(());
@@ -122,34 +124,23 @@ pub fn part_of(parts: &[AreaOffers], area: u32) -> Option<&AreaOffers>
     None
 }
 
-/// The intra-area cost of the prefix at router `u` in the area of a part (RFC 2328, section 16.1).
-pub fn part_cost(
-    domain: &Domain<'_>,
-    destination: &Destination,
-    part: &AreaOffers,
-    u: u32,
-) -> Option<u64>
+/// The intra-area cost of a part's prefix at router `u` in the area of the part (RFC 2328, section 16.1).
+pub fn part_cost(domain: &Domain<'_>, part: &AreaOffers, u: u32) -> Option<u64>
     requires router { u < length domain.now.net }
-    requires destination { IsDestinationIn domain.now.net domain.now.areas destination.now }
-    requires part { Contains destination.now.parts.items part.now }
-    ensures { (cost : ℕ) → (result ≡ Some cost) ↔ IntraAreaCost domain.now.net part.now.area destination.now.dest u cost }
+    requires part { IsPart domain.now.net domain.now.areas part.now }
+    ensures { (p : Block) → IsPartFor domain.now.net domain.now.areas p part.now → (cost : ℕ) →
+        (result ≡ Some cost) ↔ IntraAreaCost domain.now.net part.now.area p u cost }
 {
-    match part_reach(domain, destination, part, u) {
+    match part_reach(domain, part, u) {
         Some(walks) => walks.best_cost(part.offers.as_slice()),
         None => None,
     }
 }
 
 /// The least walks from the router in the area of a part, where the router is in that area.
-pub fn part_reach<'a>(
-    domain: &'a Domain<'_>,
-    destination: &Destination,
-    part: &AreaOffers,
-    u: u32,
-) -> Option<&'a LeastWalks>
+pub fn part_reach<'a>(domain: &'a Domain<'_>, part: &AreaOffers, u: u32) -> Option<&'a LeastWalks>
     requires router { u < length domain.now.net }
-    requires destination { IsDestinationIn domain.now.net domain.now.areas destination.now }
-    requires part { Contains destination.now.parts.items part.now }
+    requires part { IsPart domain.now.net domain.now.areas part.now }
     ensures none { IfNone result (InArea domain.now.net u part.now.area → ⊥) }
     ensures same { IfSome result (λ walks. area_reach domain.now.areas u part.now.zone ≡ walks.now) }
     ensures reach { IfSome result (λ walks. IsReach domain.now.net part.now.area u walks.now) }
@@ -169,7 +160,7 @@ pub fn has_intra(domain: &Domain<'_>, destination: &Destination, u: u32) -> bool
     ensures { IsTrue result ↔ IsIntraArea domain.now.net destination.now.dest u }
 {
     for part in destination.parts.as_slice() {
-        if part_cost(domain, destination, part, u).is_some() {
+        if part_cost(domain, part, u).is_some() {
             return true;
         }
     }

@@ -22,7 +22,7 @@ pub fn decision(
     requires zone { zone < length domain.now.areas }
     requires listens { AreListeners domain.now.net domain.now.areas (length domain.now.net) listens.now }
     requires destination { IsDestinationIn domain.now.net domain.now.areas destination.now }
-    requires heard { AreHeardAt domain.now.net domain.now.areas destination.now.dest zone heard.now }
+    requires heard { AreHeardAt domain.now destination.now.dest zone heard.now }
     ensures { DecidesLane (record { domain = domain.now; listens = listens.now; zone = zone }) destination.now.dest result }
 {
     match part_of(destination.parts.as_slice(), domain.area(zone).number) {

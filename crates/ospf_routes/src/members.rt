@@ -1,7 +1,7 @@
 ghost use Rattle.std.specs.Prelude.{◌≡◌, ◌<◌, ◌↔◌, ℕ, length, Some, IfOk, IsTrue};
 ghost use Rattle.net_model.specs.Network.{InArea};
 ghost use Rattle.ospf_routes.specs.Lists.{Exactly};
-ghost use Rattle.ospf_routes.specs.steps.Members.{AreMembersBelow, IsBorderIn, IsMember, IsThisBorderIn};
+ghost use Rattle.ospf_routes.specs.steps.Members.{AreMembersBelow, IsBorderIn, IsMember, IsThisBorderAmong};
 
 use crate::OutOfMemory;
 use crate::areas::{has_area, is_border};
@@ -79,7 +79,7 @@ impl Borders {
     {
         let mut routers = Vec::new(alloc);
         for u in 0..net.routers() {
-            push_option(&mut routers, border_inside(net, number, members, u))?;
+            push_option(&mut routers, border_inside(net, members, u))?;
         }
         Ok(Borders { routers })
     }
@@ -92,11 +92,10 @@ impl Borders {
     }
 }
 
-/// The router, where it is a border router of the area.
-fn border_inside(net: &Net, number: u32, members: &Members, u: u32) -> Option<u32>
-    requires router { u < length net.now }
-    requires members { AreMembersBelow net.now number (length net.now) members.now }
-    ensures { (v : ℕ) → (result ≡ Some v) ↔ IsThisBorderIn net.now number u v }
+/// The router, where it is one of these and a border router.
+fn border_inside(net: &Net, members: &Members, u: u32) -> Option<u32>
+    requires { u < length net.now }
+    ensures { (v : ℕ) → (result ≡ Some v) ↔ IsThisBorderAmong net.now members.now u v }
 {
     if members.has(u) && is_border(net, u) {
         Some(u)

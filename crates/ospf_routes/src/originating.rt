@@ -1,13 +1,13 @@
 ghost use Rattle.std.specs.Prelude.{◌≡◌, ◌<◌, ◌↔◌, length, Some, All, Any, IfOk, IsTrue, OnOk};
 ghost use Rattle.igp_theory.specs.Ospf.{BackboneSummary};
 ghost use Rattle.walk_core.specs.declared.offers.Offer.{Offer as OfferValue};
-ghost use Rattle.ospf_routes.specs.steps.Members.{AreMembersBelow, IsBorderIn};
+ghost use Rattle.ospf_routes.specs.steps.Areas.{IsArea};
 ghost use Rattle.ospf_routes.specs.steps.Destinations.{AreOspfDestinations, IsDestinationIn};
 ghost use Rattle.net_model.specs.Network.{IsBorderRouter};
 ghost use Rattle.ospf_routes.specs.Lists.{Adds, Exactly};
 ghost use Rattle.ospf_routes.specs.steps.Offered.{AreOffers};
 ghost use Rattle.ospf_routes.specs.steps.Ranges.{AreRangesBelow};
-ghost use Rattle.ospf_routes.specs.steps.Heard.{AddsRow, AreSummaries};
+ghost use Rattle.ospf_routes.specs.steps.Heard.{AddsRow, AreSummaries, IsRow};
 ghost use Rattle.ospf_routes.specs.steps.Summarized.{Announces, AreSummarized, IsHeard, IsOutgoing};
 
 use crate::OutOfMemory;
@@ -67,7 +67,7 @@ fn keep_summaries(
     requires borders { Exactly (IsBorderRouter domain.now.net) borders.now }
     requires ranges { AreRangesBelow domain.now.net (length domain.now.net) ranges.now }
     requires destination { IsDestinationIn domain.now.net domain.now.areas destination.now }
-    ensures { OnOk result (AddsRow domain.now.net domain.now.areas destination.now.dest (length domain.now.areas) summaries.old summaries.new) }
+    ensures { OnOk result (AddsRow (IsRow domain.now destination.now.dest (length domain.now.areas)) summaries.old summaries.new) }
 {
     let routes = summarized(alloc, domain, borders, ranges, destination)?;
     let backbone = offers_outside(alloc, routes.as_slice(), 0)?;
@@ -96,7 +96,7 @@ fn keep_into_areas(
     requires destination { IsDestinationIn domain.now.net domain.now.areas destination.now }
     requires routes { AreSummarized domain.now.net destination.now.dest routes.now }
     requires backbone { AreOffers (BackboneSummary domain.now.net destination.now.dest) backbone.now }
-    ensures { OnOk result (AddsRow domain.now.net domain.now.areas destination.now.dest (length domain.now.areas) summaries.old summaries.new) }
+    ensures { OnOk result (AddsRow (IsRow domain.now destination.now.dest (length domain.now.areas)) summaries.old summaries.new) }
 {
     for zone in 0..domain.zones() {
         put_summaries(
@@ -125,8 +125,7 @@ fn put_summaries(
     routes: &[AreaRoute],
     backbone: &[Offer],
 ) -> Result<(), OutOfMemory>
-    requires members { AreMembersBelow domain.now.net area.now.number (length domain.now.net) area.now.members }
-    requires borders { Exactly (IsBorderIn domain.now.net area.now.number) area.now.borders }
+    requires area { IsArea domain.now.net area.now }
     requires ranges { AreRangesBelow domain.now.net (length domain.now.net) ranges.now }
     requires destination { IsDestinationIn domain.now.net domain.now.areas destination.now }
     requires routes { AreSummarized domain.now.net destination.now.dest routes.now }
@@ -150,7 +149,7 @@ fn push_announced(
     area: &AreaWalks,
     routes: &[AreaRoute],
 ) -> Result<(), OutOfMemory>
-    requires members { AreMembersBelow domain.now.net area.now.number (length domain.now.net) area.now.members }
+    requires area { IsArea domain.now.net area.now }
     requires routers { All (λ r. r.at < length domain.now.net) routes.now }
     ensures { OnOk result (Adds offers.old.items offers.new.items (λ o. Any (IsOutgoing domain.now.net area.now.number o) routes.now)) }
 {
@@ -163,7 +162,7 @@ fn push_announced(
 /// The route as an offer, where it is of another area and its router announces it into this one.
 fn outgoing(domain: &Domain<'_>, area: &AreaWalks, route: AreaRoute) -> Option<Offer>
     requires router { route.at < length domain.now.net }
-    requires members { AreMembersBelow domain.now.net area.now.number (length domain.now.net) area.now.members }
+    requires area { IsArea domain.now.net area.now }
     ensures { (o : OfferValue) → (result ≡ Some o) ↔ IsOutgoing domain.now.net area.now.number o route }
 {
     if announces(domain, area, route.at) {
@@ -177,7 +176,7 @@ fn outgoing(domain: &Domain<'_>, area: &AreaWalks, route: AreaRoute) -> Option<O
 /// (RFC 2328, section 3.6).
 fn announces(domain: &Domain<'_>, area: &AreaWalks, b: u32) -> bool
     requires router { b < length domain.now.net }
-    requires members { AreMembersBelow domain.now.net area.now.number (length domain.now.net) area.now.members }
+    requires area { IsArea domain.now.net area.now }
     ensures { IsTrue result ↔ Announces domain.now.net area.now.number b }
 {
     if !area.members.has(b) {

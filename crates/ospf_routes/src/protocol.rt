@@ -131,8 +131,7 @@ impl<'a> Ospf<'a> {
     fn heard(&self, place: usize, zone: usize) -> &[Offer]
         requires place { place < length (ospf_prefixes self.now.destinations) }
         requires zone { zone < length self.now.domain.areas }
-        ensures { AreHeardAt self.now.domain.net self.now.domain.areas
-            (prefix_at (ospf_prefixes self.now.destinations) place) zone result.now }
+        ensures { AreHeardAt self.now.domain (prefix_at (ospf_prefixes self.now.destinations) place) zone result.now }
     {
         self.summaries.into_area(place, zone)
     }

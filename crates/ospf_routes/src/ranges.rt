@@ -230,7 +230,7 @@ fn component_cost(
     if !range.dest.covers(destination.dest) || has_longer(ranges, *range, destination.dest) {
         return None;
     }
-    part_cost(domain, destination, part, b)
+    part_cost(domain, part, b)
 }
 
 /// Whether a longer one of these ranges, of the same area, covers the prefix.

@@ -2,6 +2,7 @@ ghost use Rattle.std.specs.Prelude.{◌≡◌, ◌<◌, ◌↔◌, length, Some,
 ghost use Rattle.igp_theory.specs.Ospf.{IsTotallyStubby};
 ghost use Rattle.walk_core.specs.declared.offers.Offer.{Offer as OfferValue};
 ghost use Rattle.ospf_routes.specs.Lists.{Adds, Exactly};
+ghost use Rattle.ospf_routes.specs.steps.Areas.{IsArea};
 ghost use Rattle.ospf_routes.specs.steps.Members.{IsBorderIn};
 ghost use Rattle.ospf_routes.specs.steps.Summarized.{HasDefault, IsAlone, IsDefault, RouterDefault};
 
@@ -42,7 +43,7 @@ pub fn push_defaults(
     area: &AreaWalks,
     dest: Prefix,
 ) -> Result<(), OutOfMemory>
-    requires { Exactly (IsBorderIn domain.now.net area.now.number) area.now.borders }
+    requires { IsArea domain.now.net area.now }
     ensures { OnOk result (Adds offers.old.items offers.new.items (λ o. HasDefault domain.now.net area.now.number dest o)) }
 {
     if !is_all_addresses(dest) {

@@ -59,7 +59,8 @@ fn twin_of(
     requires latest { AreKnownBelow place latest.old }
     ensures latest { AreKnownBelow (place + 1) latest.new }
     ensures below { IfSome result (λ earlier. earlier < place) }
-    ensures twins { IfSome result (λ earlier. AreTwinsAt destinations.now summaries.now ranged.now earlier place) }
+    ensures twins { IfSome result (λ earlier.
+        AreTwinsAt (record { destinations = destinations.now; heard = summaries.now; ranged = ranged.now }) earlier place) }
 {
     let home = only_home(&destinations[place])?;
     let earlier = latest.replace(home as usize, place)?;
@@ -81,7 +82,7 @@ fn are_twins(
     requires one { one < length destinations.now }
     requires other { other < length destinations.now }
     requires summaries { AreSummariesOf (length destinations.now) summaries.now }
-    ensures { IsTrue result → AreTwinsAt destinations.now summaries.now ranged.now one other }
+    ensures { IsTrue result → AreTwinsAt (record { destinations = destinations.now; heard = summaries.now; ranged = ranged.now }) one other }
 {
     let (near, far) = (&destinations[one], &destinations[other]);
     if !have_one_home(near, far) {

@@ -12,6 +12,7 @@ use Rattle.isis_routes.specs.steps.Domain.{IsisDomain}
 use Rattle.isis_routes.specs.steps.Lanes.{IsOfIsisLane}
 use Rattle.isis_routes.specs.steps.LevelReach.{level_reach}
 use Rattle.isis_routes.specs.steps.Levels.{zone_number}
+use Rattle.walk_core.specs.Reach.{Reach}
 use Rattle.isis_routes.specs.declared.level.Level.{Level}
 use Rattle.isis_routes.specs.declared.level.Level.TheVariants.{One, Two}
 
@@ -40,13 +41,25 @@ abbrev pub HasRouteBefore : Network → Block → ℕ → Level → Type 0
 HasRouteBefore net p u One = ⊥
 HasRouteBefore net p u Two = HasLevelOneRoute net p u
 
--- over a level's least walks from router u this is the route to the best of the offers, and none where none is reached
-abbrev pub IsBestIn : IsisDomain → Level → ℕ → List Offer → Option Route → Type 0
-IsBestIn domain level u offers found =
-    MatchOption found (NoneTotals (level_reach domain.walks u (zone_number level)) offers)
-    (IsBestRoute (level_reach domain.walks u (zone_number level)) offers (zone_number level) (length domain.net))
+-- a router of a network, in a level
+pub record InLevel : Type 0 where
+  pub domain : IsisDomain
+  pub level : Level
+  pub router : ℕ
 
--- over a level's least walks the best of the offers is router u's route for p, and where none of them is reached, this is so
-pub record LeadIn (domain : IsisDomain) (level : Level) (u : ℕ) (p : Block) (none : Type 0) (offers : List Offer) : Type 0 where
-  pub range : AreInRange (level_reach domain.walks u (zone_number level)) offers
-  pub route : (found : Option Route) → IsBestIn domain level u offers found → MatchOption found none (IsIsisRoute domain u p)
+abbrev pub in_level : IsisDomain → Level → ℕ → InLevel
+in_level domain level u = record { domain = domain; level = level; router = u }
+
+-- its least walks there
+abbrev pub walks_in : InLevel → Reach
+walks_in at = level_reach at.domain.walks at.router (zone_number at.level)
+
+-- over them this is the route to the best of the offers, and none where none is reached
+abbrev pub IsBestIn : InLevel → List Offer → Option Route → Type 0
+IsBestIn at offers found =
+    MatchOption found (NoneTotals (walks_in at) offers) (IsBestRoute (walks_in at) offers (zone_number at.level) (length at.domain.net))
+
+-- over them the best of the offers is the router's route for p, and where none of them is reached, this is so
+pub record LeadIn (at : InLevel) (p : Block) (none : Type 0) (offers : List Offer) : Type 0 where
+  pub range : AreInRange (walks_in at) offers
+  pub route : (found : Option Route) → IsBestIn at offers found → MatchOption found none (IsIsisRoute at.domain at.router p)

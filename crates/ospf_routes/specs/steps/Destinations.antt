@@ -35,11 +35,11 @@ pub record IsPartAt (routes : List AreaRoute) (n zone : ℕ) (part : AreaOffers)
   pub zone_is : part.zone ≡ zone
   pub offers : IsPartOf routes part
 
--- to the parts there comes that of area n, which is at this place, unless no route is of the area
-pub record AddsPart (routes : List AreaRoute) (n zone : ℕ) (old new : List AreaOffers) : Type 0 where
-  pub each : (part : AreaOffers) → Contains new part → Contains old part ⊎ IsPartAt routes n zone part
+-- to the parts there come such alone of which this holds, and one where there is some
+pub record AddsPart (Is : AreaOffers → Type 0) (some : Type 0) (old new : List AreaOffers) : Type 0 where
+  pub each : (part : AreaOffers) → Contains new part → Contains old part ⊎ Is part
   pub kept : (part : AreaOffers) → Contains old part → Contains new part
-  pub added : Any (λ (r : AreaRoute). r.area ≡ n) routes → HasAreaPart new n
+  pub added : some → Any Is new
 
 -- the homes are the routers that the prefix is connected at; each part has what its area offers of the prefix, and each
 -- area that offers something is a part
@@ -52,6 +52,15 @@ pub record IsDestination (net : Network) (d : Destination) : Type 0 where
 pub record IsDestinationIn (net : Network) (areas : List AreaWalks) (d : Destination) : Type 0 where
   pub is : IsDestination net d
   pub placed : All (λ (part : AreaOffers). IsAreaAt areas part.area part.zone) d.parts.items
+
+-- the part has what its area offers of prefix p, and says at which place its area is
+pub record IsPartFor (net : Network) (areas : List AreaWalks) (p : Block) (part : AreaOffers) : Type 0 where
+  pub offers : AreOffers (OffersSubnet net part.area p) part.offers.items
+  pub at : IsAreaAt areas part.area part.zone
+
+-- it has those of some prefix
+abbrev pub IsPart : Network → List AreaWalks → AreaOffers → Type 0
+IsPart net areas part = (p : Block) × IsPartFor net areas p part
 
 -- the prefixes of destinations
 abbrev pub ospf_prefixes : List Destination → List Block

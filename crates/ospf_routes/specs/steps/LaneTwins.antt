@@ -25,13 +25,13 @@ pub record IsOutsideLane (l : LaneOf) (d : Destination) : Type 0 where
   pub away : (u : ℕ) → IsInner l.domain.net l.listens l.zone u → Contains d.homes.items u → ⊥
 
 -- where an earlier prefix is named for a prefix, the routers that are in one area alone have the same entries for both
-abbrev pub AreTwinsAlone : OspfDomain → List Destination → List (Option ℕ) → ℕ → List (Option ℕ) → Type 0
-AreTwinsAlone domain ds listens zone =
-    AreEarlierBy (AreLaneAlike (record { domain = domain; listens = listens; zone = zone })) (ospf_prefixes ds) (length ds)
+abbrev pub AreTwinsAlone : List Destination → LaneOf → List (Option ℕ) → Type 0
+AreTwinsAlone ds l = AreEarlierBy (AreLaneAlike l) (ospf_prefixes ds) (length ds)
 
 -- and so for each area
 abbrev pub AreAllLaneTwins : OspfDomain → List Destination → List (Option ℕ) → List (List (Option ℕ)) → Type 0
-AreAllLaneTwins domain ds listens = AreEach (AreTwinsAlone domain ds listens) [] (length domain.areas)
+AreAllLaneTwins domain ds listens =
+    AreEach (λ (zone : ℕ). AreTwinsAlone ds (record { domain = domain; listens = listens; zone = zone })) [] (length domain.areas)
 
 -- the destination at a place is earlier than n, and outside the lane
 pub record IsEarlierOutside (l : LaneOf) (ds : List Destination) (n place : ℕ) : Type 0 where

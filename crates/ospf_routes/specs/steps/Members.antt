@@ -16,7 +16,8 @@ pub record IsBorderIn (net : Network) (n u : ℕ) : Type 0 where
   pub inside : InArea net u n
   pub border : IsBorderRouter net u
 
--- v is this router, which is a border router in area n
-pub record IsThisBorderIn (net : Network) (n u v : ℕ) : Type 0 where
+-- v is this router, which is flagged and a border router
+pub record IsThisBorderAmong (net : Network) (members : List Bool) (u v : ℕ) : Type 0 where
   pub this : v ≡ u
-  pub is : IsBorderIn net n v
+  pub member : IsMember members v
+  pub border : IsBorderRouter net v

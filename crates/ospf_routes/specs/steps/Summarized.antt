@@ -1,5 +1,5 @@
 -- What border routers summarize of a prefix, and announce into each area.
-use Rattle.std.specs.Prelude.{◌≡◌, ◌≢◌, ℕ, List, IsTrue}
+use Rattle.std.specs.Prelude.{◌≡◌, ◌≢◌, ℕ, List, [], Any, IsTrue, slice_index_or}
 use Rattle.net_addr.specs.Addresses.{Block, default_prefix}
 use Rattle.net_model.specs.Network.{Network, InArea, IsBorderRouter}
 use Rattle.net_model.specs.declared.area.Range.{Range}
@@ -9,16 +9,8 @@ use Rattle.igp_theory.specs.Ospf.{IntraAreaCost, BorderCost, HasRange, IsCompone
 use Rattle.igp_theory.specs.Ospf.{SummarizesRange, HasStub, IsTotallyStubby, Summary}
 use Rattle.ospf_routes.specs.Lists.{Exactly}
 use Rattle.ospf_routes.specs.steps.Offered.{OutsideOf}
-use Rattle.ospf_routes.specs.steps.Ranges.{IsComponentOfSome}
 use Rattle.ospf_routes.specs.declared.ranges.ActiveRange.{ActiveRange}
 use Rattle.ospf_routes.specs.declared.area_route.AreaRoute.{AreaRoute}
-
--- b has an intra-area cost for p in area n, which the route says, and p is no component at b
-pub record IsSubnetSummary (net : Network) (p : Block) (n b : ℕ) (r : AreaRoute) : Type 0 where
-  pub area : r.area ≡ n
-  pub at : r.at ≡ b
-  pub costs : IntraAreaCost net n p b r.asks
-  pub alone : IsComponentOfSome net b p → ⊥
 
 -- b is a border router with an intra-area cost for p in the route's area, and p is no component
 pub record SummarizedSubnet (net : Network) (p : Block) (b : ℕ) (r : AreaRoute) : Type 0 where
@@ -39,6 +31,10 @@ pub record IsRangeRoute (a : ActiveRange) (p : Block) (b : ℕ) (r : AreaRoute) 
   pub area : r.area ≡ a.range.area
   pub at : r.at ≡ b
   pub costs : r.asks ≡ a.cost
+
+-- among the active ranges of all routers, one of router b is so
+abbrev pub IsListedRange : List (List ActiveRange) → Block → ℕ → AreaRoute → Type 0
+IsListedRange ranges p b r = Any (λ (a : ActiveRange). IsRangeRoute a p b r) (slice_index_or ranges b [])
 
 -- b has the active range p of the route's area, which it advertises, at the range's cost
 pub record SummarizedRange (net : Network) (p : Block) (b : ℕ) (r : AreaRoute) : Type 0 where

@@ -48,11 +48,17 @@ pub record AreTwinDestinations (ranged : List Block) (d e : Destination) : Type 
   pub no_range : Contains ranged d.dest → ⊥
   pub other_no_range : Contains ranged e.dest → ⊥
 
--- the destinations at two places are, and what is announced of them is alike
-pub record AreTwinsAt (ds : List Destination) (heard : HeardLists) (ranged : List Block) (one other : ℕ) : Type 0 where
+-- destinations, what is announced of them, and the prefixes of active ranges
+pub record TwinGrounds : Type 0 where
+  pub destinations : List Destination
+  pub heard : HeardLists
+  pub ranged : List Block
+
+-- the destinations at two places are twins, and what is announced of them is alike
+pub record AreTwinsAt (by : TwinGrounds) (one other : ℕ) : Type 0 where
   pub d : Destination
   pub e : Destination
-  pub d_at : d ≡ slice_index_or ds one d
-  pub e_at : e ≡ slice_index_or ds other e
-  pub twins : AreTwinDestinations ranged d e
-  pub announced : AreTwinSummaries heard one other
+  pub d_at : d ≡ slice_index_or by.destinations one d
+  pub e_at : e ≡ slice_index_or by.destinations other e
+  pub twins : AreTwinDestinations by.ranged d e
+  pub announced : AreTwinSummaries by.heard one other

@@ -1,8 +1,8 @@
 use Rattle.std.proofs.Common.{arith}
 use Rattle.net_model.proofs.NetworkFacts.{HasConfiguration-within}
-use Rattle.route_tables.proofs.ListFacts.{below_start, below_step, exactly_below}
+use Rattle.route_tables.proofs.ListFacts.{below_start, below_step}
 use Rattle.isis_routes.specs.steps.Routing.{RunsBothLevels, IsThisRouter}
-use Rattle.isis_routes.proofs.RunFacts.{router_below, this_holds, where_added}
+use Rattle.isis_routes.proofs.RunFacts.{routers_all, where_added}
 use Rattle.isis_routes.proofs.runs.routers_of_both_levels.Goals as goal
 
 pub loop-u-init : goal.loop-u-init
@@ -17,7 +17,5 @@ loop-u-preserved c =
 
 pub returns-clause-routers : goal.returns-clause-routers
 returns-clause-routers c =
-    exactly_below (IsThisRouter (RunsBothLevels c.args.net.now)) (RunsBothLevels c.args.net.now) c.new-routers.result.items c.loop-u.routers.items c.loop-u.u
-    c.new-routers.ensures.items c.loop-u.invariant
-    (λ u is. router_below c.args.net.now (RunsBothLevels c.args.net.now) c.loop-u.u u (omega (arith, c.routers-u-end.ensures.count))
-    (HasConfiguration-within c.args.net.now u is.one.config is.one.router) is) (this_holds (RunsBothLevels c.args.net.now))
+    routers_all c.args.net.now (RunsBothLevels c.args.net.now) c.new-routers.result.items c.loop-u.routers.items c.loop-u.u c.new-routers.ensures.items
+    c.loop-u.invariant (omega (arith, c.routers-u-end.ensures.count)) (λ u is. HasConfiguration-within c.args.net.now u is.one.config is.one.router)

@@ -1,55 +1,48 @@
-use Rattle.std.proofs.Common.{ℕ}
+use Rattle.std.proofs.Common.{◌≡◌, ℕ}
 use Rattle.route_tables.proofs.ListFacts.{adds_start, adds_at, adds_end}
-use Rattle.ospf_routes.proofs.AreaFacts.{borders_at}
+use Rattle.ospf_routes.proofs.AreaFacts.{number_at}
 use Rattle.ospf_routes.proofs.BorderLists.{inner_at, inner_is_router}
-use Rattle.ospf_routes.proofs.IntraFacts.{part_place}
+use Rattle.ospf_routes.proofs.IntraFacts.{part_for}
 use Rattle.ospf_routes.proofs.SummaryFacts.{area_subnets_are}
-use Rattle.ospf_routes.specs.steps.Summarized.{IsSubnetSummary}
+use Rattle.ospf_routes.specs.steps.Summarized.{IsAreaSubnet}
 use Rattle.ospf_routes.specs.declared.area_route.AreaRoute.{AreaRoute}
 use Rattle.ospf_routes.proofs.area_boundary.push_area_subnets.Goals as goal
 
 pub area-requires : goal.area-requires
 area-requires c =
-    (part_place c.args.domain.now.net c.args.domain.now.areas c.args.destination.now c.args.part.now c.requires.destination c.requires.part).within
+    (part_for c.args.domain.now.net c.args.domain.now.areas c.args.destination.now c.args.part.now c.requires.destination c.requires.part).at.within
 
 pub subnet_summary-requires-clause-border : goal.subnet_summary-requires-clause-border
 subnet_summary-requires-clause-border c =
-    let n : ℕ = c.args.part.now.area in
-    let at = part_place c.args.domain.now.net c.args.domain.now.areas c.args.destination.now c.args.part.now c.requires.destination c.requires.part in
-    let d = c.area.result.now in
-    (inner_at c.args.domain.now.net n d.borders c.as_slice-b-items.result.now c.loop-b.b-index 0
-    (borders_at c.args.domain.now.net c.args.domain.now.areas n c.args.part.now.zone d c.area.ensures.known at c.area.ensures.is)
-    c.as_slice-b-items.ensures c.loop-b-test.true).border
+    (inner_at c.args.domain.now.net c.area.result.now c.as_slice-b-items.result.now c.loop-b.b-index 0 c.area.ensures.area c.as_slice-b-items.ensures
+    c.loop-b-test.true).border
 
 pub subnet_summary-requires-clause-router : goal.subnet_summary-requires-clause-router
 subnet_summary-requires-clause-router c =
-    let n : ℕ = c.args.part.now.area in
-    let at = part_place c.args.domain.now.net c.args.domain.now.areas c.args.destination.now c.args.part.now c.requires.destination c.requires.part in
-    let d = c.area.result.now in
-    inner_is_router c.args.domain.now.net n d.borders c.as_slice-b-items.result.now c.loop-b.b-index 0
-    (borders_at c.args.domain.now.net c.args.domain.now.areas n c.args.part.now.zone d c.area.ensures.known at c.area.ensures.is)
+    inner_is_router c.args.domain.now.net c.area.result.now c.as_slice-b-items.result.now c.loop-b.b-index 0 c.area.ensures.area
     c.as_slice-b-items.ensures c.loop-b-test.true
 
 pub loop-b-init : goal.loop-b-init
 loop-b-init c =
-    adds_start (λ (r : AreaRoute) (b : ℕ). IsSubnetSummary c.args.domain.now.net c.args.destination.now.dest c.args.part.now.area b r)
+    adds_start (λ (r : AreaRoute) (b : ℕ). (r.at ≡ b) × IsAreaSubnet c.args.domain.now.net c.args.destination.now.dest c.args.part.now.area r)
     c.args.routes.now.items c.as_slice-b-items.result.now
 
 pub loop-b-preserved : goal.loop-b-preserved
 loop-b-preserved c =
-    adds_at (λ (r : AreaRoute) (b : ℕ). IsSubnetSummary c.args.domain.now.net c.args.destination.now.dest c.args.part.now.area b r)
+    adds_at (λ (r : AreaRoute) (b : ℕ). (r.at ≡ b) × IsAreaSubnet c.args.domain.now.net c.args.destination.now.dest c.args.part.now.area r)
     c.args.routes.now.items c.loop-b.routes.items c.push_option.new.all.items c.as_slice-b-items.result.now c.loop-b.b-index 0
     c.subnet_summary.result c.loop-b-test.true c.loop-b.invariant c.in_ok-push_option.ensures.ok c.subnet_summary.ensures
 
 pub returns : goal.returns
 returns c =
     let net = c.args.domain.now.net in
+    let areas = c.args.domain.now.areas in
     let p = c.args.destination.now.dest in
-    let n : ℕ = c.args.part.now.area in
+    let part = c.args.part.now in
     let given = c.as_slice-b-items.result.now in
-    let at = part_place net c.args.domain.now.areas c.args.destination.now c.args.part.now c.requires.destination c.requires.part in
-    let d = c.area.result.now in
-    area_subnets_are net p n d.borders given c.args.routes.now.items c.loop-b.routes.items
-    (borders_at net c.args.domain.now.areas n c.args.part.now.zone d c.area.ensures.known at c.area.ensures.is) c.as_slice-b-items.ensures
-    (adds_end (λ (r : AreaRoute) (b : ℕ). IsSubnetSummary net p n b r) c.args.routes.now.items c.loop-b.routes.items given c.loop-b.b-index
+    let a = c.area.result.now in
+    let at = (part_for net areas c.args.destination.now part c.requires.destination c.requires.part).at in
+    area_subnets_are net p part.area a given c.args.routes.now.items c.loop-b.routes.items c.area.ensures.area
+    (number_at areas part.area part.zone a at c.area.ensures.is) c.as_slice-b-items.ensures
+    (adds_end (λ (r : AreaRoute) (b : ℕ). (r.at ≡ b) × IsAreaSubnet net p part.area r) c.args.routes.now.items c.loop-b.routes.items given c.loop-b.b-index
     c.loop-b-test.false c.loop-b.invariant)

@@ -1,10 +1,10 @@
-use Rattle.std.proofs.Common.{ℕ, take}
+use Rattle.std.proofs.Common.{◌≡◌, ℕ, take}
 use Rattle.std.specs.List.{Any}
 use Rattle.ospf_routes.specs.Lists.{Adds}
-use Rattle.ospf_routes.specs.steps.Summarized.{IsSubnetSummary}
+use Rattle.ospf_routes.specs.steps.Summarized.{IsAreaSubnet}
 use Rattle.ospf_routes.specs.declared.area_route.AreaRoute.{AreaRoute}
 use Rattle.ospf_routes.proofs.area_boundary.push_area_subnets.Given as goal
 
 abbrev pub invariant-loop-b : goal.invariant-loop-b
 invariant-loop-b l = Adds l.initial.routes.items l.routes.items
-    (λ (r : AreaRoute). Any (λ (b : ℕ). IsSubnetSummary l.domain.net l.destination.dest l.part.area b r) (take l.b-index l.b-items))
+    (λ (r : AreaRoute). Any (λ (b : ℕ). (r.at ≡ b) × IsAreaSubnet l.domain.net l.destination.dest l.part.area r) (take l.b-index l.b-items))

@@ -20,26 +20,26 @@ returns-then-is_empty c =
 pub bounds-ranges-b : goal.bounds-ranges-b
 bounds-ranges-b c =
     subst (λ (n : ℕ). get_or c.as_slice-b-items.result.now c.loop-b.b-index 0 < n) (sym c.requires.ranges.count)
-    (inner_is_router c.args.domain.now.net c.args.area.now.number c.args.area.now.borders c.as_slice-b-items.result.now c.loop-b.b-index 0
-    c.requires.borders c.as_slice-b-items.ensures c.loop-b-test.true)
+    (inner_is_router c.args.domain.now.net c.args.area.now c.as_slice-b-items.result.now c.loop-b.b-index 0 c.requires.area
+    c.as_slice-b-items.ensures c.loop-b-test.true)
 
 pub reached_offer-offer-requires-clause-ranges : goal.reached_offer-offer-requires-clause-ranges
 reached_offer-offer-requires-clause-ranges c =
     place_read (AreActiveRanges c.args.domain.now.net) [] (length c.args.domain.now.net) c.args.ranges.now
     (get_or c.as_slice-b-items.result.now c.loop-b.b-index 0) c.index-ranges-b.result c.requires.ranges
-    (inner_is_router c.args.domain.now.net c.args.area.now.number c.args.area.now.borders c.as_slice-b-items.result.now c.loop-b.b-index 0
-    c.requires.borders c.as_slice-b-items.ensures c.loop-b-test.true)
+    (inner_is_router c.args.domain.now.net c.args.area.now c.as_slice-b-items.result.now c.loop-b.b-index 0 c.requires.area
+    c.as_slice-b-items.ensures c.loop-b-test.true)
     c.index-ranges-b.is
 
 pub reached_offer-offer-requires-clause-border : goal.reached_offer-offer-requires-clause-border
 reached_offer-offer-requires-clause-border c =
-    inner_at c.args.domain.now.net c.args.area.now.number c.args.area.now.borders c.as_slice-b-items.result.now c.loop-b.b-index 0
-    c.requires.borders c.as_slice-b-items.ensures c.loop-b-test.true
+    inner_at c.args.domain.now.net c.args.area.now c.as_slice-b-items.result.now c.loop-b.b-index 0 c.requires.area c.as_slice-b-items.ensures
+    c.loop-b-test.true
 
 pub reached_offer-offer-requires-clause-router : goal.reached_offer-offer-requires-clause-router
 reached_offer-offer-requires-clause-router c =
-    inner_is_router c.args.domain.now.net c.args.area.now.number c.args.area.now.borders c.as_slice-b-items.result.now c.loop-b.b-index 0
-    c.requires.borders c.as_slice-b-items.ensures c.loop-b-test.true
+    inner_is_router c.args.domain.now.net c.args.area.now c.as_slice-b-items.result.now c.loop-b.b-index 0 c.requires.area c.as_slice-b-items.ensures
+    c.loop-b-test.true
 
 pub loop-b-init : goal.loop-b-init
 loop-b-init c =
@@ -55,6 +55,6 @@ loop-b-preserved c =
 pub returns : goal.returns
 returns c =
     reached_of_borders c.args.domain.now.net c.args.area.now.number c.args.destination.now.dest c.args.area.now.borders c.as_slice-b-items.result.now
-    c.args.offers.now.items c.loop-b.offers.items c.requires.borders c.as_slice-b-items.ensures
+    c.args.offers.now.items c.loop-b.offers.items c.requires.area.borders c.as_slice-b-items.ensures
     (adds_end (λ (o : Offer) (b : ℕ). (o.at ≡ b) × IsPassedOn c.args.domain.now.net c.args.area.now.number c.args.destination.now.dest o)
     c.args.offers.now.items c.loop-b.offers.items c.as_slice-b-items.result.now c.loop-b.b-index c.loop-b-test.false c.loop-b.invariant)

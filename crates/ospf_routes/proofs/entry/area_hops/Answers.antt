@@ -3,7 +3,6 @@ use Rattle.std.proofs.lemmas.Result.{IfOk-weaker}
 use Rattle.igp_theory.specs.Ospf.{IntraAreaCost}
 use Rattle.walk_core.specs.BestOffers.{AreInRange, NoneTotals}
 use Rattle.walk_core.specs.declared.offers.Offer.{Offer}
-use Rattle.ospf_routes.proofs.IntraFacts.{part_is}
 use Rattle.ospf_routes.proofs.RouteFacts.{area_route_is}
 use Rattle.route_tables.specs.BestRoutes.{AreBestHops}
 use Rattle.ospf_routes.specs.steps.Routing.{IsAreaRoute}
@@ -13,19 +12,18 @@ pub best_hops-requires : goal.best_hops-requires
 best_hops-requires c = subst (λ (l : List Offer). AreInRange c.in-Some.walks.now l) (sym c.as_slice.ensures.value) c.in-Some.ensures.range
 
 pub returns-in-Some : goal.returns-in-Some
-returns-in-Some c =
+returns-in-Some c p is =
     let net = c.args.domain.now.net in
-    let d = c.args.destination.now in
     let part = c.args.part.now in
     let reach = c.in-Some.walks.now in
     let given = c.as_slice.result.now in
     IfOk-weaker c.best_hops.result
     (λ (found : Option (List ℕ)). MatchOption found (NoneTotals reach given) (AreBestHops reach given c.routers.result))
-    (λ (found : Option (List ℕ)). MatchOption found ((cost : ℕ) → IntraAreaCost net part.area d.dest c.args.u cost → ⊥)
-    (IsAreaRoute net part.area d.dest c.args.u))
-    (λ found best. area_route_is net part.area d.dest c.args.u reach part.offers.items given c.in-Some.ensures.reach
-    (part_is net d part c.requires.destination.is c.requires.part) c.as_slice.ensures.value c.routers.result c.routers.ensures.count found best)
+    (λ (found : Option (List ℕ)). MatchOption found ((cost : ℕ) → IntraAreaCost net part.area p c.args.u cost → ⊥)
+    (IsAreaRoute net part.area p c.args.u))
+    (λ found best. area_route_is net part.area p c.args.u reach part.offers.items given c.in-Some.ensures.reach is.offers
+    c.as_slice.ensures.value c.routers.result c.routers.ensures.count found best)
     c.best_hops.ensures
 
 pub returns-in-None : goal.returns-in-None
-returns-in-None c = λ cost costs. c.in-None.ensures.none costs.inside
+returns-in-None c = λ _ _ cost costs. c.in-None.ensures.none costs.inside

@@ -1,33 +1,46 @@
-use Rattle.std.proofs.Common.{[], arith, subst, List, ℕ, sym, take}
+use Rattle.std.proofs.Common.{[], arith, subst, List, sym, take}
 use Rattle.std.proofs.lemmas.List.{take_all}
-use Rattle.std.specs.List.{Contains}
 use Rattle.net_addr.proofs.SomeElement.{one_more}
-use Rattle.route_tables.proofs.ListFacts.{contains_at}
+use Rattle.ospf_routes.proofs.IntraFacts.{part_at, some_part}
 use Rattle.ospf_routes.proofs.RouteFacts.{AreaListsSoFar, area_lists_more, area_lists_all}
 use Rattle.ospf_routes.specs.declared.intra_area.AreaOffers.{AreaOffers}
 use Rattle.ospf_routes.proofs.entry.area_lists.Goals as goal
 
 pub loop-part-init : goal.loop-part-init
 loop-part-init c =
-    subst (λ (l : List (List ℕ)). AreaListsSoFar c.args.domain.now.net c.args.destination.now.dest c.args.u [] l) (sym c.new-lists.ensures.items)
+    let asked = c.args.asked in
+    subst (AreaListsSoFar asked.domain.now.net asked.destination.now.dest asked.router []) (sym c.new-lists.ensures.items)
     (record { each = λ hops has. absurd (omega (arith, has.1)); every = λ n cost has costs. absurd (omega (arith, has.among.1)) })
 
 pub area_hops-requires-clause-part : goal.area_hops-requires-clause-part
 area_hops-requires-clause-part c =
-    subst (λ (l : List AreaOffers). Contains l c.part-item.result) c.as_slice-part-items.ensures.value
-    (contains_at c.as_slice-part-items.result.now c.loop-part.part-index c.part-item.result c.loop-part-test.true c.part-item.is)
+    let asked = c.args.asked in
+    let given = c.as_slice-part-items in
+    some_part (part_at asked.domain.now.net asked.domain.now.areas asked.destination.now given.result.now c.loop-part.part-index c.part-item.result
+    c.requires.destination given.ensures.value c.loop-part-test.true c.part-item.is)
 
 pub loop-part-preserved : goal.loop-part-preserved
 loop-part-preserved c =
+    let asked = c.args.asked in
+    let net = asked.domain.now.net in
+    let d = asked.destination.now in
+    let given : List AreaOffers = c.as_slice-part-items.result.now in
+    let i = c.loop-part.part-index in
     let a : AreaOffers = c.part-item.result in
-    subst (λ (l : List AreaOffers). AreaListsSoFar c.args.domain.now.net c.args.destination.now.dest c.args.u l c.push_option.new.all.items)
-    (one_more c.as_slice-part-items.result.now c.loop-part.part-index a c.loop-part-test.true c.part-item.is)
-    (area_lists_more c.args.domain.now.net c.args.destination.now.dest c.args.u (take c.loop-part.part-index c.as_slice-part-items.result.now)
-    a c.loop-part.lists.items c.push_option.new.all.items c.in_ok-hops.hops c.loop-part.invariant c.in_ok-hops.ensures c.in_ok-push_option.ensures.ok)
+    let part_is = part_at net asked.domain.now.areas d given i a c.requires.destination c.as_slice-part-items.ensures.value c.loop-part-test.true
+    c.part-item.is in
+    let all = c.push_option.new.all.items in
+    subst (λ (l : List AreaOffers). AreaListsSoFar net d.dest asked.router l all) (one_more given i a c.loop-part-test.true c.part-item.is)
+    (area_lists_more net d.dest asked.router (take i given) a c.loop-part.lists.items all c.in_ok-area_hops.field-0 c.loop-part.invariant
+    (c.in_ok-area_hops.ensures d.dest part_is) c.in_ok-push_option.ensures.ok)
 
 pub returns : goal.returns
 returns c =
-    area_lists_all c.args.domain.now.net c.args.destination.now c.as_slice-part-items.result.now c.args.u c.loop-part.lists.items c.requires.destination.is
-    c.as_slice-part-items.ensures.value
-    (subst (λ (l : List AreaOffers). AreaListsSoFar c.args.domain.now.net c.args.destination.now.dest c.args.u l c.loop-part.lists.items)
-    (take_all c.loop-part.part-index c.as_slice-part-items.result.now c.loop-part-test.false) c.loop-part.invariant)
+    let asked = c.args.asked in
+    let net = asked.domain.now.net in
+    let d = asked.destination.now in
+    let lists = c.loop-part.lists.items in
+    let given = c.as_slice-part-items in
+    area_lists_all net d given.result.now asked.router lists c.requires.destination.is given.ensures.value
+    (subst (λ (l : List AreaOffers). AreaListsSoFar net d.dest asked.router l lists) (take_all c.loop-part.part-index given.result.now c.loop-part-test.false)
+    c.loop-part.invariant)

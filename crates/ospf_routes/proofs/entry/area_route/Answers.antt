@@ -1,33 +1,14 @@
-use Rattle.std.proofs.Common.{List, subst, sym}
-use Rattle.igp_theory.specs.Ospf.{IsIntraArea}
-use Rattle.walk_core.specs.BestOffers.{AreInRange}
-use Rattle.walk_core.specs.declared.offers.Offer.{Offer}
-use Rattle.ospf_routes.proofs.IntraFacts.{part_is, part_place}
-use Rattle.ospf_routes.proofs.RouteFacts.{area_route_is}
-use Rattle.ospf_routes.proofs.ZoneRoutes.{zone_route, only_follows, only_none}
-use Rattle.ospf_routes.specs.steps.Routing.{IsIntraRoute}
+use Rattle.ospf_routes.proofs.ZoneRoutes.{zone_route}
+use Rattle.ospf_routes.specs.steps.Asked.{HasIntraRoute, HasNoIntraRoute}
 use Rattle.ospf_routes.proofs.entry.area_route.Goals as goal
 
 pub best_route-requires : goal.best_route-requires
-best_route-requires c = subst (λ (l : List Offer). AreInRange c.in-Some.walks.now l) (sym c.as_slice-offers.ensures.value) c.in-Some.ensures.range
+best_route-requires c = c.in-Some.ensures.some.range
 
 pub returns-in-Some : goal.returns-in-Some
 returns-in-Some c =
-    let net = c.args.domain.now.net in
-    let u = c.args.u in
-    let d = c.args.destination.now in
-    let part = c.args.part.now in
-    let reach = c.in-Some.walks.now in
-    let given : List Offer = c.as_slice-offers.result.now in
-    zone_route net c.args.domain.now.areas u part.zone c.routers.result reach given (IsIntraArea net d.dest u → ⊥) (IsIntraRoute net d.dest u)
-    c.best_route.result (part_place net c.args.domain.now.areas d part c.requires.destination c.requires.part).within c.in-Some.ensures.same
-    c.routers.ensures.count
-    (λ hops best. only_follows net d part u hops c.requires.destination.is c.requires.one c.requires.part
-    (area_route_is net part.area d.dest u reach part.offers.items given c.in-Some.ensures.reach
-    (part_is net d part c.requires.destination.is c.requires.part) c.as_slice-offers.ensures.value c.routers.result c.routers.ensures.count hops best))
-    c.best_route.ensures
-
-pub returns-in-None : goal.returns-in-None
-returns-in-None c =
-    only_none c.args.domain.now.net c.args.destination.now c.args.part.now c.args.u c.requires.destination.is c.requires.one c.requires.part
-    (λ cost costs. c.in-None.ensures.none costs.inside)
+    let asked = c.args.asked in
+    let d = c.in-Some.inside in
+    let is = c.in-Some.ensures.some in
+    zone_route asked.domain.now.net asked.domain.now.areas asked.router d.zone c.routers-count.result d.walks.now d.offers.now (HasNoIntraRoute asked)
+    (HasIntraRoute asked) c.best_route.result is.zone is.same c.routers-count.ensures.count is.hops c.best_route.ensures

@@ -6,11 +6,13 @@ use Rattle.ospf_routes.proofs.lane_twins.all_lane_twins.Goals as goal
 
 pub loop-zone-init : goal.loop-zone-init
 loop-zone-init c =
-    let Are = AreTwinsAlone c.args.domain.now c.args.destinations.now c.args.listens.now in
+    let Are : ℕ → List (Option ℕ) → Type 0 =
+    λ zone. AreTwinsAlone c.args.destinations.now (record { domain = c.args.domain.now; listens = c.args.listens.now; zone = zone }) in
     subst (λ (l : List (List (Option ℕ))). AreEach Are [] 0 l) (sym c.in_ok-all.ensures.items) (places_none Are [])
 
 pub loop-zone-preserved : goal.loop-zone-preserved
 loop-zone-preserved c =
-    let Are = AreTwinsAlone c.args.domain.now c.args.destinations.now c.args.listens.now in
+    let Are : ℕ → List (Option ℕ) → Type 0 =
+    λ zone. AreTwinsAlone c.args.destinations.now (record { domain = c.args.domain.now; listens = c.args.listens.now; zone = zone }) in
     subst (λ (l : List (List (Option ℕ))). AreEach Are [] (c.loop-zone.zone + 1) l) (sym {A = List (List (Option ℕ))} c.in_ok-push.ensures.items)
     (places_more Are [] c.loop-zone.zone c.loop-zone.all.items c.in_ok-of_area.field-0 c.loop-zone.invariant c.in_ok-of_area.ensures)

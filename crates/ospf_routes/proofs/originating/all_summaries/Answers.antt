@@ -5,7 +5,7 @@ use Rattle.route_tables.proofs.DestinationLists.{prefix_is}
 use Rattle.net_model.specs.Network.{IsBorderRouter}
 use Rattle.ospf_routes.specs.Lists.{Exactly}
 use Rattle.ospf_routes.specs.steps.Destinations.{IsDestinationIn, ospf_prefixes}
-use Rattle.ospf_routes.specs.steps.Heard.{AddsRow, AreHeardBelow}
+use Rattle.ospf_routes.specs.steps.Heard.{AddsRow, IsRow, AreHeardBelow}
 use Rattle.ospf_routes.specs.declared.intra_area.Destination.{Destination}
 use Rattle.ospf_routes.proofs.HeardFacts.{heard_more, heard_none}
 use Rattle.ospf_routes.proofs.originating.all_summaries.Goals as goal
@@ -24,8 +24,8 @@ loop-destination-init c =
     let domain = c.args.domain.now in
     let dests : List Block = ospf_prefixes c.args.destinations.now in
     record {
-      heard = subst (AreHeardBelow domain.net domain.areas dests 0) (sym c.none-summaries.ensures)
-          (heard_none domain.net domain.areas dests c.zones.result c.zones.ensures.count);
+      heard = subst (AreHeardBelow domain dests 0) (sym c.none-summaries.ensures)
+          (heard_none domain dests c.zones.result c.zones.ensures.count);
       within = omega arith;
     }
 
@@ -39,8 +39,8 @@ loop-destination-preserved c =
     let new = c.keep_summaries.new.summaries in
     let long = length-map ds (λ (x : Destination). x.dest) in
     record {
-      heard = heard_more domain.net domain.areas (ospf_prefixes ds) k old new c.loop-destination.invariant.heard
-          (subst (λ (p : Block). AddsRow domain.net domain.areas p (length domain.areas) old new)
+      heard = heard_more domain (ospf_prefixes ds) k old new c.loop-destination.invariant.heard
+          (subst (λ (p : Block). AddsRow (IsRow domain p (length domain.areas)) old new)
           (prefix_is (λ (x : Destination). x.dest) ds k d (omega (arith, long, c.loop-destination-test.true)) c.destination-item.is)
           c.in_ok-keep_summaries.ensures);
       within = omega (arith, c.loop-destination-test.true);
@@ -52,4 +52,4 @@ returns c =
     let ds : List Destination = c.args.destinations.now in
     let k : ℕ = c.loop-destination.destination-index in
     let all : k ≡ length ds = omega (arith, c.loop-destination-test.false, c.loop-destination.invariant.within) in
-    subst (λ (n : ℕ). AreHeardBelow domain.net domain.areas (ospf_prefixes ds) n c.loop-destination.summaries) all c.loop-destination.invariant.heard
+    subst (λ (n : ℕ). AreHeardBelow domain (ospf_prefixes ds) n c.loop-destination.summaries) all c.loop-destination.invariant.heard

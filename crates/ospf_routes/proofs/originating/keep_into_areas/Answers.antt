@@ -1,40 +1,28 @@
 use Rattle.std.proofs.Common.{◌≡◌, ℕ, arith, length, subst, sym}
 use Rattle.net_addr.specs.Addresses.{Block}
-use Rattle.ospf_routes.specs.steps.Heard.{AddsRow}
+use Rattle.ospf_routes.specs.steps.Heard.{AddsRow, IsRow}
 use Rattle.ospf_routes.specs.steps.Offered.{AreOffers}
 use Rattle.ospf_routes.specs.steps.Summarized.{IsHeard}
 use Rattle.ospf_routes.specs.declared.areas.AreaWalks.{AreaWalks}
-use Rattle.ospf_routes.proofs.AreaFacts.{area_is}
 use Rattle.ospf_routes.proofs.HeardFacts.{heard_here, row_more, row_none}
 use Rattle.ospf_routes.proofs.originating.keep_into_areas.Goals as goal
 
-pub put_summaries-requires-clause-members : goal.put_summaries-requires-clause-members
-put_summaries-requires-clause-members c =
-    (area_is c.args.domain.now.net c.args.domain.now.areas c.loop-zone.zone c.area.result.now c.area.ensures.known
-    (omega (arith, c.loop-zone-test.true, c.zones-zone-end.ensures.count)) c.area.ensures.is).members
-
-pub put_summaries-requires-clause-borders : goal.put_summaries-requires-clause-borders
-put_summaries-requires-clause-borders c =
-    (area_is c.args.domain.now.net c.args.domain.now.areas c.loop-zone.zone c.area.result.now c.area.ensures.known
-    (omega (arith, c.loop-zone-test.true, c.zones-zone-end.ensures.count)) c.area.ensures.is).borders
-
 pub loop-zone-init : goal.loop-zone-init
-loop-zone-init c = row_none c.args.domain.now.net c.args.domain.now.areas c.args.destination.now.dest c.args.summaries.now
+loop-zone-init c = row_none c.args.domain.now c.args.destination.now.dest c.args.summaries.now
 
 pub loop-zone-preserved : goal.loop-zone-preserved
 loop-zone-preserved c =
-    let net = c.args.domain.now.net in
-    let areas = c.args.domain.now.areas in
+    let domain = c.args.domain.now in
     let p : Block = c.args.destination.now.dest in
     let k : ℕ = c.loop-zone.zone in
     let a : AreaWalks = c.area.result.now in
-    row_more net areas p k c.args.summaries.now c.loop-zone.summaries c.keep.new.self c.as_slice.result.now c.loop-zone.invariant c.in_ok-keep.ensures
-    (heard_here net areas p k a c.as_slice.result.now c.area.ensures.is
-    (subst (AreOffers (IsHeard net p a.number)) (sym c.as_slice.ensures.value) c.in_ok-put_summaries.ensures))
+    row_more domain p k c.args.summaries.now c.loop-zone.summaries c.keep.new.self c.as_slice.result.now c.loop-zone.invariant c.in_ok-keep.ensures
+    (heard_here domain p k a c.as_slice.result.now c.area.ensures.is
+    (subst (AreOffers (IsHeard domain.net p a.number)) (sym c.as_slice.ensures.value) c.in_ok-put_summaries.ensures))
 
 pub returns : goal.returns
 returns c =
     let all : c.loop-zone.zone ≡ length c.args.domain.now.areas =
     omega (arith, c.loop-zone-test.false, c.loop-zone.auto.zone-end, c.zones-zone-end.ensures.count) in
-    subst (λ (m : ℕ). AddsRow c.args.domain.now.net c.args.domain.now.areas c.args.destination.now.dest m c.args.summaries.now c.loop-zone.summaries) all
+    subst (λ (m : ℕ). AddsRow (IsRow c.args.domain.now c.args.destination.now.dest m) c.args.summaries.now c.loop-zone.summaries) all
     c.loop-zone.invariant

@@ -4,7 +4,7 @@ use Rattle.std.proofs.lemmas.Bool.{false≢true}
 use Rattle.std.proofs.lemmas.Option.{none-some}
 use Rattle.net_model.specs.Configuration.{Configuration}
 use Rattle.igp_theory.specs.Ospf.{IntraAreaCost, IsComponent}
-use Rattle.ospf_routes.proofs.IntraFacts.{no_intra_given}
+use Rattle.ospf_routes.proofs.IntraFacts.{no_intra_given, part_for, some_part}
 use Rattle.ospf_routes.proofs.RangeFacts.{component_at}
 use Rattle.ospf_routes.specs.declared.intra_area.AreaOffers.{AreaOffers}
 use Rattle.ospf_routes.proofs.ranges.component_cost.Goals as goal
@@ -22,12 +22,17 @@ returns-in_err-part c =
 
 pub part_cost-requires-clause-part : goal.part_cost-requires-clause-part
 part_cost-requires-clause-part c =
-    subst (λ (l : List AreaOffers). Contains l c.in_ok-part.part.now) c.as_slice.ensures.value c.in_ok-part.ensures.among
+    some_part (part_for c.args.domain.now.net c.args.domain.now.areas c.args.destination.now c.in_ok-part.part.now c.requires.destination
+    (subst (λ (l : List AreaOffers). Contains l c.in_ok-part.part.now) c.as_slice.ensures.value c.in_ok-part.ensures.among))
 
 pub returns : goal.returns
 returns c =
-    component_at c.args.domain.now.net c.args.b c.config.result.now c.as_slice-ranges.result.now c.args.range.now c.args.destination.now.dest c.part_cost.result
+    let net = c.args.domain.now.net in
+    let d = c.args.destination.now in
+    let part = c.in_ok-part.part.now in
+    component_at net c.args.b c.config.result.now c.as_slice-ranges.result.now c.args.range.now d.dest c.part_cost.result
     c.requires.has c.config.ensures.router (c.as_slice-ranges.ensures ∙ ap (λ (d : Configuration). d.ranges) c.behind-domain.view_is)
     (c.if-not-covers.ensures.0 refl) (λ any. false≢true (c.if-has_longer.ensures.1 any))
-    (subst (λ (n : ℕ). (cost : ℕ) → (c.part_cost.result ≡ Some cost) ↔ IntraAreaCost c.args.domain.now.net n c.args.destination.now.dest c.args.b cost)
-    c.in_ok-part.ensures.area c.part_cost.ensures)
+    (subst (λ (n : ℕ). (cost : ℕ) → (c.part_cost.result ≡ Some cost) ↔ IntraAreaCost net n d.dest c.args.b cost) c.in_ok-part.ensures.area
+    (c.part_cost.ensures d.dest (part_for net c.args.domain.now.areas d part c.requires.destination
+    (subst (λ (l : List AreaOffers). Contains l part) c.as_slice.ensures.value c.in_ok-part.ensures.among))))

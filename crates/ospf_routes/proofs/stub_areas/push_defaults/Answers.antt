@@ -15,12 +15,12 @@ returns-then-not-is_all_addresses c =
 
 pub push_router_defaults-requires-clause-border : goal.push_router_defaults-requires-clause-border
 push_router_defaults-requires-clause-border c =
-    inner_at c.args.domain.now.net c.args.area.now.number c.args.area.now.borders c.as_slice-b-items.result.now c.loop-b.b-index 0 c.requires
+    inner_at c.args.domain.now.net c.args.area.now c.as_slice-b-items.result.now c.loop-b.b-index 0 c.requires
     c.as_slice-b-items.ensures c.loop-b-test.true
 
 pub push_router_defaults-requires-clause-router : goal.push_router_defaults-requires-clause-router
 push_router_defaults-requires-clause-router c =
-    inner_is_router c.args.domain.now.net c.args.area.now.number c.args.area.now.borders c.as_slice-b-items.result.now c.loop-b.b-index 0 c.requires
+    inner_is_router c.args.domain.now.net c.args.area.now c.as_slice-b-items.result.now c.loop-b.b-index 0 c.requires
     c.as_slice-b-items.ensures c.loop-b-test.true
 
 pub loop-b-init : goal.loop-b-init
@@ -39,6 +39,6 @@ loop-b-preserved c =
 pub returns : goal.returns
 returns c =
     defaults_are c.args.domain.now.net c.args.area.now.number c.args.dest c.args.area.now.borders c.as_slice-b-items.result.now c.args.offers.now.items
-    c.loop-b.offers.items c.requires c.as_slice-b-items.ensures (c.if-not-is_all_addresses.ensures.0 refl)
+    c.loop-b.offers.items c.requires.borders c.as_slice-b-items.ensures (c.if-not-is_all_addresses.ensures.0 refl)
     (adds_end (λ (o : Offer) (b : ℕ). RouterDefault c.args.domain.now.net c.args.area.now.number b o)
     c.args.offers.now.items c.loop-b.offers.items c.as_slice-b-items.result.now c.loop-b.b-index c.loop-b-test.false c.loop-b.invariant)

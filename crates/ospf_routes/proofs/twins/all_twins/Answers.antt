@@ -12,7 +12,7 @@ use Rattle.ospf_routes.proofs.twins.all_twins.Goals as goal
 
 pub twin_of-requires-clause-summaries : goal.twin_of-requires-clause-summaries
 twin_of-requires-clause-summaries c =
-    heard_within c.args.domain.now.net c.args.domain.now.areas (ospf_prefixes c.args.destinations.now) (length c.args.destinations.now) c.args.summaries.now
+    heard_within c.args.domain.now (ospf_prefixes c.args.destinations.now) (length c.args.destinations.now) c.args.summaries.now
     c.requires.summaries
 
 pub loop-place-preserved : goal.loop-place-preserved

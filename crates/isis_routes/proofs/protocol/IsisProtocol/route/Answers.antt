@@ -7,5 +7,5 @@ use Rattle.isis_routes.proofs.protocol.IsisProtocol.route.Goals as goal
 
 pub returns : goal.returns
 returns c =
-    asked_as (λ domain p. IfOk c.route_of.result (λ found. MatchOption found ((e : Entry) → IsisEntry domain.net c.args.router p e → ⊥)
-    (IsIsisRoute domain c.args.router p))) c.domain.ensures c.destination.ensures.dest c.route_of.ensures
+    asked_as (λ domain u p. IfOk c.route_of.result (λ found. MatchOption found ((e : Entry) → IsisEntry domain.net u p e → ⊥)
+    (IsIsisRoute domain u p))) c.asked.ensures.domain c.asked.ensures.router c.asked.ensures.dest c.route_of.ensures

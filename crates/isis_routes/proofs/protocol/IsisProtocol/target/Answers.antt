@@ -6,5 +6,5 @@ use Rattle.isis_routes.proofs.protocol.IsisProtocol.target.Goals as goal
 
 pub returns : goal.returns
 returns c =
-    asked_as (λ domain p. IfSome c.target_of.result (λ target. IsIsisRoute domain c.args.router p (Towards target)))
-    c.domain.ensures c.destination.ensures.dest c.target_of.ensures
+    asked_as (λ domain u p. IfSome c.target_of.result (λ target. IsIsisRoute domain u p (Towards target)))
+    c.asked.ensures.domain c.asked.ensures.router c.asked.ensures.dest c.target_of.ensures

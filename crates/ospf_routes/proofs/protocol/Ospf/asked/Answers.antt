@@ -54,8 +54,8 @@ returns-clause-asked c =
           let inside : zone < length areas =
           listened_inside net areas c.self.inside.listens.items c.args.router zone c.index-listens.result.now c.self.invariant.listeners below
           c.index-listens.ensures is in
-          subst (AreHeardAt net areas d.dest zone) (sym (c.into_some_area-heard.ensures zone is))
-          (subst (λ (p : Block). AreHeardAt net areas p zone (heard_into c.self.inside.summaries c.args.place zone)) same
+          subst (AreHeardAt domain d.dest zone) (sym (c.into_some_area-heard.ensures zone is))
+          (subst (λ (p : Block). AreHeardAt domain p zone (heard_into c.self.inside.summaries c.args.place zone)) same
           (c.self.invariant.announced.each c.args.place zone (omega (arith, long, within))
           (subst (λ (n : ℕ). zone < n) (sym c.self.invariant.announced.areas_are) inside)));
     }

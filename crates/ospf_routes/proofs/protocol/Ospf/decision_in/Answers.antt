@@ -13,9 +13,9 @@ decision-requires-clause-destination c =
 
 pub decision-requires-clause-heard : goal.decision-requires-clause-heard
 decision-requires-clause-heard c =
-    subst (λ (ospf : OspfNetwork). AreHeardAt ospf.domain.net ospf.domain.areas c.destination-destination.result.now.dest c.args.zone c.heard-heard.result.now)
+    subst (λ (ospf : OspfNetwork). AreHeardAt ospf.domain c.destination-destination.result.now.dest c.args.zone c.heard-heard.result.now)
     (sym c.self.view_is)
-    (subst (λ (p : Block). AreHeardAt c.args.self.now.domain.net c.args.self.now.domain.areas p c.args.zone c.heard-heard.result.now)
+    (subst (λ (p : Block). AreHeardAt c.args.self.now.domain p c.args.zone c.heard-heard.result.now)
     (sym c.destination-destination.ensures.dest) c.heard-heard.ensures)
 
 pub returns : goal.returns

@@ -13,10 +13,10 @@ use Rattle.ospf_routes.proofs.protocol.Ospf.heard.Goals as goal
 -- the list is there, and is what is announced of the prefix
 listed : {own ospf : OspfNetwork} (place zone : ℕ) → own ≡ ospf → IsOspf own → place < length (ospf_prefixes ospf.destinations) →
     zone < length ospf.domain.areas → (place * own.summaries.areas + zone < length own.summaries.lists) ×
-    AreHeardAt ospf.domain.net ospf.domain.areas (prefix_at (ospf_prefixes ospf.destinations) place) zone (heard_into own.summaries place zone)
+    AreHeardAt ospf.domain (prefix_at (ospf_prefixes ospf.destinations) place) zone (heard_into own.summaries place zone)
 listed {own} {ospf} place zone same is within below =
     let Heard : OspfNetwork → Type 0 =
-    λ o. AreHeardAt o.domain.net o.domain.areas (prefix_at (ospf_prefixes o.destinations) place) zone (heard_into own.summaries place zone) in
+    λ o. AreHeardAt o.domain (prefix_at (ospf_prefixes o.destinations) place) zone (heard_into own.summaries place zone) in
     let long = length-map own.destinations (λ (d : Destination). d.dest) in
     let here = subst (λ (o : OspfNetwork). place < length (ospf_prefixes o.destinations)) (sym same) within in
     let inside : place < length own.destinations = omega (arith, long, here) in
@@ -31,5 +31,5 @@ into_area-requires c = (listed c.args.place c.args.zone c.self.view_is c.self.in
 pub returns : goal.returns
 returns c =
     let ospf : OspfNetwork = c.args.self.now in
-    subst (λ (l : List Offer). AreHeardAt ospf.domain.net ospf.domain.areas (prefix_at (ospf_prefixes ospf.destinations) c.args.place) c.args.zone l)
+    subst (λ (l : List Offer). AreHeardAt ospf.domain (prefix_at (ospf_prefixes ospf.destinations) c.args.place) c.args.zone l)
     (sym c.into_area.ensures) (listed c.args.place c.args.zone c.self.view_is c.self.invariant c.requires.place c.requires.zone).1
