@@ -1,15 +1,10 @@
-use Rattle.std.proofs.Common.{◌≡◌, ◌+◌, ℕ, List, length, sym, subst, arith, refl}
+use Rattle.std.proofs.Common.{◌+◌, ℕ, List, sym, subst}
 use Rattle.walk_core.specs.steps.Flooding.{segment_at}
 use Rattle.walk_core.specs.Reach.{Reach}
 use Rattle.walk_core.specs.steps.SegmentWalks.{AreWalksFrom, IsLan, KnowsBeyond, Mesh}
 use Rattle.walk_core.specs.declared.segment.Port.{Port}
 use Rattle.walk_core.proofs.SegmentSteps.{knows_segment}
 use Rattle.walk_core.proofs.beyond.all_beyond.Goals as goal
-
-pub loop-place-init : goal.loop-place-init
-loop-place-init c =
-    subst (λ (l : List Reach). KnowsBeyond (record { count = c.args.count; segments = c.args.segments.now; rows = c.args.rows.now; beyond = l }) 0)
-    (sym c.in_ok-beyond.ensures.items) (record { long = refl; each = λ i below. absurd (omega (arith, below)) })
 
 pub loop-place-preserved : goal.loop-place-preserved
 loop-place-preserved c =
@@ -21,9 +16,3 @@ loop-place-preserved c =
     subst (λ (l : List Reach). KnowsBeyond (record { count = mesh.count; segments = mesh.segments; rows = mesh.rows; beyond = l }) (place + 1))
     (sym {A = List Reach} c.in_ok-push.ensures.items) (knows_segment mesh place reach c.loop-place.invariant from)
 
-pub returns : goal.returns
-returns c =
-    let all : c.loop-place.place ≡ length c.args.segments.now = omega arith in
-    let beyond : List Reach = c.loop-place.beyond.items in
-    subst (λ (n : ℕ). KnowsBeyond (record { count = c.args.count; segments = c.args.segments.now; rows = c.args.rows.now; beyond = beyond }) n)
-    all c.loop-place.invariant

@@ -1,13 +1,7 @@
-use Rattle.std.proofs.Common.{ℕ, List, [], None, Option, get_or, refl, subst, sym}
+use Rattle.std.proofs.Common.{ℕ, List, Option, get_or, subst}
 use Rattle.walk_core.specs.steps.SegmentWalks.{JoinsNearest, Nearest}
-use Rattle.walk_core.proofs.NearestLaws.{AreNearest, nearest_of_all, nearest_step, none_nearest}
+use Rattle.walk_core.proofs.NearestLaws.{nearest_of_all, nearest_step}
 use Rattle.walk_core.proofs.beyond.find_ends.Goals as goal
-
-pub loop-port-init : goal.loop-port-init
-loop-port-init c =
-    let ends : List ℕ = c.clear.new.self.items in
-    subst (λ (n : Option ℕ). AreNearest c.args.rows.now [] c.args.v (record { distance = n; ends = ends })) (sym c.none-nearest.ensures)
-    (none_nearest c.args.rows.now c.args.v (record { distance = None; ends = ends }) refl c.clear.ensures.items)
 
 pub loop-port-preserved : goal.loop-port-preserved
 loop-port-preserved c =
@@ -25,6 +19,3 @@ pub returns-clause-nearest : goal.returns-clause-nearest
 returns-clause-nearest c =
     (nearest_of_all c.args.rows.now c.args.ports.now c.loop-port.port-index c.args.v _ c.loop-port-test.false c.loop-port.invariant).cheapest
 
-pub returns-clause-ends : goal.returns-clause-ends
-returns-clause-ends c =
-    (nearest_of_all c.args.rows.now c.args.ports.now c.loop-port.port-index c.args.v _ c.loop-port-test.false c.loop-port.invariant).ends

@@ -1,6 +1,4 @@
-use Rattle.std.proofs.Common.{◌≡◌, ◌++◌, ◌∷◌, [], ◌+◌, ℕ, List, Option, ap, sym, subst, ◌∙◌, arith}
-use Rattle.walk_core.specs.Reach.{Reach}
-use Rattle.walk_core.specs.steps.SegmentWalks.{AreWalksFrom}
+use Rattle.std.proofs.Common.{◌≡◌, ◌++◌, ◌∷◌, [], ◌+◌, ℕ, List, Option, ap, sym, subst, ◌∙◌}
 use Rattle.walk_core.proofs.NearestLaws.{ends_ordered}
 use Rattle.walk_core.proofs.SegmentSteps.{KnowsBelow, knows_more}
 use Rattle.walk_core.proofs.beyond.walks_beyond.Goals as goal
@@ -22,14 +20,3 @@ loop-v-preserved c =
     (ends_ordered rows ports v d c.find_ends.new.ends.items ends c.put_in_order.ensures.kept c.in_ok-distance.ensures.ends)
     c.put_in_order.ensures.ascending))
 
-pub returns : goal.returns
-returns c =
-    let knows = c.loop-v.invariant in
-    let all : c.loop-v.v ≡ c.args.count = omega arith in
-    let known : Reach = record { distances = c.loop-v.distances.items; hops = c.loop-v.hops } in
-    let same : c.of.result ≡ known = c.of.ensures ∙ ap (λ (ds : List (Option ℕ)). record { distances = ds; hops = c.loop-v.hops }) c.from_vec.ensures in
-    λ lan. subst (λ (r : Reach). AreWalksFrom c.args.rows.now c.args.ports.now c.args.count r) (sym same) (record {
-      distances = λ w below. knows.nearest w (omega (arith, all, below));
-      ends = λ w below. knows.lists w (omega (arith, all, below));
-      within = omega (arith, knows.many, all);
-    })

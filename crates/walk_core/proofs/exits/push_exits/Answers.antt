@@ -2,11 +2,8 @@ use Rattle.std.proofs.Common.{◌≡◌, ◌↔◌, ℕ, Option, Some, subst}
 use Rattle.std.proofs.lemmas.Result.{on_ok_weaker}
 use Rattle.walk_core.specs.declared.exits.Exit.{Exit}
 use Rattle.walk_core.specs.steps.Exits.{IsNoFarther, LeadsOver, cost_over}
-use Rattle.walk_core.proofs.ExitLaws.{two_added, none_added}
+use Rattle.walk_core.proofs.ExitLaws.{two_added}
 use Rattle.walk_core.proofs.exits.push_exits.Goals as goal
-
-pub returns-then-v-exits : goal.returns-then-v-exits
-returns-then-v-exits c = on_ok_weaker c.push.result (none_added c.args.exits c.args.v c.args.hops.now c.push.new.self c.if-v-exits.true) c.push.ensures
 
 -- the end that is nearer by the costs over two exits
 towards : (exit other : Exit) (v : ℕ) (cost rival end : Option ℕ) → cost ≡ cost_over exit v → rival ≡ cost_over other v →

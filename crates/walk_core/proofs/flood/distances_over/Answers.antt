@@ -1,13 +1,11 @@
-use Rattle.std.proofs.Common.{◌≡◌, ◌∙◌, ◌++◌, Bool, ℕ, List, Option, Some, None, true, set, replicate, length, take, drop, ap, sym, subst, arith}
+use Rattle.std.proofs.Common.{◌≡◌, ◌∙◌, ◌++◌, ℕ, List, Option, Some, None, set, replicate, length, take, drop, ap, sym, subst, arith}
 use Rattle.std.proofs.lemmas.Grind.{common_steps}
 use Rattle.walk_core.specs.steps.Ends.{IsShortRow}
-use Rattle.walk_core.specs.steps.Flooding.{AreSettled}
 use Rattle.walk_core.specs.steps.Relaxing.{AreWalked, HaveRoom}
 use Rattle.walk_core.specs.Segments.{AreSegments, Sends, SendsAcross}
 use Rattle.walk_core.specs.declared.segment.Port.{Port}
 use Rattle.walk_core.proofs.FloodLaws.{row_of_tight}
 use Rattle.walk_core.proofs.RelaxLaws.{room_at_first, walked_at_first}
-use Rattle.walk_core.proofs.StaleLaws.{settled_at_first}
 use Rattle.walk_core.proofs.flood.distances_over.Goals as goal
 
 -- what a vector of distances was made with, and the root's own
@@ -26,16 +24,6 @@ settle-requires-clause-room c =
     let begins = begun _ c.deref_mut-3.result.now c.args.count c.args.root c.of.result first c.of.ensures c.deref_mut-3.ensures.value in
     subst (λ (l : List (Option ℕ)). HaveRoom l) (sym begins)
     (room_at_first c.args.count c.args.root c.requires.root (omega (arith, c.ranges.count.fits)))
-
-pub settle-requires-clause-settled : goal.settle-requires-clause-settled
-settle-requires-clause-settled c =
-    let first : c.in_ok-distances.distances.items ≡ replicate c.args.count None =
-    c.in_ok-distances.ensures.items_if_clones_equal (λ y is. is) ∙ ap (λ (d : Option ℕ). replicate c.args.count d) c.none.ensures in
-    let at_first : AreSettled c.args.segments.now (set (replicate c.args.count None) c.args.root (Some 0)) (set c.in_ok-stale.stale.items c.args.root true) =
-    settled_at_first c.args.segments.now c.args.count c.args.root c.in_ok-stale.stale.items c.requires.root (omega (arith, c.in_ok-stale.ensures.len)) in
-    subst (λ (l : List Bool). AreSettled c.args.segments.now c.deref_mut-3.result.now l) (sym c.deref_mut-2.ensures.value)
-    (subst (λ (l : List (Option ℕ)). AreSettled c.args.segments.now l (set c.in_ok-stale.stale.items c.args.root true))
-    (sym (begun _ c.deref_mut-3.result.now c.args.count c.args.root c.of.result first c.of.ensures c.deref_mut-3.ensures.value)) at_first)
 
 pub returns : goal.returns
 returns c =
