@@ -14,8 +14,9 @@
 //! 5. `leaked.rt`: what is announced into level 1, marked down (RFC 5302).
 //! 6. `alike.rt`: prefixes with the same routes.
 //! 7. `lanes.rt`: the lanes of routers, and what decides the routes of all that run level 2, and of all that run level 1 alone.
-//! 8. For a router and a prefix (`asked.rt`): `entry.rt`: the level 1 route, else the level 2 route, else the down route, else the default; `target.rt`: where
-//!    the first two lead, where that is known without hops of their own; `leading.rt`: the offers that lead them.
+//! 8. For a router and a prefix (`asked.rt`): `entry.rt`: the level 1 route, else the level 2 route, else the down route, else
+//!    the default; `target.rt`: where the first two lead, where that is known without hops of their own; `leading.rt`: the
+//!    offers that lead them.
 //!
 //! Steps 2 to 7 take time of the connected prefixes of all routers, and of prefixes times the routers that run both
 //! levels; step 8 of routers times prefixes that aren't alike, and that no lane decides, times the offers of a prefix.

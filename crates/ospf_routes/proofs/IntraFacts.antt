@@ -16,6 +16,7 @@ use Rattle.walk_core.specs.declared.offers.Offer.{Offer}
 use Rattle.igp_theory.specs.Ospf.{OffersSubnet, IntraAreaCost, IsIntraArea}
 use Rattle.ospf_routes.specs.steps.Areas.{AreAreas, HasArea, IsAreaAt, IsReach}
 use Rattle.ospf_routes.specs.declared.areas.AreaWalks.{AreaWalks}
+use Rattle.ospf_routes.specs.steps.Domain.{OspfDomain}
 use Rattle.ospf_routes.specs.steps.Destinations.{AddsPart, HasAreaPart, IsDestination, IsDestinationIn, IsPart, IsPartAt, IsPartFor, IsPartIn, IsPartOf}
 use Rattle.ospf_routes.specs.Lists.{Exactly}
 use Rattle.ospf_routes.specs.steps.Offered.{AreOffers, InsideOf}
@@ -54,21 +55,21 @@ part_offers net p routes given part are same is =
         (subst (λ (w : ℕ). OffersSubnet net part.area p w r.asks) (sym inside.at)
         (subst (λ (n : ℕ). OffersSubnet net n p r.at r.asks) inside.area offers))
 
-pub destination_is : (net : Network) (areas : List AreaWalks) (routes given : List AreaRoute) (d : Destination) → AreAreas net areas →
-    Exactly (λ (u : ℕ). Connected net u d.dest) d.homes.items →
-    Exactly (λ (r : AreaRoute). OffersSubnet net r.area d.dest r.at r.asks) routes → given ≡ routes →
-    All (IsPartIn areas given) d.parts.items →
-    ((n : ℕ) (o : Offer) → HasArea areas n → Any (λ (r : AreaRoute). InsideOf n r o) given → HasAreaPart d.parts.items n) → IsDestinationIn net areas d
-destination_is net areas routes given d are homes exact same parts every = record {
+pub destination_is : (domain : OspfDomain) (routes given : List AreaRoute) (d : Destination) → AreAreas domain.net domain.areas →
+    Exactly (λ (u : ℕ). Connected domain.net u d.dest) d.homes.items →
+    Exactly (λ (r : AreaRoute). OffersSubnet domain.net r.area d.dest r.at r.asks) routes → given ≡ routes →
+    All (IsPartIn domain.areas given) d.parts.items →
+    ((n : ℕ) (o : Offer) → HasArea domain.areas n → Any (λ (r : AreaRoute). InsideOf n r o) given → HasAreaPart d.parts.items n) → IsDestinationIn domain d
+destination_is domain routes given d are homes exact same parts every = record {
   is = record { homes = homes; exact = offers; every = offered };
-  placed = All-weaker (IsPartIn areas given) (λ (part : AreaOffers). IsAreaAt areas part.area part.zone) (λ part is. is.at) d.parts.items parts;
+  placed = All-weaker (IsPartIn domain.areas given) (λ (part : AreaOffers). IsAreaAt domain.areas part.area part.zone) (λ part is. is.at) d.parts.items parts;
 }
   where
-    offers : All (λ (part : AreaOffers). AreOffers (OffersSubnet net part.area d.dest) part.offers.items) d.parts.items
-    offers = All-weaker (IsPartIn areas given) (λ (part : AreaOffers). AreOffers (OffersSubnet net part.area d.dest) part.offers.items)
-        (λ part is. part_offers net d.dest routes given part exact same is.offers) d.parts.items parts
+    offers : All (λ (part : AreaOffers). AreOffers (OffersSubnet domain.net part.area d.dest) part.offers.items) d.parts.items
+    offers = All-weaker (IsPartIn domain.areas given) (λ (part : AreaOffers). AreOffers (OffersSubnet domain.net part.area d.dest) part.offers.items)
+        (λ part is. part_offers domain.net d.dest routes given part exact same is.offers) d.parts.items parts
 
-    offered : (n w cost : ℕ) → OffersSubnet net n d.dest w cost → HasAreaPart d.parts.items n
+    offered : (n w cost : ℕ) → OffersSubnet domain.net n d.dest w cost → HasAreaPart d.parts.items n
     offered n w cost offers =
         let r : AreaRoute = record { area = n; at = w; asks = cost } in
         let among : Contains given r = subst (λ (l : List AreaRoute). Contains l r) (sym same) ((exact r).1 offers) in
@@ -123,28 +124,28 @@ no_intra_given net d given n u is same none cost costs =
     none (subst (λ (l : List AreaOffers). HasAreaPart l n) (sym same) (is.every n best.at best.attained.asks best.attained.offered))
 
 -- a part of a destination
-pub part_for : (net : Network) (areas : List AreaWalks) (d : Destination) (part : AreaOffers) → IsDestinationIn net areas d → Contains d.parts.items part →
-    IsPartFor net areas d.dest part
-part_for net areas d part is among = record {
-  offers = All-contains (λ (x : AreaOffers). AreOffers (OffersSubnet net x.area d.dest) x.offers.items) d.parts.items part is.is.exact among;
-  at = All-contains (λ (x : AreaOffers). IsAreaAt areas x.area x.zone) d.parts.items part is.placed among;
+pub part_for : (domain : OspfDomain) (d : Destination) (part : AreaOffers) → IsDestinationIn domain d → Contains d.parts.items part →
+    IsPartFor domain d.dest part
+part_for domain d part is among = record {
+  offers = All-contains (λ (x : AreaOffers). AreOffers (OffersSubnet domain.net x.area d.dest) x.offers.items) d.parts.items part is.is.exact among;
+  at = All-contains (λ (x : AreaOffers). IsAreaAt domain.areas x.area x.zone) d.parts.items part is.placed among;
 }
 
-pub some_part : {net : Network} {areas : List AreaWalks} {p : Block} {part : AreaOffers} → IsPartFor net areas p part → IsPart net areas part
-some_part {net} {areas} {p} {part} is = (p, is)
+pub some_part : {domain : OspfDomain} {p : Block} {part : AreaOffers} → IsPartFor domain p part → IsPart domain part
+some_part {domain} {p} {part} is = (p, is)
 
 -- read at its place
-pub part_at : (net : Network) (areas : List AreaWalks) (d : Destination) (given : List AreaOffers) (i : ℕ) (part : AreaOffers) →
-    IsDestinationIn net areas d → given ≡ d.parts.items → i < length given → part ≡ get_or given i part → IsPartFor net areas d.dest part
-part_at net areas d given i part is same within here =
-    part_for net areas d part is (subst (λ (l : List AreaOffers). Contains l part) same (i, within, sym here))
+pub part_at : (domain : OspfDomain) (d : Destination) (given : List AreaOffers) (i : ℕ) (part : AreaOffers) →
+    IsDestinationIn domain d → given ≡ d.parts.items → i < length given → part ≡ get_or given i part → IsPartFor domain d.dest part
+part_at domain d given i part is same within here =
+    part_for domain d part is (subst (λ (l : List AreaOffers). Contains l part) same (i, within, sym here))
 
 -- what a part offers is in range over the walks in its area
-pub part_in_range : (net : Network) (areas : List AreaWalks) (p : Block) (part : AreaOffers) (u : ℕ) (reach : Reach) → IsNetwork net →
-    IsPartFor net areas p part → IsReach net part.area u reach → AreInRange reach part.offers.items
-part_in_range net areas p part u reach network is reach_is =
-    in_range reach (OffersSubnet net part.area p) part.offers.items part.offers.items reach_is.near is.offers refl
-    (λ at asks offers. let small : asks < 2 ^ 24 = subnet_is_small net part.area p at asks network offers in omega arith)
+pub part_in_range : (domain : OspfDomain) (p : Block) (part : AreaOffers) (u : ℕ) (reach : Reach) → IsNetwork domain.net →
+    IsPartFor domain p part → IsReach domain.net part.area u reach → AreInRange reach part.offers.items
+part_in_range domain p part u reach network is reach_is =
+    in_range reach (OffersSubnet domain.net part.area p) part.offers.items part.offers.items reach_is.near is.offers refl
+    (λ at asks offers. let small : asks < 2 ^ 24 = subnet_is_small domain.net part.area p at asks network offers in omega arith)
 
 -- a router that reaches an offer of an area is in the area
 pub reaches_inside : (net : Network) (n : ℕ) (p : Block) (u cost : ℕ) → BestCost (Adjacent net (Area n)) (OffersSubnet net n p) u cost → InArea net u n

@@ -167,18 +167,18 @@ few_decide l u p offers Unknown few told lead = tt
 -- what is offered in the area decides
 pub inside_decides : (l : LaneOf) (u : ℕ) (d : Destination) (part : AreaOffers) (given : List Offer) (decision : Decision) →
     AreAreas l.domain.net l.domain.areas →
-    IsDestinationIn l.domain.net l.domain.areas d → u < length l.domain.net → ListensTo l.domain.net u part.area → (IsBorderRouter l.domain.net u → ⊥) →
+    IsDestinationIn l.domain d → u < length l.domain.net → ListensTo l.domain.net u part.area → (IsBorderRouter l.domain.net u → ⊥) →
     Contains d.parts.items part → IsAreaAt l.domain.areas part.area l.zone → given ≡ part.offers.items → IsOfFew given decision →
     (Connected l.domain.net u d.dest → (decision ≡ Unknown) ⊎ Any (λ (o : Offer). o.at ≡ u) given) →
     DecidesRoute u (OspfEntry l.domain.net u d.dest) (LeadsLane l u d.dest) decision
 inside_decides l u d part given decision are is below listens alone among at same few told =
     let net : Network = l.domain.net in
     let reach : Reach = area_reach l.domain.areas u l.zone in
-    let part_is = part_for net l.domain.areas d part is among in
+    let part_is = part_for l.domain d part is among in
     let walks : IsReach net part.area u reach = reach_at net l.domain.areas part.area u l.zone are at below in
     few_decide l u d.dest given decision few told (λ away.
     leads_by l u d.dest given at.within
-    (subst (AreInRange reach) (sym same) (part_in_range net l.domain.areas d.dest part u reach are.network part_is walks))
+    (subst (AreInRange reach) (sym same) (part_in_range l.domain d.dest part u reach are.network part_is walks))
     (λ hops best.
     let route = route_of_area net part.area d.dest u hops (λ h m inside hop. only_inside net u part.area m alone listens inside)
     (area_route_is net part.area d.dest u reach part.offers.items given walks part_is.offers same (length net) refl (Some hops) best) in

@@ -70,7 +70,7 @@ abbrev lane_of_zone : OspfDomain → List (Option ℕ) → ℕ → LaneOf
 lane_of_zone domain listens zone = record { domain = domain; listens = listens; zone = zone }
 
 pub announced_at : (domain : OspfDomain) (ds : List Destination) (listens : List (Option ℕ)) (heard : HeardLists) (zone place : ℕ) (d : Destination)
-    (offers : List Offer) → AreOspfDestinations domain.net domain.areas ds → AreSummaries domain ds heard → zone < length domain.areas →
+    (offers : List Offer) → AreOspfDestinations domain ds → AreSummaries domain ds heard → zone < length domain.areas →
     place < length ds → d ≡ get_or ds place d → IsOutsideLane (lane_of_zone domain listens zone) d →
     offers ≡ heard_into heard place zone → IsAnnouncedOutside (lane_of_zone domain listens zone) d offers
 announced_at domain ds listens heard zone place d offers is are inside within at outside read = record {

@@ -24,21 +24,21 @@ use Rattle.ospf_routes.proofs.TwinLaws.{is_twin_for, twin_destinations_back, twi
 
 -- the destination at a place
 pub record IsDestinationAt (domain : OspfDomain) (ds : List Destination) (place : ℕ) (d : Destination) : Type 0 where
-  pub is : IsDestinationIn domain.net domain.areas d
+  pub is : IsDestinationIn domain d
   pub prefix : d.dest ≡ prefix_at (ospf_prefixes ds) place
 
-pub destination_read : (domain : OspfDomain) (ds : List Destination) (place : ℕ) (d : Destination) → AreOspfDestinations domain.net domain.areas ds →
+pub destination_read : (domain : OspfDomain) (ds : List Destination) (place : ℕ) (d : Destination) → AreOspfDestinations domain ds →
     place < length ds → d ≡ get_or ds place d → IsDestinationAt domain ds place d
 destination_read domain ds place d is within d_at =
     let long = length-map ds (λ (x : Destination). x.dest) in
     record {
-      is = all_at (IsDestinationIn domain.net domain.areas) ds place d is.each within d_at;
+      is = all_at (IsDestinationIn domain) ds place d is.each within d_at;
       prefix = prefix_is (λ (x : Destination). x.dest) ds place d (omega (arith, long, within)) d_at;
     }
 
 -- twin destinations have the same entries
 pub twin_at : (domain : OspfDomain) (ds : List Destination) (ranged : List Block) (heard : HeardLists) (one other : ℕ) → AreAreas domain.net domain.areas →
-    AreOspfDestinations domain.net domain.areas ds →
+    AreOspfDestinations domain ds →
     HoldRanges domain.net ranged → AreSummaries domain ds heard → one < length ds →
     other < length ds → AreTwinsAt (record { destinations = ds; heard = heard; ranged = ranged }) one other →
     AreAlikePrefixes (length domain.net) (OspfEntry domain.net) (prefix_at (ospf_prefixes ds) one)
@@ -55,7 +55,7 @@ twin_at domain ds ranged heard one other known is hold announced within_one with
 
 -- so the one that is found has the same entries
 pub twin_found : (domain : OspfDomain) (ds : List Destination) (ranged : List Block) (heard : HeardLists) (place : ℕ)
-    (found : Option ℕ) → AreAreas domain.net domain.areas → AreOspfDestinations domain.net domain.areas ds → HoldRanges domain.net ranged →
+    (found : Option ℕ) → AreAreas domain.net domain.areas → AreOspfDestinations domain ds → HoldRanges domain.net ranged →
     AreSummaries domain ds heard →
     place < length ds → IfSome found (λ one. one < place) →
     IfSome found (λ one. AreTwinsAt (record { destinations = ds; heard = heard; ranged = ranged }) one place) → (earlier : ℕ) → found ≡ Some earlier →

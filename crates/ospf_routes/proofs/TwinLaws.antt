@@ -160,7 +160,7 @@ twin_summaries_back heard one other alike zone within = alike_offers_back (heard
 
 -- twin destinations are twins at every router, where what is announced of them is alike
 pub is_twin_for : (domain : OspfDomain) (ds : List Destination) (ranged : List Block) (heard : HeardLists) (one other : ℕ) (d e : Destination) (u : ℕ) →
-    AreAreas domain.net domain.areas → AreOspfDestinations domain.net domain.areas ds →
+    AreAreas domain.net domain.areas → AreOspfDestinations domain ds →
     HoldRanges domain.net ranged → AreSummaries domain ds heard → one < length ds →
     other < length ds → d ≡ get_or ds one d → e ≡ get_or ds other e →
     AreTwinDestinations ranged d e → AreTwinSummaries heard one other → IsTwinFor domain.net u d.dest e.dest
@@ -176,10 +176,10 @@ is_twin_for domain ds ranged heard one other d e u known is hold are within_one 
 }
   where
     is_d : IsDestination domain.net d
-    is_d = (all_at (IsDestinationIn domain.net domain.areas) ds one d is.each within_one d_at).is
+    is_d = (all_at (IsDestinationIn domain) ds one d is.each within_one d_at).is
 
     is_e : IsDestination domain.net e
-    is_e = (all_at (IsDestinationIn domain.net domain.areas) ds other e is.each within_other e_at).is
+    is_e = (all_at (IsDestinationIn domain) ds other e is.each within_other e_at).is
 
     announced_alike : (n : ℕ) → HasArea domain.areas n → AskAlike (IsHeard domain.net d.dest n) (IsHeard domain.net e.dest n)
     announced_alike n has =

@@ -25,7 +25,7 @@ pub fn summarized(
 ) -> Result<Vec<AreaRoute>, OutOfMemory>
     requires borders { Exactly (IsBorderRouter domain.now.net) borders.now }
     requires ranges { AreRangesBelow domain.now.net (length domain.now.net) ranges.now }
-    requires destination { IsDestinationIn domain.now.net domain.now.areas destination.now }
+    requires destination { IsDestinationIn domain.now destination.now }
     ensures { IfOk result (λ routes. AreSummarized domain.now.net destination.now.dest routes.items) }
 {
     let mut routes = Vec::new(alloc);
@@ -40,7 +40,7 @@ fn push_subnets(
     domain: &Domain<'_>,
     destination: &Destination,
 ) -> Result<(), OutOfMemory>
-    requires destination { IsDestinationIn domain.now.net domain.now.areas destination.now }
+    requires destination { IsDestinationIn domain.now destination.now }
     ensures { OnOk result (Adds routes.old.items routes.new.items (λ r. SummarizedSubnet domain.now.net destination.now.dest r.at r)) }
 {
     for part in destination.parts.as_slice() {
@@ -56,7 +56,7 @@ fn push_area_subnets(
     destination: &Destination,
     part: &AreaOffers,
 ) -> Result<(), OutOfMemory>
-    requires destination { IsDestinationIn domain.now.net domain.now.areas destination.now }
+    requires destination { IsDestinationIn domain.now destination.now }
     requires part { Contains destination.now.parts.items part.now }
     ensures { OnOk result (Adds routes.old.items routes.new.items (IsAreaSubnet domain.now.net destination.now.dest part.now.area)) }
 {
@@ -76,7 +76,7 @@ fn subnet_summary(
 ) -> Option<AreaRoute>
     requires border { IsBorderRouter domain.now.net b }
     requires router { b < length domain.now.net }
-    requires destination { IsDestinationIn domain.now.net domain.now.areas destination.now }
+    requires destination { IsDestinationIn domain.now destination.now }
     requires part { Contains destination.now.parts.items part.now }
     ensures { (r : Route) → (result ≡ Some r) ↔ ((r.at ≡ b) × IsAreaSubnet domain.now.net destination.now.dest part.now.area r) }
 {

@@ -32,7 +32,7 @@ pub fn push_reached(
 ) -> Result<(), OutOfMemory>
     requires area { IsArea domain.now.net area.now }
     requires ranges { AreRangesBelow domain.now.net (length domain.now.net) ranges.now }
-    requires destination { IsDestinationIn domain.now.net domain.now.areas destination.now }
+    requires destination { IsDestinationIn domain.now destination.now }
     requires backbone { AreOffers (BackboneSummary domain.now.net destination.now.dest) backbone.now }
     ensures { OnOk result (Adds offers.old.items offers.new.items (IsPassedOn domain.now.net area.now.number destination.now.dest)) }
 {
@@ -60,7 +60,7 @@ fn reached_offer(
     requires border { IsBorderIn domain.now.net area b }
     requires router { b < length domain.now.net }
     requires ranges { AreActiveRanges domain.now.net b ranges.now }
-    requires destination { IsDestinationIn domain.now.net domain.now.areas destination.now }
+    requires destination { IsDestinationIn domain.now destination.now }
     requires backbone { AreOffers (BackboneSummary domain.now.net destination.now.dest) backbone.now }
     ensures { (o : OfferValue) → (result ≡ Some o) ↔ ((o.at ≡ b) × IsPassedOn domain.now.net area destination.now.dest o) }
 {
@@ -84,7 +84,7 @@ fn border_cost(
     requires border { IsBorderRouter domain.now.net u }
     requires router { u < length domain.now.net }
     requires ranges { AreActiveRanges domain.now.net u ranges.now }
-    requires destination { IsDestinationIn domain.now.net domain.now.areas destination.now }
+    requires destination { IsDestinationIn domain.now destination.now }
     requires backbone { AreOffers (BackboneSummary domain.now.net destination.now.dest) backbone.now }
     ensures { (cost : ℕ) → (result ≡ Some cost) ↔ BorderCost domain.now.net destination.now.dest u cost }
 {

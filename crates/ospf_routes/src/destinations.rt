@@ -13,7 +13,7 @@ use std::alloc::Global;
 
 /// Each prefix that may have an entry, with what the interfaces of each area offer of it.
 pub fn destinations(alloc: Global, domain: &Domain<'_>) -> Result<Vec<Destination>, OutOfMemory>
-    ensures { IfOk result (λ all. AreOspfDestinations domain.now.net domain.now.areas all.items) }
+    ensures { IfOk result (λ all. AreOspfDestinations domain.now all.items) }
 {
     let subnets = Subnets::of_network(alloc, domain.net())?;
     let dests = candidates_of(alloc, domain.net())?;
@@ -30,7 +30,7 @@ fn each_destination(
 ) -> Result<Vec<Destination>, OutOfMemory>
     requires subnets { Exactly (IsUpSubnet domain.now.net) subnets.now }
     ensures dests { IfOk result (λ all. ospf_prefixes all.items ≡ dests.now) }
-    ensures each { IfOk result (λ all. All (IsDestinationIn domain.now.net domain.now.areas) all.items) }
+    ensures each { IfOk result (λ all. All (IsDestinationIn domain.now) all.items) }
 {
     let mut all = Vec::new(alloc);
     for dest in dests {

@@ -288,8 +288,8 @@ fn area_hops(
     u: u32,
 ) -> Result<Option<Hops>, OutOfMemory>
     requires router { u < length domain.now.net }
-    requires part { IsPart domain.now.net domain.now.areas part.now }
-    ensures { (p : Block) → IsPartFor domain.now.net domain.now.areas p part.now → IfOk result (λ found. MatchOption found
+    requires part { IsPart domain.now part.now }
+    ensures { (p : Block) → IsPartFor domain.now p part.now → IfOk result (λ found. MatchOption found
         ((cost : ℕ) → IntraAreaCost domain.now.net part.now.area p u cost → ⊥)
         (IsAreaRoute domain.now.net part.now.area p u)) }
 {

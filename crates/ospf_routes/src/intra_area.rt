@@ -51,7 +51,7 @@ impl Destination {
     ) -> Result<Destination, OutOfMemory>
         requires subnets { Exactly (IsUpSubnet domain.now.net) subnets.now }
         ensures dest { IfOk result (λ d. d.dest ≡ dest) }
-        ensures is { IfOk result (IsDestinationIn domain.now.net domain.now.areas) }
+        ensures is { IfOk result (IsDestinationIn domain.now) }
     {
         let near = subnets.around(dest);
         let homes = homes_among(alloc, near, dest)?;
@@ -127,8 +127,8 @@ pub fn part_of(parts: &[AreaOffers], area: u32) -> Option<&AreaOffers>
 /// The intra-area cost of a part's prefix at router `u` in the area of the part (RFC 2328, section 16.1).
 pub fn part_cost(domain: &Domain<'_>, part: &AreaOffers, u: u32) -> Option<u64>
     requires router { u < length domain.now.net }
-    requires part { IsPart domain.now.net domain.now.areas part.now }
-    ensures { (p : Block) → IsPartFor domain.now.net domain.now.areas p part.now → (cost : ℕ) →
+    requires part { IsPart domain.now part.now }
+    ensures { (p : Block) → IsPartFor domain.now p part.now → (cost : ℕ) →
         (result ≡ Some cost) ↔ IntraAreaCost domain.now.net part.now.area p u cost }
 {
     match part_reach(domain, part, u) {
@@ -140,7 +140,7 @@ pub fn part_cost(domain: &Domain<'_>, part: &AreaOffers, u: u32) -> Option<u64>
 /// The least walks from the router in the area of a part, where the router is in that area.
 pub fn part_reach<'a>(domain: &'a Domain<'_>, part: &AreaOffers, u: u32) -> Option<&'a LeastWalks>
     requires router { u < length domain.now.net }
-    requires part { IsPart domain.now.net domain.now.areas part.now }
+    requires part { IsPart domain.now part.now }
     ensures none { IfNone result (InArea domain.now.net u part.now.area → ⊥) }
     ensures same { IfSome result (λ walks. area_reach domain.now.areas u part.now.zone ≡ walks.now) }
     ensures reach { IfSome result (λ walks. IsReach domain.now.net part.now.area u walks.now) }
@@ -156,7 +156,7 @@ pub fn part_reach<'a>(domain: &'a Domain<'_>, part: &AreaOffers, u: u32) -> Opti
 /// Whether the prefix has an intra-area route at router `u`.
 pub fn has_intra(domain: &Domain<'_>, destination: &Destination, u: u32) -> bool
     requires router { u < length domain.now.net }
-    requires destination { IsDestinationIn domain.now.net domain.now.areas destination.now }
+    requires destination { IsDestinationIn domain.now destination.now }
     ensures { IsTrue result ↔ IsIntraArea domain.now.net destination.now.dest u }
 {
     for part in destination.parts.as_slice() {

@@ -43,7 +43,7 @@ impl LaneTwins {
         zone: usize,
     ) -> Result<LaneTwins, OutOfMemory>
         requires zone { zone < length domain.now.areas }
-        requires destinations { AreOspfDestinations domain.now.net domain.now.areas destinations.now }
+        requires destinations { AreOspfDestinations domain.now destinations.now }
         requires listens { AreListeners domain.now.net domain.now.areas (length domain.now.net) listens.now }
         requires summaries { AreSummaries domain.now destinations.now summaries.now }
         requires twins { AreTwins domain.now.net (ospf_prefixes destinations.now) twins.now }
@@ -86,7 +86,7 @@ pub fn all_lane_twins(
     summaries: &Summaries,
     twins: &[Option<usize>],
 ) -> Result<Vec<LaneTwins>, OutOfMemory>
-    requires destinations { AreOspfDestinations domain.now.net domain.now.areas destinations.now }
+    requires destinations { AreOspfDestinations domain.now destinations.now }
     requires listens { AreListeners domain.now.net domain.now.areas (length domain.now.net) listens.now }
     requires summaries { AreSummaries domain.now destinations.now summaries.now }
     requires twins { AreTwins domain.now.net (ospf_prefixes destinations.now) twins.now }
@@ -120,7 +120,7 @@ fn outside_twin(
     place: usize,
 ) -> Option<usize>
     requires zone { zone < length domain.now.areas }
-    requires destinations { AreOspfDestinations domain.now.net domain.now.areas destinations.now }
+    requires destinations { AreOspfDestinations domain.now destinations.now }
     requires listens { AreListeners domain.now.net domain.now.areas (length domain.now.net) listens.now }
     requires summaries { AreSummaries domain.now destinations.now summaries.now }
     requires place { place < length destinations.now }

@@ -21,7 +21,7 @@ pub fn decision(
 ) -> Decision
     requires zone { zone < length domain.now.areas }
     requires listens { AreListeners domain.now.net domain.now.areas (length domain.now.net) listens.now }
-    requires destination { IsDestinationIn domain.now.net domain.now.areas destination.now }
+    requires destination { IsDestinationIn domain.now destination.now }
     requires heard { AreHeardAt domain.now destination.now.dest zone heard.now }
     ensures { DecidesLane (record { domain = domain.now; listens = listens.now; zone = zone }) destination.now.dest result }
 {

@@ -33,7 +33,7 @@ pub fn all_summaries(
     destinations: &[Destination],
     ranges: &[ActiveRanges],
 ) -> Result<Summaries, OutOfMemory>
-    requires destinations { AreOspfDestinations domain.now.net domain.now.areas destinations.now }
+    requires destinations { AreOspfDestinations domain.now destinations.now }
     requires ranges { AreRangesBelow domain.now.net (length domain.now.net) ranges.now }
     ensures { IfOk result (AreSummaries domain.now destinations.now) }
 {
@@ -66,7 +66,7 @@ fn keep_summaries(
 ) -> Result<(), OutOfMemory>
     requires borders { Exactly (IsBorderRouter domain.now.net) borders.now }
     requires ranges { AreRangesBelow domain.now.net (length domain.now.net) ranges.now }
-    requires destination { IsDestinationIn domain.now.net domain.now.areas destination.now }
+    requires destination { IsDestinationIn domain.now destination.now }
     ensures { OnOk result (AddsRow (IsRow domain.now destination.now.dest (length domain.now.areas)) summaries.old summaries.new) }
 {
     let routes = summarized(alloc, domain, borders, ranges, destination)?;
@@ -93,7 +93,7 @@ fn keep_into_areas(
     backbone: &[Offer],
 ) -> Result<(), OutOfMemory>
     requires ranges { AreRangesBelow domain.now.net (length domain.now.net) ranges.now }
-    requires destination { IsDestinationIn domain.now.net domain.now.areas destination.now }
+    requires destination { IsDestinationIn domain.now destination.now }
     requires routes { AreSummarized domain.now.net destination.now.dest routes.now }
     requires backbone { AreOffers (BackboneSummary domain.now.net destination.now.dest) backbone.now }
     ensures { OnOk result (AddsRow (IsRow domain.now destination.now.dest (length domain.now.areas)) summaries.old summaries.new) }
@@ -127,7 +127,7 @@ fn put_summaries(
 ) -> Result<(), OutOfMemory>
     requires area { IsArea domain.now.net area.now }
     requires ranges { AreRangesBelow domain.now.net (length domain.now.net) ranges.now }
-    requires destination { IsDestinationIn domain.now.net domain.now.areas destination.now }
+    requires destination { IsDestinationIn domain.now destination.now }
     requires routes { AreSummarized domain.now.net destination.now.dest routes.now }
     requires backbone { AreOffers (BackboneSummary domain.now.net destination.now.dest) backbone.now }
     ensures { OnOk result (AreOffers (IsHeard domain.now.net destination.now.dest area.now.number) offers.new.items) }

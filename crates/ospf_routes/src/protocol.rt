@@ -121,7 +121,7 @@ impl<'a> Ospf<'a> {
     #[inline(always)]
     fn destination(&self, place: usize) -> &Destination
         requires { place < length (ospf_prefixes self.now.destinations) }
-        ensures known { IsDestinationIn self.now.domain.net self.now.domain.areas result.now }
+        ensures known { IsDestinationIn self.now.domain result.now }
         ensures dest { result.now.dest ≡ prefix_at (ospf_prefixes self.now.destinations) place }
     {
         &self.destinations[place]

@@ -48,7 +48,7 @@ impl ActiveRanges {
         b: u32,
     ) -> Result<ActiveRanges, OutOfMemory>
         requires router { b < length domain.now.net }
-        requires destinations { AreOspfDestinations domain.now.net domain.now.areas destinations.now }
+        requires destinations { AreOspfDestinations domain.now destinations.now }
         ensures { IfOk result (AreActiveRanges domain.now.net b) }
     {
         if domain.is_border(b) {
@@ -81,7 +81,7 @@ pub fn all_ranges(
     domain: &Domain<'_>,
     destinations: &[Destination],
 ) -> Result<Vec<ActiveRanges>, OutOfMemory>
-    requires { AreOspfDestinations domain.now.net domain.now.areas destinations.now }
+    requires { AreOspfDestinations domain.now destinations.now }
     ensures { IfOk result (λ ranges. AreRangesBelow domain.now.net (length domain.now.net) ranges.items) }
 {
     let mut ranges = Vec::new(alloc);
@@ -121,7 +121,7 @@ fn border_ranges(
 ) -> Result<ActiveRanges, OutOfMemory>
     requires router { b < length domain.now.net }
     requires border { IsBorderRouter domain.now.net b }
-    requires destinations { AreOspfDestinations domain.now.net domain.now.areas destinations.now }
+    requires destinations { AreOspfDestinations domain.now destinations.now }
     ensures { IfOk result (AreActiveRanges domain.now.net b) }
 {
     let ranges = domain.config(b).ranges.as_slice();
@@ -145,7 +145,7 @@ fn active_range(
 ) -> Result<Option<ActiveRange>, OutOfMemory>
     requires router { b < length domain.now.net }
     requires has { HasRange domain.now.net b range.now }
-    requires destinations { AreOspfDestinations domain.now.net domain.now.areas destinations.now }
+    requires destinations { AreOspfDestinations domain.now destinations.now }
     ensures { IfOk result (λ found. MatchOption found (IsActive domain.now.net b range.now → ⊥) (IsActiveAt domain.now.net b range.now)) }
 {
     let costs = component_costs(alloc, domain, destinations, b, range)?;
@@ -202,7 +202,7 @@ fn component_costs(
 ) -> Result<Vec<u64>, OutOfMemory>
     requires router { b < length domain.now.net }
     requires has { HasRange domain.now.net b range.now }
-    requires destinations { AreOspfDestinations domain.now.net domain.now.areas destinations.now }
+    requires destinations { AreOspfDestinations domain.now destinations.now }
     ensures { IfOk result (λ costs. Exactly (HasComponentCost domain.now.net b range.now) costs.items) }
 {
     let mut costs = Vec::new(alloc);
@@ -222,7 +222,7 @@ fn component_cost(
 ) -> Option<u64>
     requires router { b < length domain.now.net }
     requires has { HasRange domain.now.net b range.now }
-    requires destination { IsDestinationIn domain.now.net domain.now.areas destination.now }
+    requires destination { IsDestinationIn domain.now destination.now }
     ensures { (cost : ℕ) → (result ≡ Some cost) ↔ IsComponent domain.now.net b range.now destination.now.dest cost }
 {
     let part = part_of(destination.parts.as_slice(), range.area)?;
@@ -251,7 +251,7 @@ fn is_longer(other: Range, range: Range, dest: Prefix) -> bool
 pub fn is_component(domain: &Domain<'_>, destination: &Destination, b: u32) -> bool
     requires router { b < length domain.now.net }
     requires border { IsBorderRouter domain.now.net b }
-    requires destination { IsDestinationIn domain.now.net domain.now.areas destination.now }
+    requires destination { IsDestinationIn domain.now destination.now }
     ensures { IsTrue result ↔ IsComponentOfSome domain.now.net b destination.now.dest }
 {
     let ranges = domain.config(b).ranges.as_slice();

@@ -25,7 +25,7 @@ pub fn all_twins(
     ranges: &[ActiveRanges],
     summaries: &Summaries,
 ) -> Result<Vec<Option<usize>>, OutOfMemory>
-    requires destinations { AreOspfDestinations domain.now.net domain.now.areas destinations.now }
+    requires destinations { AreOspfDestinations domain.now destinations.now }
     requires ranges { AreRangesBelow domain.now.net (length domain.now.net) ranges.now }
     requires summaries { AreSummaries domain.now destinations.now summaries.now }
     ensures { IfOk result (λ twins. AreTwins domain.now.net (ospf_prefixes destinations.now) twins.items) }

@@ -47,6 +47,7 @@ pub record InLevel : Type 0 where
   pub level : Level
   pub router : ℕ
 
+-- router u in the level
 abbrev pub in_level : IsisDomain → Level → ℕ → InLevel
 in_level domain level u = record { domain = domain; level = level; router = u }
 

@@ -24,7 +24,7 @@ pub record IsQuestion (asked : Asked) : Type 0 where
   pub router : asked.router < length asked.domain.now.net
   pub listens : IsListenerAt asked.domain.now.net asked.domain.now.areas asked.router asked.listens
   pub ranges : AreActiveRanges asked.domain.now.net asked.router asked.ranges.now
-  pub destination : IsDestinationIn asked.domain.now.net asked.domain.now.areas asked.destination.now
+  pub destination : IsDestinationIn asked.domain.now asked.destination.now
   pub heard : (zone : ℕ) → asked.listens ≡ Some zone → AreHeardAt asked.domain.now asked.destination.now.dest zone asked.heard.now
 
 -- the router has no entry for the prefix

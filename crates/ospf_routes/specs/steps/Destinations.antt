@@ -7,6 +7,7 @@ use Rattle.igp_theory.specs.Ospf.{OffersSubnet}
 use Rattle.route_tables.specs.Prefixes.{AreDistinctPrefixes}
 use Rattle.ospf_routes.specs.steps.Areas.{IsAreaAt}
 use Rattle.ospf_routes.specs.steps.Candidates.{IsOspfCandidate}
+use Rattle.ospf_routes.specs.steps.Domain.{OspfDomain}
 use Rattle.ospf_routes.specs.Lists.{Exactly}
 use Rattle.ospf_routes.specs.steps.Offered.{AreOffers, InsideOf}
 use Rattle.ospf_routes.specs.declared.areas.AreaWalks.{AreaWalks}
@@ -49,25 +50,25 @@ pub record IsDestination (net : Network) (d : Destination) : Type 0 where
   pub every : (n w cost : ℕ) → OffersSubnet net n d.dest w cost → HasAreaPart d.parts.items n
 
 -- and each part says at which place its area is
-pub record IsDestinationIn (net : Network) (areas : List AreaWalks) (d : Destination) : Type 0 where
-  pub is : IsDestination net d
-  pub placed : All (λ (part : AreaOffers). IsAreaAt areas part.area part.zone) d.parts.items
+pub record IsDestinationIn (domain : OspfDomain) (d : Destination) : Type 0 where
+  pub is : IsDestination domain.net d
+  pub placed : All (λ (part : AreaOffers). IsAreaAt domain.areas part.area part.zone) d.parts.items
 
 -- the part has what its area offers of prefix p, and says at which place its area is
-pub record IsPartFor (net : Network) (areas : List AreaWalks) (p : Block) (part : AreaOffers) : Type 0 where
-  pub offers : AreOffers (OffersSubnet net part.area p) part.offers.items
-  pub at : IsAreaAt areas part.area part.zone
+pub record IsPartFor (domain : OspfDomain) (p : Block) (part : AreaOffers) : Type 0 where
+  pub offers : AreOffers (OffersSubnet domain.net part.area p) part.offers.items
+  pub at : IsAreaAt domain.areas part.area part.zone
 
 -- it has those of some prefix
-abbrev pub IsPart : Network → List AreaWalks → AreaOffers → Type 0
-IsPart net areas part = (p : Block) × IsPartFor net areas p part
+abbrev pub IsPart : OspfDomain → AreaOffers → Type 0
+IsPart domain part = (p : Block) × IsPartFor domain p part
 
 -- the prefixes of destinations
 abbrev pub ospf_prefixes : List Destination → List Block
 ospf_prefixes destinations = map (λ (d : Destination). d.dest) destinations
 
 -- the destinations are distinct prefixes, and each candidate is one
-pub record AreOspfDestinations (net : Network) (areas : List AreaWalks) (destinations : List Destination) : Type 0 where
-  pub each : All (IsDestinationIn net areas) destinations
+pub record AreOspfDestinations (domain : OspfDomain) (destinations : List Destination) : Type 0 where
+  pub each : All (IsDestinationIn domain) destinations
   pub distinct : AreDistinctPrefixes (ospf_prefixes destinations)
-  pub every : (p : Block) → IsOspfCandidate net p → Contains (ospf_prefixes destinations) p
+  pub every : (p : Block) → IsOspfCandidate domain.net p → Contains (ospf_prefixes destinations) p

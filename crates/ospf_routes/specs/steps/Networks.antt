@@ -38,7 +38,7 @@ AreEarlierIn ospf lane =
 
 -- all of it is that of the network
 pub record IsOspf (ospf : OspfNetwork) : Type 0 where
-  pub destinations : AreOspfDestinations ospf.domain.net ospf.domain.areas ospf.destinations
+  pub destinations : AreOspfDestinations ospf.domain ospf.destinations
   pub listeners : AreListeners ospf.domain.net ospf.domain.areas (length ospf.domain.net) ospf.listens
   pub ranges : AreRangesBelow ospf.domain.net (length ospf.domain.net) ospf.ranges
   pub announced : AreSummaries ospf.domain ospf.destinations ospf.summaries

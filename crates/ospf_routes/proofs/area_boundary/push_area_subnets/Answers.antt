@@ -10,7 +10,7 @@ use Rattle.ospf_routes.proofs.area_boundary.push_area_subnets.Goals as goal
 
 pub area-requires : goal.area-requires
 area-requires c =
-    (part_for c.args.domain.now.net c.args.domain.now.areas c.args.destination.now c.args.part.now c.requires.destination c.requires.part).at.within
+    (part_for c.args.domain.now c.args.destination.now c.args.part.now c.requires.destination c.requires.part).at.within
 
 pub subnet_summary-requires-clause-border : goal.subnet_summary-requires-clause-border
 subnet_summary-requires-clause-border c =
@@ -41,7 +41,7 @@ returns c =
     let part = c.args.part.now in
     let given = c.as_slice-b-items.result.now in
     let a = c.area.result.now in
-    let at = (part_for net areas c.args.destination.now part c.requires.destination c.requires.part).at in
+    let at = (part_for c.args.domain.now c.args.destination.now part c.requires.destination c.requires.part).at in
     area_subnets_are net p part.area a given c.args.routes.now.items c.loop-b.routes.items c.area.ensures.area
     (number_at areas part.area part.zone a at c.area.ensures.is) c.as_slice-b-items.ensures
     (adds_end (λ (r : AreaRoute) (b : ℕ). (r.at ≡ b) × IsAreaSubnet net p part.area r) c.args.routes.now.items c.loop-b.routes.items given c.loop-b.b-index

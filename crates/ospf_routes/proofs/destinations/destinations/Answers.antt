@@ -15,12 +15,11 @@ each_destination-requires c =
 
 pub returns : goal.returns
 returns c =
-    let net = c.args.domain.now.net in
-    let areas = c.args.domain.now.areas in
+    let domain = c.args.domain.now in
     if_ok_both c.each_destination.result
     (λ all. ospf_prefixes all.items ≡ c.as_slice.result.now)
-    (λ all. All (IsDestinationIn net areas) all.items)
-    (λ all. AreOspfDestinations net areas all.items)
-    (λ all same each. are_destinations net areas all.items c.in_ok-dests.dests (same ∙ c.as_slice.ensures.value) each c.as_slice.ensures.distinct
+    (λ all. All (IsDestinationIn domain) all.items)
+    (λ all. AreOspfDestinations domain all.items)
+    (λ all same each. are_destinations domain all.items c.in_ok-dests.dests (same ∙ c.as_slice.ensures.value) each c.as_slice.ensures.distinct
     (subst (λ (n : Network). (p : Block) → IsOspfCandidate n p → Contains c.in_ok-dests.dests p) c.net-2.ensures.is c.in_ok-dests.ensures))
     c.each_destination.ensures.dests c.each_destination.ensures.each

@@ -12,7 +12,7 @@ loop-dest-preserved c =
     let k : ℕ = c.loop-dest.dest-index in
     let dests : List Block = c.args.dests.now in
     let all : List Destination = c.loop-dest.all.items in
-    let Is : Destination → Type 0 = IsDestinationIn c.args.domain.now.net c.args.domain.now.areas in
+    let Is : Destination → Type 0 = IsDestinationIn c.args.domain.now in
     record {
       dests = subst (λ (l : List Destination). ospf_prefixes l ≡ take (k + 1) dests) (sym c.in_ok-push.ensures.items)
           (one_more_prefix (λ (x : Destination). x.dest) dests k all d c.dest-item.result c.loop-dest-test.true c.dest-item.is c.loop-dest.invariant.dests

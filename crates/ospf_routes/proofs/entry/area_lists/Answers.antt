@@ -16,7 +16,7 @@ pub area_hops-requires-clause-part : goal.area_hops-requires-clause-part
 area_hops-requires-clause-part c =
     let asked = c.args.asked in
     let given = c.as_slice-part-items in
-    some_part (part_at asked.domain.now.net asked.domain.now.areas asked.destination.now given.result.now c.loop-part.part-index c.part-item.result
+    some_part (part_at asked.domain.now asked.destination.now given.result.now c.loop-part.part-index c.part-item.result
     c.requires.destination given.ensures.value c.loop-part-test.true c.part-item.is)
 
 pub loop-part-preserved : goal.loop-part-preserved
@@ -27,7 +27,7 @@ loop-part-preserved c =
     let given : List AreaOffers = c.as_slice-part-items.result.now in
     let i = c.loop-part.part-index in
     let a : AreaOffers = c.part-item.result in
-    let part_is = part_at net asked.domain.now.areas d given i a c.requires.destination c.as_slice-part-items.ensures.value c.loop-part-test.true
+    let part_is = part_at asked.domain.now d given i a c.requires.destination c.as_slice-part-items.ensures.value c.loop-part-test.true
     c.part-item.is in
     let all = c.push_option.new.all.items in
     subst (λ (l : List AreaOffers). AreaListsSoFar net d.dest asked.router l all) (one_more given i a c.loop-part-test.true c.part-item.is)

@@ -12,7 +12,7 @@ part_reach-requires-clause-part c =
     let asked = c.args.asked in
     let d = asked.destination.now in
     let among = contains_at d.parts.items 0 c.index-part.result.now (omega (arith, c.requires.one)) c.index-part.ensures in
-    some_part (part_for asked.domain.now.net asked.domain.now.areas d c.index-part.result.now c.requires.asked.destination among)
+    some_part (part_for asked.domain.now d c.index-part.result.now c.requires.asked.destination among)
 
 pub returns-in-Some-clause-some : goal.returns-in-Some-clause-some
 returns-in-Some-clause-some c =
@@ -21,7 +21,7 @@ returns-in-Some-clause-some c =
     let d = asked.destination.now in
     let part = c.index-part.result.now in
     let among = contains_at d.parts.items 0 part (omega (arith, c.requires.one)) c.index-part.ensures in
-    let is = part_for net asked.domain.now.areas d part c.requires.asked.destination among in
+    let is = part_for asked.domain.now d part c.requires.asked.destination among in
     let reach = c.in-Some.walks.now in
     let given : List Offer = c.as_slice-offers.result.now in
     record {

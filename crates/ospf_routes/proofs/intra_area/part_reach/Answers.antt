@@ -12,7 +12,7 @@ returns-then-has-clause-reach c = c.walks.ensures.reach c.args.part.now.area c.r
 pub returns-then-has-clause-range : goal.returns-then-has-clause-range
 returns-then-has-clause-range c =
     let part = c.args.part.now in
-    part_in_range c.args.domain.now.net c.args.domain.now.areas c.requires.part.0 part c.args.u c.walks.result.now c.walks.ensures.known.network
+    part_in_range c.args.domain.now c.requires.part.0 part c.args.u c.walks.result.now c.walks.ensures.known.network
     c.requires.part.1 (c.walks.ensures.reach part.area c.requires.part.1.at)
 
 pub returns-else-has-clause-none : goal.returns-else-has-clause-none

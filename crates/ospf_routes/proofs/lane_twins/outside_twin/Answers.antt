@@ -9,7 +9,7 @@ use Rattle.ospf_routes.proofs.lane_twins.outside_twin.Goals as goal
 
 pub is_outside-requires-clause-destination : goal.is_outside-requires-clause-destination
 is_outside-requires-clause-destination c =
-    (all_at (IsDestinationIn c.args.domain.now.net c.args.domain.now.areas) c.args.destinations.now c.args.place c.index-destinations-place.result
+    (all_at (IsDestinationIn c.args.domain.now) c.args.destinations.now c.args.place c.index-destinations-place.result
     c.requires.destinations.each c.requires.place c.index-destinations-place.is).is
 
 pub into_area-announced-requires : goal.into_area-announced-requires

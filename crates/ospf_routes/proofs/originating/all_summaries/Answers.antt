@@ -12,7 +12,7 @@ use Rattle.ospf_routes.proofs.originating.all_summaries.Goals as goal
 
 pub keep_summaries-requires-clause-destination : goal.keep_summaries-requires-clause-destination
 keep_summaries-requires-clause-destination c =
-    subst (IsDestinationIn c.args.domain.now.net c.args.domain.now.areas) (sym c.destination-item.is)
+    subst (IsDestinationIn c.args.domain.now) (sym c.destination-item.is)
     (c.requires.destinations.each c.loop-destination.destination-index c.destination-item.result c.loop-destination-test.true)
 
 pub keep_summaries-requires-clause-borders : goal.keep_summaries-requires-clause-borders

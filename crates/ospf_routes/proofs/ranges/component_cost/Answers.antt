@@ -22,7 +22,7 @@ returns-in_err-part c =
 
 pub part_cost-requires-clause-part : goal.part_cost-requires-clause-part
 part_cost-requires-clause-part c =
-    some_part (part_for c.args.domain.now.net c.args.domain.now.areas c.args.destination.now c.in_ok-part.part.now c.requires.destination
+    some_part (part_for c.args.domain.now c.args.destination.now c.in_ok-part.part.now c.requires.destination
     (subst (λ (l : List AreaOffers). Contains l c.in_ok-part.part.now) c.as_slice.ensures.value c.in_ok-part.ensures.among))
 
 pub returns : goal.returns
@@ -34,5 +34,5 @@ returns c =
     c.requires.has c.config.ensures.router (c.as_slice-ranges.ensures ∙ ap (λ (d : Configuration). d.ranges) c.behind-domain.view_is)
     (c.if-not-covers.ensures.0 refl) (λ any. false≢true (c.if-has_longer.ensures.1 any))
     (subst (λ (n : ℕ). (cost : ℕ) → (c.part_cost.result ≡ Some cost) ↔ IntraAreaCost net n d.dest c.args.b cost) c.in_ok-part.ensures.area
-    (c.part_cost.ensures d.dest (part_for net c.args.domain.now.areas d part c.requires.destination
+    (c.part_cost.ensures d.dest (part_for c.args.domain.now d part c.requires.destination
     (subst (λ (l : List AreaOffers). Contains l part) c.as_slice.ensures.value c.in_ok-part.ensures.among))))

@@ -9,7 +9,7 @@ use Rattle.ospf_routes.proofs.ranges.component_costs.Goals as goal
 
 pub component_cost-cost-requires-clause-destination : goal.component_cost-cost-requires-clause-destination
 component_cost-cost-requires-clause-destination c =
-    subst (IsDestinationIn c.args.domain.now.net c.args.domain.now.areas) (sym c.destination-item.is)
+    subst (IsDestinationIn c.args.domain.now) (sym c.destination-item.is)
     (c.requires.destinations.each c.loop-destination.destination-index c.destination-item.result c.loop-destination-test.true)
 
 pub loop-destination-init : goal.loop-destination-init

@@ -48,7 +48,7 @@ returns-clause-asked c =
           c.index-listens.ensures;
       ranges = place_read (AreActiveRanges net) [] (length net) c.self.inside.ranges.items c.args.router c.index-ranges.result.now c.self.invariant.ranges
           below c.index-ranges.ensures;
-      destination = subst (λ (ospf : OspfNetwork). IsDestinationIn ospf.domain.net ospf.domain.areas d) (sym c.self.view_is)
+      destination = subst (λ (ospf : OspfNetwork). IsDestinationIn ospf.domain d) (sym c.self.view_is)
           c.destination-destination.ensures.known;
       heard = λ zone is.
           let inside : zone < length areas =

@@ -8,7 +8,7 @@ use Rattle.ospf_routes.proofs.protocol.Ospf.decision_in.Goals as goal
 
 pub decision-requires-clause-destination : goal.decision-requires-clause-destination
 decision-requires-clause-destination c =
-    subst (λ (ospf : OspfNetwork). IsDestinationIn ospf.domain.net ospf.domain.areas c.destination-destination.result.now) (sym c.self.view_is)
+    subst (λ (ospf : OspfNetwork). IsDestinationIn ospf.domain c.destination-destination.result.now) (sym c.self.view_is)
     c.destination-destination.ensures.known
 
 pub decision-requires-clause-heard : goal.decision-requires-clause-heard

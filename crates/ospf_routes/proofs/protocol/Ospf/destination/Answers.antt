@@ -10,8 +10,8 @@ pub returns-clause-known : goal.returns-clause-known
 returns-clause-known c =
     let within = subst (λ (ospf : OspfNetwork). c.args.place < length (ospf_prefixes ospf.destinations)) (sym c.self.view_is) c.requires in
     let d : Destination = c.index.result.now in
-    subst (λ (ospf : OspfNetwork). IsDestinationIn ospf.domain.net ospf.domain.areas d) c.self.view_is
-    (element_at (λ (x : Destination). x.dest) (IsDestinationIn c.self.inside.domain.net c.self.inside.domain.areas) c.self.inside.destinations.items
+    subst (λ (ospf : OspfNetwork). IsDestinationIn ospf.domain d) c.self.view_is
+    (element_at (λ (x : Destination). x.dest) (IsDestinationIn c.self.inside.domain) c.self.inside.destinations.items
     c.args.place d c.self.invariant.destinations.each within c.index.ensures)
 
 pub returns-clause-dest : goal.returns-clause-dest
