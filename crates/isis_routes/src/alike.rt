@@ -8,7 +8,7 @@ use std::alloc::Global;
 
 /// For each destination an earlier one for which every router has the same routes, where one is known: the latest one
 /// that is connected at the same router and at no other. It takes time of the destinations.
-pub fn earlier_alike(
+pub(crate) fn earlier_alike(
     alloc: Global,
     destinations: &[Destination],
     routers: u32,
@@ -95,7 +95,7 @@ fn are_same(one: &[u32], other: &[u32]) -> bool
 }
 
 /// The earlier destination that is named at a place.
-pub fn named_at(named: &[Option<usize>], place: usize) -> Option<usize>
+pub(crate) fn named_at(named: &[Option<usize>], place: usize) -> Option<usize>
     ensures { IfSome result (λ earlier. slice_index_or named.now place None ≡ Some earlier) }
 {
     named.get(place).copied().flatten()

@@ -19,7 +19,7 @@ use walk_core::Offer;
 
 /// What is announced of a prefix into level 2 (RFC 1195, section 3.2): by the routers at which it is connected their
 /// own level 2 subnets, and by those of both levels what they reach by level 1.
-pub fn announcements(
+pub(crate) fn announcements(
     alloc: Global,
     domain: &Domain<'_>,
     one: &LevelOne,

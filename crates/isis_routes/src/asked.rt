@@ -3,7 +3,7 @@ use crate::domain::Domain;
 
 /// A router and a prefix whose route is asked for, with what is known of both.
 #[derive(Clone, Copy)]
-pub struct Asked<'a> {
+pub(crate) struct Asked<'a> {
     /// The network.
     pub domain: &'a Domain<'a>,
     /// What is offered and announced of the prefix.

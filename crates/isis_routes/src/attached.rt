@@ -16,7 +16,7 @@ use zone_graph::ZoneWalks;
 
 /// The attached routers, all of which run both levels, each as an offer of all addresses at no cost (RFC 1195,
 /// section 3.2).
-pub fn attached_routers(
+pub(crate) fn attached_routers(
     alloc: Global,
     net: &Net,
     walks: &ZoneWalks,

@@ -16,7 +16,7 @@ use walk_core::Offer;
 
 /// What both levels know of a prefix.
 #[derive(Debug, Drop)]
-pub struct Destination {
+pub(crate) struct Destination {
     /// Where it is connected, and what level 1 offers of it.
     pub one: LevelOne,
     /// What is announced of it into level 2.
@@ -46,7 +46,10 @@ impl Destination {
 }
 
 /// What both levels know of each prefix that may have an entry.
-pub fn destinations(alloc: Global, domain: &Domain<'_>) -> Result<Vec<Destination>, OutOfMemory>
+pub(crate) fn destinations(
+    alloc: Global,
+    domain: &Domain<'_>,
+) -> Result<Vec<Destination>, OutOfMemory>
     ensures { IfOk result (λ all. AreIsisDestinations domain.now.net all.items) }
 {
     let network = domain.net();

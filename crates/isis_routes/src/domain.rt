@@ -26,7 +26,7 @@ use walk_core::{LeastWalks, Offer};
 
 /// A network, and what its routers know by IS-IS before any prefix.
 #[derive(Drop)]
-pub struct Domain<'a> {
+pub(crate) struct Domain<'a> {
     net: &'a Net,
     walks: LevelWalks,
     both: Vec<u32>,

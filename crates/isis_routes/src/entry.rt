@@ -11,7 +11,7 @@ use std::alloc::Global;
 
 /// The route of a router for a prefix: by level 1, else by level 2, else by what is leaked, else the
 /// default. There is none for a connected prefix.
-pub fn route_of(alloc: Global, asked: Asked) -> Result<Option<Route>, OutOfMemory>
+pub(crate) fn route_of(alloc: Global, asked: Asked) -> Result<Option<Route>, OutOfMemory>
     requires { IsQuestion asked }
     ensures { IfOk result (IsRouteElse asked.entry (HasNoEntry asked.entry)) }
 {

@@ -12,13 +12,13 @@ use std::alloc::Global;
 
 /// A prefix, and a router at which it is connected.
 #[derive(Clone, Copy, Debug)]
-pub struct Home {
+pub(crate) struct Home {
     dest: Prefix,
     router: u32,
 }
 
 /// The connected prefixes of all routers, in the order of the addresses with which they begin.
-pub fn sorted_homes(alloc: Global, net: &Net) -> Result<Vec<Home>, OutOfMemory>
+pub(crate) fn sorted_homes(alloc: Global, net: &Net) -> Result<Vec<Home>, OutOfMemory>
     ensures exact { IfOk result (λ homes. AreHomes net.now homes.items) }
     ensures sorted { IfOk result (λ homes. IsNonDecreasingBy (λ h. h.dest.base) homes.items) }
 {
@@ -68,7 +68,11 @@ fn sort_by_base(homes: &mut Vec<Home>)
 
 /// The routers at which a prefix is connected, by the sorted homes of all prefixes. It takes time of the logarithm of
 /// these.
-pub fn routers_at(alloc: Global, homes: &[Home], dest: Prefix) -> Result<Vec<u32>, OutOfMemory>
+pub(crate) fn routers_at(
+    alloc: Global,
+    homes: &[Home],
+    dest: Prefix,
+) -> Result<Vec<u32>, OutOfMemory>
     requires { IsNonDecreasingBy (λ h. h.dest.base) homes.now }
     ensures { IfOk result (λ routers. Exactly (λ u. Any (λ h. IsHomeOf dest h u) homes.now) routers.items) }
 {

@@ -12,10 +12,10 @@ use route_tables::Decision;
 use walk_core::Offer;
 
 /// How many lanes routers fall into: that of each level, under the number of the level, and one for those that run neither.
-pub const LANES: usize = 3;
+pub(crate) const LANES: usize = 3;
 
 /// The level whose lane a router is in: level 2 where the router runs it, else level 1.
-pub fn router_level(domain: &Domain<'_>, router: u32) -> Option<Level>
+pub(crate) fn router_level(domain: &Domain<'_>, router: u32) -> Option<Level>
     requires { router < length domain.now.net }
     ensures { IfSome result (λ level. IsInLane domain.now.net level router) }
 {
@@ -29,7 +29,7 @@ pub fn router_level(domain: &Domain<'_>, router: u32) -> Option<Level>
 }
 
 /// The number of the lane of a level, or of the lane of routers that run neither.
-pub fn lane_of_level(level: Option<Level>) -> usize
+pub(crate) fn lane_of_level(level: Option<Level>) -> usize
     ensures level { (l : Level) → zone_number l ≡ result → level ≡ Some l }
     ensures below { result < LANES }
 {
@@ -40,7 +40,7 @@ pub fn lane_of_level(level: Option<Level>) -> usize
 }
 
 /// The level whose lane has this number.
-pub fn level_of_lane(lane: usize) -> Option<Level>
+pub(crate) fn level_of_lane(lane: usize) -> Option<Level>
     ensures { IfSome result (λ level. zone_number level ≡ lane) }
 {
     match lane {
@@ -51,7 +51,7 @@ pub fn level_of_lane(lane: usize) -> Option<Level>
 }
 
 /// What decides the routes of the routers in the lane of a level for a destination.
-pub fn decision_of(destination: &Destination, level: Level) -> Decision
+pub(crate) fn decision_of(destination: &Destination, level: Level) -> Decision
     ensures { IsDecisionOf level destination.now result }
 {
     match level {

@@ -8,7 +8,7 @@ use walk_core::Offer;
 /// The offers whose best is a router's route in a level, where it runs that. In level 2 other routers' announcements give it:
 /// a router that isn't connected to the prefix and has no level 1 route for it announces nothing of it.
 #[inline(always)]
-pub fn leading_offers(asked: Asked<'_>, level: Level) -> Option<&[Offer]>
+pub(crate) fn leading_offers(asked: Asked<'_>, level: Level) -> Option<&[Offer]>
     requires asked { IsQuestion asked }
     requires away { IsAway asked }
     requires first { HasNoneBefore asked level }

@@ -13,7 +13,7 @@ use std::alloc::Global;
 use walk_core::Offer;
 
 /// What is announced of a prefix into level 1, marked down, by the routers that leak (RFC 5302).
-pub fn down_announcements(
+pub(crate) fn down_announcements(
     alloc: Global,
     domain: &Domain<'_>,
     one: &LevelOne,

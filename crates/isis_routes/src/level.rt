@@ -5,7 +5,7 @@ use crate::level_walks::{ZONE_ONE, ZONE_TWO};
 
 /// A level of IS-IS (RFC 1195).
 #[derive(Clone, Copy, Debug)]
-pub enum Level {
+pub(crate) enum Level {
     /// Level 1, inside an area.
     One,
     /// Level 2, between areas.

@@ -14,7 +14,7 @@ use walk_core::Offer;
 
 /// Where a prefix is connected, and what level 1 offers of it: one offer for each interface with that subnet.
 #[derive(Debug, Drop)]
-pub struct LevelOne {
+pub(crate) struct LevelOne {
     /// The prefix.
     pub dest: Prefix,
     /// The routers at which it is connected.

@@ -11,14 +11,14 @@ use walk_core::{LeastWalks, Segment};
 use zone_graph::ZoneWalks;
 
 /// The number of level 1 among the zones of routes.
-pub const ZONE_ONE: usize = 0;
+pub(crate) const ZONE_ONE: usize = 0;
 
 /// The number of level 2 among the zones of routes.
-pub const ZONE_TWO: usize = 1;
+pub(crate) const ZONE_TWO: usize = 1;
 
 /// The least walks of both levels.
 #[derive(Debug, Drop)]
-pub struct LevelWalks {
+pub(crate) struct LevelWalks {
     /// Those of level 1.
     pub one: ZoneWalks,
     /// Those of level 2.

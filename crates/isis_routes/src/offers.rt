@@ -13,7 +13,7 @@ use std::alloc::Global;
 use walk_core::Offer;
 
 /// What the subnets of all routers' interfaces in the level offer of a prefix, which is connected at these routers.
-pub fn level_offers(
+pub(crate) fn level_offers(
     alloc: Global,
     net: &Net,
     level: Level,
@@ -31,7 +31,7 @@ pub fn level_offers(
 }
 
 /// Adds what a router's own interfaces offer of a prefix.
-pub fn push_router_offers(
+pub(crate) fn push_router_offers(
     offers: &mut Vec<Offer>,
     net: &Net,
     level: Level,
@@ -79,7 +79,11 @@ fn interface_offer(level: Level, dest: Prefix, interface: &Interface, router: u3
 }
 
 /// Adds an offer at this cost, if there is one.
-pub fn push_cost(offers: &mut Vec<Offer>, at: u32, cost: Option<u64>) -> Result<(), OutOfMemory>
+pub(crate) fn push_cost(
+    offers: &mut Vec<Offer>,
+    at: u32,
+    cost: Option<u64>,
+) -> Result<(), OutOfMemory>
     ensures { OnOk result (AddsOffers offers.old.items offers.new.items at (λ asks. cost ≡ Some asks)) }
 {
     match cost {

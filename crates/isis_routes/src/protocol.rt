@@ -24,7 +24,7 @@ use walk_core::LeastWalks;
 /// IS-IS on a network: what its routers know, also of each prefix that may have entries, and for each an earlier one with the
 /// same routes, where one is known.
 #[derive(Drop)]
-pub struct Isis<'a> {
+pub(crate) struct Isis<'a> {
     domain: Domain<'a>,
     destinations: Vec<Destination>,
     earlier: Vec<Option<usize>>,

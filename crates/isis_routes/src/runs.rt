@@ -10,7 +10,7 @@ use route_tables::push_option;
 use std::alloc::Global;
 
 /// Whether the router has an IS-IS process that runs level 1.
-pub fn runs_level_one(net: &Net, u: u32) -> bool
+pub(crate) fn runs_level_one(net: &Net, u: u32) -> bool
     requires { u < length net.now }
     ensures runs { IsTrue result ↔ RunsLevelOne net.now u }
     ensures network { IsNetwork net.now }
@@ -20,7 +20,7 @@ pub fn runs_level_one(net: &Net, u: u32) -> bool
 }
 
 /// Whether the router has an IS-IS process that runs level 2.
-pub fn runs_level_two(net: &Net, u: u32) -> bool
+pub(crate) fn runs_level_two(net: &Net, u: u32) -> bool
     requires { u < length net.now }
     ensures runs { IsTrue result ↔ RunsLevelTwo net.now u }
     ensures network { IsNetwork net.now }
@@ -46,7 +46,7 @@ fn leaks(net: &Net, u: u32) -> bool
 }
 
 /// The routers that run both levels.
-pub fn routers_of_both_levels(alloc: Global, net: &Net) -> Result<Vec<u32>, OutOfMemory>
+pub(crate) fn routers_of_both_levels(alloc: Global, net: &Net) -> Result<Vec<u32>, OutOfMemory>
     ensures routers { IfOk result (λ routers. Exactly (RunsBothLevels net.now) routers.items) }
     ensures network { IsNetwork net.now }
 {
@@ -58,7 +58,7 @@ pub fn routers_of_both_levels(alloc: Global, net: &Net) -> Result<Vec<u32>, OutO
 }
 
 /// The routers that leak level 2 routes into level 1.
-pub fn leaking_routers(alloc: Global, net: &Net) -> Result<Vec<u32>, OutOfMemory>
+pub(crate) fn leaking_routers(alloc: Global, net: &Net) -> Result<Vec<u32>, OutOfMemory>
     ensures { IfOk result (λ routers. Exactly (Leaks net.now) routers.items) }
 {
     let mut routers = Vec::new(alloc);

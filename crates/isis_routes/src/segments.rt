@@ -9,7 +9,7 @@ use zone_graph::zone_segments;
 
 /// The segments of both levels.
 #[derive(Debug, Drop)]
-pub struct LevelSegments {
+pub(crate) struct LevelSegments {
     /// Those of level 1.
     pub one: Vec<Segment>,
     /// Those of level 2.

@@ -9,7 +9,7 @@ use route_tables::Target;
 /// Where the route of a router for a prefix leads, where it is a level 1 or level 2 route that goes as those towards one
 /// router do. It takes no memory; `route_of` has all routes.
 #[inline(always)]
-pub fn target_of(asked: Asked) -> Option<Target>
+pub(crate) fn target_of(asked: Asked) -> Option<Target>
     requires { IsQuestion asked }
     ensures { IfSome result (IsRouteTowards asked.entry) }
 {

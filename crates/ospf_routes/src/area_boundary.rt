@@ -16,7 +16,7 @@ use route_tables::push_option;
 use std::alloc::Global;
 
 /// The subnets and ranges that border routers summarize of a prefix, each as a route of its own area.
-pub fn summarized(
+pub(crate) fn summarized(
     alloc: Global,
     domain: &Domain<'_>,
     borders: &[u32],

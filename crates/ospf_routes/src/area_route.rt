@@ -9,7 +9,7 @@ use walk_core::Offer;
 
 /// A route of a prefix in an area: the router that has it, and what it costs there.
 #[derive(Clone, Copy, Debug)]
-pub struct AreaRoute {
+pub(crate) struct AreaRoute {
     /// The area.
     pub area: u32,
     /// The router.
@@ -19,7 +19,7 @@ pub struct AreaRoute {
 }
 
 /// The routes of an area, as offers.
-pub fn offers_inside(
+pub(crate) fn offers_inside(
     alloc: Global,
     routes: &[AreaRoute],
     area: u32,
@@ -34,7 +34,7 @@ pub fn offers_inside(
 }
 
 /// The routes of other areas, as offers.
-pub fn offers_outside(
+pub(crate) fn offers_outside(
     alloc: Global,
     routes: &[AreaRoute],
     area: u32,
@@ -60,7 +60,7 @@ fn inside_offer(route: AreaRoute, area: u32) -> Option<Offer>
 }
 
 /// The offer of a route of another area.
-pub fn outside_offer(route: AreaRoute, area: u32) -> Option<Offer>
+pub(crate) fn outside_offer(route: AreaRoute, area: u32) -> Option<Offer>
     ensures { IsOutsideOffer area route result }
 {
     if route.area == area {

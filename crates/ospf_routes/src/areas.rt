@@ -18,7 +18,7 @@ use zone_graph::{ZoneWalks, zone_segments};
 
 /// An area with its least walks, its routers and its border routers.
 #[derive(Debug, Drop)]
-pub struct AreaWalks {
+pub(crate) struct AreaWalks {
     /// The number of the area.
     pub number: u32,
     /// The least walks of the area.
@@ -31,7 +31,7 @@ pub struct AreaWalks {
 
 /// The areas of a network, and the segments of all of them.
 #[derive(Debug, Drop)]
-pub struct JoinedAreas {
+pub(crate) struct JoinedAreas {
     /// The areas.
     pub areas: Vec<AreaWalks>,
     /// The segments, which join each router and its neighbors.
@@ -40,7 +40,7 @@ pub struct JoinedAreas {
 
 /// The backbone and every area that a router is in, each with its least walks, its routers and its border routers; and the
 /// segments of all.
-pub fn all_areas(alloc: Global, net: &Net) -> Result<JoinedAreas, OutOfMemory>
+pub(crate) fn all_areas(alloc: Global, net: &Net) -> Result<JoinedAreas, OutOfMemory>
     ensures areas { IfOk result (λ all. AreAreas net.now all.areas.items) }
     ensures segments { IfOk result (λ all. AreJoinedBy (IsOspfNeighbor net.now) all.segments.items) }
 {
@@ -138,7 +138,7 @@ fn first_area(interfaces: &[Interface]) -> Option<u32>
 }
 
 /// Whether one of the interfaces is up and runs OSPF in the area.
-pub fn has_area(interfaces: &[Interface], number: u32) -> bool
+pub(crate) fn has_area(interfaces: &[Interface], number: u32) -> bool
     ensures { IsTrue result ↔ Any (RunsArea number) interfaces.now }
 {
     interfaces.iter().any(|i| i.up && i.area == Some(number))
@@ -162,7 +162,7 @@ fn some_runs_other(interfaces: &[Interface], number: u32) -> bool
 }
 
 /// Whether the router is a border router (RFC 2328, section 3.3).
-pub fn is_border(net: &Net, u: u32) -> bool
+pub(crate) fn is_border(net: &Net, u: u32) -> bool
     requires { u < length net.now }
     ensures { IsTrue result ↔ IsBorderRouter net.now u }
 {
@@ -175,7 +175,7 @@ pub fn is_border(net: &Net, u: u32) -> bool
 
 /// The area whose announcements the router listens to: the backbone at a border router, else its one
 /// area (RFC 2328, section 16.2).
-pub fn listens_to(net: &Net, u: u32) -> Option<u32>
+pub(crate) fn listens_to(net: &Net, u: u32) -> Option<u32>
     requires { u < length net.now }
     ensures { IsListener net.now u result }
 {
@@ -186,7 +186,7 @@ pub fn listens_to(net: &Net, u: u32) -> Option<u32>
 }
 
 /// The place of the area of this number among all.
-pub fn place_of(areas: &[AreaWalks], number: u32) -> Option<usize>
+pub(crate) fn place_of(areas: &[AreaWalks], number: u32) -> Option<usize>
     ensures none { IfNone result (HasArea areas.now number → ⊥) }
     ensures some { IfSome result (IsAreaAt areas.now number) }
 {

@@ -3,7 +3,7 @@ ghost use Rattle.igp_theory.specs.Ospf.{BackboneSummary, BorderCost};
 ghost use Rattle.walk_core.specs.declared.offers.Offer.{Offer as OfferValue};
 ghost use Rattle.ospf_routes.specs.steps.Destinations.{IsDestinationIn};
 ghost use Rattle.net_model.specs.Network.{IsBorderRouter};
-ghost use Rattle.ospf_routes.specs.Lists.{Adds, Exactly};
+ghost use Rattle.ospf_routes.specs.Lists.{Adds};
 ghost use Rattle.ospf_routes.specs.steps.Areas.{IsArea};
 ghost use Rattle.ospf_routes.specs.steps.Members.{IsBorderIn};
 ghost use Rattle.ospf_routes.specs.steps.Offered.{AreOffers};
@@ -22,7 +22,7 @@ use walk_core::Offer;
 /// Adds what border routers of the area reach over the backbone: the prefix with its inter-area cost at each of them that has
 /// one (RFC 2328, section 16.2) and announces more than the default route into the area. None has one where nothing is
 /// announced into the backbone.
-pub fn push_reached(
+pub(crate) fn push_reached(
     offers: &mut Vec<Offer>,
     domain: &Domain<'_>,
     area: &AreaWalks,

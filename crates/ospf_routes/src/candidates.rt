@@ -11,7 +11,7 @@ use std::alloc::Global;
 
 /// The prefixes that OSPF may have entries for: the subnets of the up interfaces that run it, the
 /// ranges, and all addresses.
-pub fn candidates_of(alloc: Global, net: &Net) -> Result<DistinctPrefixes, OutOfMemory>
+pub(crate) fn candidates_of(alloc: Global, net: &Net) -> Result<DistinctPrefixes, OutOfMemory>
     ensures { IfOk result (λ dests. (p : Block) → IsOspfCandidate net.now p → Contains dests p) }
 {
     let mut dests = Candidates::new(alloc)?;

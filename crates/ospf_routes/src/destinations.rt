@@ -12,7 +12,10 @@ use net_addr::Prefix;
 use std::alloc::Global;
 
 /// Each prefix that may have an entry, with what the interfaces of each area offer of it.
-pub fn destinations(alloc: Global, domain: &Domain<'_>) -> Result<Vec<Destination>, OutOfMemory>
+pub(crate) fn destinations(
+    alloc: Global,
+    domain: &Domain<'_>,
+) -> Result<Vec<Destination>, OutOfMemory>
     ensures { IfOk result (λ all. AreOspfDestinations domain.now all.items) }
 {
     let subnets = Subnets::of_network(alloc, domain.net())?;

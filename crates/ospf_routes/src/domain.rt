@@ -14,7 +14,7 @@ use walk_core::LeastWalks;
 
 /// A network and its areas, each with its least walks, its routers and its border routers.
 #[derive(Debug, Drop)]
-pub struct Domain<'a> {
+pub(crate) struct Domain<'a> {
     net: &'a Net,
     areas: Vec<AreaWalks>,
 }

@@ -1,4 +1,4 @@
-ghost use Rattle.std.specs.Prelude.{◌≡◌, ◌<◌, ℕ, length, Contains, IfOk, IfNone, IfSome, IsTrue, MatchOption};
+ghost use Rattle.std.specs.Prelude.{◌≡◌, ◌<◌, ℕ, length, IfOk, IfNone, IfSome, IsTrue, MatchOption};
 ghost use Rattle.net_addr.specs.Addresses.{Block};
 ghost use Rattle.net_model.specs.Network.{Connected};
 ghost use Rattle.igp_theory.specs.Ospf.{IntraAreaCost, IsActiveRange};
@@ -20,7 +20,7 @@ use walk_core::{LeastWalks, Offer};
 
 /// A router and a prefix whose route is asked for, with what is known of both.
 #[derive(Clone, Copy, Debug)]
-pub struct Asked<'a> {
+pub(crate) struct Asked<'a> {
     /// The network and its areas.
     pub domain: &'a Domain<'a>,
     /// The router.
@@ -45,7 +45,7 @@ struct Deciding<'a> {
 
 /// Where the route leads, where that is known at once: where one area alone offers the prefix and the router is in it, or
 /// isn't and has no active range of the prefix.
-pub fn target_of(asked: Asked) -> Option<Target>
+pub(crate) fn target_of(asked: Asked) -> Option<Target>
     requires { IsQuestion asked }
     ensures { IfSome result (IsRouteTowards asked.entry) }
 {
@@ -148,7 +148,7 @@ fn announced(asked: Asked<'_>) -> Option<Deciding<'_>>
 }
 
 /// The route of a router for a prefix; that there is none is mostly known at once.
-pub fn route_of(alloc: Global, asked: Asked) -> Result<Option<Route>, OutOfMemory>
+pub(crate) fn route_of(alloc: Global, asked: Asked) -> Result<Option<Route>, OutOfMemory>
     requires { IsQuestion asked }
     ensures { IfOk result (IsFoundRoute asked.entry) }
 {

@@ -21,7 +21,7 @@ use walk_core::{LeastWalks, Offer};
 
 /// Offers of a prefix in one area.
 #[derive(Debug, Drop)]
-pub struct AreaOffers {
+pub(crate) struct AreaOffers {
     /// The area.
     pub area: u32,
     /// The place of the area among all.
@@ -32,7 +32,7 @@ pub struct AreaOffers {
 
 /// A prefix with the routers that it is connected at, and what the interfaces of each area offer of it.
 #[derive(Debug, Drop)]
-pub struct Destination {
+pub(crate) struct Destination {
     /// The prefix.
     pub dest: Prefix,
     /// The routers of which an up interface has it as its subnet, whatever that interface runs.
@@ -111,7 +111,7 @@ fn has_route(routes: &[AreaRoute], area: u32) -> bool
 }
 
 /// The offers of an area.
-pub fn part_of(parts: &[AreaOffers], area: u32) -> Option<&AreaOffers>
+pub(crate) fn part_of(parts: &[AreaOffers], area: u32) -> Option<&AreaOffers>
     ensures none { IfNone result (HasAreaPart parts.now area → ⊥) }
     ensures among { IfSome result (λ part. Contains parts.now part.now) }
     ensures area { IfSome result (λ part. part.now.area ≡ area) }
@@ -125,7 +125,7 @@ pub fn part_of(parts: &[AreaOffers], area: u32) -> Option<&AreaOffers>
 }
 
 /// The intra-area cost of a part's prefix at router `u` in the area of the part (RFC 2328, section 16.1).
-pub fn part_cost(domain: &Domain<'_>, part: &AreaOffers, u: u32) -> Option<u64>
+pub(crate) fn part_cost(domain: &Domain<'_>, part: &AreaOffers, u: u32) -> Option<u64>
     requires router { u < length domain.now.net }
     requires part { IsPart domain.now part.now }
     ensures { (p : Block) → IsPartFor domain.now p part.now → (cost : ℕ) →
@@ -138,7 +138,11 @@ pub fn part_cost(domain: &Domain<'_>, part: &AreaOffers, u: u32) -> Option<u64>
 }
 
 /// The least walks from the router in the area of a part, where the router is in that area.
-pub fn part_reach<'a>(domain: &'a Domain<'_>, part: &AreaOffers, u: u32) -> Option<&'a LeastWalks>
+pub(crate) fn part_reach<'a>(
+    domain: &'a Domain<'_>,
+    part: &AreaOffers,
+    u: u32,
+) -> Option<&'a LeastWalks>
     requires router { u < length domain.now.net }
     requires part { IsPart domain.now part.now }
     ensures none { IfNone result (InArea domain.now.net u part.now.area → ⊥) }
@@ -154,7 +158,7 @@ pub fn part_reach<'a>(domain: &'a Domain<'_>, part: &AreaOffers, u: u32) -> Opti
 }
 
 /// Whether the prefix has an intra-area route at router `u`.
-pub fn has_intra(domain: &Domain<'_>, destination: &Destination, u: u32) -> bool
+pub(crate) fn has_intra(domain: &Domain<'_>, destination: &Destination, u: u32) -> bool
     requires router { u < length domain.now.net }
     requires destination { IsDestinationIn domain.now destination.now }
     ensures { IsTrue result ↔ IsIntraArea domain.now.net destination.now.dest u }

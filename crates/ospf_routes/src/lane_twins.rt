@@ -18,7 +18,7 @@ use walk_core::Offer;
 
 /// For each prefix an earlier one with the same entries at every router that is in an area and in no other, where one is found.
 #[derive(Debug, Drop)]
-pub struct LaneTwins {
+pub(crate) struct LaneTwins {
     all: Vec<Option<usize>>,
 }
 
@@ -78,7 +78,7 @@ impl LaneTwins {
 
 /// For each area and prefix an earlier prefix with the same entries at every router that is in the area alone, where one is
 /// found.
-pub fn all_lane_twins(
+pub(crate) fn all_lane_twins(
     alloc: Global,
     domain: &Domain<'_>,
     destinations: &[Destination],

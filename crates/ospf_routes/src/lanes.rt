@@ -12,7 +12,7 @@ use walk_core::Offer;
 
 /// What decides the routes for a prefix at the routers that are in the area at this place alone: what is offered in the
 /// area, else what is announced into it, since none of them has an active range.
-pub fn decision(
+pub(crate) fn decision(
     domain: &Domain<'_>,
     listens: &[Option<usize>],
     zone: usize,
@@ -67,7 +67,7 @@ fn few(offers: &[Offer]) -> Decision
 }
 
 /// Whether each of these routers that is in the area alone makes one of the offers.
-pub fn are_told(
+pub(crate) fn are_told(
     domain: &Domain<'_>,
     listens: &[Option<usize>],
     zone: usize,

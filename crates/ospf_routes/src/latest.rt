@@ -4,7 +4,7 @@ use std::marker::Model;
 
 /// For each of so many numbers the place of the latest prefix that was noted for it.
 #[derive(Debug, Drop)]
-pub struct Latest {
+pub(crate) struct Latest {
     places: Vec<Option<usize>>,
 }
 

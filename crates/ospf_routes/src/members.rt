@@ -12,7 +12,7 @@ use std::marker::Model;
 
 /// The routers of an area, a flag for each router of the network.
 #[derive(Debug, Drop)]
-pub struct Members {
+pub(crate) struct Members {
     inside: Vec<bool>,
 }
 
@@ -54,7 +54,7 @@ fn is_inside(net: &Net, u: u32, number: u32) -> bool
 
 /// The border routers of an area, in the order of their numbers.
 #[derive(Debug, Drop)]
-pub struct Borders {
+pub(crate) struct Borders {
     routers: Vec<u32>,
 }
 

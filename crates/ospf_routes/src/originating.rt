@@ -27,7 +27,7 @@ use walk_core::Offer;
 
 /// What border routers announce of each prefix into each of their areas: the subnets and the ranges of other areas, and into
 /// areas other than the backbone what they reach over the backbone, and the defaults of stub areas.
-pub fn all_summaries(
+pub(crate) fn all_summaries(
     alloc: Global,
     domain: &Domain<'_>,
     destinations: &[Destination],

@@ -29,7 +29,7 @@ use walk_core::{LeastWalks, Offer};
 /// OSPF on a network, with what its routers know, the places of the areas that they listen to, the active ranges of border
 /// routers, what these announce of each prefix, and which prefixes have the same routes, everywhere and within areas.
 #[derive(Drop)]
-pub struct Ospf<'a> {
+pub(crate) struct Ospf<'a> {
     domain: Domain<'a>,
     destinations: Vec<Destination>,
     listens: Vec<Option<usize>>,

@@ -17,7 +17,7 @@ use std::marker::Model;
 
 /// An active range of a border router, and what it costs.
 #[derive(Clone, Copy, Debug)]
-pub struct ActiveRange {
+pub(crate) struct ActiveRange {
     /// The range.
     pub range: Range,
     /// What it costs.
@@ -26,7 +26,7 @@ pub struct ActiveRange {
 
 /// The active ranges of a router.
 #[derive(Debug, Drop)]
-pub struct ActiveRanges {
+pub(crate) struct ActiveRanges {
     all: Vec<ActiveRange>,
 }
 
@@ -76,7 +76,7 @@ impl ActiveRanges {
 }
 
 /// The active ranges of every router.
-pub fn all_ranges(
+pub(crate) fn all_ranges(
     alloc: Global,
     domain: &Domain<'_>,
     destinations: &[Destination],
@@ -92,7 +92,10 @@ pub fn all_ranges(
 }
 
 /// The prefixes of all active ranges.
-pub fn range_prefixes(alloc: Global, ranges: &[ActiveRanges]) -> Result<Vec<Prefix>, OutOfMemory>
+pub(crate) fn range_prefixes(
+    alloc: Global,
+    ranges: &[ActiveRanges],
+) -> Result<Vec<Prefix>, OutOfMemory>
     ensures { IfOk result (λ prefixes. (net : Network) → AreRangesBelow net (length net) ranges.now → HoldRanges net prefixes.items) }
 {
     let mut prefixes = Vec::new(alloc);
@@ -248,7 +251,7 @@ fn is_longer(other: Range, range: Range, dest: Prefix) -> bool
 }
 
 /// Whether the prefix is a component of a range of the border router.
-pub fn is_component(domain: &Domain<'_>, destination: &Destination, b: u32) -> bool
+pub(crate) fn is_component(domain: &Domain<'_>, destination: &Destination, b: u32) -> bool
     requires router { b < length domain.now.net }
     requires border { IsBorderRouter domain.now.net b }
     requires destination { IsDestinationIn domain.now destination.now }

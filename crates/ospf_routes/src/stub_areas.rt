@@ -1,7 +1,7 @@
 ghost use Rattle.std.specs.Prelude.{◌≡◌, ◌<◌, ◌↔◌, length, Some, Any, IsTrue, OnOk};
 ghost use Rattle.igp_theory.specs.Ospf.{IsTotallyStubby};
 ghost use Rattle.walk_core.specs.declared.offers.Offer.{Offer as OfferValue};
-ghost use Rattle.ospf_routes.specs.Lists.{Adds, Exactly};
+ghost use Rattle.ospf_routes.specs.Lists.{Adds};
 ghost use Rattle.ospf_routes.specs.steps.Areas.{IsArea};
 ghost use Rattle.ospf_routes.specs.steps.Members.{IsBorderIn};
 ghost use Rattle.ospf_routes.specs.steps.Summarized.{HasDefault, IsAlone, IsDefault, RouterDefault};
@@ -15,7 +15,7 @@ use route_tables::{is_all_addresses, push_option};
 use walk_core::Offer;
 
 /// Whether router `b` announces nothing but a default route into the area.
-pub fn is_totally_stubby(domain: &Domain<'_>, b: u32, area: u32) -> bool
+pub(crate) fn is_totally_stubby(domain: &Domain<'_>, b: u32, area: u32) -> bool
     requires { b < length domain.now.net }
     ensures { IsTrue result ↔ IsTotallyStubby domain.now.net b area }
 {
@@ -37,7 +37,7 @@ fn is_alone(stub: Stub, area: u32) -> bool
 }
 
 /// Adds the default route of each border router in the area that says of it that it is a stub area.
-pub fn push_defaults(
+pub(crate) fn push_defaults(
     offers: &mut Vec<Offer>,
     domain: &Domain<'_>,
     area: &AreaWalks,

@@ -15,7 +15,7 @@ use std::marker::Model;
 
 /// The subnet of an interface that is up.
 #[derive(Clone, Copy, Debug)]
-pub struct Subnet {
+pub(crate) struct Subnet {
     /// The prefix.
     pub dest: Prefix,
     /// The router.
@@ -30,7 +30,7 @@ pub struct Subnet {
 
 /// The subnets of some interfaces, in the order of the addresses that they begin with.
 #[derive(Debug, Drop)]
-pub struct Subnets {
+pub(crate) struct Subnets {
     all: Vec<Subnet>,
 }
 
@@ -143,7 +143,11 @@ fn interface_subnet(interface: &Interface, w: u32) -> Option<Subnet>
 }
 
 /// The routers of those of these subnets that are of the prefix.
-pub fn homes_among(alloc: Global, subnets: &[Subnet], dest: Prefix) -> Result<Vec<u32>, OutOfMemory>
+pub(crate) fn homes_among(
+    alloc: Global,
+    subnets: &[Subnet],
+    dest: Prefix,
+) -> Result<Vec<u32>, OutOfMemory>
     ensures { IfOk result (λ homes. Exactly (λ u. Any (IsHome dest u) subnets.now) homes.items) }
 {
     let mut homes = Vec::new(alloc);
@@ -165,7 +169,7 @@ fn home_at(subnet: Subnet, dest: Prefix) -> Option<u32>
 }
 
 /// The routes to those of these subnets that are of the prefix and run OSPF.
-pub fn routes_among(
+pub(crate) fn routes_among(
     alloc: Global,
     subnets: &[Subnet],
     dest: Prefix,

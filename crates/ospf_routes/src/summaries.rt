@@ -7,7 +7,7 @@ use walk_core::Offer;
 
 /// Where a list begins among the offers of all lists, and how many it has.
 #[derive(Clone, Copy, Debug)]
-pub struct OfferSpan {
+pub(crate) struct OfferSpan {
     start: u32,
     count: u32,
 }
@@ -15,7 +15,7 @@ pub struct OfferSpan {
 /// What border routers announce of each prefix into each of their areas (RFC 2328, section 12.4.3): for each prefix a list of
 /// offers for each area, all of them one after another in one vector.
 #[derive(Debug, Drop)]
-pub struct Summaries {
+pub(crate) struct Summaries {
     areas: usize,
     offers: Vec<Offer>,
     spans: Vec<OfferSpan>,

@@ -18,7 +18,7 @@ use std::alloc::Global;
 /// For each destination an earlier one with the same entries at every router, where one is found: the latest that is
 /// connected at the same one router, where the offers and the announcements of both cost the same but for constants, which
 /// never decide between areas or sorts of routes. It takes time of the destinations, their offers and the routers.
-pub fn all_twins(
+pub(crate) fn all_twins(
     alloc: Global,
     domain: &Domain<'_>,
     destinations: &[Destination],

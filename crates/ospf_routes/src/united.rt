@@ -7,7 +7,11 @@ use std::alloc::Global;
 use walk_core::{push_below, put_in_order};
 
 /// The hops below `count` that are in one of the lists, and `None` where there are no lists.
-pub fn united_some(alloc: Global, lists: &[Hops], count: u32) -> Result<Option<Hops>, OutOfMemory>
+pub(crate) fn united_some(
+    alloc: Global,
+    lists: &[Hops],
+    count: u32,
+) -> Result<Option<Hops>, OutOfMemory>
     ensures { IfOk result (λ found. MatchOption found (length lists.now ≡ 0) (AreSomeUnited lists.now count)) }
 {
     if lists.is_empty() {
