@@ -22,8 +22,8 @@ returns-in-None c =
     let none : NamesNoFurtherRouter c.args.net.now (get_or words i []) c.loop-name.routers.items =
     subst (λ (w : List ℕ). NamesNoFurtherRouter c.args.net.now w c.loop-name.routers.items)
     (c.bytes_at.ensures ∙ at_word c.args.text.now c.args.names.now i c.loop-name-test.true)
-    (subst (λ (l : List ℕ). NamesNoFurtherRouter c.args.net.now c.bytes_at.result.now l) c.as_slice.ensures.value c.in-None.ensures) in
-    no_routers c.args.net.now c.requires.network words c.loop-name.routers.items i within c.loop-name.invariant none
+    (subst (λ (l : List ℕ). NamesNoFurtherRouter c.args.net.now c.bytes_at.result.now l) c.as_slice.ensures.value c.in-None.ensures.named) in
+    no_routers c.args.net.now c.further_router.ensures.network words c.loop-name.routers.items i within c.loop-name.invariant none
 
 pub loop-name-preserved : goal.loop-name-preserved
 loop-name-preserved c =
@@ -33,7 +33,7 @@ loop-name-preserved c =
     let further : IsFurtherRouter c.args.net.now (get_or words i []) c.loop-name.routers.items c.in-Some.router =
     subst (λ (w : List ℕ). IsFurtherRouter c.args.net.now w c.loop-name.routers.items c.in-Some.router)
     (c.bytes_at.ensures ∙ at_word c.args.text.now c.args.names.now i c.loop-name-test.true)
-    (subst (λ (l : List ℕ). IsFurtherRouter c.args.net.now c.bytes_at.result.now l c.in-Some.router) c.as_slice.ensures.value c.in-Some.ensures) in
+    (subst (λ (l : List ℕ). IsFurtherRouter c.args.net.now c.bytes_at.result.now l c.in-Some.router) c.as_slice.ensures.value c.in-Some.ensures.named) in
     subst (λ (l : List ℕ). NameRouters c.args.net.now (take (i + 1) words) l) (sym c.in_ok-add_router-in-Some.ensures)
     (routers_more c.args.net.now words c.loop-name.routers.items i c.in-Some.router within c.loop-name.invariant further)
 

@@ -2,7 +2,9 @@ use Rattle.std.proofs.Common.{◌≡◌, ℕ, ◌+◌, ◌<◌, ◌≤◌, List,
 use Rattle.std.proofs.lemmas.List.{take_all, length-map, get_or-map}
 use Rattle.net_addr.specs.Spans.{bytes_of}
 use Rattle.net_addr.specs.declared.span.Span.{Span}
+use Rattle.net_model.specs.Refusals.{IsNetwork}
 use Rattle.order_core.specs.declared.turn.Turn.{Turn}
+use Rattle.refutation_check.specs.TreeLines.{IsSomeEntry}
 use Rattle.refutation_check.specs.steps.Names.{SayTurns, IsFurtherTurn, SaysNoFurtherTurn}
 use Rattle.refutation_check.specs.steps.Spans.{span_texts}
 use Rattle.refutation_check.proofs.NameFacts.{no_turns, turns_more, say_none}
@@ -23,8 +25,11 @@ returns-in-None c =
     let none : SaysNoFurtherTurn c.args.net.now (get_or words i []) c.loop-entry.turns.items =
     subst (λ (w : List ℕ). SaysNoFurtherTurn c.args.net.now w c.loop-entry.turns.items)
     (c.bytes_at.ensures ∙ at_word c.args.text.now c.args.entries.now i c.loop-entry-test.true)
-    (subst (λ (l : List Turn). SaysNoFurtherTurn c.args.net.now c.bytes_at.result.now l) c.as_slice.ensures.value c.in-None.ensures) in
-    no_turns c.args.net.now c.requires.network words c.loop-entry.turns.items i within c.loop-entry.invariant none
+    (subst (λ (l : List Turn). SaysNoFurtherTurn c.args.net.now c.bytes_at.result.now l) c.as_slice.ensures.value c.in-None.ensures.said) in
+    let network : IsSomeEntry (get_or words i []) → IsNetwork c.args.net.now =
+    subst (λ (w : List ℕ). IsSomeEntry w → IsNetwork c.args.net.now) (c.bytes_at.ensures ∙ at_word c.args.text.now c.args.entries.now i c.loop-entry-test.true)
+    c.further_turn.ensures.network in
+    no_turns c.args.net.now words c.loop-entry.turns.items i within c.loop-entry.invariant none network
 
 pub loop-entry-preserved : goal.loop-entry-preserved
 loop-entry-preserved c =
@@ -34,7 +39,7 @@ loop-entry-preserved c =
     let further : IsFurtherTurn c.args.net.now (get_or words i []) c.loop-entry.turns.items c.in-Some.turn =
     subst (λ (w : List ℕ). IsFurtherTurn c.args.net.now w c.loop-entry.turns.items c.in-Some.turn)
     (c.bytes_at.ensures ∙ at_word c.args.text.now c.args.entries.now i c.loop-entry-test.true)
-    (subst (λ (l : List Turn). IsFurtherTurn c.args.net.now c.bytes_at.result.now l c.in-Some.turn) c.as_slice.ensures.value c.in-Some.ensures) in
+    (subst (λ (l : List Turn). IsFurtherTurn c.args.net.now c.bytes_at.result.now l c.in-Some.turn) c.as_slice.ensures.value c.in-Some.ensures.said) in
     subst (λ (l : List Turn). SayTurns c.args.net.now (take (i + 1) words) l) (sym c.in_ok-add_turn-in-Some.ensures)
     (turns_more c.args.net.now words c.loop-entry.turns.items i c.in-Some.turn within c.loop-entry.invariant further)
 
