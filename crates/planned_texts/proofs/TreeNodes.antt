@@ -1,12 +1,11 @@
 -- The nodes of a tree whose branches are loops of a network: they are of its routers, and they read back.
-use Rattle.std.proofs.Common.{ℕ, ◌<◌, ◌≤◌, List, [], ◌∷◌, ◌++◌, length, All, Contains, arith, ap, subst, sym}
+use Rattle.std.proofs.Common.{ℕ, ◌<◌, ◌≤◌, List, [], ◌∷◌, ◌++◌, length, All, arith, ap, subst, sym}
 use Rattle.std.proofs.lemmas.List.Elements.{All-append, All-cons, All-contains, All-head, All-map, All-nil, All-push, All-tail, All-weaker}
 use Rattle.igp_theory.specs.Loops.{IsLoop}
 use Rattle.igp_theory.specs.Migrations.{Migration}
 use Rattle.igp_theory.proofs.LoopLaws.{loop_inside}
 use Rattle.order_core.specs.Pairs.{Pair, AreBelow, IsPath}
 use Rattle.order_core.specs.Turns.{child_pairs}
-use Rattle.order_core.specs.declared.turn.Turn.{Turn}
 use Rattle.order_search.specs.Trees.{Fill, IsCycle, IsTreeNode, NodeFact, Place, places_below}
 use Rattle.order_search.specs.declared.tree.Node.{Node}
 use Rattle.order_search.specs.declared.tree.Node.TheVariants.{Branch, Leaf, Unvisited}
