@@ -17,6 +17,7 @@ pub record FoundWaves : Type 0 where
   pub chain : List ℕ
   pub trail : List Node
 
+-- it, of its parts in this order
 abbrev pub found_waves : List ℕ → List Pair → List ℕ → List Node → FoundWaves
 found_waves ranks pairs chain trail = record { ranks = ranks; pairs = pairs; chain = chain; trail = trail }
 

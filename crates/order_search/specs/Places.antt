@@ -1,5 +1,5 @@
--- Places and the rankings that are asked there: layered lists, earned branches, the cycle of a leaf, the first place
--- that isn't visited.
+-- Places and the rankings that are asked there: layered lists, earned branches, the cycle of a leaf, the nodes that the
+-- search makes, the first place that isn't visited.
 use Rattle.std.specs.Prelude.{◌≡◌, ℕ, suc, List, ◌∷◌, [], ◌++◌, length, replicate, All}
 use Rattle.order_core.specs.Pairs.{AreBelow, HasNoCycle}
 use Rattle.precedence_set.specs.Layers.{AreLayers}
