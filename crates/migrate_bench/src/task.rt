@@ -3,7 +3,8 @@ use std::alloc::Global;
 use std::env::Args;
 
 const USAGE: &str =
-    "usage: migrate_bench walks SIZE | search SIZE BUDGET | read FILE... | tables FILE... | check ORDER FILE... | waves ORDER FILE... | refute TREE FILE... | prepare DESIGN FILE... | plan FILE...";
+    "usage: migrate_bench walks SIZE | search SIZE BUDGET | read FILE... | tables FILE... | check ORDER FILE... | \
+     waves ORDER FILE... | refute TREE FILE... | prepare DESIGN FILE... | plan FILE...";
 
 /// What is to be measured.
 #[derive(Drop)]

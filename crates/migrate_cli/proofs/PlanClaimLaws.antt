@@ -11,6 +11,7 @@ use Rattle.net_model.specs.Refusals.{IsNetwork}
 use Rattle.net_model.specs.declared.refusal.NetRefusal.{NetRefusal}
 use Rattle.net_model.specs.declared.refusal.NetRefusal.TheVariants.{Limit as TooMany, OutOfMemory}
 use Rattle.order_core.specs.Rankings.{flat_of}
+use Rattle.order_search.specs.Answers.{found_waves}
 use Rattle.order_search.specs.Trees.{branch_count}
 use Rattle.order_search.specs.declared.found.Found.TheVariants.{Waves, Refuted}
 use Rattle.plan_theory.specs.Laws.{AreSeamlessWithOrder}
@@ -81,7 +82,7 @@ plan_holds {budget} {net} some network (waves ranks pairs chain trail ends found
       checks = λ file. of_waves ranks Done _ reads.names (safe_waves means.waves);
       chain = chain;
       chain_written = refl;
-      chain_tagged = chain_tagged (migration net old new) budget ranks pairs chain trail found;
+      chain_tagged = chain_tagged (migration net old new) budget (found_waves ranks pairs chain trail) found;
     }
 plan_holds {budget} {net} some network (refuted tree ends refutes) =
     let old = OspfEntry net in

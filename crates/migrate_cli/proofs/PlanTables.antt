@@ -6,11 +6,10 @@ use Rattle.igp_theory.specs.Migrations.{Migration, migration}
 use Rattle.igp_theory.specs.Routes.{Tables}
 use Rattle.igp_theory.proofs.SameTables.{fault_over, loop_over, same_tables_sym, sound_over}
 use Rattle.igp_theory.proofs.WaveFaultLaws.{seamless_waves_over, waves_fault_over}
-use Rattle.order_core.specs.Pairs.{Pair}
 use Rattle.order_core.specs.declared.turn.Turn.{Turn}
-use Rattle.order_search.specs.Answers.{AreFoundWaves, IsFound, IsFoundNode, IsRefutation, IsSpent}
+use Rattle.order_search.specs.Answers.{FoundWaves, AreFoundWaves, IsFound, IsRefutation, IsSpent}
 use Rattle.order_search.specs.Meanings.{Meaning}
-use Rattle.order_search.specs.Places.{IsEarned, StandsAt}
+use Rattle.order_search.specs.Places.{IsEarned, IsFoundNode, StandsAt}
 use Rattle.order_search.specs.Trees.{IsTreeNode, Place}
 use Rattle.order_search.specs.declared.found.Found.{Found}
 use Rattle.order_search.specs.declared.found.Found.TheVariants.{Waves, Refuted, Spent}
@@ -52,17 +51,14 @@ module _ (move : Migration) (old' new' : Tables) (same : HaveSameTables move old
     least_cycle = is.least_cycle;
   }
 
-  stands_over : {place : Place} {ranks : List ℕ} {before : List Node} {later : List Place} → StandsAt (IsFoundNode m) m place ranks before later →
-      StandsAt (IsFoundNode m') m' place ranks before later
+  stands_over : {place : Place} {before : List Node} {later : List Place} → StandsAt m place before later → StandsAt m' place before later
   stands_over {before = before} stands = record {
     visited = stands.visited;
     fills = Fill-weaker (IsFoundNode m) (IsFoundNode m') found_node_over _ _ before stands.fills;
-    layered = stands.layered;
   }
 
   -- and finds the same
-  found_waves_over : {budget : ℕ} {ranks chain : List ℕ} {pairs : List Pair} {trail : List Node} → AreFoundWaves m budget ranks pairs chain trail →
-      AreFoundWaves m' budget ranks pairs chain trail
+  found_waves_over : {budget : ℕ} {found : FoundWaves} → AreFoundWaves m budget found → AreFoundWaves m' budget found
   found_waves_over found = record {
     is_good = seamless_waves_over same found.is_good;
     leads = record {
@@ -70,6 +66,7 @@ module _ (move : Migration) (old' new' : Tables) (same : HaveSameTables move old
       later = found.leads.later;
       ends = found.leads.ends;
       stands = stands_over found.leads.stands;
+      layered = found.leads.layered;
     };
     within = found.within;
     chained = found.chained;
@@ -98,6 +95,7 @@ module _ (move : Migration) (old' new' : Tables) (same : HaveSameTables move old
           ranks = stopped.ranks;
           ends = stopped.ends;
           stands = stands_over stopped.stands;
+          layered = stopped.layered;
           bad = λ good. stopped.bad (seamless_waves_over (same_tables_sym same) good);
           spent = stopped.spent;
         };

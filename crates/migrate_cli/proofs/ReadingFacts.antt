@@ -1,5 +1,5 @@
 -- Files read one after another.
-use Rattle.std.proofs.Common.{◌≡◌, ℕ, ◌+◌, ◌≤◌, List, [], ◌∷◌, ◌++◌, length, refl, lit≤, arith}
+use Rattle.std.proofs.Common.{◌≡◌, ℕ, ◌+◌, ◌≤◌, List, [], ◌∷◌, ◌++◌, length, refl, arith}
 use Rattle.migrate_cli.specs.Reading.{Contents, File, IsReadOf, AreRead, counted, total_of, IsShort, AreShort, AreWithin}
 
 -- as many texts are read as there are files

@@ -8,7 +8,7 @@ use Rattle.igp_theory.specs.Loops.{Fault, IsFault}
 use Rattle.igp_theory.specs.Migrations.{Migration, ospf_to_isis}
 use Rattle.igp_theory.specs.States.{IsSound, all_new, all_old}
 use Rattle.order_core.specs.Pairs.{Pair}
-use Rattle.order_search.specs.Answers.{AreFoundWaves, IsRefutation, IsSpent}
+use Rattle.order_search.specs.Answers.{found_waves, AreFoundWaves, IsRefutation, IsSpent}
 use Rattle.order_search.specs.declared.tree.Node.{Node}
 use Rattle.plan_theory.specs.WavesMeaning.{waves_meaning}
 use Rattle.refutation_check.specs.TreeTexts.{tree_text}
@@ -28,7 +28,7 @@ pub data IsPlanOver (move : Migration) (budget : ℕ) : Status → List ℕ → 
   unsound_new : (fault : Fault) → IsSound move all_old → ¬ IsSound move all_new → IsFault move all_new fault →
       IsPlanOver move budget Unsound (unsound_text New (names_of move.net) fault)
   waves : (ranks : List ℕ) (pairs : List Pair) (chain : List ℕ) (trail : List Node) → AreSoundEnds move →
-      AreFoundWaves (waves_meaning move) budget ranks pairs chain trail →
+      AreFoundWaves (waves_meaning move) budget (found_waves ranks pairs chain trail) →
       IsPlanOver move budget Done (waves_text (names_of move.net) ranks chain)
   refuted : (tree : List Node) → AreSoundEnds move → IsRefutation (waves_meaning move) budget tree →
       IsPlanOver move budget Negative (tree_text (names_of move.net) tree)

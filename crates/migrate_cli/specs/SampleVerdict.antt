@@ -6,7 +6,7 @@ use Rattle.net_model.specs.RouterNames.{names_of}
 use Rattle.igp_theory.specs.LoopLaws.{AreSoundEnds}
 use Rattle.igp_theory.specs.Migrations.{Migration, ospf_to_isis}
 use Rattle.order_core.specs.Pairs.{Pair}
-use Rattle.order_search.specs.Answers.{AreFoundWaves}
+use Rattle.order_search.specs.Answers.{found_waves, AreFoundWaves}
 use Rattle.order_search.specs.Trees.{branch_count}
 use Rattle.order_search.specs.declared.tree.Node.{Node}
 use Rattle.plan_theory.specs.WavesMeaning.{waves_meaning}
@@ -37,7 +37,7 @@ pub record SumsUp (net : Network) (waves : PlannedWaves) (text : List ℕ) : Typ
 -- else what `plan` answers
 pub data IsSampleOver (move : Migration) (routers : ℕ) : Status → List ℕ → Type 0 where
   summed_up : (ranks : List ℕ) (pairs : List Pair) (chain : List ℕ) (trail : List Node) (text : List ℕ) → AreSoundEnds move →
-      AreFoundWaves (waves_meaning move) USUAL_BUDGET ranks pairs chain trail → SumsUp move.net (planned_waves routers ranks trail) text →
+      AreFoundWaves (waves_meaning move) USUAL_BUDGET (found_waves ranks pairs chain trail) → SumsUp move.net (planned_waves routers ranks trail) text →
       IsSampleOver move routers Done text
   as_planned : (status : Status) (text : List ℕ) → status ≢ Done → IsPlanOver move USUAL_BUDGET status text →
       IsSampleOver move routers status text

@@ -11,8 +11,8 @@ use Rattle.precedence_set.specs.LeastCycle.{IsLowestBack, GoesBack, IsLeastCycle
 use Rattle.precedence_set.proofs.LayerFacts.{layers_unique, chain_unique}
 use Rattle.order_search.specs.Trees.{Place, Fill, places_below, IsCycle, IsVisited, IsClosedTree, branch_count}
 use Rattle.order_search.specs.Meanings.{Meaning}
-use Rattle.order_search.specs.Places.{IsLayered, IsClosedByLast, StandsAt}
-use Rattle.order_search.specs.Answers.{IsFoundNode, AreFoundWaves, IsRefutation, IsSpent, IsFound}
+use Rattle.order_search.specs.Places.{IsFoundNode, IsLayered, IsClosedByLast, StandsAt}
+use Rattle.order_search.specs.Answers.{FoundWaves, found_waves, AreFoundWaves, IsRefutation, IsSpent, IsFound}
 use Rattle.order_search.specs.Laws.{PicksOne}
 use Rattle.order_search.proofs.Fills.{branch_count-append, branch_count-unvisited}
 use Rattle.order_search.proofs.TreeRefutes.{cycle_leads}
@@ -162,7 +162,8 @@ record Stop (m : Meaning) : Type 0 where
   ranks : List ℕ
   before : List Node
   later : List Place
-  stands : StandsAt (IsFoundNode m) m place ranks before later
+  stands : StandsAt m place before later
+  layered : IsLayered m.size place ranks
 
 -- two such places are one, or at the earlier one, whose list isn't good, the other nodes have a branch
 data Stops (m : Meaning) (s t : Stop m) : Type 0 where
@@ -177,13 +178,13 @@ more_branches nodes more others grown some =
 stops_on : (m : Meaning) → PicksOne m.good m.picked → (s t : Stop m) →
     GoesOn m (filled s.before (s.place ∷ s.later)) (filled t.before (t.place ∷ t.later)) → Stops m s t
 stops_on m picks s t on =
-    elim (what_follows m picks s.place s.later (t.place ∷ t.later) s.ranks on.more s.stands.layered on.fills on.visited) [
+    elim (what_follows m picks s.place s.later (t.place ∷ t.later) s.ranks on.more s.layered on.fills on.visited) [
       | nothing places none ↦
           let place : s.place ≡ t.place = cc in
           let rest : s.later ≡ t.later = cc in
           let ends : t.before ≡ s.before = on.grown ∙ ap (λ (xs : List Node). s.before ++ xs) none ∙ append-nil s.before in
           same (sym ends) place rest
-          (layered_once m.size t.place s.ranks t.ranks (subst (λ (p : Place). IsLayered m.size p s.ranks) place s.stands.layered) t.stands.layered)
+          (layered_once m.size t.place s.ranks t.ranks (subst (λ (p : Place). IsLayered m.size p s.ranks) place s.layered) t.layered)
       | branch some bad ↦ earlier (more_branches s.before on.more t.before on.grown some) bad
     ]
 
@@ -203,7 +204,7 @@ closed_goes_on : (m : Meaning) → PicksOne m.good m.picked → (tree : List Nod
 closed_goes_on m picks tree closed s =
     elim (meet m picks (m.base ∷ []) [] (s.place ∷ s.later) tree s.before closed.tree s.stands.fills closed.visited s.stands.visited) [
       | inl on ↦ absurd (no_more on.more on.fills)
-      | inr on ↦ elim (what_follows m picks s.place s.later [] s.ranks on.more s.stands.layered on.fills on.visited) [
+      | inr on ↦ elim (what_follows m picks s.place s.later [] s.ranks on.more s.layered on.fills on.visited) [
         | nothing places none ↦ absurd (let e : s.place ∷ s.later ≡ [] = places in cc)
         | branch some bad ↦ (more_branches s.before on.more tree on.grown some, bad)
       ]
@@ -233,14 +234,14 @@ branches_before : (before nodes : List Node) (k : ℕ) → nodes ≡ before ++ r
 branches_before before nodes k ends =
     omega (arith, ap (λ (xs : List Node). branch_count xs) ends, branch_count-append before (replicate k Unvisited), branch_count-unvisited k)
 
-abbrev waves_stop : (m : Meaning) (budget : ℕ) (ranks : List ℕ) (pairs : List Pair) (chain : List ℕ) (trail : List Node) →
-    AreFoundWaves m budget ranks pairs chain trail → Stop m
-waves_stop m budget ranks pairs chain trail found = record {
-  place = pairs;
-  ranks = ranks;
-  before = found.leads.before;
-  later = found.leads.later;
-  stands = found.leads.stands;
+abbrev waves_stop : (m : Meaning) (budget : ℕ) (found : FoundWaves) → AreFoundWaves m budget found → Stop m
+waves_stop m budget found is = record {
+  place = found.pairs;
+  ranks = found.ranks;
+  before = is.leads.before;
+  later = is.leads.later;
+  stands = is.leads.stands;
+  layered = is.leads.layered;
 }
 
 abbrev spent_stop : (m : Meaning) (budget : ℕ) (tree : List Node) → IsSpent m budget tree → Stop m
@@ -250,20 +251,19 @@ spent_stop m budget tree found = record {
   before = found.stopped.before;
   later = found.stopped.later;
   stands = found.stopped.stands;
+  layered = found.stopped.layered;
 }
 
 -- two answers of waves are one
-waves_once : (m : Meaning) (budget : ℕ) → PicksOne m.good m.picked → (ranks others : List ℕ) (pairs rest : List Pair)
-    (chain other : List ℕ) (trail nodes : List Node) →
-    AreFoundWaves m budget ranks pairs chain trail → AreFoundWaves m budget others rest other nodes →
-    Waves ranks pairs chain trail ≡ Waves others rest other nodes
-waves_once m budget picks ranks others pairs rest chain other trail nodes is too =
-    elim (stops m picks (waves_stop m budget ranks pairs chain trail is) (waves_stop m budget others rest other nodes too)) [
+waves_once : (m : Meaning) (budget : ℕ) → PicksOne m.good m.picked → (w v : FoundWaves) → AreFoundWaves m budget w → AreFoundWaves m budget v →
+    Waves w.ranks w.pairs w.chain w.trail ≡ Waves v.ranks v.pairs v.chain v.trail
+waves_once m budget picks w v is too =
+    elim (stops m picks (waves_stop m budget w is) (waves_stop m budget v too)) [
       | same before place later_places one ↦
-          let trails : trail ≡ nodes = is.leads.ends ∙ ap (λ (xs : List Node). xs ++ Unvisited ∷ []) before ∙ sym too.leads.ends in
-          let moved : IsChain rest others chain =
-          subst (λ (rs : List ℕ). IsChain rest rs chain) one (subst (λ (ps : List Pair). IsChain ps ranks chain) place is.chained) in
-          let chains : chain ≡ other = chain_unique rest others chain other moved too.chained in
+          let trails : w.trail ≡ v.trail = is.leads.ends ∙ ap (λ (xs : List Node). xs ++ Unvisited ∷ []) before ∙ sym too.leads.ends in
+          let moved : IsChain v.pairs v.ranks w.chain =
+          subst (λ (rs : List ℕ). IsChain v.pairs rs w.chain) one (subst (λ (ps : List Pair). IsChain ps w.ranks w.chain) place is.chained) in
+          let chains : w.chain ≡ v.chain = chain_unique v.pairs v.ranks w.chain v.chain moved too.chained in
           cc
       | earlier more bad ↦ absurd (bad is.is_good)
       | later more bad ↦ absurd (bad too.is_good)
@@ -284,23 +284,21 @@ spent_once m budget picks tree other is too =
     ]
 
 -- where waves are found, the budget isn't spent
-waves_not_spent : (m : Meaning) (budget : ℕ) → PicksOne m.good m.picked → (ranks : List ℕ) (pairs : List Pair) (chain : List ℕ)
-    (trail tree : List Node) →
-    AreFoundWaves m budget ranks pairs chain trail → IsSpent m budget tree → ⊥
-waves_not_spent m budget picks ranks pairs chain trail tree is too =
-    let one = branches_before is.leads.before trail 1 is.leads.ends in
+waves_not_spent : (m : Meaning) (budget : ℕ) → PicksOne m.good m.picked → (found : FoundWaves) (tree : List Node) →
+    AreFoundWaves m budget found → IsSpent m budget tree → ⊥
+waves_not_spent m budget picks found tree is too =
+    let one = branches_before is.leads.before found.trail 1 is.leads.ends in
     let two = branches_before too.stopped.before tree (suc (length too.stopped.later)) too.stopped.ends in
-    elim (stops m picks (waves_stop m budget ranks pairs chain trail is) (spent_stop m budget tree too)) [
+    elim (stops m picks (waves_stop m budget found is) (spent_stop m budget tree too)) [
       | same before place later_places same_ranks ↦ too.stopped.bad (subst (λ (rs : List ℕ). m.good rs) same_ranks is.is_good)
       | earlier more bad ↦ bad is.is_good
       | later more bad ↦ omega (arith, more, one, two, is.within, too.stopped.spent)
     ]
 
-waves_not_refuted : (m : Meaning) (budget : ℕ) → PicksOne m.good m.picked → (ranks : List ℕ) (pairs : List Pair) (chain : List ℕ)
-    (trail tree : List Node) →
-    AreFoundWaves m budget ranks pairs chain trail → IsRefutation m budget tree → ⊥
-waves_not_refuted m budget picks ranks pairs chain trail tree is too =
-    (closed_goes_on m picks tree too.closed (waves_stop m budget ranks pairs chain trail is)).1 is.is_good
+waves_not_refuted : (m : Meaning) (budget : ℕ) → PicksOne m.good m.picked → (found : FoundWaves) (tree : List Node) →
+    AreFoundWaves m budget found → IsRefutation m budget tree → ⊥
+waves_not_refuted m budget picks found tree is too =
+    (closed_goes_on m picks tree too.closed (waves_stop m budget found is)).1 is.is_good
 
 spent_not_refuted : (m : Meaning) (budget : ℕ) → PicksOne m.good m.picked → (tree other : List Node) → IsSpent m budget tree →
     IsRefutation m budget other → ⊥
@@ -313,18 +311,18 @@ spent_not_refuted m budget picks tree other is too =
 pub one_answer : (m : Meaning) (budget : ℕ) → PicksOne m.good m.picked → (found other : Found) → IsFound m budget found → IsFound m budget other →
     found ≡ other
 one_answer m budget picks (Waves ranks pairs chain trail) (Waves others rest other nodes) is too =
-    waves_once m budget picks ranks others pairs rest chain other trail nodes is too
+    waves_once m budget picks (found_waves ranks pairs chain trail) (found_waves others rest other nodes) is too
 one_answer m budget picks (Waves ranks pairs chain trail) (Refuted tree) is too =
-    absurd (waves_not_refuted m budget picks ranks pairs chain trail tree is too)
+    absurd (waves_not_refuted m budget picks (found_waves ranks pairs chain trail) tree is too)
 one_answer m budget picks (Waves ranks pairs chain trail) (Spent tree) is too =
-    absurd (waves_not_spent m budget picks ranks pairs chain trail tree is too)
+    absurd (waves_not_spent m budget picks (found_waves ranks pairs chain trail) tree is too)
 one_answer m budget picks (Refuted tree) (Waves ranks pairs chain trail) is too =
-    absurd (waves_not_refuted m budget picks ranks pairs chain trail tree too is)
+    absurd (waves_not_refuted m budget picks (found_waves ranks pairs chain trail) tree too is)
 one_answer m budget picks (Refuted tree) (Refuted other) is too =
     ap (λ (nodes : List Node). Refuted nodes) (closed_once m picks tree other is.closed too.closed)
 one_answer m budget picks (Refuted tree) (Spent other) is too = absurd (spent_not_refuted m budget picks other tree too is)
 one_answer m budget picks (Spent tree) (Waves ranks pairs chain trail) is too =
-    absurd (waves_not_spent m budget picks ranks pairs chain trail tree too is)
+    absurd (waves_not_spent m budget picks (found_waves ranks pairs chain trail) tree too is)
 one_answer m budget picks (Spent tree) (Refuted other) is too = absurd (spent_not_refuted m budget picks tree other is too)
 one_answer m budget picks (Spent tree) (Spent other) is too =
     ap (λ (nodes : List Node). Spent nodes) (spent_once m budget picks tree other is too)

@@ -9,8 +9,7 @@ use Rattle.order_core.specs.declared.turn.Turn.{Turn}
 use Rattle.order_core.specs.declared.turn.Tag.{Tag}
 use Rattle.order_core.specs.declared.turn.Tag.TheVariants.{Old, New, Both}
 use Rattle.precedence_set.proofs.LayerFacts.{layers_keep}
-use Rattle.order_search.specs.Trees.{Real}
-use Rattle.order_search.specs.Meanings.{Good, Picked, Break}
+use Rattle.order_search.specs.Meanings.{Meaning, Break}
 use Rattle.order_search.specs.Places.{IsLayered}
 use Rattle.order_search.proofs.Turned.{All-grid, in_front}
 
@@ -62,23 +61,20 @@ abbrev pub MayBeChild : ℕ → List Pair → Pair → Type 0
 MayBeChild n pairs p = (p.0 < n) × (p.1 < n) × (p.0 ≢ p.1) × (¬ Leads pairs p.0 p.1)
 
 -- each pair of a branch's children may be one: in the layered list that was asked its second router is in no later wave
-pub kids_may : (real : Real) (picked : Picked) (n : ℕ) (pairs : List Pair) (ranks : List ℕ) (address : ℕ) (turns : List Turn) →
-    IsLayered n pairs ranks →
-    Break real picked n ranks address turns →
-    All (MayBeChild n pairs) (child_pairs turns)
-kids_may real picked n pairs ranks address turns layered told =
-    let keeps = layers_keep n pairs ranks layered.below layered.layers in
-    All-grid (MayBeChild n pairs) (old_routers turns) (new_routers turns) (λ u v has_u has_v. (
-      All-contains (λ (x : ℕ). x < n) (old_routers turns) u (All-old (λ (x : ℕ). x < n) turns told.below) has_u,
-      All-contains (λ (x : ℕ). x < n) (new_routers turns) v (All-new (λ (x : ℕ). x < n) turns told.below) has_v,
+pub kids_may : (m : Meaning) (pairs : List Pair) (ranks : List ℕ) (address : ℕ) (turns : List Turn) → IsLayered m.size pairs ranks →
+    Break m ranks address turns → All (MayBeChild m.size pairs) (child_pairs turns)
+kids_may m pairs ranks address turns layered told =
+    let keeps = layers_keep m.size pairs ranks layered.below layered.layers in
+    All-grid (MayBeChild m.size pairs) (old_routers turns) (new_routers turns) (λ u v has_u has_v. (
+      All-contains (λ (x : ℕ). x < m.size) (old_routers turns) u (All-old (λ (x : ℕ). x < m.size) turns told.below) has_u,
+      All-contains (λ (x : ℕ). x < m.size) (new_routers turns) v (All-new (λ (x : ℕ). x < m.size) turns told.below) has_v,
       (λ same. old_not_new turns told.distinct u has_u (subst (λ (x : ℕ). Contains (new_routers turns) x) (sym same) has_v)),
       (λ leads. omega (arith, rank_rises ranks pairs keeps u v leads, told.no_later u v has_u has_v)),
     ))
 
 -- the ranking that was asked isn't good: no New turn's router is in a later wave than an Old turn's
-pub not_good : (good : Good) (real : Real) (picked : Picked) (n : ℕ) (ranks : List ℕ) (address : ℕ) (turns : List Turn) →
-    Break real picked n ranks address turns →
-    (good ranks → RanksSomeOldFirst ranks turns) → ¬ good ranks
-not_good good real picked n ranks address turns told decides is_good =
+pub not_good : (m : Meaning) (ranks : List ℕ) (address : ℕ) (turns : List Turn) → Break m ranks address turns →
+    (m.good ranks → RanksSomeOldFirst ranks turns) → ¬ m.good ranks
+not_good m ranks address turns told decides is_good =
     let some = decides is_good in
     omega (arith, some.keeps, told.no_later some.old some.new some.is_old some.is_new)

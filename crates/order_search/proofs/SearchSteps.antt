@@ -14,8 +14,8 @@ use Rattle.precedence_set.specs.Layers.{IsChain, IsLayeredChain}
 use Rattle.precedence_set.proofs.LayerFacts.{layers_fewest, layers_unique}
 use Rattle.order_search.specs.Trees.{Place, Fill, IsVisited, HasOneChild, branch_count}
 use Rattle.order_search.specs.Meanings.{Meaning, Break, IsBase}
-use Rattle.order_search.specs.Places.{IsLayered}
-use Rattle.order_search.specs.Answers.{IsFoundNode, AreFoundWaves, IsRefutation, IsSpent, IsFound}
+use Rattle.order_search.specs.Places.{IsFoundNode, IsLayered}
+use Rattle.order_search.specs.Answers.{found_waves, AreFoundWaves, IsRefutation, IsSpent, IsFound}
 use Rattle.order_search.specs.steps.Waiting.{Standing, child_of, place_of, places_of, children_below, AreChildren, AreFresh, IsUnder}
 use Rattle.order_search.specs.steps.Leaves.{IsLeaf, GrowsLeaves}
 use Rattle.order_search.specs.steps.Steps.{IsSearching, IsAsked, EndsBy, EndsOrGoesOn, IsEndOf}
@@ -73,7 +73,7 @@ chain_of n pairs ranks chain layered chained =
 -- a ranking that the search found good
 waves_are_found : (m : Meaning) (budget : ℕ) (s : Stand) (chain : List ℕ) → IsAsked m budget s → m.good s.ranks.items →
     IsLayeredChain m.size s.held.pairs chain →
-    AreFoundWaves m budget s.ranks.items s.held.pairs chain (s.tree ++ Unvisited ∷ [])
+    AreFoundWaves m budget (found_waves s.ranks.items s.held.pairs chain (s.tree ++ Unvisited ∷ []))
 waves_are_found m budget s chain asked is_good chained =
     let searching = asked.searching in
     let layered = asked.layered in
@@ -89,7 +89,8 @@ waves_are_found m budget s chain asked is_good chained =
         before = s.tree;
         later = places_of pairs s.waiting;
         ends = refl;
-        stands = record { visited = searching.visited; fills = searching.fills; layered = layered };
+        stands = record { visited = searching.visited; fills = searching.fills };
+        layered = layered;
       };
       within = omega (arith, branch_count-append s.tree (Unvisited ∷ []), searching.counted, searching.within);
       chained = is_chain;
@@ -127,7 +128,8 @@ stop_is_spent m budget s asked bad all =
         later = places_of s.held.pairs s.waiting;
         ranks = s.ranks.items;
         ends = ap (λ (k : ℕ). s.tree ++ replicate k Unvisited) e;
-        stands = record { visited = searching.visited; fills = searching.fills; layered = asked.layered };
+        stands = record { visited = searching.visited; fills = searching.fills };
+        layered = asked.layered;
         bad = bad;
         spent = omega (arith, branch_count-append s.tree (replicate count Unvisited), branch_count-unvisited count, searching.counted, all);
       };
@@ -195,7 +197,7 @@ IsAsked-visited m budget s held ranks is same long layered =
 
 -- the place becomes a branch
 pub branch_is_made : (m : Meaning) (budget : ℕ) (s : Stand) (ranks : List ℕ) (address : ℕ) (turns told_turns : List Turn) →
-    IsAsked m budget s × (s.ranks.items ≡ ranks) → Break m.real m.picked m.size ranks address told_turns → turns ≡ told_turns → s.branches ≢ budget →
+    IsAsked m budget s × (s.ranks.items ≡ ranks) → Break m ranks address told_turns → turns ≡ told_turns → s.branches ≢ budget →
     IsBranched m budget (record s {
       tree = s.tree ++ Branch address turns ∷ [];
       waiting = children_below s.held.pairs turns s.waiting;
@@ -203,8 +205,8 @@ pub branch_is_made : (m : Meaning) (budget : ℕ) (s : Stand) (ranks : List ℕ)
     })
 branch_is_made m budget s ranks address turns told_turns (asked, written) breaks same more =
     let searching = asked.searching in
-    let told = subst (λ (ts : List Turn). Break m.real m.picked m.size s.ranks.items address ts) (sym same)
-    (subst (λ (xs : List ℕ). Break m.real m.picked m.size xs address told_turns) (sym written) breaks) in
+    let told = subst (λ (ts : List Turn). Break m s.ranks.items address ts) (sym same)
+    (subst (λ (xs : List ℕ). Break m xs address told_turns) (sym written) breaks) in
     let pairs : List Pair = s.held.pairs in
     let above : ℕ = length pairs in
     let node : IsFoundNode m pairs (Branch address turns) = record {
@@ -220,7 +222,7 @@ branch_is_made m budget s ranks address turns told_turns (asked, written) breaks
       under = record {
         fresh = searching.under.fresh;
         waiting = AreChildren-kids m.size m.base pairs above (child_pairs turns) s.waiting searching.under.fresh.long refl
-            (kids_may m.real m.picked m.size pairs s.ranks.items address turns asked.layered told) searching.under.waiting;
+            (kids_may m pairs s.ranks.items address turns asked.layered told) searching.under.waiting;
       };
       counted = omega (arith, branch_count-append s.tree (Branch address turns ∷ []), searching.counted);
       within = omega (arith, more, searching.within);

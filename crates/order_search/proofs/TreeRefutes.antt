@@ -8,7 +8,8 @@ use Rattle.order_core.specs.Rankings.{KeepsPair, KeepsPairs}
 use Rattle.order_core.specs.Turns.{old_routers, new_routers, child_pairs}
 use Rattle.order_search.specs.Trees.{Place, Real, Fill, places_below, IsTreeNode, IsCycle, IsVisited, IsClosedTree}
 use Rattle.order_search.specs.Meanings.{Good, Meaning}
-use Rattle.order_search.specs.Answers.{IsFoundNode, IsRefutation}
+use Rattle.order_search.specs.Answers.{IsRefutation}
+use Rattle.order_search.specs.Places.{IsFoundNode}
 use Rattle.order_search.specs.Laws.{IsDecisive}
 use Rattle.order_search.proofs.Fills.{Fill-weaker}
 use Rattle.order_search.proofs.RankFacts.{rank_rises}

@@ -29,13 +29,13 @@ pub record IsBase (n : ℕ) (base : List Pair) : Type 0 where
   pub below : AreBelow n base
   pub acyclic : HasNoCycle base
 
--- the address and turns break a ranking: they are real and picked for it, their routers are distinct and
--- below n, some turn is Old and some New, and no New turn's router stands in a later wave than an Old turn's
-pub record Break (real : Real) (picked : Picked) (n : ℕ) (ranks : List ℕ) (address : ℕ) (turns : List Turn) : Type 0 where
-  pub is_real : real address turns
-  pub pick : picked ranks address turns
+-- the address and turns break a ranking: they are real and picked for it, their routers are distinct and among those
+-- that are ranked, some turn is Old and some New, and no New turn's router stands in a later wave than an Old turn's
+pub record Break (m : Meaning) (ranks : List ℕ) (address : ℕ) (turns : List Turn) : Type 0 where
+  pub is_real : m.real address turns
+  pub pick : m.picked ranks address turns
   pub distinct : AllPairs (λ (s t : Turn). s.router ≢ t.router) turns
-  pub below : All (λ (t : Turn). t.router < n) turns
+  pub below : All (λ (t : Turn). t.router < m.size) turns
   pub both : HasBothTags turns
   pub no_later : (u v : ℕ) → Contains (old_routers turns) u → Contains (new_routers turns) v → rank_of ranks v ≤ rank_of ranks u
 

@@ -1,10 +1,10 @@
--- Places and the rankings that are asked there: layered lists, earned branches, the cycle of a leaf, the first place
--- that isn't visited.
+-- Places and the rankings that are asked there: layered lists, earned branches, the cycle of a leaf, the nodes that the
+-- search makes, the first place that isn't visited.
 use Rattle.std.specs.Prelude.{◌≡◌, ℕ, suc, List, ◌∷◌, [], ◌++◌, length, replicate, All}
 use Rattle.order_core.specs.Pairs.{AreBelow, HasNoCycle}
 use Rattle.precedence_set.specs.Layers.{AreLayers}
 use Rattle.precedence_set.specs.LeastCycle.{IsLeastCycle}
-use Rattle.order_search.specs.Trees.{Place, NodeFact, Fill, IsVisited, branch_count}
+use Rattle.order_search.specs.Trees.{Place, Fill, IsTreeNode, IsVisited, branch_count}
 use Rattle.order_search.specs.Meanings.{Meaning, Picked}
 use Rattle.order_search.specs.declared.tree.Node.{Node}
 use Rattle.order_search.specs.declared.tree.Node.TheVariants.{Branch, Leaf, Unvisited}
@@ -41,28 +41,35 @@ NamesLeastCycle pairs (Branch address turns) = Unit {0}
 NamesLeastCycle pairs (Leaf cycle) = IsClosedByLast pairs cycle
 NamesLeastCycle pairs Unvisited = Unit {0}
 
--- visited nodes of a tree up to an open place, whose layered list has these ranks, and the places that are open after it
-pub record StandsAt (P : NodeFact) (m : Meaning) (place : Place) (ranks : List ℕ) (before : List Node) (later : List Place) : Type 0 where
+-- a node that the search makes: a node of a tree, earned if it is a branch, with the least cycle if it is a leaf
+pub record IsFoundNode (m : Meaning) (place : Place) (node : Node) : Type 0 where
+  pub is_node : IsTreeNode m.real place node
+  pub earned : IsEarned m.picked m.size place node
+  pub least_cycle : NamesLeastCycle place node
+
+-- visited nodes of a tree up to an open place, and the places that are open after it
+pub record StandsAt (m : Meaning) (place : Place) (before : List Node) (later : List Place) : Type 0 where
   pub visited : All IsVisited before
-  pub fills : Fill P (m.base ∷ []) before (place ∷ later)
-  pub layered : IsLayered m.size place ranks
+  pub fills : Fill (IsFoundNode m) (m.base ∷ []) before (place ∷ later)
 
 -- the nodes lead to a ranking at a place: they are the nodes of a tree up to its first unvisited place, that place
 -- included, and the ranking is its layered list
-pub record LeadsToRanking (P : NodeFact) (m : Meaning) (place : Place) (ranks : List ℕ) (nodes : List Node) : Type 0 where
+pub record LeadsToRanking (m : Meaning) (place : Place) (ranks : List ℕ) (nodes : List Node) : Type 0 where
   pub before : List Node
   pub later : List Place
   pub ends : nodes ≡ before ++ Unvisited ∷ []
-  pub stands : StandsAt P m place ranks before later
+  pub stands : StandsAt m place before later
+  pub layered : IsLayered m.size place ranks
 
 -- a tree is stopped at a budget: it has exactly so many branches; its first unvisited place has a layered list that
 -- isn't good; after that place there are only unvisited places
-pub record IsStoppedAt (P : NodeFact) (m : Meaning) (budget : ℕ) (nodes : List Node) : Type 0 where
+pub record IsStoppedAt (m : Meaning) (budget : ℕ) (nodes : List Node) : Type 0 where
   pub before : List Node
   pub place : Place
   pub later : List Place
   pub ranks : List ℕ
   pub ends : nodes ≡ before ++ replicate (suc (length later)) Unvisited
-  pub stands : StandsAt P m place ranks before later
+  pub stands : StandsAt m place before later
+  pub layered : IsLayered m.size place ranks
   pub bad : ¬ m.good ranks
   pub spent : branch_count nodes ≡ budget

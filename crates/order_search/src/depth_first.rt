@@ -116,8 +116,13 @@ fn visit<Q: Oracle>(oracle: &mut Q, held: &mut Assumptions, ranks: &mut [u32]) -
     ensures same { held.new ≡ held.old }
     ensures layered { IsLayered held.old.routers held.old.pairs ranks.new }
     ensures fine { result ≡ Answer.Fine → Q.good oracle.old ranks.new }
-    ensures breaks { (address : ℕ) → result ≡ Answer.Breaks address
-        → Break (Q.real oracle.old) (Q.picked oracle.old) (Q.size oracle.old) ranks.new address (Q.shown oracle.new) }
+    ensures breaks { (address : ℕ) → result ≡ Answer.Breaks address → Break (record {
+      good = Q.good oracle.old;
+      real = Q.real oracle.old;
+      picked = Q.picked oracle.old;
+      size = Q.size oracle.old;
+      base = Q.base oracle.old;
+    }) ranks.new address (Q.shown oracle.new) }
     ensures size_stays { Q.size oracle.new ≡ Q.size oracle.old }
     ensures base_stays { Q.base oracle.new ≡ Q.base oracle.old }
     ensures good_stays { (ranks : List ℕ) → Q.good oracle.new ranks ↔ Q.good oracle.old ranks }

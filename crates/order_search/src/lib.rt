@@ -11,7 +11,7 @@
 //! | `ending` | what ends it, and what was found there |
 //! | `places` | from one place to the next, past children whose pair closes a cycle (`Places`) |
 //! | `assumptions` | the pairs that are assumed now, over `precedence_set` |
-//! | `waiting`, `siblings`, `child` | the children that wait to be visited |
+//! | `waiting`, `siblings`, `child`, `sides` | the children that wait to be visited, and the routers that come first and second in them |
 //!
 //! A place takes the time of the oracle's answer, of the pairs and routers for the layered list, and of the turns that it is
 //! told; what waits is told by two places in a list of turns for each branch. The search takes memory of the routers, of the
@@ -34,6 +34,7 @@ mod stand;
 mod assumptions;
 mod child;
 mod siblings;
+mod sides;
 mod waiting;
 
 pub use depth_first::search;
@@ -41,5 +42,6 @@ pub use found::{Found, Pairs};
 pub use laws::{answers_are_one, closed_trees_refute};
 pub use oracle::{Answer, Oracle};
 pub use order_core::{Tag, Turn, Turns, Waves};
+pub use sides::{new_routers_of, old_routers_of};
 pub use std::alloc::AllocError as OutOfMemory;
 pub use tree::{Cycle, Node, Tree};

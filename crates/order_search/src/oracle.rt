@@ -53,8 +53,13 @@ pub trait Oracle {
         requires ranking { IsRanking (size self.old) ranks.now }
         requires keeps { KeepsPairs ranks.now (base self.old) }
         ensures fine { result ≡ Answer.Fine → good self.new ranks.now }
-        ensures breaks { (address : ℕ) → result ≡ Answer.Breaks address
-            → Break (real self.new) (picked self.new) (size self.new) ranks.now address (shown self.new) }
+        ensures breaks { (address : ℕ) → result ≡ Answer.Breaks address → Break (record {
+          good = good self.new;
+          real = real self.new;
+          picked = picked self.new;
+          size = size self.new;
+          base = base self.new;
+        }) ranks.now address (shown self.new) }
         ensures size_stays { size self.new ≡ size self.old }
         ensures base_stays { base self.new ≡ base self.old }
         ensures good_stays { (ranks : List ℕ) → good self.new ranks ↔ good self.old ranks }

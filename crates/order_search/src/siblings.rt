@@ -1,8 +1,9 @@
 ghost use Rattle.std.specs.Prelude.{◌≡◌, ◌<◌, ◌∷◌, [], length, map, IfOk, IfSome, IfNone};
-ghost use Rattle.order_core.specs.Turns.{child_pairs, old_routers, new_routers};
+ghost use Rattle.order_core.specs.Turns.{child_pairs, new_routers};
 ghost use Rattle.order_search.specs.steps.Waiting.{child_of};
 
 use crate::child::Child;
+use crate::sides::{new_routers_of, old_routers_of};
 use order_core::Turn;
 use std::alloc::{AllocError, Global};
 use std::marker::Model;
@@ -39,8 +40,8 @@ impl Siblings {
         ensures { IfOk result (λ s. s ≡ map (child_of above) (child_pairs turns.now)) }
     {
         Ok(Siblings {
-            olds: old_ones(alloc, turns)?,
-            news: new_ones(alloc, turns)?,
+            olds: old_routers_of(alloc, turns)?,
+            news: new_routers_of(alloc, turns)?,
             row: 0,
             column: 0,
             above,
@@ -67,26 +68,4 @@ impl Siblings {
         }
         Some(child)
     }
-}
-
-/// The routers of the Old turns.
-fn old_ones(alloc: Global, turns: &[Turn]) -> Result<Vec<u32>, AllocError>
-    ensures { IfOk result (λ routers. routers.items ≡ old_routers turns.now) }
-{
-    turns
-        .iter()
-        .filter(|turn| turn.tag.is_old())
-        .map(|turn| turn.router)
-        .collect(alloc)
-}
-
-/// The routers of the New turns.
-fn new_ones(alloc: Global, turns: &[Turn]) -> Result<Vec<u32>, AllocError>
-    ensures { IfOk result (λ routers. routers.items ≡ new_routers turns.now) }
-{
-    turns
-        .iter()
-        .filter(|turn| turn.tag.is_new())
-        .map(|turn| turn.router)
-        .collect(alloc)
 }

@@ -1,22 +1,22 @@
 -- Between sound ends what is told of a wave list that isn't seamless is a loop that breaks its ranking.
-use Rattle.std.proofs.Common.{◌≡◌, ℕ, List, length, arith, subst}
+use Rattle.std.proofs.Common.{◌≡◌, ℕ, List, arith, subst}
 use Rattle.order_core.specs.declared.turn.Turn.{Turn}
 use Rattle.igp_theory.specs.LoopLaws.{AreSoundEnds, IsLoopOfWave}
-use Rattle.igp_theory.specs.Loops.{missing, loop, IsLoop}
+use Rattle.igp_theory.specs.Loops.{missing, loop}
 use Rattle.igp_theory.specs.Migrations.{Migration}
 use Rattle.igp_theory.specs.WaveFaults.{IsWavesFault}
 use Rattle.igp_theory.proofs.LoopLaws.{loop_inside}
 use Rattle.igp_theory.proofs.LoopWaves.{wave_fault_between_ends}
 use Rattle.order_search.specs.Meanings.{Break}
-use Rattle.plan_theory.specs.WavesMeaning.{IsPickedFault}
+use Rattle.plan_theory.specs.WavesMeaning.{waves_meaning}
 
 -- the loop of a wave breaks its wave list
 breaks_of_wave : (move : Migration) (ranks : List ℕ) (w a : ℕ) (turns : List Turn) → IsWavesFault move ranks w (loop a turns) →
     (is : IsLoopOfWave move ranks w (loop a turns)) → is.address ≡ a → is.ring ≡ turns →
-    Break (IsLoop move) (IsPickedFault move) (length move.net) ranks a turns
+    Break (waves_meaning move) ranks a turns
 breaks_of_wave move ranks w a turns fault is address ring =
-    let of_address = λ (b : ℕ). Break (IsLoop move) (IsPickedFault move) (length move.net) ranks b turns in
-    let of_ring = λ (ts : List Turn). Break (IsLoop move) (IsPickedFault move) (length move.net) ranks is.address ts in
+    let of_address = λ (b : ℕ). Break (waves_meaning move) ranks b turns in
+    let of_ring = λ (ts : List Turn). Break (waves_meaning move) ranks is.address ts in
     subst of_address address (subst of_ring ring (record {
       is_real = is.is_loop;
       pick = record { wave = w; is_fault = subst (IsWavesFault move ranks w) is.is fault };
@@ -27,7 +27,7 @@ breaks_of_wave move ranks w a turns fault is address ring =
     }))
 
 pub wave_fault_breaks : (move : Migration) (ranks : List ℕ) (w a : ℕ) (turns : List Turn) → AreSoundEnds move →
-    IsWavesFault move ranks w (loop a turns) → Break (IsLoop move) (IsPickedFault move) (length move.net) ranks a turns
+    IsWavesFault move ranks w (loop a turns) → Break (waves_meaning move) ranks a turns
 wave_fault_breaks move ranks w a turns ends fault =
     let is = wave_fault_between_ends move ranks w (loop a turns) ends fault in
     let same : loop a turns ≡ loop is.address is.ring = is.is in

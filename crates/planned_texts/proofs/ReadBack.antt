@@ -3,12 +3,10 @@ use Rattle.std.proofs.Common.{ℕ, ◌<◌, List, [], length}
 use Rattle.net_model.specs.Refusals.{IsNetwork}
 use Rattle.net_model.specs.RouterNames.{names_of}
 use Rattle.igp_theory.specs.Migrations.{Migration}
-use Rattle.order_core.specs.Pairs.{Pair}
-use Rattle.order_search.specs.Answers.{AreFoundWaves, IsFound}
+use Rattle.order_search.specs.Answers.{FoundWaves, found_waves, AreFoundWaves, IsFound}
 use Rattle.order_search.specs.Trees.{branch_count}
 use Rattle.order_search.specs.declared.found.Found.{Found}
 use Rattle.order_search.specs.declared.found.Found.TheVariants.{Waves, Refuted, Spent}
-use Rattle.order_search.specs.declared.tree.Node.{Node}
 use Rattle.plan_theory.specs.WavesMeaning.{waves_meaning}
 use Rattle.planned_texts.specs.Chains.{IsTaggedChain}
 use Rattle.planned_texts.specs.PlannedTexts.{IsPrintable, planned_text}
@@ -30,32 +28,28 @@ use Rattle.step_scripts.proofs.WaveFileLaws.{no_fault, one_wave_list}
 module _ (move : Migration) (budget : ℕ) where
   pub plan_printable : (found : Found) → IsFound (waves_meaning move) budget found → IsPrintable move.net found
   plan_printable (Waves ranks pairs chain trail) is = record {
-    each = found_each move budget ranks pairs chain trail is;
-    one_of_each = found_one_of_each move budget ranks pairs chain trail is;
+    each = found_each move budget (found_waves ranks pairs chain trail) is;
+    one_of_each = found_one_of_each move budget (found_waves ranks pairs chain trail) is;
   }
   plan_printable (Refuted tree) is =
       nodes_below move [] tree (refuted_fill move budget tree is)
   plan_printable (Spent tree) is =
       nodes_below move [] tree (spent_fill move budget tree is)
 
-  pub chain_tagged : (ranks : List ℕ) (pairs : List Pair) (chain : List ℕ) (trail : List Node) →
-      AreFoundWaves (waves_meaning move) budget ranks pairs chain trail → IsTaggedChain move chain
-  chain_tagged ranks pairs chain trail is =
-      found_tagged move budget ranks pairs chain trail is
+  pub chain_tagged : (found : FoundWaves) → AreFoundWaves (waves_meaning move) budget found → IsTaggedChain move found.chain
+  chain_tagged found is = found_tagged move budget found is
 
   module _ (network : IsNetwork move.net) (some : 0 < length move.net) where
-    waves_read : (ranks : List ℕ) (pairs : List Pair) (chain : List ℕ) (trail : List Node) →
-        AreFoundWaves (waves_meaning move) budget ranks pairs chain trail →
-        ReadsAsSafeWaves move (waves_text (names_of move.net) ranks chain) ranks
-    waves_read ranks pairs chain trail is =
-        let each = found_one_of_each move budget ranks pairs chain trail is in
-        let names : NamesWaves move.net (waves_text (names_of move.net) ranks chain) Two ranks =
-        waves_read_back move.net ranks chain network some is.is_good.waves each in
-        let text : List ℕ = waves_text (names_of move.net) ranks chain in
+    waves_read : (found : FoundWaves) → AreFoundWaves (waves_meaning move) budget found →
+        ReadsAsSafeWaves move (waves_text (names_of move.net) found.ranks found.chain) found.ranks
+    waves_read found is =
+        let each = found_one_of_each move budget found is in
+        let text : List ℕ = waves_text (names_of move.net) found.ranks found.chain in
+        let names : NamesWaves move.net text Two found.ranks = waves_read_back move.net found.ranks found.chain network some is.is_good.waves each in
         record {
           names = names;
-          faultless = λ number kind. no_fault move.net text Two ranks number kind network.ascending names;
-          alone = λ version other has. one_wave_list move.net text version Two other ranks network.ascending has names;
+          faultless = λ number kind. no_fault move.net text Two found.ranks number kind network.ascending names;
+          alone = λ version other has. one_wave_list move.net text version Two other found.ranks network.ascending has names;
           seamless = is.is_good;
         }
 
@@ -64,7 +58,7 @@ module _ (move : Migration) (budget : ℕ) where
 
     pub plan_reads_back : (found : Found) → IsFound (waves_meaning move) budget found →
         FoundReadsBack move found (planned_text (names_of move.net) found)
-    plan_reads_back (Waves ranks pairs chain trail) is = waves_read ranks pairs chain trail is
+    plan_reads_back (Waves ranks pairs chain trail) is = waves_read (found_waves ranks pairs chain trail) is
     plan_reads_back (Refuted tree) is =
         has_verdict (tree_text (names_of move.net) tree) (Closed (branch_count tree) (leaf_count tree))
         (refutation_closes move budget network tree is)

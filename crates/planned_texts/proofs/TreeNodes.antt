@@ -1,12 +1,11 @@
 -- The nodes of a tree whose branches are loops of a network: they are of its routers, and they read back.
-use Rattle.std.proofs.Common.{ℕ, ◌<◌, ◌≤◌, List, [], ◌∷◌, ◌++◌, length, All, Contains, arith, ap, subst, sym}
+use Rattle.std.proofs.Common.{ℕ, ◌<◌, ◌≤◌, List, [], ◌∷◌, ◌++◌, length, All, arith, ap, subst, sym}
 use Rattle.std.proofs.lemmas.List.Elements.{All-append, All-cons, All-contains, All-head, All-map, All-nil, All-push, All-tail, All-weaker}
 use Rattle.igp_theory.specs.Loops.{IsLoop}
 use Rattle.igp_theory.specs.Migrations.{Migration}
 use Rattle.igp_theory.proofs.LoopLaws.{loop_inside}
 use Rattle.order_core.specs.Pairs.{Pair, AreBelow, IsPath}
 use Rattle.order_core.specs.Turns.{child_pairs}
-use Rattle.order_core.specs.declared.turn.Turn.{Turn}
 use Rattle.order_search.specs.Trees.{Fill, IsCycle, IsTreeNode, NodeFact, Place, places_below}
 use Rattle.order_search.specs.declared.tree.Node.{Node}
 use Rattle.order_search.specs.declared.tree.Node.TheVariants.{Branch, Leaf, Unvisited}
@@ -55,14 +54,14 @@ module _ (move : Migration) where
   node_printable : (place : Place) (node : Node) → AreBelow (length move.net) place → IsTreeNode (IsLoop move) place node →
       IsPrintableNode (length move.net) node × All (AreBelow (length move.net)) (places_below place node)
   node_printable place (Branch a turns) below is =
+      let n = length move.net in
       let routers = loop_inside move a turns is.0 in
-      let pairs = children_below (length move.net) turns routers in
-      let more : (p : Pair) → (p.0 < length move.net) × (p.1 < length move.net) → AreBelow (length move.net) (place ++ p ∷ []) = λ p fine.
-      All-push (λ (q : Pair). (q.0 < length move.net) × (q.1 < length move.net)) place p below fine in (
+      let more : (p : Pair) → (p.0 < n) × (p.1 < n) → AreBelow n (place ++ p ∷ []) = λ p fine.
+      All-push (λ (q : Pair). (q.0 < n) × (q.1 < n)) place p below fine in (
         (routers, (is.0.address, record { some = is.0.some; distinct = is.0.distinct })),
-        All-map (AreBelow (length move.net)) (λ (p : Pair). place ++ p ∷ []) (child_pairs turns)
-            (All-weaker (λ (p : Pair). (p.0 < length move.net) × (p.1 < length move.net)) (λ (p : Pair). AreBelow (length move.net) (place ++ p ∷ [])) more
-            (child_pairs turns) pairs),
+        All-map (AreBelow n) (λ (p : Pair). place ++ p ∷ []) (child_pairs turns)
+            (All-weaker (λ (p : Pair). (p.0 < n) × (p.1 < n)) (λ (p : Pair). AreBelow n (place ++ p ∷ [])) more (child_pairs turns)
+            (children_below n turns routers)),
       )
   node_printable place (Leaf cycle) below is = (
     (cycle_below (length move.net) place cycle below is, record { some = cycle_some place cycle is; distinct = is.distinct }),

@@ -4,7 +4,8 @@ use Rattle.net_model.specs.Refusals.{IsNetwork}
 use Rattle.net_model.specs.RouterNames.{names_of}
 use Rattle.igp_theory.specs.Loops.{IsLoop}
 use Rattle.igp_theory.specs.Migrations.{Migration}
-use Rattle.order_search.specs.Answers.{IsFoundNode, IsRefutation, IsSpent}
+use Rattle.order_search.specs.Answers.{IsRefutation, IsSpent}
+use Rattle.order_search.specs.Places.{IsFoundNode}
 use Rattle.plan_theory.specs.WavesMeaning.{waves_meaning}
 use Rattle.order_search.specs.Trees.{Fill, IsTreeNode, Place, Real, branch_count}
 use Rattle.order_search.proofs.Fills.{Fill-append, Fill-weaker}

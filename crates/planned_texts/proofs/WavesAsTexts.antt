@@ -8,9 +8,9 @@ use Rattle.order_core.specs.Rankings.{wave_count, wave_of}
 use Rattle.order_core.specs.declared.turn.Turn.{Turn}
 use Rattle.order_core.proofs.WaveLists.{wave_routers}
 use Rattle.igp_theory.specs.Migrations.{Migration}
-use Rattle.order_search.specs.Answers.{AreFoundWaves, IsFoundNode}
+use Rattle.order_search.specs.Answers.{FoundWaves, AreFoundWaves}
 use Rattle.order_search.specs.Meanings.{Meaning}
-use Rattle.order_search.specs.Places.{LeadsToRanking}
+use Rattle.order_search.specs.Places.{IsFoundNode, LeadsToRanking}
 use Rattle.plan_theory.specs.WavesMeaning.{waves_meaning}
 use Rattle.order_search.specs.Trees.{Place, Real}
 use Rattle.order_search.specs.declared.tree.Node.{Node}
@@ -64,7 +64,7 @@ IsPlace place = Unit {0}
 
 -- the branches of a trail are real
 trail_branch : (m : Meaning) (place : Place) (ranks : List ℕ) (trail : List Node) (address : ℕ) (turns : List Turn) →
-    LeadsToRanking (IsFoundNode m) m place ranks trail → Contains trail (Branch address turns) → m.real address turns
+    LeadsToRanking m place ranks trail → Contains trail (Branch address turns) → m.real address turns
 trail_branch m place ranks trail address turns leads has =
     let all : All (IsRealBranch m.real) leads.before = Fill-each (IsFoundNode m) IsPlace (IsRealBranch m.real)
     (λ place node fine is. (real_branch m place node is, λ k d within. tt)) (m.base ∷ []) (place ∷ leads.later) leads.before leads.stands.fills
@@ -77,27 +77,27 @@ trail_branch m place ranks trail address turns leads has =
     ]
 
 module _ (move : Migration) where
-  module _ (budget : ℕ) (ranks : List ℕ) (pairs : List Pair) (chain : List ℕ) (trail : List Node)
-      (found : AreFoundWaves (waves_meaning move) budget ranks pairs chain trail) where
-    pub found_one_of_each : AreOneOfEach ranks chain
+  module _ (budget : ℕ) (found : FoundWaves) (are : AreFoundWaves (waves_meaning move) budget found) where
+    pub found_one_of_each : AreOneOfEach found.ranks found.chain
     found_one_of_each =
-        chain_one_of_each (length move.net) pairs ranks chain found.leads.stands.layered.layers.whole found.leads.stands.layered.below found.chained
+        let layered = are.leads.layered in
+        chain_one_of_each (length move.net) found.pairs found.ranks found.chain layered.layers.whole layered.below are.chained
 
-    pub found_each : length ranks ≡ length move.net
-    found_each = found.leads.stands.layered.layers.whole
+    pub found_each : length found.ranks ≡ length move.net
+    found_each = are.leads.layered.layers.whole
 
     -- a pair that is assumed is tagged in a loop of the trail
-    pair_tagged : (pair : Pair) → Contains pairs pair → AreTaggedInLoop move pair.0 pair.1
-    pair_tagged pair has = elim (found.turned pair has) [
+    pair_tagged : (pair : Pair) → Contains found.pairs pair → AreTaggedInLoop move pair.0 pair.1
+    pair_tagged pair has = elim (are.turned pair has) [
       | inl base ↦ absurd (omega (arith, base.1))
       | inr turned ↦ record {
         address = turned.address;
         ring = turned.turns;
-        is_loop = trail_branch (waves_meaning move) pairs ranks trail turned.address turned.turns found.leads turned.branch;
+        is_loop = trail_branch (waves_meaning move) found.pairs found.ranks found.trail turned.address turned.turns are.leads turned.branch;
         is_old = turned.old;
         is_new = turned.new;
       }
     ]
 
-    pub found_tagged : IsTaggedChain move chain
-    found_tagged k within = pair_tagged (get_or chain k 0, get_or chain (suc k) 0) (found.neighbors k within)
+    pub found_tagged : IsTaggedChain move found.chain
+    found_tagged k within = pair_tagged (get_or found.chain k 0, get_or found.chain (suc k) 0) (are.neighbors k within)

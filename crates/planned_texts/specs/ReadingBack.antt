@@ -4,12 +4,10 @@ use Rattle.net_model.specs.Refusals.{IsNetwork}
 use Rattle.net_model.specs.RouterNames.{names_of}
 use Rattle.igp_theory.specs.Migrations.{Migration}
 use Rattle.igp_theory.specs.Waves.{AreSeamlessWaves}
-use Rattle.order_core.specs.Pairs.{Pair}
-use Rattle.order_search.specs.Answers.{AreFoundWaves, IsFound}
+use Rattle.order_search.specs.Answers.{FoundWaves, AreFoundWaves, IsFound}
 use Rattle.order_search.specs.Trees.{branch_count}
 use Rattle.order_search.specs.declared.found.Found.{Found}
 use Rattle.order_search.specs.declared.found.Found.TheVariants.{Waves, Refuted, Spent}
-use Rattle.order_search.specs.declared.tree.Node.{Node}
 use Rattle.plan_theory.specs.WavesMeaning.{waves_meaning}
 use Rattle.planned_texts.specs.Chains.{IsTaggedChain}
 use Rattle.planned_texts.specs.PlannedTexts.{IsPrintable, planned_text}
@@ -56,5 +54,4 @@ PlannedTextsReadBack move =
 -- each two neighbors of the chain of planned waves are tagged Old and New in one loop of the network
 abbrev pub ChainsAreTagged : Migration → Type 0
 ChainsAreTagged move =
-    (budget : ℕ) (ranks : List ℕ) (pairs : List Pair) (chain : List ℕ) (trail : List Node) →
-    AreFoundWaves (waves_meaning move) budget ranks pairs chain trail → IsTaggedChain move chain
+    (budget : ℕ) (found : FoundWaves) → AreFoundWaves (waves_meaning move) budget found → IsTaggedChain move found.chain

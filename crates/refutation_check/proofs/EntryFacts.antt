@@ -1,6 +1,6 @@
 -- The lines behind the header of a text.
 use Rattle.std.proofs.Common.{◌≡◌, ℕ, zero, suc, ◌+◌, ◌-◌, ◌^◌, ◌<◌, ◌≤◌, Bool, true, false, cond, eqb, List, [], ◌∷◌}
-use Rattle.std.proofs.Common.{length, get_or, arith, refl, sym, ap, ◌∙◌, subst}
+use Rattle.std.proofs.Common.{length, get_or, arith, sym, ap, ◌∙◌, subst}
 use Rattle.std.specs.List.{All, slice_split}
 use Rattle.std.proofs.lemmas.List.Elements.{All-tail}
 use Rattle.std.proofs.lemmas.List.Splits.{length-slice_split}
@@ -8,6 +8,7 @@ use Rattle.std.proofs.lemmas.List.Sums.{count_by-le-length}
 use Rattle.net_addr.specs.Lines.{is_line_feed, line_pieces, line_texts, lines_of, text_lines, without_empty_last}
 use Rattle.net_addr.specs.Spans.{bytes_of, LiesIn}
 use Rattle.net_addr.specs.declared.line.Line.{Line}
+use Rattle.net_addr.proofs.JoinedFacts.{lines_of-length}
 use Rattle.refutation_check.specs.TreeLines.{tree_header}
 use Rattle.refutation_check.specs.steps.Reading.{AreTreeEntries, line_bytes}
 
@@ -32,20 +33,15 @@ pieces_few [] = omega arith
 pieces_few (piece ∷ []) = one_few (eqb (length piece) 0) piece
 pieces_few (piece ∷ next ∷ more) = omega (arith, pieces_few (next ∷ more))
 
-lines_many : (number start : ℕ) (pieces : List (List ℕ)) → length (lines_of number start pieces) ≡ length pieces
-lines_many number start [] = refl
-lines_many number start (piece ∷ more) = ap suc (lines_many (number + 1) (start + length piece + 1) more)
-
 -- a text has no more lines than bytes, and one
 lines_few : (text : List ℕ) → length (text_lines text) ≤ length text + 1
 lines_few text =
     omega (
       arith,
-      lines_many 1 0 (line_pieces text),
+      lines_of-length 1 0 (line_pieces text),
       pieces_few (slice_split is_line_feed text),
       length-slice_split is_line_feed text,
-      count_by-le-length
-          is_line_feed text,
+      count_by-le-length is_line_feed text,
     )
 
 -- the lines after a first line that is the header

@@ -1,10 +1,12 @@
 -- What a filter keeps, and words joined with a blank before each.
-use Rattle.std.proofs.Common.{◌≡◌, ℕ, zero, suc, ◌+◌, ◌<◌, Bool, true, false, cond, List, [], ◌∷◌, ◌++◌, length, get_or, take, map}
-use Rattle.std.proofs.Common.{arith, refl, sym, ap, ◌∙◌, append_assoc}
+use Rattle.std.proofs.Common.{◌≡◌, ℕ, zero, suc, ◌+◌, ◌<◌, ◌≤◌, Bool, true, false, cond, List, [], ◌∷◌, ◌++◌, length, get_or, take, map}
+use Rattle.std.proofs.Common.{arith, refl, sym, ap, ◌∙◌, append_assoc, subst}
 use Rattle.std.specs.List.{All, filter}
-use Rattle.std.proofs.lemmas.List.{take_more, map-append, append-nil}
+use Rattle.std.proofs.lemmas.List.{take_all, take_more, length-map, map-append, append-nil}
 use Rattle.std.proofs.lemmas.List.Concat.{flat_map-append}
 use Rattle.std.proofs.lemmas.List.Elements.{All-head, All-tail}
+use Rattle.order_core.specs.Turns.{routers_of}
+use Rattle.order_core.specs.declared.turn.Turn.{Turn}
 use Rattle.printed_lines.specs.Words.{spaced}
 
 kept : {A : Type 0} (p : A → Bool) (x : A) (xs : List A) (b : Bool) → p x ≡ b → length (filter p (x ∷ xs)) ≡ cond b 1 0 + length (filter p xs)
@@ -24,6 +26,17 @@ pub none_kept : {A : Type 0} (p : A → Bool) (xs : List A) → All (λ (x : A).
 none_kept p [] all = refl
 none_kept {A} p (x ∷ xs) all =
     omega (arith, kept p x xs false (All-head (λ (y : A). p y ≡ false) x xs all), none_kept p xs (All-tail (λ (y : A). p y ≡ false) x xs all))
+
+-- where some turn passes, a router is kept; where none before a place behind the last does, none is
+module _ (p : Turn → Bool) (turns : List Turn) (i : ℕ) where
+  pub some_router : (d : Turn) (b : Bool) → i < length turns → b ≡ p (get_or turns i d) → b ≡ true → 0 < length (routers_of (filter p turns))
+  some_router d b within told is =
+      omega (arith, length-map (filter p turns) (λ (t : Turn). t.router), some_kept p turns i d within (sym told ∙ is))
+
+  pub no_router : length turns ≤ i → All (λ (t : Turn). p t ≡ false) (take i turns) → ¬ 0 < length (routers_of (filter p turns))
+  no_router past none = λ some.
+      let all = subst (λ (l : List Turn). All (λ (t : Turn). p t ≡ false) l) (take_all i turns past) none in
+      omega (arith, length-map (filter p turns) (λ (t : Turn). t.router), none_kept p turns all, some)
 
 -- one word more
 pub spaced_more : {A : Type 0} (word : A → List ℕ) (xs : List A) (i : ℕ) (d : A) (start line : List ℕ) → i < length xs →

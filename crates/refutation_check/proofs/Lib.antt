@@ -13,6 +13,7 @@ pub mod SaidNodes
 pub mod ReadingFacts
 pub mod PrintedTrees
 pub mod ShapeFacts
+pub mod SpanPlaces
 pub mod EntryFacts
 pub mod OneVerdict
 pub mod SameVerdicts

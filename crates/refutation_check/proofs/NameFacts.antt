@@ -12,7 +12,7 @@ use Rattle.net_model.proofs.NetworkFacts.{IsNamed-unique}
 use Rattle.order_core.specs.declared.turn.Tag.{Tag}
 use Rattle.order_core.specs.declared.turn.Tag.TheVariants.{Old}
 use Rattle.order_core.specs.declared.turn.Turn.{Turn}
-use Rattle.refutation_check.specs.TreeLines.{IsEntry, SaysTurn, letter_of}
+use Rattle.refutation_check.specs.TreeLines.{IsEntry, IsSomeEntry, SaysTurn, letter_of}
 use Rattle.refutation_check.specs.steps.Names.{SayTurns, NameRouters, IsFurtherTurn, IsFurtherRouter, SaysNoFurtherTurn, NamesNoFurtherRouter}
 
 -- what is related to an item at a place
@@ -60,14 +60,19 @@ one_router net network word s t first second =
     let same = one_name word first.name second.name s.tag t.tag first.entry second.entry in
     IsNamed-unique net second.name s.router t.router network.ascending (subst (λ (n : List ℕ). IsNamed net n s.router) same first.named) second.named
 
+-- a word that says a turn is an entry
+pub says_entry : (net : Network) (word : List ℕ) (turn : Turn) → SaysTurn net word turn → IsSomeEntry word
+says_entry net word turn says = record { name = says.name; tag = turn.tag; entry = says.entry }
+
 a_turn : Turn
 a_turn = record { router = 0; tag = Old }
 
-pub no_turns : (net : Network) → IsNetwork net → (words : List (List ℕ)) (front : List Turn) (i : ℕ) → i < length words →
-    SayTurns net (take i words) front → SaysNoFurtherTurn net (get_or words i []) front
+pub no_turns : (net : Network) (words : List (List ℕ)) (front : List Turn) (i : ℕ) → i < length words →
+    SayTurns net (take i words) front → SaysNoFurtherTurn net (get_or words i []) front → (IsSomeEntry (get_or words i []) → IsNetwork net)
     → (others : List Turn) → SayTurns net words others → ⊥
-no_turns net network words front i within say none others all =
-    no_further (SaysTurn net) (λ (t : Turn). t.router) (one_router net network) words front others i a_turn within say.said all.said all.distinct none
+no_turns net words front i within say none network others all =
+    let here = says_entry net (get_or words i []) (get_or others i a_turn) (zip_at (SaysTurn net) words others i [] a_turn all.said within) in
+    no_further (SaysTurn net) (λ (t : Turn). t.router) (one_router net (network here)) words front others i a_turn within say.said all.said all.distinct none
 
 pub no_routers : (net : Network) → IsNetwork net → (words : List (List ℕ)) (front : List ℕ) (i : ℕ) → i < length words →
     NameRouters net (take i words) front → NamesNoFurtherRouter net (get_or words i []) front

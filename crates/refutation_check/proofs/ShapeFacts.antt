@@ -1,13 +1,16 @@
 -- The shapes of words, and words that have none.
-use Rattle.std.proofs.Common.{◌≡◌, ℕ, List, [], ◌∷◌, codes, Option, Some, None, sym, ◌∙◌, subst}
+use Rattle.std.proofs.Common.{Bor, ◌≡◌, ℕ, ◌<◌, ◌≤◌, List, [], ◌∷◌, length, codes, Option, Some, None, arith, sym, ap, ◌∙◌, subst}
 use Rattle.std.specs.List.{All}
 use Rattle.std.specs.Option.{IfNone, IfSome, MatchOption}
+use Rattle.std.proofs.lemmas.List.{length-map}
 use Rattle.net_addr.specs.AddressWords.{IsAddressWord}
-use Rattle.refutation_check.specs.TreeLines.{HasForm, branch_form, leaf_form, open_form, IsBranchLine, IsLeafLine, IsSomeEntry}
+use Rattle.net_addr.specs.Spans.{bytes_of, LiesIn}
+use Rattle.net_addr.specs.declared.span.Span.{Span}
+use Rattle.refutation_check.specs.TreeLines.{HasForm, branch_form, leaf_form, open_form, IsBranchLine, IsSomeEntry}
 use Rattle.refutation_check.specs.declared.shape.Shape.{Shape}
 use Rattle.refutation_check.specs.declared.shape.Shape.TheVariants.{Branch, Leaf, Open}
 use Rattle.refutation_check.specs.steps.Shapes.{IsShape}
-use Rattle.refutation_check.specs.steps.Spans.{span_texts}
+use Rattle.refutation_check.specs.steps.Spans.{AreFilled, span_texts}
 use Rattle.refutation_check.proofs.SaidNodes.{first_word, later_words, branch_no_leaf, branch_no_open, leaf_no_open}
 
 -- words with a shape have a form
@@ -23,7 +26,7 @@ no_address words rest es first a is none line =
     let e : first ∷ rest ≡ line.address ∷ es = sym is ∙ later_words (codes "branch") (codes "branch") words (line.address ∷ es) line.words_are in
     none a (subst (λ (w : List ℕ). IsAddressWord w a) (sym (first_word first line.address rest es e)) line.stands)
 
--- What is told of the words behind `branch`, `leaf` and `open` tells the shape of all words
+-- What is told of the words behind `branch` and `leaf` tells the shape of all words
 
 pub branch_answer : (text : List ℕ) (words rest : List (List ℕ)) (found : Option Shape) → words ≡ codes "branch" ∷ rest
     → IfNone found ((a : ℕ) (es : List (List ℕ)) → IsBranchLine (codes "branch" ∷ rest) a es → All IsSomeEntry es → ⊥) →
@@ -36,13 +39,18 @@ branch_answer text words rest None is none some = λ form. no (subst HasForm is 
     no (leaf_form names line) = branch_no_leaf rest names line.words_are
     no (open_form e) = branch_no_open rest [] e
 
-pub leaf_answer : (text : List ℕ) (words rest : List (List ℕ)) (found : Option Shape) → words ≡ codes "leaf" ∷ rest →
-    IfNone found ((names : List (List ℕ)) → IsLeafLine (codes "leaf" ∷ rest) names → ⊥)
-    → IfSome found (IsShape text (codes "leaf" ∷ rest)) → MatchOption found (HasForm words → ⊥) (IsShape text words)
-leaf_answer text words rest (Some shape) is none some = subst (λ (ws : List (List ℕ)). IsShape text ws shape) (sym is) some
-leaf_answer text words rest None is none some = λ form. no (subst HasForm is form)
+pub leaf_answer : (text : List ℕ) (words : List (List ℕ)) (others : Bor (List Span)) (found : Option Shape) →
+    words ≡ codes "leaf" ∷ span_texts text others.now → All (LiesIn text) others.now → AreFilled (span_texts text others.now) →
+    IfNone found (length others.now < 2) → IfSome found (λ shape. (shape ≡ Leaf others) × (2 ≤ length others.now))
+    → MatchOption found (HasForm words → ⊥) (IsShape text words)
+leaf_answer text words others (Some shape) is inside filled none some = subst (IsShape text words) (sym some.0) (record {
+  line = record { words_are = is; some = omega (arith, some.1, length-map others.now (bytes_of text)); filled = filled };
+  inside = inside;
+})
+leaf_answer text words others None is inside filled none some = λ form. no (subst HasForm is form)
   where
-    no : HasForm (codes "leaf" ∷ rest) → ⊥
-    no (branch_form a es line all) = branch_no_leaf (line.address ∷ es) rest (sym line.words_are)
-    no (leaf_form names line) = none names line
-    no (open_form e) = leaf_no_open rest [] e
+    no : HasForm (codes "leaf" ∷ span_texts text others.now) → ⊥
+    no (branch_form a es line all) = branch_no_leaf (line.address ∷ es) (span_texts text others.now) (sym line.words_are)
+    no (leaf_form names line) =
+        omega (arith, none, length-map others.now (bytes_of text), line.some, ap (λ (l : List (List ℕ)). length l) line.words_are)
+    no (open_form e) = leaf_no_open (span_texts text others.now) [] e

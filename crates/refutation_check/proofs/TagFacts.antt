@@ -1,13 +1,17 @@
 -- Tags, told by two tests.
 use Rattle.std.proofs.Common.{◌≡◌, ℕ, ◌↔◌, Bool, true, false, IsTrue, sym, refl, ◌∙◌}
 use Rattle.std.proofs.lemmas.Bool.{false≢true}
-use Rattle.igp_theory.specs.Forwarding.{Steps}
+use Rattle.igp_theory.specs.Forwarding.{MustForward, Steps}
 use Rattle.igp_theory.specs.Loops.{IsTag, IsTagOf}
 use Rattle.igp_theory.specs.Migrations.{Migration}
+use Rattle.igp_theory.specs.declared.phase.Phase.{Phase}
 use Rattle.igp_theory.specs.declared.phase.Phase.TheVariants.{Old, New}
 use Rattle.order_core.specs.declared.turn.Tag.{Tag}
 use Rattle.order_core.specs.declared.turn.Tag.TheVariants as tag
 use Rattle.order_core.specs.declared.turn.Turn.{Turn}
+use Rattle.rib_mix.specs.Answers.{IsNext, NextLeadsTo}
+use Rattle.rib_mix.specs.declared.next.Next.{Next}
+use Rattle.rib_mix.proofs.NextLaws.{steps_to_hops}
 use Rattle.refutation_check.specs.steps.Right.{tells}
 
 told : (t : Tag) (old new : Bool) (P Q : Type 0) → (IsTrue old ↔ P) → (IsTrue new ↔ Q) → IsTrue (tells t old new) ↔ IsTagOf t P Q
@@ -28,3 +32,9 @@ pub tag_told : (move : Migration) (a : ℕ) (turn : Turn) (next : ℕ) (b c resu
 tag_told move a turn next b c result by_old by_new is =
     let tagged = told turn.tag b c (Steps move turn.router Old a next) (Steps move turn.router New a next) by_old by_new in
     (λ e. record { steps = tagged.0 (sym is ∙ e) }, λ t. is ∙ tagged.1 t.steps)
+
+-- a test for what an answer forwards to is one for the steps of its router
+pub hops_told : (move : Migration) (u : ℕ) (phase : Phase) (a : ℕ) (next : Next) (h : ℕ) (b : Bool) → IsNext move u phase a next →
+    MustForward move.net a u → (IsTrue b ↔ NextLeadsTo next h) → IsTrue b ↔ Steps move u phase a h
+hops_told move u phase a next h b is must by_next =
+    let law = steps_to_hops move u phase a next h is must in (λ e. law.1 (by_next.0 e), λ steps. by_next.1 (law.0 steps))

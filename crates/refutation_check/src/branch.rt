@@ -1,7 +1,7 @@
-ghost use Rattle.std.specs.Prelude.{◌≡◌, ◌<◌, ◌↔◌, All, Any, IfNone, IfSome, IsTrue, length};
+ghost use Rattle.std.specs.Prelude.{◌≡◌, ◌<◌, ◌↔◌, ℕ, All, Any, IfNone, IfSome, IsTrue, length};
 ghost use Rattle.net_model.specs.Network.{Connected};
 ghost use Rattle.net_model.specs.Refusals.{IsNetwork};
-ghost use Rattle.igp_theory.specs.Forwarding.{MustForward, Steps};
+ghost use Rattle.igp_theory.specs.Forwarding.{MustForward};
 ghost use Rattle.igp_theory.specs.Loops.{AroundRing, IsTag};
 ghost use Rattle.order_core.specs.Turns.{HasBothTags, new_routers, old_routers};
 ghost use Rattle.order_core.specs.declared.turn.Turn.{Turn};
@@ -38,7 +38,7 @@ pub(crate) fn branch_fault<O: RouteSource, N: RouteSource>(
     if some_originates(mixed.net(), turns, target) {
         return Some(WrongKind::Originator);
     }
-    if !goes_round(mixed, address, atom, turns) {
+    if !goes_round(mixed, atom, turns) {
         return Some(WrongKind::Step);
     }
     if !has_both_tags(turns) {
@@ -60,22 +60,22 @@ fn some_originates(net: &Net, turns: &[Turn], target: Prefix) -> bool
     false
 }
 
-/// Whether each turn has the tag by which its router steps to the next one, and the last one to the first.
+/// Whether each turn has the tag by which its router steps to the next one, and the last one to the first, for the
+/// addresses of a class.
 fn goes_round<O: RouteSource, N: RouteSource>(
     mixed: &Mixed<'_, O, N>,
-    address: u32,
     atom: u32,
     turns: &[Turn],
 ) -> bool
-    requires class { IsInClass mixed.now.classes atom address }
-    requires must { All (λ (turn : Turn). MustForward mixed.now.net address turn.router) turns.now }
-    ensures { IsTrue result ↔ AroundRing (λ (r s : Turn). IsTag (migration_of O.table N.table mixed.now) address
-        r s.router) turns.now }
+    requires atom { atom < length mixed.now.classes.samples }
+    requires below { All (λ turn. turn.router < length mixed.now.net) turns.now }
+    ensures { (a : ℕ) → IsInClass mixed.now.classes atom a → All (λ (turn : Turn). MustForward mixed.now.net a turn.router) turns.now
+        → IsTrue result ↔ AroundRing (λ (r s : Turn). IsTag (migration_of O.table N.table mixed.now) a r s.router) turns.now }
 {
     for place in 0..turns.len() {
         let turn = turns[place];
         let next = next_turn(turns, place);
-        if !is_tagged(mixed, address, atom, turn, next.router) {
+        if !is_tagged(mixed, atom, turn, next.router) {
             return false;
         }
     }
@@ -94,20 +94,20 @@ fn next_turn(turns: &[Turn], place: usize) -> Turn
     }
 }
 
-/// Whether a turn has the tag by which its router steps to another.
+/// Whether a turn has the tag by which its router steps to another, for the addresses of a class.
 fn is_tagged<O: RouteSource, N: RouteSource>(
     mixed: &Mixed<'_, O, N>,
-    address: u32,
     atom: u32,
     turn: Turn,
     next: u32,
 ) -> bool
-    requires class { IsInClass mixed.now.classes atom address }
-    requires must { MustForward mixed.now.net address turn.router }
-    ensures { IsTrue result ↔ IsTag (migration_of O.table N.table mixed.now) address turn next }
+    requires atom { atom < length mixed.now.classes.samples }
+    requires below { turn.router < length mixed.now.net }
+    ensures { (a : ℕ) → IsInClass mixed.now.classes atom a → MustForward mixed.now.net a turn.router
+        → IsTrue result ↔ IsTag (migration_of O.table N.table mixed.now) a turn next }
 {
-    let old = steps_to(mixed, address, atom, turn.router, Phase::Old, next);
-    let new = steps_to(mixed, address, atom, turn.router, Phase::New, next);
+    let old = leads_to(mixed.hops(turn.router, atom, Phase::Old), next);
+    let new = leads_to(mixed.hops(turn.router, atom, Phase::New), next);
     is_tag_of(turn.tag, old, new)
 }
 
@@ -120,22 +120,6 @@ fn is_tag_of(tag: Tag, old: bool, new: bool) -> bool
         Tag::New => !old && new,
         Tag::Both => old && new,
     }
-}
-
-/// Whether a router steps to another in a phase.
-fn steps_to<O: RouteSource, N: RouteSource>(
-    mixed: &Mixed<'_, O, N>,
-    address: u32,
-    atom: u32,
-    router: u32,
-    phase: Phase,
-    next: u32,
-) -> bool
-    requires class { IsInClass mixed.now.classes atom address }
-    requires must { MustForward mixed.now.net address router }
-    ensures { IsTrue result ↔ Steps (migration_of O.table N.table mixed.now) router phase address next }
-{
-    leads_to(mixed.hops(router, atom, phase), next)
 }
 
 /// Whether an answer forwards to a router.

@@ -1,8 +1,9 @@
 ghost use Rattle.std.specs.Prelude.{◌≡◌, ◌<◌, ◌∷◌, [], IfOk, MatchOption, Some, drop, length};
-ghost use Rattle.order_core.specs.Turns.{HasBothTags, child_pairs, new_routers, old_routers};
+ghost use Rattle.order_core.specs.Turns.{HasBothTags, child_pairs};
 
 use net_addr::OutOfMemory;
 use order_core::Turn;
+use order_search::{new_routers_of, old_routers_of};
 use std::alloc::Global;
 use std::marker::Model;
 
@@ -83,26 +84,4 @@ impl Cursor {
             None
         }
     }
-}
-
-/// The routers of the Old turns.
-fn old_routers_of(alloc: Global, turns: &[Turn]) -> Result<Vec<u32>, OutOfMemory>
-    ensures { IfOk result (λ routers. routers.items ≡ old_routers turns.now) }
-{
-    turns
-        .iter()
-        .filter(|turn| turn.tag.is_old())
-        .map(|turn| turn.router)
-        .collect(alloc)
-}
-
-/// The routers of the New turns.
-fn new_routers_of(alloc: Global, turns: &[Turn]) -> Result<Vec<u32>, OutOfMemory>
-    ensures { IfOk result (λ routers. routers.items ≡ new_routers turns.now) }
-{
-    turns
-        .iter()
-        .filter(|turn| turn.tag.is_new())
-        .map(|turn| turn.router)
-        .collect(alloc)
 }

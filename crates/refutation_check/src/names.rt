@@ -3,7 +3,7 @@ ghost use Rattle.net_addr.specs.Spans.{LiesIn};
 ghost use Rattle.net_model.specs.Refusals.{IsNetwork};
 ghost use Rattle.order_core.specs.Turns.{routers_of};
 ghost use Rattle.order_core.specs.declared.turn.Turn.{Turn};
-ghost use Rattle.refutation_check.specs.TreeLines.{SaysTurn};
+ghost use Rattle.refutation_check.specs.TreeLines.{IsSomeEntry, SaysTurn};
 ghost use Rattle.refutation_check.specs.steps.Names.{IsFurtherRouter, IsFurtherTurn, NameRouters, NamesNoFurtherRouter, SayTurns, SaysNoFurtherTurn};
 ghost use Rattle.refutation_check.specs.steps.Spans.{span_texts};
 
@@ -22,8 +22,7 @@ pub(crate) fn turns_of(
     text: &[u8],
     entries: &[Span],
 ) -> Result<Option<Turns>, OutOfMemory>
-    requires network { IsNetwork net.now }
-    requires inside { All (LiesIn text.now) entries.now }
+    requires { All (LiesIn text.now) entries.now }
     ensures { IfOk result (λ found. MatchOption found
         ((turns : List Turn) → SayTurns net.now (span_texts text.now entries.now) turns → ⊥)
         (SayTurns net.now (span_texts text.now entries.now))) }
@@ -45,8 +44,7 @@ pub(crate) fn routers_named(
     text: &[u8],
     names: &[Span],
 ) -> Result<Option<Cycle>, OutOfMemory>
-    requires network { IsNetwork net.now }
-    requires inside { All (LiesIn text.now) names.now }
+    requires { All (LiesIn text.now) names.now }
     ensures { IfOk result (λ found. MatchOption found
         ((routers : List ℕ) → NameRouters net.now (span_texts text.now names.now) routers → ⊥)
         (NameRouters net.now (span_texts text.now names.now))) }
@@ -63,8 +61,8 @@ pub(crate) fn routers_named(
 
 /// The turn that an entry says, where its router is in none of these turns.
 fn further_turn(net: &Net, entry: &[u8], turns: &[Turn]) -> Option<Turn>
-    requires { IsNetwork net.now }
-    ensures { MatchOption result (SaysNoFurtherTurn net.now entry.now turns.now) (IsFurtherTurn net.now entry.now turns.now) }
+    ensures network { IsSomeEntry entry.now → IsNetwork net.now }
+    ensures said { MatchOption result (SaysNoFurtherTurn net.now entry.now turns.now) (IsFurtherTurn net.now entry.now turns.now) }
 {
     let turn = turn_of(net, entry)?;
     if has_turn(turns, turn.router) {
@@ -76,7 +74,8 @@ fn further_turn(net: &Net, entry: &[u8], turns: &[Turn]) -> Option<Turn>
 
 /// The turn that an entry says.
 fn turn_of(net: &Net, entry: &[u8]) -> Option<Turn>
-    ensures { MatchOption result ((turn : Turn) → SaysTurn net.now entry.now turn → ⊥) (SaysTurn net.now entry.now) }
+    ensures network { IsSomeEntry entry.now → IsNetwork net.now }
+    ensures said { MatchOption result ((turn : Turn) → SaysTurn net.now entry.now turn → ⊥) (SaysTurn net.now entry.now) }
 {
     let (name, tag) = split_entry(entry)?;
     let router = net.number_of(name)?;
@@ -105,7 +104,8 @@ fn add_turn(turns: &mut Vec<Turn>, turn: Turn) -> Result<(), OutOfMemory>
 
 /// The router of a name, where it isn't among these.
 fn further_router(net: &Net, name: &[u8], routers: &[u32]) -> Option<u32>
-    ensures { MatchOption result (NamesNoFurtherRouter net.now name.now routers.now) (IsFurtherRouter net.now name.now routers.now) }
+    ensures network { IsNetwork net.now }
+    ensures named { MatchOption result (NamesNoFurtherRouter net.now name.now routers.now) (IsFurtherRouter net.now name.now routers.now) }
 {
     let router = net.number_of(name)?;
     if has_router(routers, router) {

@@ -1,6 +1,5 @@
 ghost use Rattle.std.specs.Prelude.{◌<◌, ◌^◌, List, ℕ, All, IfOk, MatchOption, MatchResult, length};
 ghost use Rattle.net_addr.specs.Spans.{bytes_of, LiesIn};
-ghost use Rattle.net_model.specs.Refusals.{IsNetwork};
 ghost use Rattle.order_search.specs.declared.tree.Node.{Node};
 ghost use Rattle.refutation_check.specs.TreeLines.{SaysNode, pieces_of};
 ghost use Rattle.refutation_check.specs.steps.Shapes.{IsShape, SaysNoNode, LieInside};
@@ -22,7 +21,6 @@ pub(crate) fn read_node(
     text: &[u8],
     line: Span,
 ) -> Result<Result<Node, WrongKind>, OutOfMemory>
-    requires network { IsNetwork net.now }
     requires short { length text.now < 2 ^ 26 }
     requires inside { LiesIn text.now line }
     ensures { IfOk result (λ said. MatchResult said
@@ -42,7 +40,6 @@ fn node_of_words(
     text: &[u8],
     words: &[Span],
 ) -> Result<Result<Node, WrongKind>, OutOfMemory>
-    requires network { IsNetwork net.now }
     requires inside { All (LiesIn text.now) words.now }
     requires filled { AreFilled (span_texts text.now words.now) }
     ensures { IfOk result (λ said. MatchResult said
@@ -65,8 +62,7 @@ fn node_of(
     text: &[u8],
     shape: Shape<'_>,
 ) -> Result<Option<Node>, OutOfMemory>
-    requires network { IsNetwork net.now }
-    requires inside { LieInside text.now shape }
+    requires { LieInside text.now shape }
     ensures { IfOk result (λ found. (words : List (List ℕ)) → IsShape text.now words shape.entry → MatchOption found
         ((node : Node) → SaysNode net.now words node → ⊥)
         (SaysNode net.now words)) }

@@ -1,7 +1,7 @@
-ghost use Rattle.std.specs.Prelude.{◌≡◌, ◌≢◌, ℕ, List, ◌∷◌, [], ◌↔◌, All, codes, IfNone, IfSome, IsTrue, MatchOption};
+ghost use Rattle.std.specs.Prelude.{◌≡◌, ◌≢◌, ◌<◌, ◌≤◌, ℕ, List, ◌∷◌, [], ◌↔◌, All, codes, length, IfNone, IfSome, IsTrue, MatchOption};
 ghost use Rattle.net_addr.specs.Spans.{LiesIn};
 ghost use Rattle.order_core.specs.declared.turn.Tag.{Tag};
-ghost use Rattle.refutation_check.specs.TreeLines.{HasForm, IsBranchLine, IsEntry, IsLeafLine, IsSomeEntry, letter_of};
+ghost use Rattle.refutation_check.specs.TreeLines.{HasForm, IsBranchLine, IsEntry, IsSomeEntry, letter_of};
 ghost use Rattle.refutation_check.specs.steps.Shapes.{IsShape};
 ghost use Rattle.refutation_check.specs.steps.Spans.{AreFilled, span_texts};
 
@@ -41,9 +41,9 @@ pub(crate) fn shape_of<'a>(text: &[u8], words: &'a [Span]) -> Option<Shape<'a>>
     if is_text(word, b"branch") {
         branch_shape(text, others)
     } else if is_text(word, b"leaf") {
-        leaf_shape(text, others)
+        leaf_shape(others)
     } else if is_text(word, b"open") {
-        open_shape(text, others)
+        open_shape(others)
     } else {
         None
     }
@@ -57,11 +57,10 @@ fn is_text(word: &[u8], text: &[u8]) -> bool
 }
 
 /// The unvisited place, where no word stands behind the first one.
-fn open_shape<'a>(text: &[u8], others: &'a [Span]) -> Option<Shape<'a>>
-    ensures none { IfNone result (codes "open" ∷ span_texts text.now others.now ≡ codes "open" ∷ [] → ⊥) }
-    ensures some { IfSome result (IsShape text.now (codes "open" ∷ span_texts text.now others.now)) }
+fn open_shape<'a>(others: &'a [Span]) -> Option<Shape<'a>>
+    ensures none { IfNone result (others.now ≢ []) }
+    ensures some { IfSome result (λ shape. (shape ≡ Shape.Open) × (others.now ≡ [])) }
 {
-    let _ = text;
     if others.is_empty() {
         Some(Shape::Open)
     } else {
@@ -84,12 +83,10 @@ fn branch_shape<'a>(text: &[u8], others: &'a [Span]) -> Option<Shape<'a>>
     Some(Shape::Branch { address, entries })
 }
 
-/// The leaf with these words behind its first one.
-fn leaf_shape<'a>(text: &[u8], others: &'a [Span]) -> Option<Shape<'a>>
-    requires inside { All (LiesIn text.now) others.now }
-    requires filled { AreFilled (span_texts text.now others.now) }
-    ensures none { IfNone result ((names : List (List ℕ)) → IsLeafLine (codes "leaf" ∷ span_texts text.now others.now) names → ⊥) }
-    ensures some { IfSome result (IsShape text.now (codes "leaf" ∷ span_texts text.now others.now)) }
+/// The leaf with these words behind its first one, where they are two or more.
+fn leaf_shape<'a>(others: &'a [Span]) -> Option<Shape<'a>>
+    ensures none { IfNone result (length others.now < 2) }
+    ensures some { IfSome result (λ shape. (shape ≡ Shape.Leaf others.entry) × (2 ≤ length others.now)) }
 {
     if others.len() < 2 {
         return None;

@@ -1,7 +1,6 @@
 -- What is told of a wave list between sound ends.
-use Rattle.std.proofs.Common.{◌≡◌, ℕ, List, length, subst, sym}
+use Rattle.std.proofs.Common.{◌≡◌, ℕ, List, subst, sym}
 use Rattle.igp_theory.specs.LoopLaws.{AreSoundEnds}
-use Rattle.igp_theory.specs.Loops.{IsLoop}
 use Rattle.igp_theory.specs.Migrations.{Migration}
 use Rattle.igp_theory.specs.WaveFaults.{IsWavesFault}
 use Rattle.loop_finder.specs.Faults.{told_fault}
@@ -9,7 +8,7 @@ use Rattle.loop_finder.specs.WaveLists.{IsNumberedWavesFault}
 use Rattle.loop_finder.specs.declared.fault.Fault.{Fault}
 use Rattle.loop_finder.specs.declared.fault.Fault.TheVariants.{Loop, Missing}
 use Rattle.order_search.specs.Meanings.{Break}
-use Rattle.plan_theory.specs.WavesMeaning.{IsPickedFault}
+use Rattle.plan_theory.specs.WavesMeaning.{waves_meaning}
 use Rattle.plan_theory.proofs.WaveBreaks.{wave_fault_breaks, no_step_lacks}
 use Rattle.order_core.specs.declared.turn.Turn.{Turn}
 use Rattle.wave_oracle.specs.steps.EndFaults.{IsToldLoop}
@@ -23,8 +22,8 @@ told_is_loop move ranks number (Missing address router) ring ends told = no_step
 -- which breaks the wave list, also by what is mixed afterwards, which is the same
 pub told_breaks : (move after : Migration) (ranks : List ℕ) (number : ℕ) (fault : Fault) (address : ℕ) (ring : List Turn) → AreSoundEnds move →
     IsNumberedWavesFault move ranks number (told_fault fault ring) → fault ≡ Loop address → after ≡ move →
-    Break (IsLoop after) (IsPickedFault after) (length after.net) ranks address ring
+    Break (waves_meaning after) ranks address ring
 told_breaks move after ranks number fault address ring ends told is same =
     let whole = λ (f : Fault). IsWavesFault move ranks told.wave (told_fault f ring) in
-    subst (λ (m : Migration). Break (IsLoop m) (IsPickedFault m) (length m.net) ranks address ring) (sym same)
+    subst (λ (m : Migration). Break (waves_meaning m) ranks address ring) (sym same)
     (wave_fault_breaks move ranks told.wave address ring ends (subst whole is told.is_fault))

@@ -13,4 +13,3 @@ HasSoundEnds old new m = AreSoundEnds (migration_of old new m)
 pub record IsWaveOracle {O N : Type 0} (old : Listing O) (new : Listing N) (finding : Finding O N) (routers : ℕ) : Type 0 where
   pub routers_are : routers ≡ length finding.mixture.net
   pub ends : HasSoundEnds old new finding.mixture
-

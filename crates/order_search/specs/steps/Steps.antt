@@ -2,9 +2,9 @@
 use Rattle.std.specs.Prelude.{◌≡◌, ℕ, ◌+◌, ◌<◌, ◌≤◌, ◌↔◌, List, [], ◌∷◌, ◌++◌, length, replicate, vec_len, All, Option, Some, None}
 use Rattle.order_core.specs.declared.turn.Turn.{Turn}
 use Rattle.precedence_set.specs.Layers.{IsLayeredChain}
-use Rattle.order_search.specs.Answers.{IsFoundNode, IsRefutation}
+use Rattle.order_search.specs.Answers.{IsRefutation}
 use Rattle.order_search.specs.Meanings.{Meaning}
-use Rattle.order_search.specs.Places.{IsLayered}
+use Rattle.order_search.specs.Places.{IsFoundNode, IsLayered}
 use Rattle.order_search.specs.Trees.{Fill, IsVisited, HasOneChild, branch_count}
 use Rattle.order_search.specs.steps.Waiting.{Standing, places_of, IsUnder}
 use Rattle.order_search.specs.declared.ending.Ending.{Ending}

@@ -13,6 +13,7 @@ abbrev pub pairs_left : List ℕ → List ℕ → ℕ → ℕ → List Pair
 pairs_left olds news old new =
     row (slice_index olds old) (drop new news) ++ flat_map (λ (u : ℕ). row u news) (drop (old + 1) olds)
 
+-- the pairs from a cursor on
 abbrev pub left_of : Inside → List Pair
 left_of c = pairs_left c.olds.items c.news.items c.old c.new
 

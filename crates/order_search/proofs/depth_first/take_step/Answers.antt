@@ -17,7 +17,7 @@ returns-then-stand-budget-clause-step g c =
     let asked = IsAsked-visited _ c.args.budget c.args.stand.now c.visit.new.held c.visit.new.ranks c.requires.searching c.visit.ensures.same
     (omega (arith, c.visit.auto.ranks, c.deref_mut.ensures.len, c.requires.searching.room)) c.visit.ensures.layered in
     let told = c.in-Breaks.ensures.breaks c.in-Breaks.address refl in
-    let bad = not_good (g.Q.Oracle.good c.args.oracle.now) _ _ _ _ _ _ told
+    let bad = not_good _ _ _ _ told
     (g.met.Q.Oracle.decides c.args.oracle.now c.in-Breaks.address (g.Q.Oracle.shown c.visit.new.oracle) c.visit.new.ranks told.is_real told.both) in
     (asked.0, (λ good. bad (subst (λ (xs : List ℕ). g.Q.Oracle.good c.args.oracle.now xs) asked.1 good)), c.if-stand-budget.true)
 

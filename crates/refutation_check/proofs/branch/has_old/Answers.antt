@@ -1,27 +1,16 @@
-use Rattle.std.proofs.Common.{◌≡◌, ℕ, ◌<◌, true, false, List, length, get_or, All, arith, refl, sym, ◌∙◌, subst}
-use Rattle.std.specs.List.{filter}
+use Rattle.std.proofs.Common.{◌≡◌, false, refl, sym, ◌∙◌}
 use Rattle.std.proofs.lemmas.Bool.{false≢true}
-use Rattle.std.proofs.lemmas.List.{length-map, take_all}
 use Rattle.std.proofs.lemmas.List.Elements.{All-more}
-use Rattle.order_core.specs.Turns.{is_old, old_routers}
+use Rattle.order_core.specs.Turns.{is_old}
 use Rattle.order_core.specs.declared.turn.Tag.TheVariants.{Old}
 use Rattle.order_core.specs.declared.turn.Turn.{Turn}
-use Rattle.refutation_check.proofs.Kept.{some_kept, none_kept}
+use Rattle.refutation_check.proofs.Kept.{some_router, no_router}
 use Rattle.refutation_check.proofs.branch.has_old.Goals as goal
-
-some_turn : (turns : List Turn) (k : ℕ) (d : Turn) → k < length turns → is_old (get_or turns k d).tag ≡ true → 0 < length (old_routers turns)
-some_turn turns k d within is =
-    let kept : List Turn = filter (λ (t : Turn). is_old t.tag) turns in
-    omega (arith, length-map kept (λ (t : Turn). t.router), some_kept (λ (t : Turn). is_old t.tag) turns k d within is)
-
-no_turn : (turns : List Turn) → All (λ (t : Turn). is_old t.tag ≡ false) turns → 0 < length (old_routers turns) → ⊥
-no_turn turns all some =
-    let kept : List Turn = filter (λ (t : Turn). is_old t.tag) turns in
-    omega (arith, length-map kept (λ (t : Turn). t.router), none_kept (λ (t : Turn). is_old t.tag) turns all, some)
 
 pub returns-then-is_old : goal.returns-then-is_old
 returns-then-is_old c = (
-  λ e. some_turn c.args.turns.now c.loop-turn.turn-index (record { router = 0; tag = Old }) c.loop-turn-test.true (sym c.is_old.ensures ∙ c.if-is_old.true),
+  λ e. some_router (λ (t : Turn). is_old t.tag) c.args.turns.now c.loop-turn.turn-index (record { router = 0; tag = Old }) c.is_old.result
+      c.loop-turn-test.true c.is_old.ensures c.if-is_old.true,
   λ some. refl,
 )
 
@@ -33,6 +22,5 @@ loop-turn-preserved c =
 pub returns : goal.returns
 returns c = (
   λ e. absurd (false≢true e),
-  λ some. absurd (no_turn c.args.turns.now (subst (λ (l : List Turn). All (λ (t : Turn). is_old t.tag ≡ false) l)
-      (take_all c.loop-turn.turn-index c.args.turns.now c.loop-turn-test.false) c.loop-turn.invariant) some),
+  λ some. absurd (no_router (λ (t : Turn). is_old t.tag) c.args.turns.now c.loop-turn.turn-index c.loop-turn-test.false c.loop-turn.invariant some),
 )

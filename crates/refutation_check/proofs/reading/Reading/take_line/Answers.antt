@@ -4,7 +4,6 @@ use Rattle.std.proofs.lemmas.Bool.{false≢true}
 use Rattle.std.proofs.lemmas.Result.{MatchResult-at_ok, MatchResult-at_err}
 use Rattle.net_addr.specs.Spans.{bytes_of}
 use Rattle.net_model.specs.Network.{Network}
-use Rattle.net_model.specs.Refusals.{IsNetwork}
 use Rattle.igp_theory.specs.Migrations.{Migration}
 use Rattle.rib_mix.specs.Mixture.{migration_of}
 use Rattle.order_search.specs.declared.tree.Node.{Node}
@@ -29,9 +28,6 @@ module _ (net shown : Network) (words : List (List ℕ)) (said : Result Node Wro
 
     read_err : (kind : WrongKind) → said ≡ Err kind → SaysNoNode net words kind
     read_err kind is = MatchResult-at_err (SaysNode net words) (SaysNoNode net words) kind is here
-
-pub read_node-requires-clause-network : goal.read_node-requires-clause-network
-read_node-requires-clause-network g c = subst IsNetwork (sym c.net.ensures) c.requires.network
 
 pub returns-in-Err-clause-taken : goal.returns-in-Err-clause-taken
 returns-in-Err-clause-taken g c =
