@@ -156,9 +156,6 @@ runs_read : (passive : Bool) → map interface_line (run_words passive) ≡ run_
 runs_read true = refl
 runs_read false = refl
 
-one_circuit : (levels : Levels) → interface_line (circuit_words levels) ≡ Circuit (Ok levels)
-one_circuit levels = ap (λ r. Circuit r) (levels_read levels)
-
 level_lines_read : (old : Bool) (circuit : Option Levels) → map interface_line (level_words old circuit) ≡ level_says old circuit
 level_lines_read old circuit = grind arith
 
@@ -192,9 +189,6 @@ interface_read old passive circuit metric is =
 runs_fine : (passive : Bool) → list_all is_fine_line (run_words passive) ≡ true
 runs_fine true = refl
 runs_fine false = refl
-
-circuit_fine : (levels : Levels) → is_fine_line (circuit_words levels) ≡ true
-circuit_fine levels = grind arith
 
 level_bodies_fine : (old : Bool) (circuit : Option Levels) → list_all is_fine_line (level_words old circuit) ≡ true
 level_bodies_fine old circuit = grind arith
