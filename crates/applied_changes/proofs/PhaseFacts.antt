@@ -1,7 +1,7 @@
 -- The phase of a router by its name and by the changes made on it, and the lines that lead there.
 use Rattle.std.proofs.Common.{◌≡◌, ◌<◌, ◌+◌, ◌-◌, ℕ, zero, suc, ◌==◌, Bool, true, false, cond, List, [], ◌∷◌, ◌++◌, length}
 use Rattle.std.proofs.Common.{get_or, take, drop, refl, sym, ap, ◌∙◌, arith}
-use Rattle.std.specs.Prelude.{filter_map, bytes_eq, is_some, Option, unwrap_or}
+use Rattle.std.specs.Prelude.{filter_map, bytes_eq, Option, unwrap_or}
 use Rattle.std.proofs.lemmas.List.{drop_more}
 use Rattle.std.proofs.lemmas.Option.{slice_get_within, get_or_from_slice_get}
 use Rattle.std.proofs.lemmas.List.Concat.{flat_map-append}
@@ -13,13 +13,11 @@ use Rattle.igp_theory.specs.declared.phase.Phase.{Phase}
 use Rattle.igp_theory.specs.declared.phase.Phase.TheVariants.{New}
 use Rattle.ios_lines.specs.Lookups.{last_of}
 use Rattle.ios_sections.specs.Processes.{as_hostname, as_isis, first_tag, process_of}
-use Rattle.ios_sections.specs.declared.section.IsisSection.{IsisSection}
 use Rattle.ios_sections.specs.declared.section.Section.{Section}
 use Rattle.ios_reader.specs.Configurations.{configuration_of}
-use Rattle.step_scripts.specs.Scripts.{isis_change_lines}
 use Rattle.applied_changes.specs.AppliedTexts.{lines_to, block_for}
 use Rattle.applied_changes.specs.NamedPhases.{phase_from}
-use Rattle.applied_changes.specs.steps.PhaseLines.{tag_lines, phase_lines}
+use Rattle.applied_changes.specs.steps.PhaseLines.{phase_lines}
 
 -- ---- the phase ----
 
@@ -85,10 +83,6 @@ phase_further net state name u config at before other =
 
 pub lines_joined : (one two : List (List ℕ)) → text_of one ++ text_of two ≡ text_of (one ++ two)
 lines_joined one two = sym (flat_map-append (λ (line : List ℕ). line ++ 10 ∷ []) one two)
-
-tag_of_first : (sections : List IsisSection) (c : Configuration) → c.isis ≡ is_some (first_tag sections) → c.tag ≡ unwrap_or (first_tag sections) [] →
-    tag_lines (first_tag sections) ≡ isis_change_lines c
-tag_of_first sections c isis tag = grind arith
 
 -- the lines by what the sections of a configuration say are those of the configuration
 pub lines_of_sections : (phase : Phase) (sections : List Section) →
