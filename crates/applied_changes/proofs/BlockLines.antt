@@ -1,11 +1,11 @@
 -- The lines that make a change, as a text: how they read.
-use Rattle.std.proofs.Common.{◌≡◌, ℕ, ◌+◌, ◌<◌, ◌≤◌, ◌^◌, Bool, true, false, List, [], ◌∷◌, length, Some, Ok}
-use Rattle.std.proofs.Common.{Err, cond, ◌||◌, ◌&&◌, nat_lt, refl, sym, ap, subst, ◌∙◌, arith, codes, decimal}
+use Rattle.std.proofs.Common.{◌≡◌, ℕ, ◌+◌, ◌<◌, ◌≤◌, ◌^◌, Bool, true, false, List, [], ◌∷◌, Some, Ok}
+use Rattle.std.proofs.Common.{Err, cond, ◌||◌, ◌&&◌, refl, sym, ap, subst, ◌∙◌, arith, codes, decimal}
 use Rattle.std.specs.Prelude.{All, bytes_eq}
 use Rattle.std.specs.Char.{IsAsciiDigit}
 use Rattle.std.proofs.lemmas.Slice.Eq.{bytes_eq-Decides}
 use Rattle.std.specs.List.{list_all}
-use Rattle.std.proofs.lemmas.Bool.{and_from, le-leb}
+use Rattle.std.proofs.lemmas.Bool.{le-leb}
 use Rattle.printed_lines.specs.Words.{joined, spaced}
 use Rattle.printed_lines.specs.Texts.{text_of}
 use Rattle.printed_lines.proofs.NumberFacts.{decimal-IsNumeral, numbers_read_back}
@@ -24,7 +24,7 @@ use Rattle.ios_sections.specs.JoinedLines.{sections_further_on}
 use Rattle.ios_sections.specs.declared.section.Section.TheVariants.{Isis, Ospf}
 use Rattle.ios_reader.specs.InsertedLines.{IsLineBlock}
 use Rattle.printed_sections.specs.PrintedSections.{is_fine_line, line_with, section_lines_from}
-use Rattle.printed_sections.proofs.SectionFacts.{number_fine, section_fits, section_says, some_test}
+use Rattle.printed_sections.proofs.SectionFacts.{number_fine, section_fits, section_says}
 use Rattle.step_scripts.specs.Scripts.{isis_head, ospf_head, distance_line}
 use Rattle.applied_changes.proofs.FurtherSections.{isis_distance_at, isis_section, ospf_distance_at, ospf_section}
 
@@ -92,10 +92,7 @@ isis_head_words [] = refl
 isis_head_words (b ∷ tag) = refl
 
 isis_rest_fine : (tag : Word) → list_all is_printable tag ≡ true → is_fine_line (router_word ∷ isis_rest tag) ≡ true
-isis_rest_fine [] fine = refl
-isis_rest_fine (b ∷ tag) fine =
-    ap (λ (t : Bool). (t && true) && true && true && true)
-    (and_from (nat_lt 0 (length (b ∷ tag))) (list_all is_printable (b ∷ tag)) (some_test (length (b ∷ tag)) (omega arith)) fine)
+isis_rest_fine tag fine = grind arith
 
 isis_head_is : (tag : Word) → head_of (router_word ∷ isis_rest tag) ≡ IsisHead tag
 isis_head_is [] = refl

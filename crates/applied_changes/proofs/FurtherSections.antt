@@ -1,8 +1,8 @@
 -- A further section of a process that sets its distance: no fault comes with it, and nothing but the distance changes.
 use Rattle.std.proofs.Common.{◌≡◌, ℕ, ◌+◌, Bool, true, false, not, ◌&&◌, ◌||◌, cond, drop, List, [], ◌∷◌, ◌++◌, map, Option}
-use Rattle.std.proofs.Common.{Some, None, Result, Ok, refl, sym}
+use Rattle.std.proofs.Common.{Some, None, Ok, refl, sym}
 use Rattle.std.proofs.Common.{ap, subst, ◌∙◌, append-nil, length-append, nat_eq, nat_lt, length, ◌<◌, arith}
-use Rattle.std.specs.Prelude.{filter, filter_map, fold, unwrap_or, option_map, is_some, is_none, bytes_eq}
+use Rattle.std.specs.Prelude.{filter, filter_map, fold, unwrap_or, option_map, bytes_eq}
 use Rattle.std.specs.List.{flat_map, list_any, list_all, cons_option}
 use Rattle.std.proofs.lemmas.Bool.{eqb-true, eq-eqb}
 use Rattle.std.proofs.lemmas.List.{map-append}
@@ -11,23 +11,16 @@ use Rattle.std.proofs.lemmas.List.Concat.{flat_map-append}
 use Rattle.std.proofs.lemmas.List.Elements.{filter-append, filter_map-append}
 use Rattle.std.proofs.lemmas.List.Folds.{list_any-append}
 use Rattle.net_model.specs.Configuration.{Configuration}
-use Rattle.net_model.specs.declared.bounds.TheConstants.{ISIS_DISTANCE, OSPF_DISTANCE, MOST_DISTANCE}
-use Rattle.net_model.specs.declared.interface.Interface.{Interface}
-use Rattle.net_model.specs.declared.config.Levels.{Levels}
-use Rattle.net_model.specs.declared.config.Levels.TheVariants.{Both}
-use Rattle.net_model.specs.LevelSets.{has_level_one, has_level_two}
+use Rattle.net_model.specs.declared.bounds.TheConstants.{ISIS_DISTANCE, MOST_DISTANCE}
 use Rattle.ios_lines.specs.Words.{Word, is_printable}
-use Rattle.ios_lines.specs.Lookups.{later, last_of, earlier, first_of, value_or, replaced}
+use Rattle.ios_lines.specs.Lookups.{later, last_of, earlier, first_of, replaced}
 use Rattle.ios_lines.specs.FaultOrder.{fault_at, faults_if}
-use Rattle.ios_lines.specs.declared.bounds.TheConstants.{DEFAULT_METRIC, DEFAULT_REFERENCE}
 use Rattle.ios_lines.specs.InterfaceLines.{counting}
 use Rattle.ios_lines.specs.declared.kind.ReadKind.{ReadKind}
-use Rattle.ios_lines.specs.declared.kind.ReadKind.TheVariants.{SecondProcess, Unsupported, BadNet, NoBandwidth}
+use Rattle.ios_lines.specs.declared.kind.ReadKind.TheVariants.{SecondProcess, Unsupported, BadNet}
 use Rattle.ios_lines.specs.declared.fault.Fault.{Fault}
-use Rattle.ios_lines.specs.declared.title.Title.{Title}
 use Rattle.ios_lines.specs.declared.address.InterfaceAddress.{InterfaceAddress}
 use Rattle.ios_lines.specs.declared.ospf_line.StubLine.{StubLine}
-use Rattle.net_model.specs.declared.area.Range.{Range}
 use Rattle.net_model.specs.declared.area.Stub.{Stub}
 use Rattle.ios_reader.specs.declared.facts.InterfaceFacts.{InterfaceFacts}
 use Rattle.ios_lines.specs.declared.isis_line.IsisStatement.{IsisStatement}
@@ -45,12 +38,11 @@ use Rattle.ios_sections.specs.declared.section.InterfaceSection.{InterfaceSectio
 use Rattle.ios_reader.specs.Routers.{Router, router_with, title_said, levels_said, router_metric_said, isis_distance_said, isis_passive_said}
 use Rattle.ios_reader.specs.Routers.{ospf_distance_said, ospf_passive_said, passive_default_said, reference_said, area_taken, range_said, stub_said}
 use Rattle.ios_reader.specs.Routers.{default_cost_said, is_same_range, is_same_area, stub_lines_in, stub_of, rfc1583_said, ranges_in, stubs_in, leak_said}
-use Rattle.ios_reader.specs.InterfacesAsRead.{address_given, is_up, area_by, area_with, interface_area, default_cost, cost_given, cost_field}
-use Rattle.ios_reader.specs.InterfacesAsRead.{interface_as_read, runs_level, level_metric}
+use Rattle.ios_reader.specs.InterfacesAsRead.{address_given, area_by, area_with, interface_area}
+use Rattle.ios_reader.specs.InterfacesAsRead.{interface_as_read}
 use Rattle.ios_reader.specs.InterfaceFacts.{facts_of}
-use Rattle.ios_reader.specs.Faults.{interface_line_faults, loopback_faults, interface_faults}
+use Rattle.ios_reader.specs.Faults.{interface_faults}
 use Rattle.ios_reader.proofs.LookedUp.{two_none, none_left, none_right, ospf_lines_by, isis_lines_by, process_by, HasNoFault, configuration_by}
-use Rattle.ios_reader.specs.Configurations.{title_given, area_in, system_in}
 
 -- ---- one item more at the end of a list ----
 
@@ -164,85 +156,27 @@ module _ (name : Option Word) (interfaces : List InterfaceSection) (ospf : List 
   abbrev others : List OspfStatement
   others = ospf_lines_by process ospf
 
-  -- an interface by what the IS-IS process says of it
-  abbrev interface_by : Bool → Levels → ℕ → InterfaceSection → Interface
-  interface_by passive levels metric section =
-      let facts = facts_of (counting section.lines) in
-      record (interface_as_read (router_with process others []) section) {
-        level1 = runs_level has_level_one levels passive facts;
-        level2 = runs_level has_level_two levels passive facts;
-        metric1 = level_metric metric passive facts facts.metric1;
-        metric2 = level_metric metric passive facts facts.metric2;
-        isis_passive = passive;
-      }
-
   same_interface : (l : List IsisStatement) (s : InterfaceSection) →
       interface_as_read (router_with process others (l ++ d ∷ [])) s ≡ interface_as_read (router_with process others l) s
   same_interface l s =
-      ap (λ o. interface_by (unwrap_or o false) (router_with process others (l ++ d ∷ [])).levels (router_with process others (l ++ d ∷ [])).metric s)
-      (last_stays (λ (t : IsisStatement). isis_passive_said s.name t.says) l d refl)
-      ∙ ap (λ o. interface_by (unwrap_or (last_of (λ (t : IsisStatement). isis_passive_said s.name t.says) l) false) (value_or o Both)
-      (router_with process others (l ++ d ∷ [])).metric s)
-      (last_stays (λ (t : IsisStatement). levels_said t.says) l d refl)
-      ∙ ap (λ o. interface_by (unwrap_or (last_of (λ (t : IsisStatement). isis_passive_said s.name t.says) l) false) (router_with process others l).levels
-      (value_or o DEFAULT_METRIC) s)
-      (last_stays (λ (t : IsisStatement). router_metric_said t.says) l d refl)
-
-  -- a configuration by what the IS-IS process says of it
-  abbrev by_isis : List Interface → Option Title → Levels → ℕ → Bool → Configuration
-  by_isis its title levels distance leaks = record {
-    name = unwrap_or name [];
-    interfaces = its;
-    process = process;
-    isis = true;
-    tag = f.tag;
-    isis_area = area_in title;
-    system = system_in title;
-    levels = levels;
-    leak = leaks;
-    ranges = ranges_in others;
-    stubs = stubs_in others;
-    rfc1583 = unwrap_or (last_of (λ (s : OspfStatement). rfc1583_said s.says) others) true;
-    distances = record {
-      ospf = value_or (last_of (λ (s : OspfStatement). ospf_distance_said s.says) others) OSPF_DISTANCE;
-      isis = distance;
-    };
-  }
-
-  abbrev its_title : List IsisStatement → Option Title
-  its_title l = title_given (last_of (λ (s : IsisStatement). title_said s.says) l)
-
-  abbrev leaks_in : List IsisStatement → Bool
-  leaks_in l = unwrap_or (last_of (λ (s : IsisStatement). leak_said s.says) l) false
-
-  abbrev by_lines : List IsisStatement → Configuration
-  by_lines l =
-      by_isis (map (interface_as_read (router_with process others l)) interfaces) (its_title l) (router_with process others l).levels
-      (value_or (last_of (λ (s : IsisStatement). isis_distance_said s.says) l) ISIS_DISTANCE) (leaks_in l)
+      rw (
+        last_stays (λ (t : IsisStatement). isis_passive_said s.name t.says) l d refl,
+        last_stays (λ (t : IsisStatement). levels_said t.says) l d refl,
+        last_stays (λ (t : IsisStatement). router_metric_said t.says) l d refl,
+      ) refl
 
   pub isis_made : list_all is_printable f.tag ≡ true →
       configuration_by name interfaces ospf (f ∷ (more ++ x ∷ [])) ≡ with_isis_distance (configuration_by name interfaces ospf (f ∷ more))
   isis_made printable =
       let l : List IsisStatement = lines_before in
-      ap by_lines (isis_lines_more printable)
-      ∙ ap (λ o. by_isis (map (interface_as_read (router_with process others (l ++ d ∷ []))) interfaces) (its_title (l ++ d ∷ []))
-      (router_with process others (l ++ d ∷ [])).levels
-      (value_or (last_of (λ (s : IsisStatement). isis_distance_said s.says) (l ++ d ∷ [])) ISIS_DISTANCE) (unwrap_or o false))
-      (last_stays (λ (s : IsisStatement). leak_said s.says) l d refl)
-      ∙ ap (λ its. by_isis its (its_title (l ++ d ∷ [])) (router_with process others (l ++ d ∷ [])).levels
-      (value_or (last_of (λ (s : IsisStatement). isis_distance_said s.says) (l ++ d ∷ [])) ISIS_DISTANCE) (leaks_in l))
-      (same_map (interface_as_read (router_with process others (l ++ d ∷ []))) (interface_as_read (router_with process others l))
-      (same_interface l) interfaces)
-      ∙ ap (λ o. by_isis (map (interface_as_read (router_with process others l)) interfaces) (title_given o)
-      (router_with process others (l ++ d ∷ [])).levels
-      (value_or (last_of (λ (s : IsisStatement). isis_distance_said s.says) (l ++ d ∷ [])) ISIS_DISTANCE) (leaks_in l))
-      (last_stays (λ (s : IsisStatement). title_said s.says) l d refl)
-      ∙ ap (λ o. by_isis (map (interface_as_read (router_with process others l)) interfaces) (its_title l) (value_or o Both)
-      (value_or (last_of (λ (s : IsisStatement). isis_distance_said s.says) (l ++ d ∷ [])) ISIS_DISTANCE) (leaks_in l))
-      (last_stays (λ (s : IsisStatement). levels_said s.says) l d refl)
-      ∙ ap (λ o. by_isis (map (interface_as_read (router_with process others l)) interfaces) (its_title l) (router_with process others l).levels
-      (value_or o ISIS_DISTANCE) (leaks_in l))
-      (last_is (λ (s : IsisStatement). isis_distance_said s.says) l d (Ok ISIS_DISTANCE) refl)
+      rw (
+        isis_lines_more printable,
+        same_map (interface_as_read (router_with process others (l ++ d ∷ []))) _ (same_interface l) interfaces,
+        last_stays (λ (s : IsisStatement). leak_said s.says) l d refl,
+        last_stays (λ (s : IsisStatement). title_said s.says) l d refl,
+        last_stays (λ (s : IsisStatement). levels_said s.says) l d refl,
+        last_is (λ (s : IsisStatement). isis_distance_said s.says) l d (Ok ISIS_DISTANCE) refl,
+      ) refl
 
 -- ---- a section of the OSPF process more ----
 
@@ -352,19 +286,9 @@ module _ (name : Option Word) (interfaces : List InterfaceSection) (ospf : List 
       by_address None = refl
       by_address (Some a) = ap (area_by (Some p) given.area) (first_stays (λ (s : OspfStatement). area_taken a.address s.says) l e refl)
 
-  -- the faults of an interface by its area and the reference bandwidth
-  abbrev faults_by : Option ℕ → Option (Result ℕ ReadKind) → InterfaceSection → List Fault
-  faults_by area reference s =
-      interface_line_faults (first_tag isis) (counting s.lines)
-      ++ loopback_faults s.name (facts s)
-      ++ faults_if (is_up (facts s) && is_some area && is_none
-      (cost_given (facts s).cost (default_cost (value_or reference DEFAULT_REFERENCE) s.name (facts s).bandwidth))) s.line NoBandwidth
-
   same_faults : (l : List OspfStatement) (s : InterfaceSection) → interface_faults (router (l ++ e ∷ [])) (first_tag isis) s ≡ interface_faults
       (router l) (first_tag isis) s
-  same_faults l s =
-      ap (λ a. faults_by a (last_of (λ (t : OspfStatement). reference_said t.says) (l ++ e ∷ [])) s) (same_area l (facts s))
-      ∙ ap (λ r. faults_by (interface_area (router l) (facts s)) r s) (last_stays (λ (t : OspfStatement). reference_said t.says) l e refl)
+  same_faults l s = rw (same_area l (facts s), last_stays (λ (t : OspfStatement). reference_said t.says) l e refl) refl
 
   pub ospf_no_fault : HasNoFault name interfaces ospf isis heads ends → HasNoFault name interfaces sections isis heads ends
   ospf_no_fault n =
@@ -393,66 +317,14 @@ module _ (name : Option Word) (interfaces : List InterfaceSection) (ospf : List 
         named = n.named;
       }
 
-  -- an interface by what the OSPF process says of it
-  abbrev interface_of : Option ℕ → Option (Result ℕ ReadKind) → Option Bool → Option Bool → InterfaceSection → Interface
-  interface_of area reference passive default s =
-      record (interface_as_read (router []) s) {
-        area = area;
-        cost = cost_field area (cost_given (facts s).cost (default_cost (value_or reference DEFAULT_REFERENCE) s.name (facts s).bandwidth));
-        ospf_passive = unwrap_or passive (unwrap_or default false);
-      }
-
-  abbrev reference_in : List OspfStatement → Option (Result ℕ ReadKind)
-  reference_in l = last_of (λ (t : OspfStatement). reference_said t.says) l
-
-  abbrev passive_in : Word → List OspfStatement → Option Bool
-  passive_in its l = last_of (λ (t : OspfStatement). ospf_passive_said its t.says) l
-
-  abbrev default_in : List OspfStatement → Option Bool
-  default_in l = last_of (λ (t : OspfStatement). passive_default_said t.says) l
-
   still_interface : (l : List OspfStatement) (s : InterfaceSection) → interface_as_read (router (l ++ e ∷ [])) s ≡ interface_as_read (router l) s
   still_interface l s =
-      ap (λ a. interface_of a (reference_in (l ++ e ∷ [])) (passive_in s.name (l ++ e ∷ [])) (default_in (l ++ e ∷ [])) s) (same_area l (facts s))
-      ∙ ap (λ r. interface_of (interface_area (router l) (facts s)) r (passive_in s.name (l ++ e ∷ [])) (default_in (l ++ e ∷ [])) s)
-      (last_stays (λ (t : OspfStatement). reference_said t.says) l e refl)
-      ∙ ap (λ o. interface_of (interface_area (router l) (facts s)) (reference_in l) o (default_in (l ++ e ∷ [])) s)
-      (last_stays (λ (t : OspfStatement). ospf_passive_said s.name t.says) l e refl)
-      ∙ ap (λ o. interface_of (interface_area (router l) (facts s)) (reference_in l) (passive_in s.name l) o s)
-      (last_stays (λ (t : OspfStatement). passive_default_said t.says) l e refl)
-
-  abbrev the_title : Option Title
-  the_title = title_given (last_of (λ (s : IsisStatement). title_said s.says) all_isis)
-
-  -- a configuration by what the OSPF process says of it
-  abbrev by_ospf : Option ℕ → List Interface → List Range → List Stub → Option Bool → Option (Result ℕ ReadKind) → Configuration
-  by_ospf its_process its ranges stubs compatible distance = record {
-    name = unwrap_or name [];
-    interfaces = its;
-    process = its_process;
-    isis = is_some (first_tag isis);
-    tag = unwrap_or (first_tag isis) [];
-    isis_area = area_in the_title;
-    system = system_in the_title;
-    levels = value_or (last_of (λ (s : IsisStatement). levels_said s.says) all_isis) Both;
-    leak = unwrap_or (last_of (λ (s : IsisStatement). leak_said s.says) all_isis) false;
-    ranges = ranges;
-    stubs = stubs;
-    rfc1583 = unwrap_or compatible true;
-    distances = record {
-      ospf = value_or distance OSPF_DISTANCE;
-      isis = value_or (last_of (λ (s : IsisStatement). isis_distance_said s.says) all_isis) ISIS_DISTANCE;
-    };
-  }
-
-  abbrev compatible_in : List OspfStatement → Option Bool
-  compatible_in l = last_of (λ (s : OspfStatement). rfc1583_said s.says) l
-
-  abbrev distance_in : List OspfStatement → Option (Result ℕ ReadKind)
-  distance_in l = last_of (λ (s : OspfStatement). ospf_distance_said s.says) l
-
-  abbrev by_process : Option ℕ → List OspfStatement → Configuration
-  by_process q l = by_ospf q (map (interface_as_read (router_with q l all_isis)) interfaces) (ranges_in l) (stubs_in l) (compatible_in l) (distance_in l)
+      rw (
+        same_area l (facts s),
+        last_stays (λ (t : OspfStatement). reference_said t.says) l e refl,
+        last_stays (λ (t : OspfStatement). ospf_passive_said s.name t.says) l e refl,
+        last_stays (λ (t : OspfStatement). passive_default_said t.says) l e refl,
+      ) refl
 
   same_ranges : (l : List OspfStatement) → ranges_in (l ++ e ∷ []) ≡ ranges_in l
   same_ranges l = ap (fold (replaced is_same_range) []) (left_out (λ (s : OspfStatement). range_said s.says) l e refl)
@@ -469,19 +341,13 @@ module _ (name : Option Word) (interfaces : List InterfaceSection) (ospf : List 
   pub ospf_made : HasNoFault name interfaces ospf isis heads ends →
       configuration_by name interfaces sections isis ≡ with_ospf_distance (configuration_by name interfaces ospf isis)
   ospf_made n =
-      ap (λ q. by_process q (ospf_lines_by q sections)) (still_running n)
-      ∙ ap (by_process (Some p)) ospf_lines_more
-      ∙ ap (λ its. by_ospf (Some p) its (ranges_in (own ++ e ∷ [])) (stubs_in (own ++ e ∷ [])) (compatible_in (own ++ e ∷ []))
-      (distance_in (own ++ e ∷ [])))
-      (same_map (interface_as_read (router (own ++ e ∷ []))) (interface_as_read (router own)) (still_interface own) interfaces)
-      ∙ ap (λ r. by_ospf (Some p) (map (interface_as_read (router own)) interfaces) r (stubs_in (own ++ e ∷ [])) (compatible_in (own ++ e ∷ []))
-      (distance_in (own ++ e ∷ [])))
-      (same_ranges own)
-      ∙ ap (λ r. by_ospf (Some p) (map (interface_as_read (router own)) interfaces) (ranges_in own) r (compatible_in (own ++ e ∷ []))
-      (distance_in (own ++ e ∷ [])))
-      (same_stubs own)
-      ∙ ap (λ o. by_ospf (Some p) (map (interface_as_read (router own)) interfaces) (ranges_in own) (stubs_in own) o (distance_in (own ++ e ∷ [])))
-      (last_stays (λ (s : OspfStatement). rfc1583_said s.says) own e refl)
-      ∙ ap (λ o. by_ospf (Some p) (map (interface_as_read (router own)) interfaces) (ranges_in own) (stubs_in own) (compatible_in own) o)
-      (last_is (λ (s : OspfStatement). ospf_distance_said s.says) own e (Ok MOST_DISTANCE) refl)
-      ∙ sym (ap (λ q. with_ospf_distance (by_process q (ospf_lines_by q ospf))) running)
+      rw (
+        still_running n,
+        running,
+        ospf_lines_more,
+        same_map (interface_as_read (router (own ++ e ∷ []))) _ (still_interface own) interfaces,
+        same_ranges own,
+        same_stubs own,
+        last_stays (λ (s : OspfStatement). rfc1583_said s.says) own e refl,
+        last_is (λ (s : OspfStatement). ospf_distance_said s.says) own e (Ok MOST_DISTANCE) refl,
+      ) refl

@@ -1,6 +1,6 @@
 -- The changes of a router up to a state of an order, counted.
-use Rattle.std.proofs.Common.{◌≡◌, ◌≢◌, ℕ, zero, suc, ◌+◌, ◌==◌, Bool, true, false, cond, List, [], ◌∷◌, ◌++◌, take, Contains}
-use Rattle.std.proofs.Common.{AllPairs, refl, sym, ap, ◌∙◌, append-nil, ◌⊎◌, inl, inr, arith}
+use Rattle.std.proofs.Common.{◌≡◌, ◌≢◌, ℕ, zero, suc, ◌+◌, ◌==◌, Bool, true, false, cond, List, [], ◌∷◌, take, Contains}
+use Rattle.std.proofs.Common.{AllPairs, refl, sym, ap, ◌∙◌, ◌⊎◌, inl, inr, arith}
 use Rattle.std.specs.List.{flat_map}
 use Rattle.std.proofs.lemmas.Bool.Decides.{eqb_tells}
 use Rattle.net_model.specs.Configuration.{Configuration}
@@ -12,7 +12,7 @@ use Rattle.igp_theory.specs.Waves.{Change, first, second, changed}
 use Rattle.igp_theory.proofs.OrderedLists.{pairs_first, pairs_rest}
 use Rattle.applied_changes.specs.AppliedTexts.{lines_to}
 use Rattle.applied_changes.specs.MadeChanges.{made_on}
-use Rattle.step_scripts.specs.Scripts.{change_lines, by_configuration, isis_change_lines, ospf_change_lines}
+use Rattle.step_scripts.specs.Scripts.{change_lines}
 
 -- the first changes of a router, so many
 abbrev made_of : ℕ → ℕ → List Change
@@ -107,11 +107,7 @@ made_counted u (suc (suc k)) (v ∷ order) once = by (eqb_tells v u) (made_count
 
 lines_of_made : (net : Network) (u m : ℕ) (c : Configuration) → HasConfiguration net u c →
     flat_map (change_lines net) (made_of u m) ≡ lines_to (phase_after m) c
-lines_of_made net u zero c has = refl
-lines_of_made net u (suc zero) c has = ap (λ o. by_configuration isis_change_lines o ++ []) has ∙ append-nil (isis_change_lines c)
-lines_of_made net u (suc (suc m)) c has =
-    ap (λ o. by_configuration isis_change_lines o ++ (by_configuration (λ (d : Configuration). ospf_change_lines d.process) o ++ [])) has
-    ∙ ap (λ l. isis_change_lines c ++ l) (append-nil (ospf_change_lines c.process))
+lines_of_made net u m c has = grind arith
 
 pub made_lines : (net : Network) (n : ℕ) (order : List ℕ) (k u : ℕ) (c : Configuration) → IsOrder n order → HasConfiguration net u c →
     flat_map (change_lines net) (made_on u k order) ≡ lines_to (state_of order k u) c

@@ -12,7 +12,7 @@ use Rattle.ios_sections.specs.JoinedLines.{further_on, is_in_banner, begins_with
 use Rattle.ios_sections.proofs.JoinedFacts.{lines_in-append}
 use Rattle.ios_reader.specs.InsertedLines.{IsOutsideBanners}
 use Rattle.ios_reader.specs.Texts.{ReadsText}
-use Rattle.ios_reader.specs.Places.{between, raw_lines, start_of}
+use Rattle.ios_reader.specs.Places.{raw_lines, start_of}
 use Rattle.ios_reader.specs.PutBlocks.{ends_here, put_blocks}
 use Rattle.ios_reader.proofs.LinePlaces.{next_begins, up_to}
 use Rattle.ios_reader.proofs.RawLines.{IsWholeBefore, AreRaw, joined_raw, are_raw, raw_joined, HasOneLine, one_line, parts_stay, parts_at_end, open_lines}
@@ -70,14 +70,15 @@ module _ (phases : List ℕ → Phase) (text : List ℕ) where
             ∙ ap (λ (ps : List Part). ps ++ rest.later) (parts_at_end before raw line [] outside is e)
             ∙ append_assoc (parts_of (lines_in before)) (part ∷ []) rest.later;
         applied = λ from low.
-            ap (λ (s : ℕ). between text from s ++ block before ++ applied_parts phases text s rest.later) start
-            ∙ ap (λ (l : List ℕ). l ++ block before ++ applied_parts phases text (length before) rest.later)
-            (up_to before (raw ++ joined_raw raws) text from split low)
-            ∙ ap (λ (l : List ℕ). drop from before ++ block before ++ l)
-            (rest.applied (length before) (let long = length-append before raw in omega (arith, long))
-            ∙ ap (λ (l : List ℕ). l ++ done) (drop_at before raw (length before) refl))
-            ∙ append_assoc (drop from before) (block before) (raw ++ done)
-            ∙ ap (λ (l : List ℕ). drop from before ++ l) (sym (append_assoc (block before) raw done));
+            let long = length-append before raw in
+            rw (
+              start,
+              up_to before (raw ++ joined_raw raws) text from split low,
+              rest.applied (length before) (omega (arith, long)),
+              drop_at before raw (length before) refl,
+            )
+            (append_assoc (drop from before) (block before) (raw ++ done)
+            ∙ ap (λ (l : List ℕ). drop from before ++ l) (sym (append_assoc (block before) raw done)));
       }
 
   all_behind : (raws : List (List ℕ)) (before : List ℕ) → IsWholeBefore before raws → AreRaw raws → before ++ joined_raw raws ≡ text →

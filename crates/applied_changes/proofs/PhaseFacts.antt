@@ -1,7 +1,7 @@
 -- The phase of a router by its name and by the changes made on it, and the lines that lead there.
 use Rattle.std.proofs.Common.{◌≡◌, ◌<◌, ◌+◌, ◌-◌, ℕ, zero, suc, ◌==◌, Bool, true, false, cond, List, [], ◌∷◌, ◌++◌, length}
 use Rattle.std.proofs.Common.{get_or, take, drop, refl, sym, ap, ◌∙◌, arith}
-use Rattle.std.specs.Prelude.{filter_map, bytes_eq, is_some, Option, unwrap_or}
+use Rattle.std.specs.Prelude.{filter_map, bytes_eq, Option, unwrap_or}
 use Rattle.std.proofs.lemmas.List.{drop_more}
 use Rattle.std.proofs.lemmas.Option.{slice_get_within, get_or_from_slice_get}
 use Rattle.std.proofs.lemmas.List.Concat.{flat_map-append}
@@ -10,24 +10,19 @@ use Rattle.net_model.specs.Network.{Network, HasConfiguration}
 use Rattle.printed_lines.specs.Texts.{text_of}
 use Rattle.igp_theory.specs.States.{State, changes_of, changes_on, phase_after}
 use Rattle.igp_theory.specs.declared.phase.Phase.{Phase}
-use Rattle.igp_theory.specs.declared.phase.Phase.TheVariants.{Old, Middle, New}
+use Rattle.igp_theory.specs.declared.phase.Phase.TheVariants.{New}
 use Rattle.ios_lines.specs.Lookups.{last_of}
 use Rattle.ios_sections.specs.Processes.{as_hostname, as_isis, first_tag, process_of}
-use Rattle.ios_sections.specs.declared.section.IsisSection.{IsisSection}
 use Rattle.ios_sections.specs.declared.section.Section.{Section}
 use Rattle.ios_reader.specs.Configurations.{configuration_of}
-use Rattle.net_model.specs.declared.bounds.TheConstants.{ISIS_DISTANCE}
-use Rattle.step_scripts.specs.Scripts.{isis_head, distance_line, isis_change_lines, ospf_change_lines}
 use Rattle.applied_changes.specs.AppliedTexts.{lines_to, block_for}
 use Rattle.applied_changes.specs.NamedPhases.{phase_from}
-use Rattle.applied_changes.specs.steps.PhaseLines.{tag_lines, phase_lines}
+use Rattle.applied_changes.specs.steps.PhaseLines.{phase_lines}
 
 -- ---- the phase ----
 
 pub after_more : (made : ℕ) → 1 < made → phase_after made ≡ New
-after_more zero more = absurd (omega (arith, more))
-after_more (suc zero) more = absurd (omega (arith, more))
-after_more (suc (suc made)) more = refl
+after_more made more = grind arith
 
 none_shared : (t : Bool) (m : ℕ) → m ≡ 0 → cond t m 0 ≡ 0
 none_shared true m e = e
@@ -89,20 +84,10 @@ phase_further net state name u config at before other =
 pub lines_joined : (one two : List (List ℕ)) → text_of one ++ text_of two ≡ text_of (one ++ two)
 lines_joined one two = sym (flat_map-append (λ (line : List ℕ). line ++ 10 ∷ []) one two)
 
-tag_of_first : (sections : List IsisSection) (c : Configuration) → c.isis ≡ is_some (first_tag sections) → c.tag ≡ unwrap_or (first_tag sections) [] →
-    tag_lines (first_tag sections) ≡ isis_change_lines c
-tag_of_first [] c isis tag = sym (ap (λ b. cond b (isis_head c.tag ∷ distance_line ISIS_DISTANCE ∷ []) []) isis)
-tag_of_first (section ∷ sections) c isis tag =
-    sym (ap (λ b. cond b (isis_head c.tag ∷ distance_line ISIS_DISTANCE ∷ []) []) isis
-    ∙ ap (λ t. isis_head t ∷ distance_line ISIS_DISTANCE ∷ []) tag)
-
 -- the lines by what the sections of a configuration say are those of the configuration
 pub lines_of_sections : (phase : Phase) (sections : List Section) →
     phase_lines phase (first_tag (filter_map as_isis sections)) (process_of sections) ≡ lines_to phase (configuration_of sections)
-lines_of_sections Old sections = refl
-lines_of_sections Middle sections = tag_of_first (filter_map as_isis sections) (configuration_of sections) refl refl
-lines_of_sections New sections =
-    ap (λ l. l ++ ospf_change_lines (process_of sections)) (tag_of_first (filter_map as_isis sections) (configuration_of sections) refl refl)
+lines_of_sections phase sections = grind arith
 
 -- the same, where they are known by what they are
 pub block_made : (phases : List ℕ → Phase) (sections : List Section) (name tag : Option (List ℕ)) (process : Option ℕ)

@@ -3,9 +3,6 @@ use Rattle.std.proofs.Common.{◌≡◌, ℕ, ◌+◌, Bool, true, false, not, �
 use Rattle.std.proofs.Common.{arith}
 use Rattle.std.specs.Prelude.{filter_map, flat_map, option_map, is_none, is_some, unwrap_or, fold}
 use Rattle.std.specs.List.{cons_option}
-use Rattle.net_model.specs.LevelSets.{has_level_one, has_level_two}
-use Rattle.net_model.specs.declared.area.Stub.{Stub}
-use Rattle.net_model.specs.declared.interface.Interface.{Interface}
 use Rattle.ios_lines.specs.Words.{Word}
 use Rattle.ios_lines.specs.Lookups.{later, last_of, earlier, first_of, replaced}
 use Rattle.ios_lines.specs.FaultOrder.{faults_at, faults_if}
@@ -37,8 +34,7 @@ use Rattle.ios_reader.specs.Routers.{Router, router_with, router_of, area_taken,
 use Rattle.ios_reader.specs.Routers.{levels_said, router_metric_said, title_said, ospf_distance_said, isis_distance_said, leak_said, rfc1583_said, range_said}
 use Rattle.ios_reader.specs.Routers.{stub_said, default_cost_said, ranges_in, stub_lines_in, stub_of, stubs_in, is_same_range, is_same_area}
 use Rattle.ios_reader.specs.InterfacesAsRead.{address_given, is_loopback, is_up, area_by, area_with, interface_area, ospf_cost, is_isis_passive}
-use Rattle.ios_reader.specs.InterfacesAsRead.{is_ospf_passive, interface_with, interface_as_read, runs_level, level_metric, address_field, subnet_field}
-use Rattle.ios_reader.specs.InterfacesAsRead.{cost_field}
+use Rattle.ios_reader.specs.InterfacesAsRead.{is_ospf_passive, interface_with, interface_as_read}
 use Rattle.ios_reader.specs.Faults.{membership_fault, statement_faults, interface_line_faults, address_mask_faults, is_point_to_point}
 use Rattle.ios_reader.specs.Faults.{loopback_faults, bandwidth_faults, interface_faults, section_faults, part_faults}
 use Rattle.ios_reader.specs.Configurations.{ospf_settings, isis_settings, configuration_of}
@@ -155,34 +151,10 @@ isis_passive-further : (k : ℕ) (r : Router) (name : Word) → is_isis_passive 
 isis_passive-further k r name =
     ap (λ (o : Option Bool). unwrap_or o false) (last_of-map (λ (s : IsisStatement). isis_passive_said name s.says) (isis_line_further k) (λ x. refl) r.isis)
 
--- an interface by what is looked up among lines
-abbrev interface_by : Router → Word → InterfaceFacts → Option InterfaceAddress → Option ℕ → Bool → Bool → Interface
-interface_by router name facts given area ospf_passive isis_passive = record {
-  name = name;
-  address = address_field given;
-  subnet = subnet_field given;
-  up = is_some given && not (unwrap_or facts.shut false);
-  loopback = is_loopback name;
-  area = area;
-  cost = cost_field area (ospf_cost router name facts);
-  ospf_passive = ospf_passive;
-  level1 = runs_level has_level_one router.levels isis_passive facts;
-  level2 = runs_level has_level_two router.levels isis_passive facts;
-  metric1 = level_metric router.metric isis_passive facts facts.metric1;
-  metric2 = level_metric router.metric isis_passive facts facts.metric2;
-  isis_passive = isis_passive;
-}
-
 interface_by-further : (k : ℕ) (r : Router) (name : Word) (facts : InterfaceFacts) →
     interface_with (router_further k r) name (facts_further k facts) ≡ interface_with r name facts
 interface_by-further k r name facts =
-    ap (λ (g : Option InterfaceAddress). interface_by r name facts g (interface_area (router_further k r) (facts_further k facts))
-    (is_ospf_passive (router_further k r) name) (is_isis_passive (router_further k r) name)) (given-further k facts.address)
-    ∙ ap (λ (a : Option ℕ). interface_by r name facts (address_given facts.address) a (is_ospf_passive (router_further k r) name)
-    (is_isis_passive (router_further k r) name)) (interface_area-further k r facts)
-    ∙ ap (λ (b : Bool). interface_by r name facts (address_given facts.address) (interface_area r facts) b (is_isis_passive (router_further k r) name))
-    (ospf_passive-further k r name)
-    ∙ ap (interface_by r name facts (address_given facts.address) (interface_area r facts) (is_ospf_passive r name)) (isis_passive-further k r name)
+    rw (interface_area-further k r facts, ospf_passive-further k r name, isis_passive-further k r name, given-further k facts.address) refl
 
 counted_facts : (k : ℕ) (s : InterfaceSection) → facts_of (counting (map (interface_line_further k) s.lines)) ≡ facts_further k (facts_of (counting s.lines))
 counted_facts k s = ap facts_of (counting-further k s.lines) ∙ facts-further k (counting s.lines)
@@ -193,9 +165,7 @@ as_read-further k r s = ap (interface_with (router_further k r) s.name) (counted
 all_read-further : (k : ℕ) (r : Router) (ss : List InterfaceSection) →
     map (interface_as_read (router_further k r)) (map (interface_further k) ss) ≡ map (interface_as_read r) ss
 all_read-further k r [] = refl
-all_read-further k r (s ∷ ss) =
-    ap (λ (i : Interface). i ∷ map (interface_as_read (router_further k r)) (map (interface_further k) ss)) (as_read-further k r s)
-    ∙ ap (λ (is : List Interface). interface_as_read r s ∷ is) (all_read-further k r ss)
+all_read-further k r (s ∷ ss) = rw (as_read-further k r s, all_read-further k r ss) refl
 
 -- ---- the faults of an interface ----
 
@@ -215,21 +185,14 @@ loopback_choice false k fs = refl
 loopback-further : (k : ℕ) (name : Word) (facts : InterfaceFacts) →
     loopback_faults name (facts_further k facts) ≡ map (fault_further k) (loopback_faults name facts)
 loopback-further k name facts =
-    ap (λ (g : Option InterfaceAddress). cond
-    (is_loopback name && (is_some g && not (unwrap_or facts.shut false)) && not (is_point_to_point facts.point_to_point))
-    (address_mask_faults (given_further k facts.address)) []) (given-further k facts.address)
-    ∙ ap (λ (fs : List Fault). cond (is_loopback name && is_up facts && not (is_point_to_point facts.point_to_point)) fs []) (mask-further k facts.address)
-    ∙ loopback_choice (is_loopback name && is_up facts && not (is_point_to_point facts.point_to_point)) k (address_mask_faults facts.address)
+    rw (given-further k facts.address, mask-further k facts.address)
+    (loopback_choice (is_loopback name && is_up facts && not (is_point_to_point facts.point_to_point)) k (address_mask_faults facts.address))
 
 bandwidth-further : (k : ℕ) (r : Router) (s : InterfaceSection) (facts : InterfaceFacts) →
     bandwidth_faults (router_further k r) (interface_further k s) (facts_further k facts) ≡ map (fault_further k) (bandwidth_faults r s facts)
 bandwidth-further k r s facts =
-    ap (λ (g : Option InterfaceAddress). faults_if
-    ((is_some g && not (unwrap_or facts.shut false)) && is_some (interface_area (router_further k r) (facts_further k facts)) && is_none
-    (ospf_cost r s.name facts)) (k + s.line) NoBandwidth) (given-further k facts.address)
-    ∙ ap (λ (a : Option ℕ). faults_if (is_up facts && is_some a && is_none (ospf_cost r s.name facts)) (k + s.line) NoBandwidth)
-    (interface_area-further k r facts)
-    ∙ faults_if-further (is_up facts && is_some (interface_area r facts) && is_none (ospf_cost r s.name facts)) k s.line NoBandwidth
+    rw (interface_area-further k r facts, given-further k facts.address)
+    (faults_if-further (is_up facts && is_some (interface_area r facts) && is_none (ospf_cost r s.name facts)) k s.line NoBandwidth)
 
 abbrev faults_by : Router → Option Word → InterfaceSection → List InterfaceStatement → InterfaceFacts → List Fault
 faults_by router tag section lines facts =
@@ -257,14 +220,10 @@ interfaces_faults-further : (k : ℕ) (ss : List Section) →
     (interfaces_in (map (section_further k) ss))
     ≡ map (fault_further k) (flat_map (interface_faults (router_of ss) (first_tag (filter_map as_isis ss))) (interfaces_in ss))
 interfaces_faults-further k ss =
-    ap (λ (r : Router). flat_map (interface_faults r (first_tag (filter_map as_isis (map (section_further k) ss))))
-    (interfaces_in (map (section_further k) ss))) (router-further k ss)
-    ∙ ap (λ (t : Option Word). flat_map (interface_faults (router_further k (router_of ss)) t) (interfaces_in (map (section_further k) ss)))
-    (first_tag-further k ss)
-    ∙ ap (flat_map (interface_faults (router_further k (router_of ss)) (first_tag (filter_map as_isis ss)))) (interfaces-further k ss)
-    ∙ flat_map-map (interface_faults (router_further k (router_of ss)) (first_tag (filter_map as_isis ss)))
+    rw (router-further k ss, first_tag-further k ss, interfaces-further k ss)
+    (flat_map-map (interface_faults (router_further k (router_of ss)) (first_tag (filter_map as_isis ss)))
     (interface_faults (router_of ss) (first_tag (filter_map as_isis ss)))
-    (interface_further k) (fault_further k) (interface_faults-further k (router_of ss) (first_tag (filter_map as_isis ss))) (interfaces_in ss)
+    (interface_further k) (fault_further k) (interface_faults-further k (router_of ss) (first_tag (filter_map as_isis ss))) (interfaces_in ss))
 
 nameless-further : (k ends : ℕ) (ss : List Section) →
     faults_if (is_none (last_of as_hostname (map (section_further k) ss))) (k + ends) NoHostname ≡ map (fault_further k)
@@ -297,19 +256,13 @@ filter_map-same h f same (x ∷ xs) = ap (λ o. cons_option o (filter_map h (map
 ranges-further : (k : ℕ) (ls : List OspfStatement) → ranges_in (map (ospf_line_further k) ls) ≡ ranges_in ls
 ranges-further k ls = ap (fold (replaced is_same_range) []) (filter_map-same (λ (s : OspfStatement). range_said s.says) (ospf_line_further k) (λ x. refl) ls)
 
-abbrev stub_with : StubLine → ℕ → Stub
-stub_with stub cost = record { area = stub.area; no_summary = stub.no_summary; default_cost = cost }
-
 stub_of-further : (k : ℕ) (ls : List OspfStatement) (stub : StubLine) → stub_of (map (ospf_line_further k) ls) stub ≡ stub_of ls stub
 stub_of-further k ls stub =
-    ap (λ (o : Option ℕ). stub_with stub (unwrap_or o 1))
-    (last_of-map (λ (s : OspfStatement). default_cost_said stub.area s.says) (ospf_line_further k) (λ x. refl) ls)
+    rw (last_of-map (λ (s : OspfStatement). default_cost_said stub.area s.says) (ospf_line_further k) (λ x. refl) ls) refl
 
 all_stubs-further : (k : ℕ) (ls : List OspfStatement) (stubs : List StubLine) → map (stub_of (map (ospf_line_further k) ls)) stubs ≡ map (stub_of ls) stubs
 all_stubs-further k ls [] = refl
-all_stubs-further k ls (s ∷ ss) =
-    ap (λ (t : Stub). t ∷ map (stub_of (map (ospf_line_further k) ls)) ss) (stub_of-further k ls s)
-    ∙ ap (λ (ts : List Stub). stub_of ls s ∷ ts) (all_stubs-further k ls ss)
+all_stubs-further k ls (s ∷ ss) = rw (stub_of-further k ls s, all_stubs-further k ls ss) refl
 
 stubs-further : (k : ℕ) (ls : List OspfStatement) → stubs_in (map (ospf_line_further k) ls) ≡ stubs_in ls
 stubs-further k ls =

@@ -87,9 +87,7 @@ read_to lines parts rest p r read =
 faults-further : (k : ℕ) (parts : List Part) → flat_map part_faults (map (part_further k) parts) ≡ map (fault_further k) (flat_map part_faults parts)
 faults-further k [] = refl
 faults-further k (p ∷ ps) =
-    ap (λ (fs : List Fault). fs ++ flat_map part_faults (map (part_further k) ps)) (part_faults-further k p)
-    ∙ ap (λ (fs : List Fault). map (fault_further k) (part_faults p) ++ fs) (faults-further k ps)
-    ∙ sym (map-append (fault_further k) (part_faults p) (flat_map part_faults ps))
+    rw (part_faults-further k p, faults-further k ps) (sym (map-append (fault_further k) (part_faults p) (flat_map part_faults ps)))
 
 none_mapped : (k : ℕ) (fs : List Fault) → map (fault_further k) fs ≡ [] → fs ≡ []
 none_mapped k [] e = refl
@@ -104,8 +102,7 @@ faultless_back k parts e = none_mapped k (flat_map part_faults parts) (sym (faul
 made-further : (k : ℕ) (parts : List Part) → made (map (part_further k) parts) ≡ made parts
 made-further k [] = refl
 made-further k (p ∷ ps) =
-    ap (λ (c : Configuration). c ∷ made (map (part_further k) ps)) (part-further k p)
-    ∙ ap (λ (cs : List Configuration). configuration_of (sections_in p) ∷ cs) (made-further k ps)
+    rw (part-further k p, made-further k ps) refl
 
 none_open-further : (k : ℕ) (ls : List TextLine) → list_any begins_configuration (map (further_on k) ls) ≡ list_any begins_configuration ls
 none_open-further k ls = list_any-map begins_configuration begins_configuration (further_on k) (λ x. refl) ls
@@ -127,26 +124,26 @@ counted_joined text other outside =
 parts_joined : (text other : List ℕ) → IsClosed text →
     parts_of (lines_in (text ++ other)) ≡ parts_of (lines_in text) ++ map (part_further (length (lines_in text))) (parts_of (lines_in other))
 parts_joined text other closed =
-    ap (parts_after []) (counted_joined text other closed.outside)
-    ∙ parts-append [] (counted_lines (lines_in text)) (map (further_on (length (lines_in text))) (counted_lines (lines_in other)))
-    ∙ ap (λ (ls : List TextLine). parts_of (lines_in text) ++ parts_after ls (map (further_on (length (lines_in text))) (counted_lines (lines_in other))))
-    closed.none_open
-    ∙ ap (λ (ps : List Part). parts_of (lines_in text) ++ ps) (parts-further (length (lines_in text)) [] (counted_lines (lines_in other)))
+    rw (
+      counted_joined text other closed.outside,
+      parts-append [] (counted_lines (lines_in text)) (map (further_on (length (lines_in text))) (counted_lines (lines_in other))),
+      closed.none_open,
+      parts-further (length (lines_in text)) [] (counted_lines (lines_in other)),
+    ) refl
 
 rest_joined : (text other : List ℕ) → IsClosed text →
     rest_after [] (counted_lines (lines_in (text ++ other))) ≡ map (further_on (length (lines_in text))) (rest_after [] (counted_lines (lines_in other)))
 rest_joined text other closed =
-    ap (rest_after []) (counted_joined text other closed.outside)
-    ∙ rest-append [] (counted_lines (lines_in text)) (map (further_on (length (lines_in text))) (counted_lines (lines_in other)))
-    ∙ ap (λ (ls : List TextLine). rest_after ls (map (further_on (length (lines_in text))) (counted_lines (lines_in other)))) closed.none_open
-    ∙ rest-further (length (lines_in text)) [] (counted_lines (lines_in other))
+    rw (
+      counted_joined text other closed.outside,
+      rest-append [] (counted_lines (lines_in text)) (map (further_on (length (lines_in text))) (counted_lines (lines_in other))),
+      closed.none_open,
+    ) (rest-further (length (lines_in text)) [] (counted_lines (lines_in other)))
 
 faults_joined : (k : ℕ) (ps qs : List Part) → flat_map part_faults ps ≡ [] → flat_map part_faults qs ≡ [] →
     flat_map part_faults (ps ++ map (part_further k) qs) ≡ []
 faults_joined k ps qs p q =
-    flat_map-append part_faults ps (map (part_further k) qs)
-    ∙ ap (λ (fs : List Fault). fs ++ flat_map part_faults (map (part_further k) qs)) p
-    ∙ faultless_further k qs q
+    rw (flat_map-append part_faults ps (map (part_further k) qs), p) (faultless_further k qs q)
 
 pub joined_texts : (text other : List ℕ) (configurations others : List Configuration) → IsClosed text → ReadsText text configurations →
     ReadsText other others → ReadsText (text ++ other) (configurations ++ others)
@@ -235,25 +232,23 @@ parts_at_end : (text after : List ℕ) → IsOutsideBanners text → (first : En
     parts_of (lines_in (text ++ after)) ≡ parts_of (lines_in text) ++ part_with (open_lines text) (count_of text + first.end.number) ∷ map
     (part_further (count_of text)) (parts_behind first.behind)
 parts_at_end text after outside first =
-    ap (parts_after []) (counted_joined text after outside)
-    ∙ parts-append [] (counted_lines (lines_in text)) (map (further_on (count_of text)) (counted_lines (lines_in after)))
-    ∙ ap (λ (ls : List TextLine). parts_of (lines_in text) ++ parts_after (open_lines text) (map (further_on (count_of text)) ls))
-    (counted_first (lines_in after) first)
-    ∙ ap (λ (b : Bool). parts_of (lines_in text) ++ cond b
-    (part_with (open_lines text) (count_of text + first.end.number) ∷ parts_after [] (map (further_on (count_of text)) (counted_lines first.behind)))
-    (parts_after (open_lines text ++ further_on (count_of text) first.end ∷ []) (map (further_on (count_of text)) (counted_lines first.behind)))) first.ends
-    ∙ ap (λ (ps : List Part). parts_of (lines_in text) ++ part_with (open_lines text) (count_of text + first.end.number) ∷ ps)
-    (parts-further (count_of text) [] (counted_lines first.behind))
+    rw (
+      counted_joined text after outside,
+      parts-append [] (counted_lines (lines_in text)) (map (further_on (count_of text)) (counted_lines (lines_in after))),
+      counted_first (lines_in after) first,
+      first.ends,
+      parts-further (count_of text) [] (counted_lines first.behind),
+    ) refl
 
 rest_at_end : (text after : List ℕ) → IsOutsideBanners text → (first : EndsFirst (lines_in after)) →
     rest_after [] (counted_lines (lines_in (text ++ after))) ≡ map (further_on (count_of text)) (rest_after [] (counted_lines first.behind))
 rest_at_end text after outside first =
-    ap (rest_after []) (counted_joined text after outside)
-    ∙ rest-append [] (counted_lines (lines_in text)) (map (further_on (count_of text)) (counted_lines (lines_in after)))
-    ∙ ap (λ (ls : List TextLine). rest_after (open_lines text) (map (further_on (count_of text)) ls)) (counted_first (lines_in after) first)
-    ∙ ap (λ (b : Bool). cond b (rest_after [] (map (further_on (count_of text)) (counted_lines first.behind)))
-    (rest_after (open_lines text ++ further_on (count_of text) first.end ∷ []) (map (further_on (count_of text)) (counted_lines first.behind)))) first.ends
-    ∙ rest-further (count_of text) [] (counted_lines first.behind)
+    rw (
+      counted_joined text after outside,
+      rest-append [] (counted_lines (lines_in text)) (map (further_on (count_of text)) (counted_lines (lines_in after))),
+      counted_first (lines_in after) first,
+      first.ends,
+    ) (rest-further (count_of text) [] (counted_lines first.behind))
 
 -- ---- a text that ends with its last `end` line ----
 

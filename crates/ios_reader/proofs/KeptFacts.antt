@@ -1,6 +1,6 @@
 -- What is read keeps the facts of a configuration.
-use Rattle.std.proofs.Common.{◌≡◌, ◌≢◌, ℕ, ◌*◌, ◌/◌, ◌^◌, ◌<◌, ◌≤◌, Bool, true, false, not, ◌&&◌, ◌||◌, List, [], length, get_or, Option, Some, None, Result}
-use Rattle.std.proofs.Common.{Ok, Err, refl, ap, map, nat_eq, nat_le, min, max, arith, inl, inr, ◌⊎◌}
+use Rattle.std.proofs.Common.{◌≡◌, ◌≢◌, ℕ, ◌^◌, ◌<◌, ◌≤◌, Bool, true, false, not, ◌&&◌, ◌||◌, List, [], length, get_or, Option, Some, None, Result}
+use Rattle.std.proofs.Common.{Ok, Err, refl, ap, map, nat_eq, nat_le, arith, inl, inr, ◌⊎◌}
 use Rattle.std.specs.Prelude.{IfSome, IfOk, IsSome, All, AllPairs, is_some, unwrap_or, filter_map, take_while}
 use Rattle.std.specs.List.{list_all}
 use Rattle.std.specs.Char.{is_ascii_digit}
@@ -22,7 +22,7 @@ use Rattle.ios_lines.specs.InterfaceLines.{counting}
 use Rattle.ios_sections.specs.Processes.{as_hostname, as_interface, merged, interfaces_in, process_of, ospf_lines, isis_lines}
 use Rattle.ios_reader.specs.Routers.{Router, router_of, range_said, is_same_range, ranges_in, stub_said, is_same_area, stub_lines_in}
 use Rattle.ios_reader.specs.Routers.{default_cost_said, stub_of, stubs_in, title_said, router_metric_said, ospf_distance_said, isis_distance_said}
-use Rattle.ios_reader.specs.InterfacesAsRead.{address_given, is_loopback, interface_area, default_bandwidth, cost_of_bandwidth, cost_by_bandwidth}
+use Rattle.ios_reader.specs.InterfacesAsRead.{address_given, is_loopback, interface_area, default_bandwidth, cost_by_bandwidth}
 use Rattle.ios_reader.specs.InterfacesAsRead.{default_cost, cost_given, ospf_cost, is_isis_passive, runs_isis, metric_by, level_metric, subnet_field}
 use Rattle.ios_reader.specs.InterfacesAsRead.{cost_field, interface_with, interface_as_read}
 use Rattle.ios_reader.specs.Configurations.{title_given, system_in, configuration_of}

@@ -1,11 +1,10 @@
 -- The first `network` line that takes an address: in the tables of the lines, and among the lines of the process.
 use Rattle.std.proofs.Common.{sym, ◌≡◌, ℕ, ◌+◌, ◌<◌, ◌≤◌, Bool, true, false, not, ◌&&◌, ◌||◌, List, [], ◌∷◌, ◌++◌, length, take, get_or, Option, Some, None}
 use Rattle.std.proofs.Common.{refl, ap, subst, ◌∙◌, cond, filter, nat_eq, arith, append_assoc}
-use Rattle.std.specs.Prelude.{All, find, fold, option_map, bit_or, nat_lt}
+use Rattle.std.specs.Prelude.{All, find, fold, option_map, bit_or}
 use Rattle.std.specs.List.{list_any}
 use Rattle.std.specs.Map.{lookup}
 use Rattle.std.specs.Option.{option_or}
-use Rattle.std.proofs.lemmas.Bool.Decides.{nat_tests}
 use Rattle.std.proofs.lemmas.List.{append-nil, length-take-le, take_more}
 use Rattle.std.proofs.lemmas.List.Elements.{All-head, All-tail, All-more, All-weaker}
 use Rattle.std.proofs.lemmas.List.Folds.{find-append}

@@ -1,5 +1,5 @@
 -- Lines that tell nothing may be left out: the parts of a text are the same, and what their sections say.
-use Rattle.std.proofs.Common.{◌≡◌, ℕ, suc, ◌+◌, Bool, true, false, not, cond, ◌&&◌, ◌||◌, List, [], ◌∷◌, ◌++◌, Option, Some, None, Result}
+use Rattle.std.proofs.Common.{◌≡◌, ℕ, suc, ◌+◌, Bool, true, false, not, cond, ◌&&◌, ◌||◌, List, [], ◌∷◌, ◌++◌, Option, None, Result}
 use Rattle.std.proofs.Common.{map, take, filter, fold, filter_map, codes, bytes_eq, nat_eq, append-nil, refl, sym, ap, ◌∙◌, arith}
 use Rattle.std.specs.List.{list_any, prefix_len, before_first}
 use Rattle.std.proofs.lemmas.Bool.{and_parts, or_parts, or_from}
@@ -8,7 +8,7 @@ use Rattle.std.proofs.lemmas.List.Elements.{filter-append}
 use Rattle.std.proofs.lemmas.Slice.Eq.{bytes_eq-Decides}
 use Rattle.ios_lines.specs.Words.{Word, word_at, says, begins_with_two, lacks}
 use Rattle.ios_lines.specs.Heads.{hostname_of, head_of}
-use Rattle.ios_lines.specs.Lookups.{later, last_of}
+use Rattle.ios_lines.specs.Lookups.{last_of}
 use Rattle.ios_lines.specs.declared.kind.ReadKind.{ReadKind}
 use Rattle.ios_lines.specs.declared.kind.ReadKind.TheVariants.{Unsupported}
 use Rattle.ios_lines.specs.declared.head.Head.{Head}

@@ -58,14 +58,6 @@ facts_with address shut bandwidth cost area point_to_point isis circuit metric m
   metric2 = metric2;
 }
 
-same_facts : (a1 a2 : Option (Option PlacedAddress)) (s1 s2 : Option Bool) (b1 b2 : Option (Result ℕ ReadKind))
-    (c1 c2 : Option (Result ℕ ReadKind)) (r1 r2 : Option (Result ProcessArea ReadKind))
-    (p1 p2 : Option (Result Bool ReadKind)) (i1 i2 : Option Bool) (l1 l2 : Option (Result Levels ReadKind))
-    (m1 m2 n1 n2 o1 o2 : Option (Result ℕ ReadKind)) →
-    a1 ≡ a2 → s1 ≡ s2 → b1 ≡ b2 → c1 ≡ c2 → r1 ≡ r2 → p1 ≡ p2 → i1 ≡ i2 → l1 ≡ l2 → m1 ≡ m2 → n1 ≡ n2 → o1 ≡ o2 →
-    facts_with a1 s1 b1 c1 r1 p1 i1 l1 m1 n1 o1 ≡ facts_with a2 s2 b2 c2 r2 p2 i2 l2 m2 n2 o2
-same_facts a1 a2 s1 s2 b1 b2 c1 c2 r1 r2 p1 p2 i1 i2 l1 l2 m1 m2 n1 n2 o1 o2 a s b c r p i l m n o = cc
-
 -- those of some lines, and behind them those of others
 abbrev joined_facts : InterfaceFacts → InterfaceFacts → InterfaceFacts
 joined_facts f g =
@@ -75,18 +67,19 @@ joined_facts f g =
 
 facts_of-append : (xs ys : List InterfaceStatement) → facts_of (xs ++ ys) ≡ joined_facts (facts_of xs) (facts_of ys)
 facts_of-append xs ys =
-    same_facts _ _ _ _ _ _ _ _ _ _ _ _ _ _ _ _ _ _ _ _ _ _
-    (last_of-append address_in xs ys)
-    (last_of-append (λ (s : InterfaceStatement). shut_said s.says) xs ys)
-    (last_of-append (λ (s : InterfaceStatement). bandwidth_said s.says) xs ys)
-    (last_of-append (λ (s : InterfaceStatement). cost_said s.says) xs ys)
-    (last_of-append (λ (s : InterfaceStatement). area_said s.says) xs ys)
-    (last_of-append (λ (s : InterfaceStatement). point_to_point_said s.says) xs ys)
-    (last_of-append (λ (s : InterfaceStatement). isis_said s.says) xs ys)
-    (last_of-append (λ (s : InterfaceStatement). circuit_said s.says) xs ys)
-    (last_of-append (λ (s : InterfaceStatement). metric_said s.says) xs ys)
-    (last_of-append (λ (s : InterfaceStatement). metric1_said s.says) xs ys)
-    (last_of-append (λ (s : InterfaceStatement). metric2_said s.says) xs ys)
+    rw (
+      last_of-append address_in xs ys,
+      last_of-append (λ (s : InterfaceStatement). shut_said s.says) xs ys,
+      last_of-append (λ (s : InterfaceStatement). bandwidth_said s.says) xs ys,
+      last_of-append (λ (s : InterfaceStatement). cost_said s.says) xs ys,
+      last_of-append (λ (s : InterfaceStatement). area_said s.says) xs ys,
+      last_of-append (λ (s : InterfaceStatement). point_to_point_said s.says) xs ys,
+      last_of-append (λ (s : InterfaceStatement). isis_said s.says) xs ys,
+      last_of-append (λ (s : InterfaceStatement). circuit_said s.says) xs ys,
+      last_of-append (λ (s : InterfaceStatement). metric_said s.says) xs ys,
+      last_of-append (λ (s : InterfaceStatement). metric1_said s.says) xs ys,
+      last_of-append (λ (s : InterfaceStatement). metric2_said s.says) xs ys,
+    ) refl
 
 -- ---- the lines that are written ----
 

@@ -95,18 +95,10 @@ module _ (net : Network) (settled : List SettledRouter) (text : List ℕ) where
             ∙ ap (λ (ps : List Part). ps ++ rest.later) (parts_at_end before raw line [] outside is e)
             ∙ append_assoc (parts_of (lines_in before)) (part ∷ []) rest.later;
         some = λ ends from low.
-            ap (λ (s : ℕ). (between text from s ++ block before ++ between text s (start_of text (n + line.number + 1)))
-            ++ parts_from (start_of text (n + line.number + 1)) rest.later) start
-            ∙ ap (λ (s : ℕ). (between text from (length before) ++ block before ++ between text (length before) s) ++ parts_from s rest.later) next
-            ∙ ap (λ (l : List ℕ). (l ++ block before ++ between text (length before) (length (before ++ raw)))
-            ++ parts_from (length (before ++ raw)) rest.later) (up_to before (raw ++ joined_raw raws) text from split low)
-            ∙ ap (λ (l : List ℕ). (drop from before ++ block before ++ l) ++ parts_from (length (before ++ raw)) rest.later) its
-            ∙ ap (λ (l : List ℕ). (drop from before ++ block before ++ raw) ++ l) after
-            ∙ append_assoc (drop from before ++ block before) raw tail
+            rw (start, next, up_to before (raw ++ joined_raw raws) text from split low, its, after, here)
+            (append_assoc (drop from before ++ block before) raw tail
             ∙ append_assoc (drop from before) (block before) (raw ++ tail)
-            ∙ ap (λ (l : List ℕ). drop from before ++ l) (sym (append_assoc (block before) raw tail))
-            ∙ ap (λ (l : List ℕ). drop from before ++ l)
-            (sym (ap (λ (b : Bool). cond (b || ends_among (before ++ raw) raws) (cond b (block before) [] ++ raw ++ tail) []) here));
+            ∙ ap (λ (l : List ℕ). drop from before ++ l) (sym (append_assoc (block before) raw tail)));
         none = λ ends. absurd (let no : true ≡ false = sym (ap (λ (b : Bool). b || ends_among (before ++ raw) raws) here) ∙ ends in cc);
       }
     where

@@ -4,7 +4,7 @@ use Rattle.std.proofs.Common.{refl, sym, ap, subst, ◌∙◌, append-nil, bytes
 use Rattle.std.specs.Prelude.{All, IsSome, flat_map, filter_map, fold, unwrap_or, is_some}
 use Rattle.std.specs.List.{list_any}
 use Rattle.net_model.specs.Configuration.{Configuration}
-use Rattle.net_model.specs.declared.bounds.TheConstants.{ISIS_DISTANCE, OSPF_DISTANCE}
+use Rattle.net_model.specs.declared.bounds.TheConstants.{ISIS_DISTANCE}
 use Rattle.net_model.specs.declared.config.Levels.{Levels}
 use Rattle.net_model.specs.declared.config.Levels.TheVariants.{Both}
 use Rattle.net_model.specs.declared.interface.Interface.{Interface}
@@ -26,8 +26,7 @@ use Rattle.ios_sections.specs.declared.section.Section.{Section}
 use Rattle.ios_sections.specs.declared.section.InterfaceSection.{InterfaceSection}
 use Rattle.ios_sections.specs.declared.section.OspfSection.{OspfSection}
 use Rattle.ios_sections.specs.declared.section.IsisSection.{IsisSection}
-use Rattle.ios_reader.specs.Routers.{router_with, title_said, isis_distance_said, leak_said, ospf_distance_said, rfc1583_said, ranges_in}
-use Rattle.ios_reader.specs.Routers.{stubs_in}
+use Rattle.ios_reader.specs.Routers.{router_with, title_said, isis_distance_said, leak_said}
 use Rattle.ios_reader.specs.InterfacesAsRead.{interface_as_read}
 use Rattle.ios_reader.specs.Faults.{interface_faults, section_faults}
 use Rattle.ios_reader.specs.Configurations.{title_given, area_in, system_in, configuration_of}
@@ -136,23 +135,13 @@ module _ (name : Option Word) (is : List InterfaceSection) (ospf : List OspfSect
 
     -- a configuration by what its interfaces and its IS-IS are
     abbrev by_parts : List Interface → Option Title → Levels → Bool → ℕ → Configuration
-    by_parts its title levels leak distance = record {
-      name = unwrap_or name [];
+    by_parts its title levels leak distance = record (configuration_by name is ospf (p ∷ [])) {
       interfaces = its;
-      process = process;
-      isis = true;
-      tag = [];
       isis_area = area_in title;
       system = system_in title;
       levels = levels;
       leak = leak;
-      ranges = ranges_in ours;
-      stubs = stubs_in ours;
-      rfc1583 = unwrap_or (last_of (λ (s : OspfStatement). rfc1583_said s.says) ours) true;
-      distances = record {
-        ospf = value_or (last_of (λ (s : OspfStatement). ospf_distance_said s.says) ours) OSPF_DISTANCE;
-        isis = distance;
-      };
+      distances = record (configuration_by name is ospf (p ∷ [])).distances { isis = distance };
     }
 
     abbrev title_in : List IsisStatement → Option Title
@@ -176,17 +165,7 @@ module _ (name : Option Word) (is : List InterfaceSection) (ospf : List OspfSect
     grown_made =
         let its : List Interface = map (prepared_interface router) (map read is) in
         let title : Option Title = Some (record { area = router.area; system = system_id number }) in
-        ap (λ q. record (configuration_by name longer ospf (p ∷ [])) {
-          interfaces = map (interface_as_read (router_with q (ospf_lines_by q ospf) (isis_lines_by (p ∷ [])))) longer;
-          process = q;
-          ranges = ranges_in (ospf_lines_by q ospf);
-          stubs = stubs_in (ospf_lines_by q ospf);
-          rfc1583 = unwrap_or (last_of (λ (s : OspfStatement). rfc1583_said s.says) (ospf_lines_by q ospf)) true;
-          distances = record {
-            ospf = value_or (last_of (λ (s : OspfStatement). ospf_distance_said s.says) (ospf_lines_by q ospf)) OSPF_DISTANCE;
-            isis = distance_in (isis_lines_by (p ∷ []));
-          };
-        }) process_same
+        rw process_same refl
         ∙ ap (λ (l : List IsisStatement). by_parts (map (interface_as_read (router_with process ours l)) longer) (title_in l)
         (router_with process ours l).levels (leaks_in l) (distance_in l)) lines_same
         ∙ ap (λ (i : List Interface). by_parts i (title_in others) (after process ours others).levels (leaks_in others) (distance_in others))

@@ -156,9 +156,6 @@ runs_read : (passive : Bool) → map interface_line (run_words passive) ≡ run_
 runs_read true = refl
 runs_read false = refl
 
-one_circuit : (levels : Levels) → interface_line (circuit_words levels) ≡ Circuit (Ok levels)
-one_circuit levels = ap (λ r. Circuit r) (levels_read levels)
-
 level_lines_read : (old : Bool) (circuit : Option Levels) → map interface_line (level_words old circuit) ≡ level_says old circuit
 level_lines_read old circuit = grind arith
 
@@ -176,25 +173,19 @@ metrics_read false metric is = refl
 pub interface_read : (old passive : Bool) (circuit : Option Levels) (metric : ℕ) → IsMetric metric →
     map interface_line (interface_bodies old passive circuit metric) ≡ interface_says old passive circuit metric
 interface_read old passive circuit metric is =
-    let rest : List (List Word) = metric_words metric [] ∷ level_metric_words old metric in
-    let circuits : List (List Word) = circuit_bodies old passive circuit in
-    let metrics : map interface_line rest ≡ Metric (Ok metric) ∷ level_metric_says old metric =
-    ap (λ (x : InterfaceLine). x ∷ map interface_line (level_metric_words old metric)) (one_metric metric is)
-    ∙ ap (λ (l : List InterfaceLine). Metric (Ok metric) ∷ l) (metrics_read old metric is) in
-    let later : map interface_line (circuits ++ rest) ≡ circuit_says old passive circuit ++ Metric (Ok metric) ∷ level_metric_says old metric =
-    map-append interface_line circuits rest ∙ ap (λ (l : List InterfaceLine). l ++ map interface_line rest) (circuits_read old passive circuit)
-    ∙ ap (λ (l : List InterfaceLine). circuit_says old passive circuit ++ l) metrics in
-    map-append interface_line (run_words passive) (circuits ++ rest)
-    ∙ ap (λ (l : List InterfaceLine). l ++ map interface_line (circuits ++ rest)) (runs_read passive)
-    ∙ ap (λ (l : List InterfaceLine). run_says passive ++ l) later
+    rw (
+      map-append interface_line (run_words passive) (circuit_bodies old passive circuit ++ metric_words metric [] ∷ level_metric_words old metric),
+      map-append interface_line (circuit_bodies old passive circuit) (metric_words metric [] ∷ level_metric_words old metric),
+      runs_read passive,
+      circuits_read old passive circuit,
+      one_metric metric is,
+      metrics_read old metric is,
+    ) refl
 
 -- they are lines of a section
 runs_fine : (passive : Bool) → list_all is_fine_line (run_words passive) ≡ true
 runs_fine true = refl
 runs_fine false = refl
-
-circuit_fine : (levels : Levels) → is_fine_line (circuit_words levels) ≡ true
-circuit_fine levels = grind arith
 
 level_bodies_fine : (old : Bool) (circuit : Option Levels) → list_all is_fine_line (level_words old circuit) ≡ true
 level_bodies_fine old circuit = grind arith
