@@ -72,7 +72,7 @@ fn range_table(
 }
 
 /// The ranges of an OSPF process.
-pub fn ranges_in(alloc: Global, lines: &[OspfStatement]) -> Result<Vec<Range>, OutOfMemory>
+pub(crate) fn ranges_in(alloc: Global, lines: &[OspfStatement]) -> Result<Vec<Range>, OutOfMemory>
     ensures { IfOk result (λ ranges. ranges.items ≡ ranges_in lines.now) }
 {
     let table = range_table(alloc, lines)?;
@@ -186,7 +186,7 @@ fn stubs_of(
 }
 
 /// The stub areas of an OSPF process.
-pub fn stubs_in(alloc: Global, lines: &[OspfStatement]) -> Result<Vec<Stub>, OutOfMemory>
+pub(crate) fn stubs_in(alloc: Global, lines: &[OspfStatement]) -> Result<Vec<Stub>, OutOfMemory>
     ensures { IfOk result (λ stubs. stubs.items ≡ stubs_in lines.now) }
 {
     let table = stub_table(alloc, lines)?;

@@ -105,7 +105,7 @@ fn config_of(
 }
 
 /// The configuration of the lines before an `end` line of this number, or its least fault.
-pub fn read_part(
+pub(crate) fn read_part(
     alloc: Global,
     lines: &[TextLine],
     ends: u32,

@@ -9,7 +9,7 @@ use net_model::Levels;
 
 /// An `ip address` line, at its place in the text.
 #[derive(Clone, Copy, Debug)]
-pub struct PlacedAddress {
+pub(crate) struct PlacedAddress {
     /// The number of the line.
     pub line: u32,
     /// The address that the line gives.
@@ -18,7 +18,7 @@ pub struct PlacedAddress {
 
 /// What the lines of an interface say in the end: of each form the last line, `None` where there is none.
 #[derive(Clone, Copy, Debug)]
-pub struct InterfaceFacts {
+pub(crate) struct InterfaceFacts {
     /// `ip address A M`, and `None` inside where `no ip address` took it away.
     pub address: Option<Option<PlacedAddress>>,
     /// `shutdown`, or `no shutdown`.
@@ -72,7 +72,7 @@ fn noted(facts: InterfaceFacts, statement: &InterfaceStatement) -> InterfaceFact
 }
 
 /// What the lines of an interface say in the end: of each form the last one.
-pub fn facts_of(lines: &[InterfaceStatement]) -> InterfaceFacts
+pub(crate) fn facts_of(lines: &[InterfaceStatement]) -> InterfaceFacts
     ensures { result ≡ facts_of lines.now }
 {
     let mut facts = InterfaceFacts {

@@ -123,7 +123,7 @@ fn bandwidth_fault(
 
 /// The least fault of an interface, whose lines say this in the end.
 #[tactic(auto, using(ios_lines::proofs::FaultFacts::least_of_two))]
-pub fn interface_fault(
+pub(crate) fn interface_fault(
     router: &Router,
     tag: Option<&[u8]>,
     section: &InterfaceSection,

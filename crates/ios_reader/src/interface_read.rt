@@ -34,14 +34,14 @@ fn address_given(address: Option<Option<PlacedAddress>>) -> Option<InterfaceAddr
 }
 
 /// Whether the interface is a loopback.
-pub fn is_loopback(name: &[u8]) -> bool
+pub(crate) fn is_loopback(name: &[u8]) -> bool
     ensures { result ≡ is_loopback name.now }
 {
     name.starts_with(b"Loopback".as_slice())
 }
 
 /// Whether an interface with these lines is up: it has an address, and isn't shut down.
-pub fn is_up(facts: &InterfaceFacts) -> bool
+pub(crate) fn is_up(facts: &InterfaceFacts) -> bool
     ensures { result ≡ is_up facts.now }
 {
     address_given(facts.address).is_some() && !facts.shut.unwrap_or(false)
@@ -79,7 +79,7 @@ fn area_by(
 }
 
 /// The area of an interface; without an address it has none.
-pub fn interface_area(router: &Router, facts: &InterfaceFacts) -> Option<u32>
+pub(crate) fn interface_area(router: &Router, facts: &InterfaceFacts) -> Option<u32>
     ensures { result ≡ interface_area router.now facts.now }
 {
     match address_given(facts.address) {
@@ -173,7 +173,7 @@ fn default_cost(
 }
 
 /// The OSPF cost of an interface, where anything gives one: its cost line, or else its kind.
-pub fn ospf_cost(router: &Router, name: &[u8], facts: &InterfaceFacts) -> Option<u32>
+pub(crate) fn ospf_cost(router: &Router, name: &[u8], facts: &InterfaceFacts) -> Option<u32>
     ensures { result ≡ ospf_cost router.now name.now facts.now }
 {
     match facts.cost {
@@ -283,7 +283,7 @@ fn cost_field(area: Option<u32>, cost: Option<u32>) -> u32
 }
 
 /// An interface as read, from what its lines say.
-pub fn interface_with(
+pub(crate) fn interface_with(
     router: &Router,
     passives: &Passives,
     name: Name,

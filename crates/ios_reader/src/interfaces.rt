@@ -24,7 +24,7 @@ use std::alloc::Global;
 
 /// What the interfaces of a router are read as, and what is wrong with them.
 #[derive(Drop)]
-pub struct InterfacesRead {
+pub(crate) struct InterfacesRead {
     /// The interfaces, in the order in which the configuration first names them.
     pub all: Vec<Interface>,
     /// Their least fault.
@@ -55,7 +55,7 @@ fn read_interfaces(
 }
 
 /// Reads the interfaces that the statements of a router make, whose processes say this in the end.
-pub fn interfaces_of(
+pub(crate) fn interfaces_of(
     alloc: Global,
     statements: &Statements,
     facts: ProcessFacts,

@@ -12,7 +12,7 @@ use std::marker::Model;
 
 /// A good `network` line at its place among the lines of its process.
 #[derive(Clone, Copy, Debug)]
-pub struct PlacedNetwork {
+pub(crate) struct PlacedNetwork {
     /// Its place, from 0.
     pub place: usize,
     /// What the line says.
@@ -28,7 +28,7 @@ type BlockKey = (u32, u32);
 /// is looked up once for each of them that a line has, however many lines there are. Lines whose wildcards have holes
 /// are gone through one by one.
 #[derive(Drop)]
-pub struct Networks {
+pub(crate) struct Networks {
     all: Vec<PlacedNetwork>,
     blocks: IndexMap<BlockKey, PlacedNetwork>,
     wildcards: Vec<u32>,
@@ -48,7 +48,7 @@ impl Model for Networks {
 }
 
 /// The `network` lines of an OSPF process.
-pub fn networks_of(alloc: Global, lines: &[OspfStatement]) -> Result<Networks, OutOfMemory>
+pub(crate) fn networks_of(alloc: Global, lines: &[OspfStatement]) -> Result<Networks, OutOfMemory>
     ensures { IfOk result (λ n. n ≡ placed_networks 0 lines.now) }
 {
     let placed = placed_networks(alloc, lines)?;

@@ -14,7 +14,7 @@ use std::marker::Model;
 
 /// Names of interfaces, as lines have them, each with whether it is passive.
 #[derive(Drop)]
-pub struct PassiveNames<'a> {
+pub(crate) struct PassiveNames<'a> {
     by_name: IndexMap<&'a [u8], bool>,
 }
 
@@ -105,7 +105,7 @@ fn isis_names<'a>(
 
 /// Which interfaces are passive, for each protocol.
 #[derive(Drop)]
-pub struct Passives<'a> {
+pub(crate) struct Passives<'a> {
     /// The names of `passive-interface` lines of the OSPF process.
     pub ospf: PassiveNames<'a>,
     /// The names of `passive-interface` lines of the IS-IS process.
@@ -130,7 +130,10 @@ impl<'a> Passives<'a> {
 }
 
 /// Which interfaces the lines of the two processes make passive.
-pub fn passives_of<'a>(alloc: Global, router: &Router<'a>) -> Result<Passives<'a>, OutOfMemory>
+pub(crate) fn passives_of<'a>(
+    alloc: Global,
+    router: &Router<'a>,
+) -> Result<Passives<'a>, OutOfMemory>
     ensures { IfOk result (ArePassivesOf router.now) }
 {
     let ospf = ospf_names(alloc, router.ospf)?;

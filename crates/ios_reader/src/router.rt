@@ -15,7 +15,7 @@ use std::marker::Model;
 
 /// What the lines of an OSPF process say in the end: of each form the last line, `None` where there is none.
 #[derive(Clone, Copy, Debug)]
-pub struct OspfFacts {
+pub(crate) struct OspfFacts {
     /// `passive-interface default`, or with `no`.
     pub passive_default: Option<bool>,
     /// `auto-cost reference-bandwidth N`, in Mbit/s.
@@ -28,7 +28,7 @@ pub struct OspfFacts {
 
 /// What the lines of an IS-IS process say in the end: of each form the last line, `None` where there is none.
 #[derive(Clone, Copy, Debug)]
-pub struct IsisFacts {
+pub(crate) struct IsisFacts {
     /// `is-type L`.
     pub levels: Option<Result<Levels, ReadKind>>,
     /// `metric N`.
@@ -41,7 +41,7 @@ pub struct IsisFacts {
 
 /// What the lines of both processes say in the end.
 #[derive(Clone, Copy, Debug)]
-pub struct ProcessFacts {
+pub(crate) struct ProcessFacts {
     /// What those of the OSPF process say.
     pub ospf: OspfFacts,
     /// What those of the IS-IS process say.
@@ -111,7 +111,7 @@ fn isis_facts_of(lines: &[IsisStatement]) -> IsisFacts
 }
 
 /// What the lines of both processes say in the end.
-pub fn process_facts_of(ospf: &[OspfStatement], isis: &[IsisStatement]) -> ProcessFacts
+pub(crate) fn process_facts_of(ospf: &[OspfStatement], isis: &[IsisStatement]) -> ProcessFacts
     ensures { result ≡ process_facts_of ospf.now isis.now }
 {
     ProcessFacts {
@@ -122,7 +122,7 @@ pub fn process_facts_of(ospf: &[OspfStatement], isis: &[IsisStatement]) -> Proce
 
 /// What the two processes of a router say that concerns its interfaces.
 #[derive(Drop)]
-pub struct Router<'a> {
+pub(crate) struct Router<'a> {
     /// The number of the OSPF process.
     pub process: Option<u32>,
     /// The lines of the OSPF process.
@@ -162,7 +162,7 @@ impl<'a> Model for Router<'a> {
 }
 
 /// The area of the first `network` line that takes the address.
-pub fn network_area(router: &Router, address: u32) -> Option<u32>
+pub(crate) fn network_area(router: &Router, address: u32) -> Option<u32>
     ensures { result ≡ network_area router.now.ospf address }
 {
     match router.networks.first_taking(address) {
@@ -182,7 +182,7 @@ fn value_or(value: Option<Result<u32, ReadKind>>, default: u32) -> u32
 }
 
 /// Levels that are there and good, or else both.
-pub fn levels_or_both(levels: Option<Result<Levels, ReadKind>>) -> Levels
+pub(crate) fn levels_or_both(levels: Option<Result<Levels, ReadKind>>) -> Levels
     ensures { result ≡ value_or levels Levels.Both }
 {
     match levels {
@@ -192,7 +192,7 @@ pub fn levels_or_both(levels: Option<Result<Levels, ReadKind>>) -> Levels
 }
 
 /// A router by the number of its OSPF process, the lines of its two processes, and what they say in the end.
-pub fn router_with<'a>(
+pub(crate) fn router_with<'a>(
     process: Option<u32>,
     ospf: &'a [OspfStatement],
     networks: &'a Networks,

@@ -16,7 +16,7 @@ use std::alloc::Global;
 
 /// What the lines of its OSPF process say of a configuration.
 #[derive(Drop)]
-pub struct OspfSettings {
+pub(crate) struct OspfSettings {
     /// The number of the process.
     pub process: Option<u32>,
     /// The ranges of its areas.
@@ -31,7 +31,7 @@ pub struct OspfSettings {
 
 /// What the lines of its IS-IS process say of a configuration.
 #[derive(Drop)]
-pub struct IsisSettings {
+pub(crate) struct IsisSettings {
     /// Whether there is a process.
     pub isis: bool,
     /// The tag of the process, empty where it has none.
@@ -49,7 +49,7 @@ pub struct IsisSettings {
 }
 
 /// What the lines of an OSPF process of this number say of a configuration.
-pub fn ospf_settings(
+pub(crate) fn ospf_settings(
     alloc: Global,
     process: Option<u32>,
     lines: &[OspfStatement],
@@ -70,7 +70,7 @@ pub fn ospf_settings(
 }
 
 /// What the lines of an IS-IS process with this tag say of a configuration.
-pub fn isis_settings(
+pub(crate) fn isis_settings(
     alloc: Global,
     tag: Option<Name>,
     lines: Vec<IsisStatement>,
@@ -125,7 +125,7 @@ fn title_parts(alloc: Global, title: Option<Title>) -> (Name, u64)
 }
 
 /// A name, or the empty one.
-pub fn name_or_empty(alloc: Global, name: Option<Name>) -> Name
+pub(crate) fn name_or_empty(alloc: Global, name: Option<Name>) -> Name
     ensures { result ≡ unwrap_or name [] }
 {
     match name {

@@ -13,7 +13,7 @@ use std::marker::Model;
 
 /// What the sections of a configuration say, gathered by what they are sections of.
 #[derive(Drop)]
-pub struct Gathering {
+pub(crate) struct Gathering {
     /// The router's name, of the last good `hostname` line.
     pub name: Option<Name>,
     /// The interfaces, the sections of each as one, in the order in which they come first.
@@ -110,7 +110,7 @@ fn with_section(
 
 /// What the sections of a configuration say, gathered.
 #[tactic(auto, using(crate::proofs::GatheringFacts::gathered_all))]
-pub fn gather(alloc: Global, sections: Vec<Section>) -> Result<Gathering, OutOfMemory>
+pub(crate) fn gather(alloc: Global, sections: Vec<Section>) -> Result<Gathering, OutOfMemory>
     ensures { IfOk result (λ g. g ≡ gathering_of sections.items) }
 {
     let mut names = NameIndex::new(alloc);

@@ -8,7 +8,7 @@ use std::marker::Model;
 
 /// Where a name stands among the names.
 #[derive(Clone, Copy, Debug)]
-pub struct NamePlace {
+pub(crate) struct NamePlace {
     /// Its place.
     pub place: usize,
     /// Whether it wasn't there before.
@@ -17,7 +17,7 @@ pub struct NamePlace {
 
 /// Names, each once, in the order in which they came first.
 #[derive(Drop)]
-pub struct NameIndex {
+pub(crate) struct NameIndex {
     names: IndexSet<Vec<u8>>,
 }
 

@@ -9,7 +9,7 @@ use std::marker::Model;
 
 /// Pieces of a line, in its order.
 #[derive(Drop)]
-pub struct Names<'a> {
+pub(crate) struct Names<'a> {
     all: Vec<&'a [u8]>,
 }
 
@@ -38,7 +38,7 @@ impl<'a> Names<'a> {
 }
 
 /// The names of the wave on a line, where it is one.
-pub fn wave_on<'a>(
+pub(crate) fn wave_on<'a>(
     alloc: Global,
     version: Version,
     line: &'a [u8],
@@ -52,7 +52,7 @@ pub fn wave_on<'a>(
 }
 
 /// The names of the chain on a line, where it is one.
-pub fn chain_on<'a>(
+pub(crate) fn chain_on<'a>(
     alloc: Global,
     version: Version,
     line: &'a [u8],

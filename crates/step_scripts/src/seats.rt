@@ -7,7 +7,7 @@ use std::marker::Model;
 
 /// The routers of some waves, wave by wave, and of each router of the network in which wave it is.
 #[derive(Drop)]
-pub struct Seats {
+pub(crate) struct Seats {
     waves: Vec<Vec<u32>>,
     places: Vec<Option<usize>>,
 }
@@ -84,7 +84,7 @@ impl Seats {
 }
 
 /// Whether the router is in the list.
-pub fn is_listed(routers: &[u32], router: u32) -> bool
+pub(crate) fn is_listed(routers: &[u32], router: u32) -> bool
     ensures { IsTrue result ↔ Contains routers.now router }
 {
     routers.contains(&router)
