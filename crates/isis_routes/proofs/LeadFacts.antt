@@ -19,7 +19,7 @@ use Rattle.route_tables.specs.declared.route.Route.TheVariants.{Towards}
 use Rattle.route_tables.specs.declared.route.Target.{Target}
 use Rattle.route_tables.proofs.AlikeRoutes.{AskAlike, alike_lists, alike_turned, dearer_by_nothing}
 use Rattle.route_tables.proofs.BestRoutes.{route_by_hops}
-use Rattle.isis_routes.specs.steps.Asked.{HasNoDownRoute, HasNoLevelRoute, IsAway, IsQuestion}
+use Rattle.isis_routes.specs.steps.Asked.{HasNoDownRoute, HasNoLevelRoute, IsAway, IsIsisQuestion}
 use Rattle.isis_routes.specs.steps.Destinations.{HasAnnouncements}
 use Rattle.isis_routes.specs.declared.asked.Asked.{Asked}
 use Rattle.isis_routes.specs.steps.Domain.{IsisDomain, IsKnown}
@@ -113,7 +113,7 @@ down_leads domain u d given known has within away no_one no_two runs good =
     (leaked_small net p domain.walks d.down.items d.down.items known.network known.walks has.down refl) good
     (λ none route. none (record { cost = route.cost; best = route.costs.best })) (λ hops. entry_by_down net u p hops away no_one no_two runs)
 
-pub asked_down : (asked : Asked) (given : List Offer) → IsKnown asked.domain.now → IsQuestion asked → IsAway asked → HasNoLevelRoute asked →
+pub asked_down : (asked : Asked) (given : List Offer) → IsKnown asked.domain.now → IsIsisQuestion asked → IsAway asked → HasNoLevelRoute asked →
     RunsLevelOne asked.domain.now.net asked.router → given ≡ asked.destination.now.down.items →
     LeadIn (in_level asked.domain.now One asked.router) asked.destination.now.one.dest (HasNoDownRoute asked) given
 asked_down asked given known is away without runs same =
@@ -121,7 +121,7 @@ asked_down asked given known is away without runs same =
 
 -- the attached routers
 pub default_leads : (asked : Asked) (attached : List Offer) → IsKnown asked.domain.now → HoldsOffers (OffersDefault asked.domain.now.net) attached →
-    IsQuestion asked → IsAway asked → HasNoLevelRoute asked → HasNoDownRoute asked → asked.destination.now.one.dest ≡ default_prefix →
+    IsIsisQuestion asked → IsAway asked → HasNoLevelRoute asked → HasNoDownRoute asked → asked.destination.now.one.dest ≡ default_prefix →
     RunsLevelOne asked.domain.now.net asked.router → (RunsLevelTwo asked.domain.now.net asked.router → ⊥) →
     LeadIn (in_level asked.domain.now One asked.router) asked.destination.now.one.dest
     (NoDefaultRoute asked.domain.now.net asked.destination.now.one.dest asked.router) attached

@@ -1,5 +1,5 @@
 ghost use Rattle.std.specs.Prelude.{IfOk};
-ghost use Rattle.isis_routes.specs.steps.Asked.{HasNoDownRoute, HasNoEntry, HasNoLevelRoute, HasNoneBefore, HasNoneIn, IsAway, IsQuestion, IsRouteElse};
+ghost use Rattle.isis_routes.specs.steps.Asked.{HasNoDownRoute, HasNoIsisEntry, HasNoLevelRoute, HasNoneBefore, HasNoneIn, IsAway, IsIsisQuestion, IsRouteElse};
 ghost use Rattle.isis_routes.specs.steps.Routing.{NoDefaultRoute};
 
 use crate::OutOfMemory;
@@ -12,8 +12,8 @@ use std::alloc::Global;
 /// The route of a router for a prefix: by level 1, else by level 2, else by what is leaked, else the
 /// default. There is none for a connected prefix.
 pub(crate) fn route_of(alloc: Global, asked: Asked) -> Result<Option<Route>, OutOfMemory>
-    requires { IsQuestion asked }
-    ensures { IfOk result (IsRouteElse asked.entry (HasNoEntry asked.entry)) }
+    requires { IsIsisQuestion asked }
+    ensures { IfOk result (IsRouteElse asked.entry (HasNoIsisEntry asked.entry)) }
 {
     if asked.destination.one.is_connected(asked.router) {
         return Ok(None);
@@ -23,9 +23,9 @@ pub(crate) fn route_of(alloc: Global, asked: Asked) -> Result<Option<Route>, Out
 
 /// The route of a router that isn't connected to the prefix.
 fn route_away(alloc: Global, asked: Asked) -> Result<Option<Route>, OutOfMemory>
-    requires asked { IsQuestion asked }
+    requires asked { IsIsisQuestion asked }
     requires away { IsAway asked }
-    ensures { IfOk result (IsRouteElse asked.entry (HasNoEntry asked.entry)) }
+    ensures { IfOk result (IsRouteElse asked.entry (HasNoIsisEntry asked.entry)) }
 {
     if let Some(route) = level_route(alloc, asked, Level::One)? {
         return Ok(Some(route));
@@ -44,7 +44,7 @@ fn route_away(alloc: Global, asked: Asked) -> Result<Option<Route>, OutOfMemory>
 
 /// The route in a level, where there is none in a level that comes first.
 fn level_route(alloc: Global, asked: Asked, level: Level) -> Result<Option<Route>, OutOfMemory>
-    requires asked { IsQuestion asked }
+    requires asked { IsIsisQuestion asked }
     requires away { IsAway asked }
     requires first { HasNoneBefore asked level }
     ensures { IfOk result (IsRouteElse asked.entry (HasNoneIn asked.entry level)) }
@@ -58,7 +58,7 @@ fn level_route(alloc: Global, asked: Asked, level: Level) -> Result<Option<Route
 /// The down route, which other routers' announcements into level 1 give: a router that has no level 2 route for the
 /// prefix leaks nothing of it.
 fn down_route(alloc: Global, asked: Asked) -> Result<Option<Route>, OutOfMemory>
-    requires asked { IsQuestion asked }
+    requires asked { IsIsisQuestion asked }
     requires away { IsAway asked }
     requires without_levels { HasNoLevelRoute asked }
     ensures { IfOk result (IsRouteElse asked.entry (HasNoDownRoute asked.entry)) }
@@ -75,7 +75,7 @@ fn down_route(alloc: Global, asked: Asked) -> Result<Option<Route>, OutOfMemory>
 /// The default towards the nearest attached routers, which a router that runs level 1
 /// alone takes.
 fn default_route(alloc: Global, asked: Asked) -> Result<Option<Route>, OutOfMemory>
-    requires asked { IsQuestion asked }
+    requires asked { IsIsisQuestion asked }
     requires away { IsAway asked }
     requires without_levels { HasNoLevelRoute asked }
     requires without_down { HasNoDownRoute asked }

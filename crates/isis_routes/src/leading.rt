@@ -1,5 +1,5 @@
 ghost use Rattle.std.specs.Prelude.{MatchOption};
-ghost use Rattle.isis_routes.specs.steps.Asked.{HasNoneBefore, HasNoneIn, IsAway, IsQuestion, LeadAsked};
+ghost use Rattle.isis_routes.specs.steps.Asked.{HasNoneBefore, HasNoneIn, IsAway, IsIsisQuestion, LeadAsked};
 
 use crate::asked::Asked;
 use crate::level::Level;
@@ -9,7 +9,7 @@ use walk_core::Offer;
 /// a router that isn't connected to the prefix and has no level 1 route for it announces nothing of it.
 #[inline(always)]
 pub(crate) fn leading_offers(asked: Asked<'_>, level: Level) -> Option<&[Offer]>
-    requires asked { IsQuestion asked }
+    requires asked { IsIsisQuestion asked }
     requires away { IsAway asked }
     requires first { HasNoneBefore asked level }
     ensures { MatchOption result (HasNoneIn asked.entry level) (λ offers. LeadAsked asked.entry level offers.now) }

@@ -1,6 +1,6 @@
 ghost use Rattle.std.specs.Prelude.{◌≡◌, ◌<◌, length, IfOk};
 ghost use Rattle.route_tables.specs.Prefixes.{prefix_at};
-ghost use Rattle.isis_routes.specs.steps.Asked.{IsQuestion};
+ghost use Rattle.isis_routes.specs.steps.Asked.{IsIsisQuestion};
 ghost use Rattle.isis_routes.specs.steps.Destinations.{AreIsisDestinations, HasAnnouncements, isis_prefixes};
 ghost use Rattle.isis_routes.specs.steps.Domain.{IsKnown};
 ghost use Rattle.isis_routes.specs.steps.Routing.{AreLevelSegments};
@@ -94,7 +94,7 @@ impl<'a> Isis<'a> {
     fn asked(&self, place: usize, router: u32) -> Asked<'_>
         requires place { place < length (isis_prefixes self.now.destinations) }
         requires router { router < length self.now.domain.net }
-        ensures asked { IsQuestion result }
+        ensures asked { IsIsisQuestion result }
         ensures domain { result.domain.now ≡ self.now.domain }
         ensures router { result.router ≡ router }
         ensures dest { result.destination.now.one.dest ≡ prefix_at (isis_prefixes self.now.destinations) place }

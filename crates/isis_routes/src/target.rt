@@ -1,5 +1,5 @@
 ghost use Rattle.std.specs.Prelude.{IfSome};
-ghost use Rattle.isis_routes.specs.steps.Asked.{HasNoneBefore, IsAway, IsQuestion, IsRouteTowards};
+ghost use Rattle.isis_routes.specs.steps.Asked.{HasNoneBefore, IsAway, IsIsisQuestion, IsIsisRouteTowards};
 
 use crate::asked::Asked;
 use crate::leading::leading_offers;
@@ -10,8 +10,8 @@ use route_tables::Target;
 /// router do. It takes no memory; `route_of` has all routes.
 #[inline(always)]
 pub(crate) fn target_of(asked: Asked) -> Option<Target>
-    requires { IsQuestion asked }
-    ensures { IfSome result (IsRouteTowards asked.entry) }
+    requires { IsIsisQuestion asked }
+    ensures { IfSome result (IsIsisRouteTowards asked.entry) }
 {
     if asked.destination.one.is_connected(asked.router) {
         return None;
@@ -25,9 +25,9 @@ pub(crate) fn target_of(asked: Asked) -> Option<Target>
 /// Where the level 1 route leads, and where there is none the level 2 route.
 #[inline(never)]
 fn target_by_levels(asked: Asked) -> Option<Target>
-    requires asked { IsQuestion asked }
+    requires asked { IsIsisQuestion asked }
     requires away { IsAway asked }
-    ensures { IfSome result (IsRouteTowards asked.entry) }
+    ensures { IfSome result (IsIsisRouteTowards asked.entry) }
 {
     if let Some(target) = level_target(asked, Level::One) {
         return Some(target);
@@ -46,10 +46,10 @@ fn target_by_levels(asked: Asked) -> Option<Target>
 /// Where the route in a level leads, where there is none in a level that comes first.
 #[inline(always)]
 fn level_target(asked: Asked, level: Level) -> Option<Target>
-    requires asked { IsQuestion asked }
+    requires asked { IsIsisQuestion asked }
     requires away { IsAway asked }
     requires first { HasNoneBefore asked level }
-    ensures { IfSome result (IsRouteTowards asked.entry) }
+    ensures { IfSome result (IsIsisRouteTowards asked.entry) }
 {
     let offers = leading_offers(asked, level)?;
     asked.domain.best_target(level, offers, asked.router)

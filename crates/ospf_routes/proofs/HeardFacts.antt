@@ -15,7 +15,7 @@ use Rattle.route_tables.proofs.DestinationLists.{prefix_is}
 use Rattle.walk_core.specs.declared.offers.Offer.{Offer}
 use Rattle.igp_theory.specs.Ospf.{ListensTo}
 use Rattle.ospf_routes.specs.steps.Areas.{AreListeners, IsListenedPlace, IsListenerAt}
-use Rattle.ospf_routes.specs.steps.Heard.{AddsRow, IsRow, AreHeardAt, AreHeardBelow, AreSummaries}
+use Rattle.ospf_routes.specs.steps.Heard.{AddsRow, IsSummaryRow, AreHeardAt, AreHeardBelow, AreSummaries}
 use Rattle.ospf_routes.specs.steps.Offered.{AreOffers}
 use Rattle.ospf_routes.specs.steps.OfferLists.{offers_of, offer_lists_of, AreOfferSpans, AreSummariesOf, HeardLists, heard_into}
 use Rattle.ospf_routes.specs.steps.Summarized.{IsHeard}
@@ -71,7 +71,7 @@ heard_none domain dests count same =
 abbrev pub lists_with : ℕ → List (List Offer) → HeardLists
 lists_with areas lists = record { areas = areas; lists = lists }
 
-pub row_none : (domain : OspfDomain) (p : Block) (heard : HeardLists) → AddsRow (IsRow domain p 0) heard heard
+pub row_none : (domain : OspfDomain) (p : Block) (heard : HeardLists) → AddsRow (IsSummaryRow domain p 0) heard heard
 row_none domain p heard = record {
   row = [];
   behind = λ i. record { areas = heard.areas; lists = (sym (append-nil heard.lists)) i };
@@ -79,8 +79,8 @@ row_none domain p heard = record {
 }
 
 pub row_more : (domain : OspfDomain) (p : Block) (m : ℕ) (old mid new : HeardLists) (list : List Offer) →
-    AddsRow (IsRow domain p m) old mid → new ≡ record { areas = mid.areas; lists = mid.lists ++ list ∷ [] } → AreHeardAt domain p m list →
-    AddsRow (IsRow domain p (m + 1)) old new
+    AddsRow (IsSummaryRow domain p m) old mid → new ≡ record { areas = mid.areas; lists = mid.lists ++ list ∷ [] } → AreHeardAt domain p m list →
+    AddsRow (IsSummaryRow domain p (m + 1)) old new
 row_more domain p m old mid new list r same next = record {
   row = r.row ++ list ∷ [];
   behind = same
@@ -93,7 +93,7 @@ row_more domain p m old mid new list r same next = record {
 }
 
 pub heard_more : (domain : OspfDomain) (dests : List Block) (k : ℕ) (old new : HeardLists) → AreHeardBelow domain dests k old →
-    AddsRow (IsRow domain (prefix_at dests k) (length domain.areas)) old new → AreHeardBelow domain dests (k + 1) new
+    AddsRow (IsSummaryRow domain (prefix_at dests k) (length domain.areas)) old new → AreHeardBelow domain dests (k + 1) new
 heard_more domain dests k old new are r =
     subst (AreHeardBelow domain dests (k + 1)) (sym r.behind) (record {
       areas_are = are.areas_are;

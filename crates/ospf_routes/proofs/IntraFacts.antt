@@ -17,7 +17,7 @@ use Rattle.igp_theory.specs.Ospf.{OffersSubnet, IntraAreaCost, IsIntraArea}
 use Rattle.ospf_routes.specs.steps.Areas.{AreAreas, HasArea, IsAreaAt, IsReach}
 use Rattle.ospf_routes.specs.declared.areas.AreaWalks.{AreaWalks}
 use Rattle.ospf_routes.specs.steps.Domain.{OspfDomain}
-use Rattle.ospf_routes.specs.steps.Destinations.{AddsPart, HasAreaPart, IsDestination, IsDestinationIn, IsPart, IsPartAt, IsPartFor, IsPartIn, IsPartOf}
+use Rattle.ospf_routes.specs.steps.Destinations.{AddsPart, HasAreaPart, IsDestination, IsDestinationIn, IsSomePart, IsPartAt, IsPartFor, IsPartIn, IsPartOf}
 use Rattle.ospf_routes.specs.Lists.{Exactly}
 use Rattle.ospf_routes.specs.steps.Offered.{AreOffers, InsideOf}
 use Rattle.ospf_routes.specs.declared.intra_area.AreaOffers.{AreaOffers}
@@ -131,7 +131,7 @@ part_for domain d part is among = record {
   at = All-contains (λ (x : AreaOffers). IsAreaAt domain.areas x.area x.zone) d.parts.items part is.placed among;
 }
 
-pub some_part : {domain : OspfDomain} {p : Block} {part : AreaOffers} → IsPartFor domain p part → IsPart domain part
+pub some_part : {domain : OspfDomain} {p : Block} {part : AreaOffers} → IsPartFor domain p part → IsSomePart domain part
 some_part {domain} {p} {part} is = (p, is)
 
 -- read at its place

@@ -5,7 +5,7 @@ ghost use Rattle.igp_theory.specs.Ospf.{IntraAreaCost, IsActiveRange};
 ghost use Rattle.walk_core.specs.BestOffers.{NoneTotals};
 ghost use Rattle.ospf_routes.specs.steps.Asked.{HasIntraRoute, HasNoEntry, HasNoIntraRoute, IsDeciding, IsFoundRoute, IsInside};
 ghost use Rattle.ospf_routes.specs.steps.Asked.{IsQuestion, IsRoute, IsRouteTowards, MakesIntraRoute};
-ghost use Rattle.ospf_routes.specs.steps.Destinations.{IsPart, IsPartFor};
+ghost use Rattle.ospf_routes.specs.steps.Destinations.{IsSomePart, IsPartFor};
 ghost use Rattle.ospf_routes.specs.steps.Routing.{AreAreaRoutes, IsAreaRoute};
 
 use crate::OutOfMemory;
@@ -288,7 +288,7 @@ fn area_hops(
     u: u32,
 ) -> Result<Option<Hops>, OutOfMemory>
     requires router { u < length domain.now.net }
-    requires part { IsPart domain.now part.now }
+    requires part { IsSomePart domain.now part.now }
     ensures { (p : Block) → IsPartFor domain.now p part.now → IfOk result (λ found. MatchOption found
         ((cost : ℕ) → IntraAreaCost domain.now.net part.now.area p u cost → ⊥)
         (IsAreaRoute domain.now.net part.now.area p u)) }

@@ -4,7 +4,7 @@ ghost use Rattle.net_model.specs.Network.{InArea};
 ghost use Rattle.igp_theory.specs.Ospf.{IntraAreaCost, IsIntraArea};
 ghost use Rattle.ospf_routes.specs.steps.AreaReach.{area_reach};
 ghost use Rattle.ospf_routes.specs.steps.Areas.{AreAreas, HasArea, IsReach};
-ghost use Rattle.ospf_routes.specs.steps.Destinations.{AddsPart, HasAreaPart, IsDestinationIn, IsPart, IsPartAt, IsPartFor, IsPartIn};
+ghost use Rattle.ospf_routes.specs.steps.Destinations.{AddsPart, HasAreaPart, IsDestinationIn, IsSomePart, IsPartAt, IsPartFor, IsPartIn};
 ghost use Rattle.ospf_routes.specs.steps.Offered.{InsideOf};
 ghost use Rattle.ospf_routes.specs.steps.Subnets.{IsUpSubnet};
 ghost use Rattle.ospf_routes.specs.Lists.{Exactly};
@@ -127,7 +127,7 @@ pub(crate) fn part_of(parts: &[AreaOffers], area: u32) -> Option<&AreaOffers>
 /// The intra-area cost of a part's prefix at router `u` in the area of the part (RFC 2328, section 16.1).
 pub(crate) fn part_cost(domain: &Domain<'_>, part: &AreaOffers, u: u32) -> Option<u64>
     requires router { u < length domain.now.net }
-    requires part { IsPart domain.now part.now }
+    requires part { IsSomePart domain.now part.now }
     ensures { (p : Block) → IsPartFor domain.now p part.now → (cost : ℕ) →
         (result ≡ Some cost) ↔ IntraAreaCost domain.now.net part.now.area p u cost }
 {
@@ -144,7 +144,7 @@ pub(crate) fn part_reach<'a>(
     u: u32,
 ) -> Option<&'a LeastWalks>
     requires router { u < length domain.now.net }
-    requires part { IsPart domain.now part.now }
+    requires part { IsSomePart domain.now part.now }
     ensures none { IfNone result (InArea domain.now.net u part.now.area → ⊥) }
     ensures same { IfSome result (λ walks. area_reach domain.now.areas u part.now.zone ≡ walks.now) }
     ensures reach { IfSome result (λ walks. IsReach domain.now.net part.now.area u walks.now) }

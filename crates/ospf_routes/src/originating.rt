@@ -7,7 +7,7 @@ ghost use Rattle.net_model.specs.Network.{IsBorderRouter};
 ghost use Rattle.ospf_routes.specs.Lists.{Adds, Exactly};
 ghost use Rattle.ospf_routes.specs.steps.Offered.{AreOffers};
 ghost use Rattle.ospf_routes.specs.steps.Ranges.{AreRangesBelow};
-ghost use Rattle.ospf_routes.specs.steps.Heard.{AddsRow, AreSummaries, IsRow};
+ghost use Rattle.ospf_routes.specs.steps.Heard.{AddsRow, AreSummaries, IsSummaryRow};
 ghost use Rattle.ospf_routes.specs.steps.Summarized.{Announces, AreSummarized, IsHeard, IsOutgoing};
 
 use crate::OutOfMemory;
@@ -67,7 +67,7 @@ fn keep_summaries(
     requires borders { Exactly (IsBorderRouter domain.now.net) borders.now }
     requires ranges { AreRangesBelow domain.now.net (length domain.now.net) ranges.now }
     requires destination { IsDestinationIn domain.now destination.now }
-    ensures { OnOk result (AddsRow (IsRow domain.now destination.now.dest (length domain.now.areas)) summaries.old summaries.new) }
+    ensures { OnOk result (AddsRow (IsSummaryRow domain.now destination.now.dest (length domain.now.areas)) summaries.old summaries.new) }
 {
     let routes = summarized(alloc, domain, borders, ranges, destination)?;
     let backbone = offers_outside(alloc, routes.as_slice(), 0)?;
@@ -96,7 +96,7 @@ fn keep_into_areas(
     requires destination { IsDestinationIn domain.now destination.now }
     requires routes { AreSummarized domain.now.net destination.now.dest routes.now }
     requires backbone { AreOffers (BackboneSummary domain.now.net destination.now.dest) backbone.now }
-    ensures { OnOk result (AddsRow (IsRow domain.now destination.now.dest (length domain.now.areas)) summaries.old summaries.new) }
+    ensures { OnOk result (AddsRow (IsSummaryRow domain.now destination.now.dest (length domain.now.areas)) summaries.old summaries.new) }
 {
     for zone in 0..domain.zones() {
         put_summaries(

@@ -14,7 +14,7 @@ use Rattle.isis_routes.specs.declared.level.Level.{Level}
 use Rattle.isis_routes.specs.declared.level.Level.TheVariants.{One, Two}
 
 -- what is known of the prefix is that of the network, which has the router
-pub record IsQuestion (asked : Asked) : Type 0 where
+pub record IsIsisQuestion (asked : Asked) : Type 0 where
   pub router : asked.router < length asked.domain.now.net
   pub announced : HasAnnouncements asked.domain.now.net asked.destination.now
 
@@ -44,13 +44,13 @@ abbrev pub HasNoDownRoute : Asked → Type 0
 HasNoDownRoute asked = HasDownRoute asked.domain.now.net asked.destination.now.one.dest asked.router → ⊥
 
 -- it has no entry
-abbrev pub HasNoEntry : Asked → Type 0
-HasNoEntry asked = (e : Entry) → IsisEntry asked.domain.now.net asked.router asked.destination.now.one.dest e → ⊥
+abbrev pub HasNoIsisEntry : Asked → Type 0
+HasNoIsisEntry asked = (e : Entry) → IsisEntry asked.domain.now.net asked.router asked.destination.now.one.dest e → ⊥
 
 -- this is the route, where there is one, and where there is none, this is so
 abbrev pub IsRouteElse : Asked → Type 0 → Option Route → Type 0
 IsRouteElse asked none found = MatchOption found none (IsIsisRoute asked.domain.now asked.router asked.destination.now.one.dest)
 
 -- the route leads to the target
-abbrev pub IsRouteTowards : Asked → Target → Type 0
-IsRouteTowards asked target = IsIsisRoute asked.domain.now asked.router asked.destination.now.one.dest (Towards target)
+abbrev pub IsIsisRouteTowards : Asked → Target → Type 0
+IsIsisRouteTowards asked target = IsIsisRoute asked.domain.now asked.router asked.destination.now.one.dest (Towards target)

@@ -60,8 +60,8 @@ pub record IsPartFor (domain : OspfDomain) (p : Block) (part : AreaOffers) : Typ
   pub at : IsAreaAt domain.areas part.area part.zone
 
 -- it has those of some prefix
-abbrev pub IsPart : OspfDomain → AreaOffers → Type 0
-IsPart domain part = (p : Block) × IsPartFor domain p part
+abbrev pub IsSomePart : OspfDomain → AreaOffers → Type 0
+IsSomePart domain part = (p : Block) × IsPartFor domain p part
 
 -- the prefixes of destinations
 abbrev pub ospf_prefixes : List Destination → List Block

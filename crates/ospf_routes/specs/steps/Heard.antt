@@ -16,7 +16,7 @@ abbrev pub AreHeardAt : OspfDomain → Block → ℕ → List Offer → Type 0
 AreHeardAt domain p zone offers = (n : ℕ) → IsAreaAt domain.areas n zone → AreOffers (IsHeard domain.net p n) offers
 
 -- these are the lists of what is announced of p into each of the first m areas
-pub record IsRow (domain : OspfDomain) (p : Block) (m : ℕ) (row : List (List Offer)) : Type 0 where
+pub record IsSummaryRow (domain : OspfDomain) (p : Block) (m : ℕ) (row : List (List Offer)) : Type 0 where
   pub count : length row ≡ m
   pub each : (zone : ℕ) → zone < m → AreHeardAt domain p zone (slice_index_or row zone [])
 

@@ -5,7 +5,7 @@ use Rattle.route_tables.proofs.DestinationLists.{prefix_is}
 use Rattle.net_model.specs.Network.{IsBorderRouter}
 use Rattle.ospf_routes.specs.Lists.{Exactly}
 use Rattle.ospf_routes.specs.steps.Destinations.{IsDestinationIn, ospf_prefixes}
-use Rattle.ospf_routes.specs.steps.Heard.{AddsRow, IsRow, AreHeardBelow}
+use Rattle.ospf_routes.specs.steps.Heard.{AddsRow, IsSummaryRow, AreHeardBelow}
 use Rattle.ospf_routes.specs.declared.intra_area.Destination.{Destination}
 use Rattle.ospf_routes.proofs.HeardFacts.{heard_more, heard_none}
 use Rattle.ospf_routes.proofs.originating.all_summaries.Goals as goal
@@ -40,7 +40,7 @@ loop-destination-preserved c =
     let long = length-map ds (λ (x : Destination). x.dest) in
     record {
       heard = heard_more domain (ospf_prefixes ds) k old new c.loop-destination.invariant.heard
-          (subst (λ (p : Block). AddsRow (IsRow domain p (length domain.areas)) old new)
+          (subst (λ (p : Block). AddsRow (IsSummaryRow domain p (length domain.areas)) old new)
           (prefix_is (λ (x : Destination). x.dest) ds k d (omega (arith, long, c.loop-destination-test.true)) c.destination-item.is)
           c.in_ok-keep_summaries.ensures);
       within = omega (arith, c.loop-destination-test.true);

@@ -1,6 +1,6 @@
 use Rattle.std.proofs.Common.{◌≡◌, ℕ, arith, length, subst, sym}
 use Rattle.net_addr.specs.Addresses.{Block}
-use Rattle.ospf_routes.specs.steps.Heard.{AddsRow, IsRow}
+use Rattle.ospf_routes.specs.steps.Heard.{AddsRow, IsSummaryRow}
 use Rattle.ospf_routes.specs.steps.Offered.{AreOffers}
 use Rattle.ospf_routes.specs.steps.Summarized.{IsHeard}
 use Rattle.ospf_routes.specs.declared.areas.AreaWalks.{AreaWalks}
@@ -24,5 +24,5 @@ pub returns : goal.returns
 returns c =
     let all : c.loop-zone.zone ≡ length c.args.domain.now.areas =
     omega (arith, c.loop-zone-test.false, c.loop-zone.auto.zone-end, c.zones-zone-end.ensures.count) in
-    subst (λ (m : ℕ). AddsRow (IsRow c.args.domain.now c.args.destination.now.dest m) c.args.summaries.now c.loop-zone.summaries) all
+    subst (λ (m : ℕ). AddsRow (IsSummaryRow c.args.domain.now c.args.destination.now.dest m) c.args.summaries.now c.loop-zone.summaries) all
     c.loop-zone.invariant
