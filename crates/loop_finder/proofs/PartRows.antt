@@ -1,5 +1,5 @@
 -- How the part of a class is made of its rows.
-use Rattle.std.proofs.Common.{◌≡◌, ℕ, ◌+◌, ◌<◌, ◌^◌, ◌↔◌, ◌⊎◌, Bool, List, [], ◌∷◌, ◌++◌, length, map, replicate, get_or, Contains, Option, Some, None}
+use Rattle.std.proofs.Common.{◌≡◌, ℕ, ◌+◌, ◌<◌, ◌↔◌, ◌⊎◌, Bool, List, [], ◌∷◌, ◌++◌, length, map, replicate, get_or, Contains, Option, Some, None}
 use Rattle.std.proofs.Common.{IfSome, inl, inr, arith, ap, ◌∙◌, sym, subst, below_more}
 use Rattle.std.specs.Bool.{OnTrue}
 use Rattle.std.proofs.lemmas.Bool.{cases_lt}
@@ -17,6 +17,7 @@ use Rattle.igp_theory.specs.declared.phase.Phase.TheVariants.{Old, Middle, New}
 use Rattle.igp_theory.proofs.LoopLaws.{old_or_new_step}
 use Rattle.igp_theory.proofs.SameTables.{follows_over}
 use Rattle.order_core.specs.Marks.{IsMarked}
+use Rattle.prefix_atoms.specs.Classes.{IsInClass}
 use Rattle.rib_mix.specs.Answers.{IsAlikeAt}
 use Rattle.loop_finder.specs.steps.Ends.{ReadHops, AreNoHops, EndStep, HasBothSteps, hops_at}
 use Rattle.loop_finder.specs.steps.Making.{IsHopsOf, IsMaking, IsRead, IsReadAt, IsSameAt}
@@ -67,7 +68,7 @@ read_alike m atom other lists u read alike = record {
 pub known_class : (m : Mix) (known : Option ℕ) (lists : ReadHops)
     → IfSome known (λ other. IsRead m other lists) → IfSome known (λ other. other < length m.classes.samples)
 known_class m None lists is = tt
-known_class m (Some other) lists is = is.class
+known_class m (Some other) lists is = is.least.class
 
 pub known_at : (m : Mix) (known : Option ℕ) (one other : ReadHops) (u : ℕ)
     → IfSome known (λ k. IsRead m k one) → u < length m.net → IsSameAt one other u → IfSome known (λ k. IsReadAt m k other u)
@@ -135,15 +136,15 @@ all_move_from m atom p lists network target read each u must = elim (each u must
     step : (phase : Phase) (hops : List ℕ) → IsHopsOf m atom u phase hops → 0 < length hops → HasStepOf m atom u phase
     step phase hops are some = record {
       hop = get_or hops 0 0;
-      steps = (steps_to_those m atom u phase hops read.class read.address are must (get_or hops 0 0)).0 (Contains-get_or hops 0 0 some);
+      steps = (steps_to_those m atom u phase hops read.least are must (get_or hops 0 0)).0 (Contains-get_or hops 0 0 some);
     }
 
 -- a step of both networks is one of what was read
 over_read : (m : Mix) (atom : ℕ) (lists : ReadHops) (x y : ℕ) → IsRead m atom lists → StepsEver m atom x y → EndStep lists x y
 over_read m atom lists x y read (inl one) =
-    inl ((steps_to_those m atom x Old (hops_at lists.olds x) read.class read.address (read.each x one.must.router).olds one.must y).1 one)
+    inl ((steps_to_those m atom x Old (hops_at lists.olds x) read.least (read.each x one.must.router).olds one.must y).1 one)
 over_read m atom lists x y read (inr other) =
-    inr ((steps_to_those m atom x New (hops_at lists.news x) read.class read.address (read.each x other.must.router).news other.must y).1 other)
+    inr ((steps_to_those m atom x New (hops_at lists.news x) read.least (read.each x other.must.router).news other.must y).1 other)
 
 -- the routers that are returned to, by what is known of the class that was read
 pub returns_known : (m : Mix) (atom : ℕ) (making : Making) (marks : List Bool)
@@ -155,15 +156,15 @@ returns_known m atom making marks is read same u h hops follows = subst (λ (xs 
 
 -- a row with what is kept of the hops of each phase
 pub row_made : (m : Mix) (atom : ℕ) (marks : List Bool) (u : ℕ)
-    (olds middles news kept_olds kept_middles kept_news : List ℕ) → atom < length m.classes.samples → sample_of m.classes atom < 2 ^ 32
-    → MustForward m.net (sample_of m.classes atom) u → IsHopsOf m atom u Old olds → IsHopsOf m atom u Middle middles
+    (olds middles news kept_olds kept_middles kept_news : List ℕ)
+    → IsInClass m.classes atom (sample_of m.classes atom) → MustForward m.net (sample_of m.classes atom) u → IsHopsOf m atom u Old olds → IsHopsOf m atom u Middle middles
     → IsHopsOf m atom u New news → AreKept olds marks kept_olds → AreKept middles marks kept_middles → AreKept news marks kept_news
     → IsRowOf m atom marks u (record { old = kept_olds; middle = kept_middles; new = kept_news })
-row_made m atom marks u olds middles news kept_olds kept_middles kept_news within address must is_old is_middle is_new are_old are_middle are_new =
+row_made m atom marks u olds middles news kept_olds kept_middles kept_news least must is_old is_middle is_new are_old are_middle are_new =
     record { steps = steps; all = all }
   where
     exact : (phase : Phase) (hops : List ℕ) → IsHopsOf m atom u phase hops → (h : ℕ) → Contains hops h ↔ StepsOf m atom u phase h
-    exact phase hops are = steps_to_those m atom u phase hops within address are must
+    exact phase hops are = steps_to_those m atom u phase hops least are must
 
     steps : (phase : Phase) (h : ℕ) → Contains (hops_of (record { old = kept_olds; middle = kept_middles; new = kept_news }) phase) h
         → StepsOf m atom u phase h
@@ -192,13 +193,13 @@ row_none m atom marks u row none never = record {
 }
 
 -- a row with the marked ones of a router's hops has all of these
-pub row_has : (m : Mix) (atom : ℕ) (marks : List Bool) (u : ℕ) (row own : PhaseHops) → atom < length m.classes.samples → sample_of m.classes atom < 2 ^ 32
+pub row_has : (m : Mix) (atom : ℕ) (marks : List Bool) (u : ℕ) (row own : PhaseHops) → IsInClass m.classes atom (sample_of m.classes atom)
     → ((phase : Phase) → IsHopsOf m atom u phase (hops_of own phase)) → HasMarked marks row.old own.old → HasMarked marks row.middle own.middle
     → HasMarked marks row.new own.new → HasHops m atom marks u row
-row_has m atom marks u row own within address are olds middles news = all
+row_has m atom marks u row own least are olds middles news = all
   where
     among : (phase : Phase) (h : ℕ) → StepsOf m atom u phase h → Contains (hops_of own phase) h
-    among phase h steps = (steps_to_those m atom u phase (hops_of own phase) within address (are phase) steps.must h).1 steps
+    among phase h steps = (steps_to_those m atom u phase (hops_of own phase) least (are phase) steps.must h).1 steps
 
     all : HasHops m atom marks u row
     all Old h steps here there = olds h (among Old h steps) there

@@ -1,8 +1,8 @@
-ghost use Rattle.std.specs.Prelude.{◌≡◌, ◌<◌, ◌≤◌, ◌^◌, ◌↔◌, ℕ, length};
+ghost use Rattle.std.specs.Prelude.{◌≡◌, ◌<◌, ◌≤◌, ◌↔◌, ℕ, length};
 ghost use Rattle.std.specs.Bool.{OnFalse, OnTrue};
 ghost use Rattle.std.specs.Vec.{vec_capacity};
 ghost use Rattle.net_model.specs.Network.{Connected};
-ghost use Rattle.prefix_atoms.specs.Classes.{HasTarget};
+ghost use Rattle.prefix_atoms.specs.Classes.{HasTarget, IsInClass};
 ghost use Rattle.order_core.specs.Marks.{IsMarked};
 ghost use Rattle.loop_finder.specs.Faults.{KeepsRing};
 ghost use Rattle.loop_finder.specs.Rooms.{HasRoom};
@@ -56,7 +56,7 @@ pub fn class_target<O: RouteSource, N: RouteSource>(
 ) -> Option<Prefix>
     requires atom { atom < length mixed.now.classes.samples }
     ensures target { HasTarget mixed.now.net (sample_of mixed.now.classes atom) result }
-    ensures address { sample_of mixed.now.classes atom < 2 ^ 32 }
+    ensures least { IsInClass mixed.now.classes atom (sample_of mixed.now.classes atom) }
 {
     mixed.atoms().target(atom)
 }
@@ -71,7 +71,6 @@ fn mark_class<O: RouteSource, N: RouteSource>(
     requires many { length forwards.old ≡ length mixed.now.net }
     ensures forwarders { OnTrue result (AreForwarders mixed.now.net (sample_of mixed.now.classes atom) forwards.new) }
     ensures none { OnFalse result (HasTarget mixed.now.net (sample_of mixed.now.classes atom) None) }
-    ensures address { sample_of mixed.now.classes atom < 2 ^ 32 }
 {
     match class_target(mixed, atom) {
         Some(target) => {

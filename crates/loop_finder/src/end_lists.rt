@@ -1,5 +1,6 @@
-ghost use Rattle.std.specs.Prelude.{◌≡◌, ◌<◌, ◌^◌, ℕ, IfOk, IfSome, OnOk, length, slice_set};
+ghost use Rattle.std.specs.Prelude.{◌≡◌, ◌<◌, ℕ, IfOk, IfSome, OnOk, length, slice_set};
 ghost use Rattle.std.specs.Bool.{OnTrue};
+ghost use Rattle.prefix_atoms.specs.Classes.{IsInClass};
 ghost use Rattle.loop_finder.specs.steps.EndPairs.{new_hops, old_hops};
 ghost use Rattle.loop_finder.specs.steps.Ends.{HasBothSteps, hops_at};
 ghost use Rattle.loop_finder.specs.steps.Making.{AreNoEnds, IsKnownAt, IsRead, IsReadAt, IsSameAt};
@@ -84,8 +85,7 @@ pub fn read_class<'m, O: RouteSource, N: RouteSource>(
     changed: &mut Vec<u32>,
 ) -> Result<(), OutOfMemory>
     requires routers { routers ≡ length mixed.now.net }
-    requires atom { atom < length mixed.now.classes.samples }
-    requires address { sample_of mixed.now.classes atom < 2 ^ 32 }
+    requires least { IsInClass mixed.now.classes atom (sample_of mixed.now.classes atom) }
     requires olds { length lists.old.olds ≡ length mixed.now.net }
     requires news { length lists.old.news ≡ length mixed.now.net }
     requires known { IfSome known (λ other. IsRead (mix_of O.table N.table mixed.now) other lists.old) }

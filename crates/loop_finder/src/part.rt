@@ -1,4 +1,4 @@
-ghost use Rattle.std.specs.Prelude.{◌≡◌, ◌<◌, ◌^◌, ℕ, Contains, IfOk, OnOk, length};
+ghost use Rattle.std.specs.Prelude.{◌≡◌, ◌<◌, ℕ, Contains, IfOk, OnOk, length};
 ghost use Rattle.std.specs.Bool.{OnTrue};
 ghost use Rattle.order_core.specs.Marks.{IsMarked};
 ghost use Rattle.loop_finder.specs.steps.Targets.{IsTargetIn};
@@ -117,7 +117,6 @@ impl<'m> Part<'m> {
         moves: bool,
     ) -> Result<Part<'m>, OutOfMemory>
         requires atom { atom < length mixed.now.classes.samples }
-        requires address { sample_of mixed.now.classes atom < 2 ^ 32 }
         requires target { IsTargetIn mixed.now.net (sample_of mixed.now.classes atom) target }
         requires marks { length marks.now ≡ length mixed.now.net }
         requires returns { MarksReturns (StepsEver (mix_of O.table N.table mixed.now) atom) marks.now }
@@ -183,7 +182,6 @@ impl<'m> Part<'m> {
     ) -> bool
         requires rows { length self.now.rows ≡ length mixed.now.net }
         requires atom { atom < length mixed.now.classes.samples }
-        requires address { sample_of mixed.now.classes atom < 2 ^ 32 }
         requires marks { length marks.now ≡ length mixed.now.net }
         ensures { OnTrue result (HaveHops (mix_of O.table N.table mixed.now) atom marks.now self.now.rows) }
     {
@@ -200,7 +198,6 @@ fn have_hops<O: RouteSource, N: RouteSource>(
 ) -> bool
     requires rows { length rows.now ≡ length mixed.now.net }
     requires atom { atom < length mixed.now.classes.samples }
-    requires address { sample_of mixed.now.classes atom < 2 ^ 32 }
     requires marks { length marks.now ≡ length mixed.now.net }
     ensures { OnTrue result (HaveHops (mix_of O.table N.table mixed.now) atom marks.now rows.now) }
 {
@@ -221,7 +218,6 @@ fn has_hops<O: RouteSource, N: RouteSource>(
     row: &Row<'_>,
 ) -> bool
     requires atom { atom < length mixed.now.classes.samples }
-    requires address { sample_of mixed.now.classes atom < 2 ^ 32 }
     requires router { router < length mixed.now.net }
     ensures { OnTrue result (HasHops (mix_of O.table N.table mixed.now) atom marks.now router row.now) }
 {
@@ -241,7 +237,6 @@ fn has_marked_hops<O: RouteSource, N: RouteSource>(
     row: &Row<'_>,
 ) -> bool
     requires atom { atom < length mixed.now.classes.samples }
-    requires address { sample_of mixed.now.classes atom < 2 ^ 32 }
     requires router { router < length mixed.now.net }
     ensures { OnTrue result (HasHops (mix_of O.table N.table mixed.now) atom marks.now router row.now) }
 {
@@ -319,7 +314,6 @@ fn rows_of<'m, O: RouteSource, N: RouteSource>(
     marks: &[bool],
 ) -> Result<Vec<Row<'m>>, OutOfMemory>
     requires atom { atom < length mixed.now.classes.samples }
-    requires address { sample_of mixed.now.classes atom < 2 ^ 32 }
     requires target { IsTargetIn mixed.now.net (sample_of mixed.now.classes atom) target }
     requires marks { length marks.now ≡ length mixed.now.net }
     ensures { IfOk result (λ rows. AreRowsOf (mix_of O.table N.table mixed.now) atom marks.now rows.items) }
@@ -341,7 +335,6 @@ fn row_of<'m, O: RouteSource, N: RouteSource>(
     marks: &[bool],
 ) -> Row<'m>
     requires atom { atom < length mixed.now.classes.samples }
-    requires address { sample_of mixed.now.classes atom < 2 ^ 32 }
     requires target { IsTargetIn mixed.now.net (sample_of mixed.now.classes atom) target }
     requires router { router < length mixed.now.net }
     ensures { IsRowOf (mix_of O.table N.table mixed.now) atom marks.now router result }

@@ -1,5 +1,6 @@
-ghost use Rattle.std.specs.Prelude.{◌≡◌, ◌+◌, ◌<◌, ◌^◌, ℕ, All, None, Some, IfOk, OnOk, length};
+ghost use Rattle.std.specs.Prelude.{◌≡◌, ◌+◌, ◌<◌, ℕ, All, None, Some, IfOk, OnOk, length};
 ghost use Rattle.std.specs.Bool.{OnTrue};
+ghost use Rattle.prefix_atoms.specs.Classes.{IsInClass};
 ghost use Rattle.loop_finder.specs.steps.Targets.{IsTargetIn};
 ghost use Rattle.loop_finder.specs.steps.Making.{IsKnownClass, IsMaking, IsRead};
 ghost use Rattle.loop_finder.specs.steps.PartRows.{HasEarlierHops};
@@ -57,8 +58,7 @@ impl<'m> Making<'m> {
     ) -> Result<(), OutOfMemory>
         requires making { IsMaking (length mixed.now.net) self.old }
         requires routers { routers ≡ length mixed.now.net }
-        requires atom { atom < length mixed.now.classes.samples }
-        requires address { sample_of mixed.now.classes atom < 2 ^ 32 }
+        requires least { IsInClass mixed.now.classes atom (sample_of mixed.now.classes atom) }
         requires known { IsKnownClass (mix_of O.table N.table mixed.now) self.old }
         ensures making { OnOk result (IsMaking (length mixed.now.net) self.new) }
         ensures known { OnOk result (self.new.known ≡ Some atom) }
@@ -134,8 +134,6 @@ fn add_known<'m, O: RouteSource, N: RouteSource>(
     making: &Making<'m>,
     parts: &mut Vec<Part<'m>>,
 ) -> Result<(), OutOfMemory>
-    requires atom { atom < length mixed.now.classes.samples }
-    requires address { sample_of mixed.now.classes atom < 2 ^ 32 }
     requires target { IsTargetIn mixed.now.net (sample_of mixed.now.classes atom) target }
     requires making { IsMaking (length mixed.now.net) making.now }
     requires read { IsRead (mix_of O.table N.table mixed.now) atom making.now.lists }
@@ -178,8 +176,6 @@ fn is_covered<O: RouteSource, N: RouteSource>(
     making: &Making<'_>,
     parts: &[Part<'_>],
 ) -> bool
-    requires atom { atom < length mixed.now.classes.samples }
-    requires address { sample_of mixed.now.classes atom < 2 ^ 32 }
     requires making { IsMaking (length mixed.now.net) making.now }
     requires read { IsRead (mix_of O.table N.table mixed.now) atom making.now.lists }
     requires all { AllMove (mix_of O.table N.table mixed.now) atom }
@@ -202,7 +198,6 @@ fn has_earlier<O: RouteSource, N: RouteSource>(
     parts: &[Part<'_>],
 ) -> bool
     requires atom { atom < length mixed.now.classes.samples }
-    requires address { sample_of mixed.now.classes atom < 2 ^ 32 }
     requires marks { length marks.now ≡ length mixed.now.net }
     requires parts { All (λ part. length part.rows ≡ length mixed.now.net) parts.now }
     ensures { OnTrue result (HasEarlierHops (mix_of O.table N.table mixed.now) atom marks.now parts.now) }

@@ -1,7 +1,8 @@
 -- What is read of classes, and what parts are made with.
-use Rattle.std.specs.Prelude.{◌≡◌, ℕ, ◌<◌, ◌^◌, ◌↔◌, List, length, vec_len, Contains, Option, Some, IfSome}
+use Rattle.std.specs.Prelude.{◌≡◌, ℕ, ◌<◌, ◌↔◌, List, length, vec_len, Contains, Option, Some, IfSome}
 use Rattle.igp_theory.specs.declared.phase.Phase.{Phase}
 use Rattle.igp_theory.specs.declared.phase.Phase.TheVariants.{Old, New}
+use Rattle.prefix_atoms.specs.Classes.{IsInClass}
 use Rattle.rib_mix.specs.Answers.{IsAlikeAt, IsNextOf, NextLeadsTo}
 use Rattle.rib_mix.specs.declared.next.Next.{Next}
 use Rattle.loop_finder.specs.steps.Ends.{ReadHops, EndStep, AreNoHops, hops_at}
@@ -30,10 +31,9 @@ pub record IsReadAt (m : Mix) (atom : ℕ) (lists : ReadHops) (u : ℕ) : Type 0
   pub olds : IsHopsOf m atom u Old (hops_at lists.olds u)
   pub news : IsHopsOf m atom u New (hops_at lists.news u)
 
--- this was read of a class
+-- this was read of a class, which has its least address
 pub record IsRead (m : Mix) (atom : ℕ) (lists : ReadHops) : Type 0 where
-  pub class : atom < length m.classes.samples
-  pub address : sample_of m.classes atom < 2 ^ 32
+  pub least : IsInClass m.classes atom (sample_of m.classes atom)
   pub olds_many : length lists.olds ≡ length m.net
   pub news_many : length lists.news ≡ length m.net
   pub each : (u : ℕ) → u < length m.net → IsReadAt m atom lists u

@@ -21,9 +21,9 @@ returns-then-originates g c =
 
 pub returns : goal.returns
 returns g c = row_made (mix_of g.O.RouteSource.table g.N.RouteSource.table c.args.mixed.now) c.args.atom c.args.marks.now c.args.router
-    _ _ _ _ _ _ c.requires.atom c.requires.address (record {
+    _ _ _ _ _ _ c.next_hops.ensures.least (record {
       router = c.requires.router;
       target = c.args.target;
       is_target = c.requires.target.target;
       away = never_at_false c.originates.result c.if-originates.false c.originates.ensures;
-    }) c.next_hops.ensures c.next_hops-2.ensures c.next_hops-3.ensures c.kept.ensures c.kept-2.ensures c.kept-3.ensures
+    }) c.next_hops.ensures.hops c.next_hops-2.ensures.hops c.next_hops-3.ensures.hops c.kept.ensures c.kept-2.ensures c.kept-3.ensures
