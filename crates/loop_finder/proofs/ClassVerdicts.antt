@@ -15,7 +15,7 @@ use Rattle.order_core.specs.Marks.{IsMarked}
 use Rattle.order_core.specs.declared.turn.Turn.{Turn}
 use Rattle.loop_finder.specs.Mixes.{sample_of, Mix}
 use Rattle.loop_finder.specs.steps.ClassSteps.{ClassState, AreForwarders, ClassStep}
-use Rattle.loop_finder.specs.steps.Verdicts.{IsClassVerdict}
+use Rattle.loop_finder.specs.steps.Verdicts.{IsClassVerdict, two_states}
 
 -- an originated prefix is a block of addresses
 originated_block : (net : Network) (p : Block) → IsNetwork net → IsOriginated net p → IsBlock p
@@ -41,7 +41,7 @@ forwarders_from net a p forwards network target exact u = (
 
 -- without a target nothing is passed on
 pub told_without : (m : Mix) (first last : List Phase) (atom : ℕ) (turns : List Turn) → HasTarget m.net (sample_of m.classes atom) None
-    → IsClassVerdict m first last atom None turns
+    → IsClassVerdict (two_states m first last) atom None turns
 told_without m first last atom turns none = record {
   forwards = [];
   verdict = (

@@ -15,7 +15,7 @@ use Rattle.loop_finder.specs.Faults.{state_in, told_fault}
 use Rattle.loop_finder.specs.Mixes.{sample_of, Mix, migration_in}
 use Rattle.loop_finder.specs.steps.ClassSteps.{ClassState, ClassStep, IsStuck, Moves}
 use Rattle.loop_finder.specs.Soundness.{ClassesOf, SoundAt}
-use Rattle.loop_finder.specs.steps.Verdicts.{Verdict, Told, SoundWave, FaultyWave, IsBetween}
+use Rattle.loop_finder.specs.steps.Verdicts.{Verdict, Told, SoundWave, FaultyWave, IsBetween, two_states}
 use Rattle.loop_finder.specs.steps.WaveStarts.{AreSwitchedBefore}
 use Rattle.loop_finder.specs.declared.fault.Fault.{Fault}
 use Rattle.loop_finder.specs.declared.fault.Fault.TheVariants.{Loop, Missing}
@@ -112,13 +112,13 @@ fault_from c ranks w turns (Missing a u) ends address below verdict =
 
 -- no fault tells that every state of the wave is sound, a fault tells it
 pub sound_of_told : (m : Mix) (ranks : List ℕ) (w : ℕ) (first last : List Phase) (result : Option Fault) (turns : List Turn)
-    → AreEnds (length m.net) ranks w first last → ClassesOf m → Told m first last result turns → IfNone result (SoundWave m ranks w)
+    → AreEnds (length m.net) ranks w first last → ClassesOf m → Told (two_states m first last) result turns → IfNone result (SoundWave m ranks w)
 sound_of_told m ranks w first last None turns ends are told = λ state of_wave.
     sound_from_classes m state (length m.classes.samples) are (omega arith) (λ j below. told j below state (wave_between state ends of_wave))
 sound_of_told m ranks w first last (Some fault) turns ends are told = tt
 
 pub fault_of_told : (m : Mix) (ranks : List ℕ) (w : ℕ) (first last : List Phase) (result : Option Fault) (turns : List Turn)
-    → AreEnds (length m.net) ranks w first last → ClassesOf m → Told m first last result turns
+    → AreEnds (length m.net) ranks w first last → ClassesOf m → Told (two_states m first last) result turns
     → IfSome result (λ fault. FaultyWave m ranks w (told_fault fault turns))
 fault_of_told m ranks w first last None turns ends are told = tt
 fault_of_told m ranks w first last (Some fault) turns ends are told =

@@ -4,7 +4,7 @@ ghost use Rattle.loop_finder.specs.Mixes.{mix_of};
 ghost use Rattle.loop_finder.specs.Faults.{KeepsRing};
 ghost use Rattle.loop_finder.specs.Parts.{AreParts, IsPart, part_hops};
 ghost use Rattle.loop_finder.specs.Rooms.{HasRoom};
-ghost use Rattle.loop_finder.specs.steps.Verdicts.{IsClassVerdict};
+ghost use Rattle.loop_finder.specs.steps.Verdicts.{IsClassVerdict, two_states};
 ghost use Rattle.loop_finder.specs.Watches.{ArePlacesOf};
 ghost use Rattle.loop_finder.specs.steps.Watches.{StaysSound, StaysSoundAt, TurnsFaulty};
 
@@ -60,7 +60,7 @@ fn part_fault<O: RouteSource, N: RouteSource>(
     requires room { HasRoom (length mixed.now.net) room.old }
     ensures room { HasRoom (length mixed.now.net) room.new }
     ensures sound { IfNone result (StaysSoundAt (mix_of O.table N.table mixed.now) (record { phases = phases.now; router = router; was = was }) part.now.atom) }
-    ensures told { IfSome result (λ fault. IsClassVerdict (mix_of O.table N.table mixed.now) phases.now phases.now part.now.atom (Some fault) room.new.ring.items) }
+    ensures told { IfSome result (λ fault. IsClassVerdict (two_states (mix_of O.table N.table mixed.now) phases.now phases.now) part.now.atom (Some fault) room.new.ring.items) }
     ensures ring { KeepsRing result room.old.ring.items room.new.ring.items }
 {
     if keeps_hops(part, router, was, phases[router as usize]) {

@@ -8,7 +8,7 @@ ghost use Rattle.loop_finder.specs.Faults.{KeepsRing};
 ghost use Rattle.loop_finder.specs.Rooms.{HasRoom};
 ghost use Rattle.loop_finder.specs.Mixes.{mix_of, sample_of};
 ghost use Rattle.loop_finder.specs.steps.ClassSteps.{AreForwarders, state_over};
-ghost use Rattle.loop_finder.specs.steps.Verdicts.{IsClassVerdict, Verdict};
+ghost use Rattle.loop_finder.specs.steps.Verdicts.{IsClassVerdict, Verdict, two_states};
 
 use crate::class_steps::ClassSteps;
 use crate::fault::Fault;
@@ -33,7 +33,7 @@ pub fn class_fault<O: RouteSource, N: RouteSource>(
     requires last { length last.now ≡ length mixed.now.net }
     requires room { HasRoom (length mixed.now.net) room.old }
     ensures room { HasRoom (length mixed.now.net) room.new }
-    ensures told { IsClassVerdict (mix_of O.table N.table mixed.now) first.now last.now atom result room.new.ring.items }
+    ensures told { IsClassVerdict (two_states (mix_of O.table N.table mixed.now) first.now last.now) atom result room.new.ring.items }
     ensures ring { KeepsRing result room.old.ring.items room.new.ring.items }
 {
     if !mark_class(mixed, atom, &mut room.forwards) {
