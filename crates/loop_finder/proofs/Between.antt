@@ -46,8 +46,8 @@ moves_between c state u between moves must = elim (between u must.router) [
     In phase = HasStep (migration_in c.mixture) u phase (sample_of c.mixture.classes c.atom)
 
 -- where nothing is told of a class, every state between the two is sound for it
-pub clear_told : (m : Mix) (first last : List Phase) (atom : ℕ) (turns : List Turn) → IsClassVerdict (two_states m first last) atom None turns → (state : State)
-    → IsBetween (length m.net) first last state → SoundAt m state (sample_of m.classes atom)
+pub clear_told : (m : Mix) (first last : List Phase) (atom : ℕ) (turns : List Turn) → IsClassVerdict (two_states m first last) atom None turns
+    → (state : State) → IsBetween (length m.net) first last state → SoundAt m state (sample_of m.classes atom)
 clear_told m first last atom turns told state between = record {
   forwards = λ u must. moves_between c state u between (told.verdict.0 u) must;
   returns_never = λ u h hops follows. told.verdict.1 u h hops (follows_over (λ v n steps. step_between c state v n between steps) u (h ∷ hops) u follows);

@@ -7,7 +7,7 @@ ghost use Rattle.loop_finder.specs.steps.PartRows.{AreKept, AreRowsOf, HasHops, 
 ghost use Rattle.loop_finder.specs.Parts.{AllMove, IsPart, StepsEver, hops_of, no_hops, part_hops};
 ghost use Rattle.loop_finder.specs.steps.Parts.{AddsUnless, AreSteppers, IsBareIn};
 ghost use Rattle.loop_finder.specs.steps.Returns.{MarksReturns};
-ghost use Rattle.loop_finder.specs.Mixes.{mix_of, sample_of};
+ghost use Rattle.loop_finder.specs.Mixes.{mix_of, sample_of, class_in};
 ghost use Rattle.loop_finder.specs.Watches.{IsIdle};
 
 use crate::class_hops::next_hops;
@@ -119,8 +119,8 @@ impl<'m> Part<'m> {
         requires atom { atom < length mixed.now.classes.samples }
         requires target { IsTargetIn mixed.now.net (sample_of mixed.now.classes atom) target }
         requires marks { length marks.now ≡ length mixed.now.net }
-        requires returns { MarksReturns (StepsEver (mix_of O.table N.table mixed.now) atom) marks.now }
-        requires moves { OnTrue moves (AllMove (mix_of O.table N.table mixed.now) atom) }
+        requires returns { MarksReturns (StepsEver (class_in (mix_of O.table N.table mixed.now) atom)) marks.now }
+        requires moves { OnTrue moves (AllMove (class_in (mix_of O.table N.table mixed.now) atom)) }
         ensures part { IfOk result (IsPart (mix_of O.table N.table mixed.now)) }
         ensures class { IfOk result (λ part. part.atom ≡ atom) }
     {
@@ -183,7 +183,7 @@ impl<'m> Part<'m> {
         requires rows { length self.now.rows ≡ length mixed.now.net }
         requires atom { atom < length mixed.now.classes.samples }
         requires marks { length marks.now ≡ length mixed.now.net }
-        ensures { OnTrue result (HaveHops (mix_of O.table N.table mixed.now) atom marks.now self.now.rows) }
+        ensures { OnTrue result (HaveHops (class_in (mix_of O.table N.table mixed.now) atom) marks.now self.now.rows) }
     {
         self.digest == digest && have_hops(mixed, atom, marks, self.rows.as_slice())
     }
@@ -199,7 +199,7 @@ fn have_hops<O: RouteSource, N: RouteSource>(
     requires rows { length rows.now ≡ length mixed.now.net }
     requires atom { atom < length mixed.now.classes.samples }
     requires marks { length marks.now ≡ length mixed.now.net }
-    ensures { OnTrue result (HaveHops (mix_of O.table N.table mixed.now) atom marks.now rows.now) }
+    ensures { OnTrue result (HaveHops (class_in (mix_of O.table N.table mixed.now) atom) marks.now rows.now) }
 {
     for router in 0..mixed.net().routers() {
         if !has_hops(mixed, atom, router, marks, &rows[router as usize]) {
@@ -219,7 +219,7 @@ fn has_hops<O: RouteSource, N: RouteSource>(
 ) -> bool
     requires atom { atom < length mixed.now.classes.samples }
     requires router { router < length mixed.now.net }
-    ensures { OnTrue result (HasHops (mix_of O.table N.table mixed.now) atom marks.now router row.now) }
+    ensures { OnTrue result (HasHops (class_in (mix_of O.table N.table mixed.now) atom) marks.now router row.now) }
 {
     if !is_marked(marks, router) {
         return true;
@@ -238,7 +238,7 @@ fn has_marked_hops<O: RouteSource, N: RouteSource>(
 ) -> bool
     requires atom { atom < length mixed.now.classes.samples }
     requires router { router < length mixed.now.net }
-    ensures { OnTrue result (HasHops (mix_of O.table N.table mixed.now) atom marks.now router row.now) }
+    ensures { OnTrue result (HasHops (class_in (mix_of O.table N.table mixed.now) atom) marks.now router row.now) }
 {
     let own = Row {
         old: next_hops(mixed, atom, Phase::Old, router),
@@ -316,7 +316,7 @@ fn rows_of<'m, O: RouteSource, N: RouteSource>(
     requires atom { atom < length mixed.now.classes.samples }
     requires target { IsTargetIn mixed.now.net (sample_of mixed.now.classes atom) target }
     requires marks { length marks.now ≡ length mixed.now.net }
-    ensures { IfOk result (λ rows. AreRowsOf (mix_of O.table N.table mixed.now) atom marks.now rows.items) }
+    ensures { IfOk result (λ rows. AreRowsOf (class_in (mix_of O.table N.table mixed.now) atom) marks.now rows.items) }
 {
     let mut rows = Vec::with_capacity(alloc, marks.len())?;
     for router in 0..mixed.net().routers() {
@@ -337,7 +337,7 @@ fn row_of<'m, O: RouteSource, N: RouteSource>(
     requires atom { atom < length mixed.now.classes.samples }
     requires target { IsTargetIn mixed.now.net (sample_of mixed.now.classes atom) target }
     requires router { router < length mixed.now.net }
-    ensures { IsRowOf (mix_of O.table N.table mixed.now) atom marks.now router result }
+    ensures { IsRowOf (class_in (mix_of O.table N.table mixed.now) atom) marks.now router result }
 {
     if !is_marked(marks, router) {
         return Row::empty();

@@ -1,7 +1,7 @@
 use Rattle.std.proofs.Common.{arith, refl, ◌∙◌, below_more}
 use Rattle.loop_finder.specs.steps.Making.{IsReadAt, IsSameAt}
 use Rattle.loop_finder.proofs.PartRows.{AreAllBut-none, changed_more, known_at, known_class, read_same, same_twice}
-use Rattle.loop_finder.specs.Mixes.{mix_of}
+use Rattle.loop_finder.specs.Mixes.{mix_of, ClassIn, class_in}
 use Rattle.loop_finder.proofs.end_lists.read_class.Goals as goal
 
 pub loop-router-init : goal.loop-router-init
@@ -26,8 +26,10 @@ pub loop-router-preserved : goal.loop-router-preserved
 loop-router-preserved g c = record {
   olds_many = c.in_ok-read_router.ensures.olds_many ∙ c.loop-router.invariant.olds_many;
   news_many = c.in_ok-read_router.ensures.news_many ∙ c.loop-router.invariant.news_many;
-  read = below_more (IsReadAt (mix_of g.O.RouteSource.table g.N.RouteSource.table c.args.mixed.now) c.args.atom c.read_router.new.lists) c.loop-router.router
-      (λ u below. read_same (mix_of g.O.RouteSource.table g.N.RouteSource.table c.args.mixed.now) c.args.atom c.loop-router.lists c.read_router.new.lists u
+  read =
+      let here : ClassIn = class_in (mix_of g.O.RouteSource.table g.N.RouteSource.table c.args.mixed.now) c.args.atom in
+      below_more (IsReadAt here c.read_router.new.lists) c.loop-router.router
+      (λ u below. read_same here c.loop-router.lists c.read_router.new.lists u
       (c.loop-router.invariant.read u below) (c.in_ok-read_router.ensures.others u (λ same. absurd (omega (arith, same, below)))))
       c.in_ok-read_router.ensures.read;
   rest = λ u past. same_twice c.args.lists.now c.loop-router.lists c.read_router.new.lists u (c.loop-router.invariant.rest u (omega (arith, past)))

@@ -1,5 +1,5 @@
 use Rattle.std.proofs.Common.{◌+◌, List, sym, subst}
-use Rattle.loop_finder.specs.Mixes.{mix_of}
+use Rattle.loop_finder.specs.Mixes.{mix_of, class_in}
 use Rattle.loop_finder.specs.Parts.{ClassPart, AreParts, IsCovered}
 use Rattle.loop_finder.proofs.OnFalse.{on_true}
 use Rattle.loop_finder.proofs.PartLists.{AreParts-more, AreParts-push}
@@ -22,7 +22,7 @@ build-requires-clause-moves g c =
 
 pub build-requires-clause-returns : goal.build-requires-clause-returns
 build-requires-clause-returns g c =
-    returns_known (mix_of g.O.RouteSource.table g.N.RouteSource.table c.args.mixed.now) c.args.atom c.args.making.now c.as_slice-marks.result.now
+    returns_known (class_in (mix_of g.O.RouteSource.table g.N.RouteSource.table c.args.mixed.now) c.args.atom) c.args.making.now c.as_slice-marks.result.now
     c.requires.making c.requires.read c.as_slice-marks.ensures.value
 
 pub returns : goal.returns
