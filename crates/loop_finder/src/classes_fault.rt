@@ -52,7 +52,8 @@ fn fault_in<O: RouteSource, N: RouteSource>(
     requires room { HasRoom (length mixed.now.net) room.old }
     ensures room { HasRoom (length mixed.now.net) room.new }
     ensures clear { IfNone result (IsClearAt (mix_of O.table N.table mixed.now) first.now last.now part.now.atom) }
-    ensures told { IfSome result (λ fault. IsClassVerdict (two_states (mix_of O.table N.table mixed.now) first.now last.now) part.now.atom (Some fault) room.new.ring.items) }
+    ensures told { IfSome result (λ fault. IsClassVerdict (two_states (mix_of O.table N.table mixed.now) first.now last.now)
+        part.now.atom (Some fault) room.new.ring.items) }
     ensures ring { KeepsRing result room.old.ring.items room.new.ring.items }
 {
     if is_clear(part, first, last, mixed.net().routers(), room) {
