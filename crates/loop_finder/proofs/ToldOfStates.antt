@@ -6,6 +6,7 @@ use Rattle.igp_theory.specs.declared.phase.Phase.{Phase}
 use Rattle.igp_theory.proofs.SameTables.{SameHops, found_ring_over}
 use Rattle.order_core.specs.declared.turn.Turn.{Turn}
 use Rattle.loop_finder.specs.Faults.{state_in}
+use Rattle.loop_finder.specs.Parts.{ClassPart, AreParts}
 use Rattle.loop_finder.specs.Mixes.{sample_of, Mix, migration_in}
 use Rattle.loop_finder.specs.steps.ClassSteps.{ClassState, ClassStep, IsStuckIn}
 use Rattle.loop_finder.specs.Soundness.{ClassesOf, SoundAt, Sound}
@@ -49,15 +50,15 @@ faulty_at m phases atom turns fault are within before told =
     (below_from m (state_in phases) atom are within before) told.verdict
 
 -- no fault tells that the state is sound, a fault tells it
-pub sound_of_told : (m : Mix) (phases : List Phase) (result : Option Fault) (turns : List Turn) → ClassesOf m → Told (two_states m phases phases) result turns
-    → IfNone result (Sound m (state_in phases))
-sound_of_told m phases None turns are told = sound_from_classes m (state_in phases) (length m.classes.samples) are (omega arith) (λ j below.
-    told j below (state_in phases) (between_itself (length m.net) phases))
-sound_of_told m phases (Some fault) turns are told = tt
-
-pub fault_of_told : (m : Mix) (phases : List Phase) (result : Option Fault) (turns : List Turn) → ClassesOf m → Told (two_states m phases phases) result turns
-    → IfSome result (λ fault. Faulty m (state_in phases) fault turns)
-fault_of_told m phases None turns are told = tt
-fault_of_told m phases (Some fault) turns are told =
-    faulty_at m phases told.atom turns fault are told.within (λ j below. told.before j below (state_in phases) (between_itself (length m.net) phases))
-    told.here
+pub told_of_state : {m : Mix} {parts : List ClassPart} {n : ℕ} (phases : List Phase) (result : Option Fault) (turns : List Turn) → AreParts m parts n
+    → Told (two_states m phases phases) result turns → IfNone result (Sound m (state_in phases)) × IfSome result (λ fault. Faulty m (state_in phases) fault turns)
+told_of_state {m} phases None turns are told = (
+  sound_from_classes m (state_in phases) (length m.classes.samples) are.classes (omega arith) (λ j below.
+      told j below (state_in phases) (between_itself (length m.net) phases)),
+  tt,
+)
+told_of_state {m} phases (Some fault) turns are told = (
+  tt,
+  faulty_at m phases told.atom turns fault are.classes told.within (λ j below. told.before j below (state_in phases) (between_itself (length m.net) phases))
+      told.here,
+)
