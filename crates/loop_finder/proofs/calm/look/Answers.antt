@@ -1,13 +1,6 @@
-use Rattle.std.proofs.Common.{get_or, sym, ◌∙◌, subst}
-use Rattle.loop_finder.specs.Calm.{IsCalmBefore}
-use Rattle.loop_finder.specs.Parts.{ClassPart}
+use Rattle.std.proofs.Common.{◌∙◌}
 use Rattle.loop_finder.proofs.CalmLaws.{AreCalm-at}
 use Rattle.loop_finder.proofs.calm.look.Goals as goal
-
-pub calm_from-requires-clause-known : goal.calm_from-requires-clause-known
-calm_from-requires-clause-known c =
-    subst (λ (x : ClassPart). IsCalmBefore x c.args.ranks.now (get_or c.loop-place.calm c.loop-place.place 0)) (sym c.index-parts-place.is)
-    (c.loop-place.invariant.calm.each c.loop-place.place c.index-parts-place.result c.loop-place-test.true)
 
 pub loop-place-preserved : goal.loop-place-preserved
 loop-place-preserved c = record {

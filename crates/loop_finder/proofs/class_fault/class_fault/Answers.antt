@@ -1,8 +1,7 @@
 use Rattle.std.proofs.Common.{◌≡◌, List, Bool, length, ap, ◌∙◌, subst, sym, arith}
 use Rattle.std.proofs.lemmas.List.{take_at}
 use Rattle.loop_finder.specs.Mixes.{sample_of, mix_of}
-use Rattle.loop_finder.specs.steps.ClassSteps.{AreForwarders, SourceState, state_over}
-use Rattle.loop_finder.specs.steps.Verdicts.{Verdict}
+use Rattle.loop_finder.specs.steps.ClassSteps.{AreForwarders}
 use Rattle.loop_finder.proofs.ClassVerdicts.{told_without}
 use Rattle.loop_finder.proofs.class_fault.class_fault.Goals as goal
 
@@ -18,10 +17,3 @@ new-steps-requires-clause-forwards g c =
     let same : c.as_slice.result.now ≡ c.mark_class.new.forwards = c.as_slice.ensures.value ∙ take_at _ _ _ many in
     subst (λ (fs : List Bool). AreForwarders c.args.mixed.now.net (sample_of c.args.mixed.now.classes c.args.atom) fs) (sym same)
     c.if-not-mark_class.ensures.forwarders
-
-pub returns-clause-told : goal.returns-clause-told
-returns-clause-told g c = record {
-  forwards = c.as_slice.result.now;
-  verdict = subst (λ (x : SourceState g.row.O.Denot g.row.N.Denot). Verdict (state_over g.O.RouteSource.table g.N.RouteSource.table x) c.steps_fault.result
-      c.steps_fault.new.ring.items) c.new-steps.ensures c.steps_fault.ensures.verdict;
-}

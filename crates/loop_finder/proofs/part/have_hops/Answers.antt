@@ -15,11 +15,3 @@ loop-router-preserved g c =
     (c.index-rows-router.is ∙ get_or_default c.args.rows.now c.loop-router.router c.index-rows-router.result no_hops
     (omega (arith, c.requires.rows, c.loop-router-test.true, c.routers-router-end.ensures.count, ap (λ (n : Network). length n) c.net.ensures)))
     c.if-not-has_hops.ensures)
-
-pub returns : goal.returns
-returns g c =
-    let net = ap (λ (n : Network). length n) c.net.ensures in
-    record {
-      many = omega (arith, c.requires.rows, c.requires.marks);
-      each = λ u below. c.loop-router.invariant u (omega (arith, below, c.requires.marks, c.loop-router-test.false, c.routers-router-end.ensures.count, net));
-    }

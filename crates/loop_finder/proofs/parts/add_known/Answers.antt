@@ -12,10 +12,6 @@ returns-then-is_covered g c =
     (subst (λ (xs : List ClassPart). IsCovered (mix_of g.O.RouteSource.table g.N.RouteSource.table c.args.mixed.now) xs c.args.atom) c.as_slice.ensures.value
     c.if-is_covered.ensures)
 
-pub is_covered-requires-clause-all : goal.is_covered-requires-clause-all
-is_covered-requires-clause-all g c =
-    let all = rw c.if-moves.true at c.all_move-moves.ensures in all c.args.atom c.requires.target c.requires.read
-
 pub build-requires-clause-moves : goal.build-requires-clause-moves
 build-requires-clause-moves g c =
     on_true c.all_move-moves.result c.all_move-moves.ensures (λ all. all c.args.atom c.requires.target c.requires.read)

@@ -27,12 +27,6 @@ overflow_cast-atom g c =
     classes_few c.args.mixed.now.classes.prefixes c.args.mixed.now.classes.samples c.atoms.ensures.classes.classing.samples in
     omega (arith, many, few, c.loop-atom-test.true)
 
-pub add_part-requires-clause-atom : goal.add_part-requires-clause-atom
-add_part-requires-clause-atom g c =
-    let many : c.count-atom-end.result ≡ length c.args.mixed.now.classes.samples =
-    c.count-atom-end.ensures.count ∙ ap (λ (x : Classes). length x.samples) c.atoms.ensures.atoms in
-    omega (arith, many, c.loop-atom-test.true)
-
 pub returns : goal.returns
 returns g c =
     let many : c.count-atom-end.result ≡ length c.args.mixed.now.classes.samples =

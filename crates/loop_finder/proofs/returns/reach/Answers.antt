@@ -13,9 +13,6 @@ loop-router-init c = record {
   capacity = omega arith;
 }
 
-pub reach_one-requires-clause-count : goal.reach_one-requires-clause-count
-reach_one-requires-clause-count c = c.loop-router.invariant.reached.count
-
 pub loop-router-preserved : goal.loop-router-preserved
 loop-router-preserved c = record {
   reached = c.reach_one.ensures.reached c.args.goal c.if-router-goal.false c.loop-router.invariant.reached;

@@ -11,9 +11,6 @@ returns-in-Some-clause-walk g c =
     walk_from_way (g.G.StepGraph.step c.args.graph.now) c.args.live.now c.args.start c.loop-place.path.items c.loop-place.last
     c.lowest_hop-next.result c.in-Some.place c.loop-place.invariant.way c.lowest_hop-next.ensures at.0 at.1
 
-pub returns-in-Some-clause-begins : goal.returns-in-Some-clause-begins
-returns-in-Some-clause-begins g c = (c.loop-place.invariant.way.visited, c.loop-place.invariant.way.begins)
-
 pub visit-requires-in-loop-place : goal.visit-requires-in-loop-place
 visit-requires-in-loop-place g c =
     let short : length c.loop-place.path.items < length c.args.live.now =
