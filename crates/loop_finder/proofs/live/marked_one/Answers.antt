@@ -1,19 +1,9 @@
-use Rattle.std.proofs.Common.{ℕ, [], inl, inr, arith, subst}
-use Rattle.std.proofs.lemmas.List.Elements.{Contains-push, Contains-push_cases}
+use Rattle.std.proofs.Common.{ℕ, [], inl, inr, subst}
+use Rattle.std.proofs.lemmas.List.Elements.{Contains-push_cases}
 use Rattle.net_model.proofs.Members.{Contains-none}
 use Rattle.order_core.specs.Marks.{IsMarked}
 use Rattle.loop_finder.proofs.OnFalse.{never_at_false}
 use Rattle.loop_finder.proofs.live.marked_one.Goals as goal
-
-pub returns-then-is_marked : goal.returns-then-is_marked
-returns-then-is_marked c = record {
-  among = Contains-push [] c.args.router;
-  marked = c.is_marked.ensures.0 c.if-is_marked.true;
-  lowest = λ q among marked. elim (Contains-push_cases [] c.args.router q among) [
-    | inl before ↦ absurd (Contains-none q before)
-    | inr same ↦ omega (arith, same)
-  ];
-}
 
 pub returns : goal.returns
 returns c q among = elim (Contains-push_cases [] c.args.router q among) [

@@ -1,5 +1,4 @@
-use Rattle.std.proofs.Common.{◌≡◌, ℕ, ◌<◌, length, get_or, arith, refl, ◌∙◌, subst, below_more}
-use Rattle.std.proofs.lemmas.List.{get_or_default}
+use Rattle.std.proofs.Common.{ℕ, ◌<◌, length, get_or, arith, refl, below_more}
 use Rattle.order_core.specs.Marks.{IsMarked}
 use Rattle.loop_finder.proofs.Reaching.{ReachesMore-same, ReachesMore-then}
 use Rattle.loop_finder.proofs.returns.reach.Goals as goal
@@ -25,10 +24,3 @@ loop-router-preserved c = record {
   many = omega (arith, c.loop-router.invariant.many, c.reach_one.auto.seen);
   capacity = omega (arith, c.loop-router.invariant.capacity, c.reach_one.ensures.capacity);
 }
-
-pub returns-clause-routers : goal.returns-clause-routers
-returns-clause-routers c h among within =
-    let is : get_or c.args.routers.now among.0 0 ≡ h = get_or_default c.args.routers.now among.0 0 h among.1 ∙ among.2 in
-    subst (λ (x : ℕ). x < length c.args.seen.now → IsMarked c.loop-router.seen x) is
-    (λ below. c.loop-router.invariant.routers among.0 (omega (arith, among.1, c.loop-router-test.false)) (omega (arith, below, c.loop-router.invariant.many)))
-    within
