@@ -6,11 +6,6 @@ use Rattle.loop_finder.proofs.OnFalse.{never_at_false}
 use Rattle.loop_finder.proofs.PartRows.{row_made, row_none}
 use Rattle.loop_finder.proofs.part.row_of.Goals as goal
 
-pub returns-then-not-is_marked : goal.returns-then-not-is_marked
-returns-then-not-is_marked g c =
-    row_none (class_in (mix_of g.O.RouteSource.table g.N.RouteSource.table c.args.mixed.now) c.args.atom) c.args.marks.now c.args.router _ c.empty.ensures
-    (λ here must. never_at_false c.is_marked.result c.if-not-is_marked.true c.is_marked.ensures here)
-
 pub returns-then-originates : goal.returns-then-originates
 returns-then-originates g c =
     row_none (class_in (mix_of g.O.RouteSource.table g.N.RouteSource.table c.args.mixed.now) c.args.atom) c.args.marks.now c.args.router _

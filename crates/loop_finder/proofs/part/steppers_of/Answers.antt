@@ -1,9 +1,6 @@
 use Rattle.loop_finder.specs.steps.Parts.{IsBareIn}
-use Rattle.loop_finder.proofs.PartRows.{AreAllBut-none, AreAllBut-more}
+use Rattle.loop_finder.proofs.PartRows.{AreAllBut-more}
 use Rattle.loop_finder.proofs.part.steppers_of.Goals as goal
-
-pub loop-router-init : goal.loop-router-init
-loop-router-init c = AreAllBut-none (IsBareIn c.args.rows.now) c.new-steppers.result.items c.new-steppers.ensures.items
 
 pub loop-router-preserved : goal.loop-router-preserved
 loop-router-preserved c =

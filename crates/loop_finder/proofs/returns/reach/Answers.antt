@@ -1,16 +1,7 @@
-use Rattle.std.proofs.Common.{ℕ, ◌<◌, length, get_or, arith, refl, below_more}
+use Rattle.std.proofs.Common.{ℕ, ◌<◌, length, get_or, arith, below_more}
 use Rattle.order_core.specs.Marks.{IsMarked}
-use Rattle.loop_finder.proofs.Reaching.{ReachesMore-same, ReachesMore-then}
+use Rattle.loop_finder.proofs.Reaching.{ReachesMore-then}
 use Rattle.loop_finder.proofs.returns.reach.Goals as goal
-
-pub loop-router-init : goal.loop-router-init
-loop-router-init c = record {
-  reached = c.requires.reached;
-  more = ReachesMore-same c.args.seen.now c.args.reached.now.items;
-  routers = λ k below. absurd (omega (arith, below));
-  many = refl;
-  capacity = omega arith;
-}
 
 pub loop-router-preserved : goal.loop-router-preserved
 loop-router-preserved c = record {
