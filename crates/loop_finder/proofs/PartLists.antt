@@ -9,7 +9,7 @@ use Rattle.igp_theory.specs.States.{State}
 use Rattle.loop_finder.specs.Parts.{ClassPart, AllMove, IsPart, IsCovered, StepsEver, has_part, never_unsound, as_earlier, AreParts}
 use Rattle.loop_finder.specs.steps.PartRows.{HasEarlierHops}
 use Rattle.loop_finder.specs.Mixes.{sample_of, Mix, class_in}
-use Rattle.loop_finder.specs.Soundness.{ClassesOf, SoundAt}
+use Rattle.loop_finder.specs.Soundness.{SoundAt}
 use Rattle.loop_finder.proofs.PartLaws.{sound_with}
 use Rattle.loop_finder.proofs.PartRows.{have_returning}
 use Rattle.loop_finder.specs.steps.Returns.{MarksReturns}
@@ -63,16 +63,6 @@ sound_whole m parts n d state are sound k below = from_covered m parts n k state
     subst (λ (x : ClassPart). SoundAt m state (sample_of m.classes x.atom)) is (sound among.0 among.1)) (are.covered k below)
 
 -- How they are made
-
--- of no class nothing is told
-pub AreParts-none : (m : Mix) → ClassesOf m → AreParts m [] 0
-AreParts-none m are = record {
-  classes = are;
-  each = λ k d within. absurd (omega (arith, within));
-  ascending = λ i j d before within. absurd (omega (arith, within));
-  below = λ k d within. absurd (omega (arith, within));
-  covered = λ k below. absurd (omega (arith, below));
-}
 
 -- the next class has no part of its own
 pub AreParts-more : (m : Mix) (parts : List ClassPart) (n : ℕ) → AreParts m parts n → IsCovered m parts n → AreParts m parts (n + 1)

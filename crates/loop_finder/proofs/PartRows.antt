@@ -1,6 +1,6 @@
 -- How the part of a class is made of its rows.
-use Rattle.std.proofs.Common.{◌≡◌, ℕ, ◌+◌, ◌<◌, ◌↔◌, ◌⊎◌, Bool, List, [], ◌∷◌, ◌++◌, length, map, replicate, get_or, Contains, Option, Some, None}
-use Rattle.std.proofs.Common.{IfSome, inl, inr, arith, ap, ◌∙◌, sym, subst, below_more}
+use Rattle.std.proofs.Common.{◌≡◌, ℕ, ◌+◌, ◌<◌, ◌↔◌, ◌⊎◌, Bool, List, [], ◌∷◌, ◌++◌, length, map, replicate, get_or, Contains}
+use Rattle.std.proofs.Common.{inl, inr, arith, ap, ◌∙◌, sym, subst, below_more}
 use Rattle.std.specs.Bool.{OnTrue}
 use Rattle.std.proofs.lemmas.Bool.{cases_lt}
 use Rattle.std.proofs.lemmas.List.{get_or_past, get_or-replicate, length_push, length-map, length-replicate}
@@ -63,17 +63,6 @@ read_alike m atom other lists u read alike = record {
   olds = record { next = read.olds.next; is = (alike Old read.olds.next).0 read.olds.is; leads = read.olds.leads };
   news = record { next = read.news.next; is = (alike New read.news.next).0 read.news.is; leads = read.news.leads };
 }
-
--- what was read of the class that is known
-pub known_class : (m : Mix) (known : Option ℕ) (lists : ReadHops)
-    → IfSome known (λ other. IsRead (class_in m other) lists) → IfSome known (λ other. other < length m.classes.samples)
-known_class m None lists is = tt
-known_class m (Some other) lists is = is.least.class
-
-pub known_at : (m : Mix) (known : Option ℕ) (one other : ReadHops) (u : ℕ)
-    → IfSome known (λ k. IsRead (class_in m k) one) → u < length m.net → IsSameAt one other u → IfSome known (λ k. IsReadAt (class_in m k) other u)
-known_at m None one other u is within same = tt
-known_at m (Some k) one other u is within same = read_same (class_in m k) one other u (is.each u within) same
 
 -- the same was read of a router twice
 pub same_twice : (one other third : ReadHops) (u : ℕ) → IsSameAt one other u → IsSameAt other third u → IsSameAt one third u
@@ -256,12 +245,6 @@ part_made m atom marks moves rows within many marked move are = record {
     ]
 
 -- Which routers are listed
-
-pub AreAllBut-none : (Is : ℕ → Type 0) (routers : List ℕ) → routers ≡ [] → AreAllBut Is 0 routers
-AreAllBut-none Is routers none = subst (λ (xs : List ℕ). AreAllBut Is 0 xs) (sym none) (record {
-  below = λ k d within. absurd (omega (arith, within));
-  whole = λ u below. absurd (omega (arith, below));
-})
 
 -- the next router
 pub AreAllBut-more : (Is : ℕ → Type 0) (n : ℕ) (old new : List ℕ) → AreAllBut Is n old → AddsUnless (Is n) n old new → AreAllBut Is (n + 1) new

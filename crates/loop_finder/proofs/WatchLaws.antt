@@ -1,5 +1,5 @@
 -- The places at which a change of a router is looked at, and what it leaves sound.
-use Rattle.std.proofs.Common.{◌≡◌, ℕ, ◌+◌, ◌<◌, ◌≤◌, Bool, true, List, [], ◌∷◌, ◌++◌, length, get_or, Contains, Option, Some, None, IfNone, IfSome, inl, inr}
+use Rattle.std.proofs.Common.{◌≡◌, ℕ, ◌+◌, ◌<◌, ◌≤◌, Bool, true, List, [], ◌∷◌, ◌++◌, length, get_or, Contains, Option, Some, None, IfNone, inl, inr}
 use Rattle.std.proofs.Common.{arith, sym, ◌∙◌, ap, subst}
 use Rattle.std.specs.List.{AllPairs}
 use Rattle.std.proofs.lemmas.List.{get_or_default}
@@ -13,7 +13,7 @@ use Rattle.loop_finder.specs.steps.Parts.{AddsUnless, AreAllBut, PartStep}
 use Rattle.loop_finder.specs.Returns.{NeverReturnsTo}
 use Rattle.loop_finder.specs.Mixes.{sample_of, Mix}
 use Rattle.loop_finder.specs.Soundness.{SoundAt, Sound}
-use Rattle.loop_finder.specs.steps.Verdicts.{IsClassVerdict, Faulty, two_states}
+use Rattle.loop_finder.specs.steps.Verdicts.{IsClassVerdict, two_states}
 use Rattle.loop_finder.specs.Watches.{IsIdle, AreFirstPlaces, ArePlacesOf, IsWatch}
 use Rattle.loop_finder.specs.steps.Watches.{PhaseChange, LeadsFrom, StaysSoundAt, StaysSound, TurnsFaulty}
 use Rattle.loop_finder.specs.declared.fault.Fault.{Fault}
@@ -34,13 +34,6 @@ idle_from atom moves rows u row move within at bare = record {
   moves = move;
   bare = λ phase h among. bare phase h (subst (λ (x : PhaseHops). Contains (hops_of x phase) h) (sym (at ∙ get_or_default rows u row no_hops within)) among);
 }
-
-pub AreFirstPlaces-none : (parts : List ClassPart) (u : ℕ) (places : List ℕ) → places ≡ [] → AreFirstPlaces parts u 0 places
-AreFirstPlaces-none parts u places none = subst (λ (xs : List ℕ). AreFirstPlaces parts u 0 xs) (sym none) (record {
-  ascending = λ i j d before within. absurd (omega (arith, within));
-  below = λ k d within. absurd (omega (arith, within));
-  whole = λ p d below. absurd (omega (arith, below));
-})
 
 -- the next place
 pub AreFirstPlaces-more : (parts : List ClassPart) (u n : ℕ) (part : ClassPart) (old new : List ℕ) → n < length parts → part ≡ get_or parts n part
@@ -63,9 +56,6 @@ AreFirstPlaces-more parts u n part old new within at are added = record {
           | inl more ↦ inl more
           | inr none ↦ inr (none.0, subst (λ (x : ClassPart). IsIdle x u) (at ∙ get_or_default parts n part d within) none.1)
         ])
-
-pub IsWatch-none : (parts : List ClassPart) (watch : List (List ℕ)) → length watch ≡ 0 → IsWatch parts 0 watch
-IsWatch-none parts watch none = record { many = none; each = λ u below. absurd (omega (arith, below)) }
 
 -- the next router
 pub IsWatch-more : (parts : List ClassPart) (n : ℕ) (watch longer : List (List ℕ)) (places : List ℕ) → longer ≡ watch ++ places ∷ [] → IsWatch parts n watch
@@ -157,8 +147,3 @@ pub sound_after : (m : Mix) (change : PhaseChange) (before : State) (result : Op
     → IfNone result (StaysSound m change) → IfNone result (Sound m (state_in change.phases))
 sound_after m change before None leads sound stays = stays before leads sound
 sound_after m change before (Some fault) leads sound stays = tt
-
-pub faulty_after : (m : Mix) (change : PhaseChange) (before : State) (result : Option Fault) (turns : List Turn) → LeadsFrom (length m.net) change before
-    → Sound m before → IfSome result (λ fault. TurnsFaulty m change fault turns) → IfSome result (λ fault. Faulty m (state_in change.phases) fault turns)
-faulty_after m change before None turns leads sound turned = tt
-faulty_after m change before (Some fault) turns leads sound turned = turned before leads sound
