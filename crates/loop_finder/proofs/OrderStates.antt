@@ -104,5 +104,3 @@ pub same_states : (one other : List ℕ) (places k u : ℕ) → length one ≡ l
     k < 2 * places + 1 → state_of other k u ≡ state_of one k u
 same_states one other places k u many same less =
     ap (λ (xs : List ℕ). phase_after (changes_on u xs)) (same_changes one other places k many same (omega (arith, less)))
-
--- What is known of an order
