@@ -51,7 +51,8 @@ faulty_at m phases atom turns fault are within before told =
 
 -- no fault tells that the state is sound, a fault tells it
 pub told_of_state : {m : Mix} {parts : List ClassPart} {n : ℕ} (phases : List Phase) (result : Option Fault) (turns : List Turn) → AreParts m parts n
-    → Told (two_states m phases phases) result turns → IfNone result (Sound m (state_in phases)) × IfSome result (λ fault. Faulty m (state_in phases) fault turns)
+    → Told (two_states m phases phases) result turns
+    → IfNone result (Sound m (state_in phases)) × IfSome result (λ fault. Faulty m (state_in phases) fault turns)
 told_of_state {m} phases None turns are told = (
   sound_from_classes m (state_in phases) (length m.classes.samples) are.classes (omega arith) (λ j below.
       told j below (state_in phases) (between_itself (length m.net) phases)),
