@@ -11,7 +11,7 @@ use Rattle.loop_finder.specs.Faults.{state_in}
 use Rattle.loop_finder.specs.Mixes.{sample_of, Mix, migration_in}
 use Rattle.loop_finder.specs.steps.ClassSteps.{ClassState, ClassStep, StepsBy, MovesIn, Moves}
 use Rattle.loop_finder.specs.Soundness.{SoundAt}
-use Rattle.loop_finder.specs.steps.Verdicts.{IsClassVerdict, IsBetween, IsClearAt}
+use Rattle.loop_finder.specs.steps.Verdicts.{IsClassVerdict, IsBetween, IsClearAt, two_states}
 use Rattle.loop_finder.specs.declared.fault.Fault.{Fault}
 
 -- where a router moves it has a step
@@ -46,8 +46,8 @@ moves_between c state u between moves must = elim (between u must.router) [
     In phase = HasStep (migration_in c.mixture) u phase (sample_of c.mixture.classes c.atom)
 
 -- where nothing is told of a class, every state between the two is sound for it
-pub clear_told : (m : Mix) (first last : List Phase) (atom : ℕ) (turns : List Turn) → IsClassVerdict m first last atom None turns → (state : State)
-    → IsBetween (length m.net) first last state → SoundAt m state (sample_of m.classes atom)
+pub clear_told : (m : Mix) (first last : List Phase) (atom : ℕ) (turns : List Turn) → IsClassVerdict (two_states m first last) atom None turns
+    → (state : State) → IsBetween (length m.net) first last state → SoundAt m state (sample_of m.classes atom)
 clear_told m first last atom turns told state between = record {
   forwards = λ u must. moves_between c state u between (told.verdict.0 u) must;
   returns_never = λ u h hops follows. told.verdict.1 u h hops (follows_over (λ v n steps. step_between c state v n between steps) u (h ∷ hops) u follows);
@@ -58,7 +58,7 @@ clear_told m first last atom turns told state between = record {
 
 -- so where it answers none
 pub clear_where_told : (m : Mix) (first last : List Phase) (atom atom' : ℕ)
-    (result : Option Fault) (turns : List Turn) → atom' ≡ atom → IsClassVerdict m first last atom' result turns
+    (result : Option Fault) (turns : List Turn) → atom' ≡ atom → IsClassVerdict (two_states m first last) atom' result turns
     → IfNone result (IsClearAt m first last atom)
 clear_where_told m first last atom atom' None turns same told = λ state between.
     subst (λ (a : ℕ). SoundAt m state (sample_of m.classes a)) same (clear_told m first last atom' turns told state between)

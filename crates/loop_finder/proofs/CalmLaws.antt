@@ -5,8 +5,8 @@ use Rattle.std.specs.Bool.{OnTrue}
 use Rattle.std.specs.List.{All}
 use Rattle.std.proofs.lemmas.Bool.{cases_eq, cases_lt}
 use Rattle.std.proofs.lemmas.Bool.Decides.{leb_tells}
-use Rattle.std.proofs.lemmas.List.{get_or_default, get_or-replicate, get_or-set_other, get_or-set_same}
-use Rattle.std.proofs.Math.ListN.{length-set, length-replicate, replicate}
+use Rattle.std.proofs.lemmas.List.{get_or-set_other, get_or-set_same}
+use Rattle.std.proofs.Math.ListN.{length-set}
 use Rattle.order_core.specs.Rankings.{rank_of}
 use Rattle.igp_theory.specs.States.{State, all_old}
 use Rattle.igp_theory.specs.Waves.{IsStateOfWave}
@@ -31,10 +31,6 @@ use Rattle.loop_finder.proofs.ToldOfWaves.{AreEnds, wave_between}
 use Rattle.loop_finder.proofs.WaveSteps.{state_between, part_wave_sound, begins_sound}
 
 -- What is kept
-
--- before the first wave nothing is said
-pub IsCalmBefore-zero : (part : ClassPart) (ranks : List ℕ) → IsCalmBefore part ranks 0
-IsCalmBefore-zero part ranks = record { moves = λ some. absurd (omega (arith, some)); calm = λ v less. absurd (omega (arith, less)) }
 
 -- what holds before a wave holds before each earlier one
 pub calm_sooner : (part : ClassPart) (ranks : List ℕ) (w v : ℕ) → v ≤ w → IsCalmBefore part ranks w → IsCalmBefore part ranks v
@@ -135,22 +131,6 @@ AreCalm-with_rank parts ranks calm lowered places u rank most inside was now pla
       ];
 }
 
--- what is kept where one part was looked at
-pub AreCalm-at : (parts : List ClassPart) (ranks calm : List ℕ) (p w : ℕ) (part : ClassPart) → p < length parts → part ≡ get_or parts p part →
-    IsCalmBefore part ranks w → AreCalm parts ranks calm → AreCalm parts ranks (set calm p w)
-AreCalm-at parts ranks calm p w part there at one are = record {
-  many = length-set calm p w ∙ are.many;
-  each = λ q d within. elim (cases_eq q p) [
-    | inl same ↦ subst (λ (x : ℕ). IsCalmBefore (get_or parts x d) ranks (get_or (set calm p w) x 0)) (sym same) (here d)
-    | inr apart ↦ subst (λ (v : ℕ). IsCalmBefore (get_or parts q d) ranks v) (sym (get_or-set_other calm p q w 0 apart)) (are.each q d within)
-  ];
-}
-  where
-    here : (d : ClassPart) → IsCalmBefore (get_or parts p d) ranks (get_or (set calm p w) p 0)
-    here d =
-        subst (λ (v : ℕ). IsCalmBefore (get_or parts p d) ranks v) (sym (get_or-set_same calm p w 0 (omega (arith, there, are.many))))
-        (subst (λ (x : ClassPart). IsCalmBefore x ranks w) (at ∙ get_or_default parts p part d there) one)
-
 -- the rank of one router more is taken
 pub taken_more : (ranks kept taken : List ℕ) (n : ℕ) → n < length kept → taken ≡ set kept n (get_or ranks n 0) →
     ((u : ℕ) → u < n → get_or kept u 0 ≡ get_or ranks u 0) → (u : ℕ) → u < n + 1 → get_or taken u 0 ≡ get_or ranks u 0
@@ -235,13 +215,3 @@ sound_waves_before m parts ranks calm begun start each are calms first known lea
       | inl sooner ↦ before v sooner
       | inr later ↦ let is : w ≡ v = omega (arith, less, later) in subst (λ (x : ℕ). SoundWave m ranks x) is here
     ]
-
--- Starting
-
--- nothing is known at first
-pub AreCalm-none : (parts : List ClassPart) (ranks calm : List ℕ) → calm ≡ replicate (length parts) 0 → AreCalm parts ranks calm
-AreCalm-none parts ranks calm is = subst (λ (xs : List ℕ). AreCalm parts ranks xs) (sym is) (record {
-  many = length-replicate (length parts) 0;
-  each = λ p d within. subst (λ (w : ℕ). IsCalmBefore (get_or parts p d) ranks w) (sym (get_or-replicate (length parts) p 0 0 within))
-      (IsCalmBefore-zero (get_or parts p d) ranks);
-})

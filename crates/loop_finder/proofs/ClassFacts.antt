@@ -1,5 +1,5 @@
 -- What is read of the steps of a state and a class.
-use Rattle.std.proofs.Common.{◌≡◌, ℕ, ◌<◌, ◌^◌, ◌↔◌, Bool, true, false, List, length, get_or, ◌==◌, Contains, eqb-true, eq-eqb, arith, sym, ◌∙◌}
+use Rattle.std.proofs.Common.{◌≡◌, ℕ, ◌<◌, ◌↔◌, Bool, true, false, List, length, get_or, ◌==◌, Contains, eqb-true, eq-eqb, arith, sym, ◌∙◌}
 use Rattle.std.specs.Bool.{OnTrue, OnFalse}
 use Rattle.std.proofs.lemmas.Bool.{false≢true}
 use Rattle.std.proofs.lemmas.List.Elements.{Contains-get_or}
@@ -10,20 +10,17 @@ use Rattle.rib_mix.specs.Answers.{NextLeadsTo}
 use Rattle.rib_mix.proofs.NextLaws.{steps_to_hops}
 use Rattle.loop_finder.specs.Parts.{StepsOf}
 use Rattle.loop_finder.specs.steps.Making.{IsHopsOf}
-use Rattle.loop_finder.specs.Mixes.{sample_of, Mix, migration_in}
+use Rattle.loop_finder.specs.Mixes.{sample_of, migration_in, ClassIn, least_of}
 use Rattle.loop_finder.specs.steps.ClassSteps.{ClassState, StepsBy, IsStuckIn, MovesIn}
 
 -- the hops of what a router does that has to pass packets on
-pub steps_to_those : (m : Mix) (atom u : ℕ) (phase : Phase) (hops : List ℕ)
-    → atom < length m.classes.samples → sample_of m.classes atom < 2 ^ 32 → IsHopsOf m atom u phase hops → MustForward m.net (sample_of m.classes atom) u
-    → (h : ℕ) → Contains hops h ↔ StepsOf m atom u phase h
-steps_to_those m atom u phase hops inside address are must h =
-    let law : StepsOf m atom u phase h ↔ NextLeadsTo are.next h =
-    steps_to_hops (migration_in m) u phase (sample_of m.classes atom) are.next h (are.is (sample_of m.classes atom) member) must in
+pub steps_to_those : (c : ClassIn) (u : ℕ) (phase : Phase) (hops : List ℕ)
+    → IsInClass c.mixture.classes c.atom (least_of c) → IsHopsOf c u phase hops → MustForward c.mixture.net (least_of c) u
+    → (h : ℕ) → Contains hops h ↔ StepsOf c u phase h
+steps_to_those c u phase hops least are must h =
+    let law : StepsOf c u phase h ↔ NextLeadsTo are.next h =
+    steps_to_hops (migration_in c.mixture) u phase (least_of c) are.next h (are.is (least_of c) least) must in
     (λ among. law.1 ((are.leads h).0 among), λ steps. (are.leads h).1 (law.0 steps))
-  where
-    member : IsInClass m.classes atom (sample_of m.classes atom)
-    member = record { class = inside; address = address; alike = λ p contains. (λ h. h, λ h. h) }
 
 -- a router that has to pass packets on is stuck where it has no hops
 pub stuck_from : (c : ClassState) (u : ℕ) (phase : Phase) (b : Bool) (hops : List ℕ) → b ≡ (length hops == 0)

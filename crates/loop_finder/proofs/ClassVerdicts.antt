@@ -1,5 +1,5 @@
 -- What is read of a class before its steps are.
-use Rattle.std.proofs.Common.{◌≡◌, ℕ, ◌<◌, ◌↔◌, List, [], length, get_or, Contains, Option, Some, None, IfSome, Bool, slice_get, inl, inr, subst}
+use Rattle.std.proofs.Common.{◌≡◌, ℕ, ◌<◌, ◌↔◌, List, length, get_or, Contains, Option, IfSome, Bool, subst}
 use Rattle.std.proofs.lemmas.List.Elements.{All-contains}
 use Rattle.std.proofs.lemmas.Option.{slice_get_within, get_or_from_slice_get}
 use Rattle.net_addr.specs.Addresses.{Block, IsBlock}
@@ -9,13 +9,9 @@ use Rattle.net_model.specs.Network.{Network, Connected}
 use Rattle.net_model.specs.Refusals.{IsNetwork}
 use Rattle.igp_theory.specs.Forwarding.{IsOriginated, IsTarget}
 use Rattle.igp_theory.specs.Migrations.{Migration}
-use Rattle.igp_theory.specs.declared.phase.Phase.{Phase}
-use Rattle.prefix_atoms.specs.Classes.{Classes, AreClasses, IsInClass, HasTarget}
+use Rattle.prefix_atoms.specs.Classes.{Classes, AreClasses, IsInClass}
 use Rattle.order_core.specs.Marks.{IsMarked}
-use Rattle.order_core.specs.declared.turn.Turn.{Turn}
-use Rattle.loop_finder.specs.Mixes.{sample_of, Mix}
-use Rattle.loop_finder.specs.steps.ClassSteps.{ClassState, AreForwarders, ClassStep}
-use Rattle.loop_finder.specs.steps.Verdicts.{IsClassVerdict}
+use Rattle.loop_finder.specs.steps.ClassSteps.{AreForwarders}
 
 -- an originated prefix is a block of addresses
 originated_block : (net : Network) (p : Block) → IsNetwork net → IsOriginated net p → IsBlock p
@@ -39,24 +35,6 @@ forwarders_from net a p forwards network target exact u = (
   λ must. (exact u).1 (must.router, subst (λ (q : Block). ¬ Connected net u q) (one_target net a must.target p network must.is_target target) must.away),
 )
 
--- without a target nothing is passed on
-pub told_without : (m : Mix) (first last : List Phase) (atom : ℕ) (turns : List Turn) → HasTarget m.net (sample_of m.classes atom) None
-    → IsClassVerdict m first last atom None turns
-told_without m first last atom turns none = record {
-  forwards = [];
-  verdict = (
-    λ u. (λ must. absurd (none must.target must.is_target), λ must. absurd (none must.target must.is_target)),
-    λ u h hops follows. nowhere u h follows.0,
-  );
-}
-  where
-    c : ClassState
-    c = record { mixture = m; first = first; last = last; forwards = []; atom = atom }
-
-    nowhere : (u h : ℕ) → ClassStep c u h → ⊥
-    nowhere u h (inl steps) = none steps.must.target steps.must.is_target
-    nowhere u h (inr steps) = none steps.must.target steps.must.is_target
-
 -- the least address of a class is in it
 pub sample_in : {move : Migration} (c : Classes) (atom : ℕ) → AreClasses move c → atom < length c.samples → IsInClass c atom (get_or c.samples atom 0)
 sample_in c atom are within = record {
@@ -64,9 +42,3 @@ sample_in c atom are within = record {
   address = are.classing.samples.addresses atom 0 within;
   alike = λ p member. (λ h. h, λ h. h);
 }
-
--- what is read as the target of a class is the target of its least address
-pub target_at : {move : Migration} (c d : Classes) (atom : ℕ) (t : Option Block) → AreClasses move c → atom < length c.samples → d ≡ c →
-    slice_get d.targets atom ≡ Some t → HasTarget move.net (get_or c.samples atom 0) t
-target_at c d atom t are within same at =
-    are.target atom (get_or c.samples atom 0) t (sample_in c atom are within) (subst (λ (x : Classes). slice_get x.targets atom ≡ Some t) same at)

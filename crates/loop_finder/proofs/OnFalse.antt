@@ -6,10 +6,6 @@ pub on_false : {P Q : Type 0} (b : Bool) → OnFalse b P → (P → Q) → OnFal
 on_false true p over = tt
 on_false false p over = over p
 
-pub on_false_both : {P Q R : Type 0} (b : Bool) → OnFalse b P → OnFalse b Q → (P → Q → R) → OnFalse b R
-on_false_both true p q over = tt
-on_false_both false p q over = over p q
-
 pub on_true : {P Q : Type 0} (b : Bool) → OnTrue b P → (P → Q) → OnTrue b Q
 on_true true p over = over p
 on_true false p over = tt

@@ -1,19 +1,13 @@
 -- The changes of an order, one after another.
 use Rattle.std.proofs.Common.{◌≡◌, ℕ, zero, suc, ◌+◌, ◌-◌, ◌*◌, ◌/◌, ◌<◌, ◌≤◌, ◌==◌, if◌then◌else◌, List, [], ◌∷◌, ◌++◌, length, get_or, take, Contains}
-use Rattle.std.proofs.Common.{Option, Some, None, IfNone, IfSome, MatchOption, Bool, true, false, arith, refl, sym, ap, ◌∙◌, subst, inl, inr}
+use Rattle.std.proofs.Common.{Bool, true, false, arith, refl, sym, ap, ◌∙◌, subst, inl, inr}
 use Rattle.std.proofs.lemmas.Bool.Decides.{eqb_tells}
 use Rattle.std.proofs.lemmas.List.{get_or_read, take_more, take_all}
 use Rattle.std.proofs.lemmas.List.Elements.{Contains-get_or}
 use Rattle.igp_theory.specs.States.{State, changes_of, changes_on, phase_after, state_of}
 use Rattle.igp_theory.specs.declared.phase.Phase.{Phase}
-use Rattle.loop_finder.specs.Faults.{state_in, told_fault}
-use Rattle.order_core.specs.declared.turn.Turn.{Turn}
-use Rattle.loop_finder.specs.Orders.{AreFirstStates}
+use Rattle.loop_finder.specs.Faults.{state_in}
 use Rattle.loop_finder.specs.steps.Orders.{next_phase, IsStateOf, IsAdvanced}
-use Rattle.loop_finder.specs.Mixes.{Mix}
-use Rattle.loop_finder.specs.Soundness.{Sound}
-use Rattle.loop_finder.specs.steps.Verdicts.{FirstFaulty}
-use Rattle.loop_finder.specs.declared.fault.Fault.{Fault}
 
 -- two states that give each router one phase are one
 pub same_state : (one other : State) → ((u : ℕ) → one u ≡ other u) → one ≡ other
@@ -110,12 +104,3 @@ pub same_states : (one other : List ℕ) (places k u : ℕ) → length one ≡ l
     k < 2 * places + 1 → state_of other k u ≡ state_of one k u
 same_states one other places k u many same less =
     ap (λ (xs : List ℕ). phase_after (changes_on u xs)) (same_changes one other places k many same (omega (arith, less)))
-
--- What is known of an order
-
--- the states before the first unsound one are sound, all of them where there is none
-pub known_after : (m : Mix) (order : List ℕ) (found : Option (ℕ × Fault)) (turns : List Turn) (count : ℕ)
-    → IfNone found (AreFirstStates (Sound m) order (2 * length order + 1)) → IfSome found (λ first. FirstFaulty m order first.0 (told_fault first.1 turns))
-    → MatchOption found (count ≡ 2 * length order + 1) (λ first. count ≡ first.0) → AreFirstStates (Sound m) order count
-known_after m order None turns count sound fault is = subst (λ (n : ℕ). AreFirstStates (Sound m) order n) (sym is) sound
-known_after m order (Some first) turns count sound fault is = subst (λ (n : ℕ). AreFirstStates (Sound m) order n) (sym is) fault.before

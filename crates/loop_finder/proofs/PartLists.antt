@@ -8,8 +8,8 @@ use Rattle.std.proofs.lemmas.List.Quantifiers.{all_pairs_push}
 use Rattle.igp_theory.specs.States.{State}
 use Rattle.loop_finder.specs.Parts.{ClassPart, AllMove, IsPart, IsCovered, StepsEver, has_part, never_unsound, as_earlier, AreParts}
 use Rattle.loop_finder.specs.steps.PartRows.{HasEarlierHops}
-use Rattle.loop_finder.specs.Mixes.{sample_of, Mix}
-use Rattle.loop_finder.specs.Soundness.{ClassesOf, SoundAt}
+use Rattle.loop_finder.specs.Mixes.{sample_of, Mix, class_in}
+use Rattle.loop_finder.specs.Soundness.{SoundAt}
 use Rattle.loop_finder.proofs.PartLaws.{sound_with}
 use Rattle.loop_finder.proofs.PartRows.{have_returning}
 use Rattle.loop_finder.specs.steps.Returns.{MarksReturns}
@@ -64,16 +64,6 @@ sound_whole m parts n d state are sound k below = from_covered m parts n k state
 
 -- How they are made
 
--- of no class nothing is told
-pub AreParts-none : (m : Mix) → ClassesOf m → AreParts m [] 0
-AreParts-none m are = record {
-  classes = are;
-  each = λ k d within. absurd (omega (arith, within));
-  ascending = λ i j d before within. absurd (omega (arith, within));
-  below = λ k d within. absurd (omega (arith, within));
-  covered = λ k below. absurd (omega (arith, below));
-}
-
 -- the next class has no part of its own
 pub AreParts-more : (m : Mix) (parts : List ClassPart) (n : ℕ) → AreParts m parts n → IsCovered m parts n → AreParts m parts (n + 1)
 AreParts-more m parts n are covered = record {
@@ -93,11 +83,11 @@ still_covered m parts more k (as_earlier part among before with) = as_earlier pa
 
 -- a class of which an earlier one's part has all hops between marked routers, where all its routers move
 pub earlier_covers : (m : Mix) (parts : List ClassPart) (n : ℕ) (marks : List Bool) → AreParts m parts n → length marks ≡ length m.net
-    → MarksReturns (StepsEver m n) marks → AllMove m n → HasEarlierHops m n marks parts → IsCovered m parts n
+    → MarksReturns (StepsEver (class_in m n)) marks → AllMove (class_in m n) → HasEarlierHops (class_in m n) marks parts → IsCovered m parts n
 earlier_covers m parts n marks are many marked move has =
     as_earlier has.earlier has.among (All-contains (λ x. x.atom < n) parts has.earlier are.below has.among)
     (sound_with m has.earlier n (All-contains (IsPart m) parts has.earlier are.each has.among)
-    (have_returning m n marks has.earlier.rows many marked has.hops) move)
+    (have_returning (class_in m n) marks has.earlier.rows many marked has.hops) move)
 
 -- the next class has one
 pub AreParts-push : (m : Mix) (parts : List ClassPart) (part : ClassPart) (n : ℕ) → AreParts m parts n → IsPart m part

@@ -1,6 +1,6 @@
 -- How the part of a class is made of its rows.
-use Rattle.std.proofs.Common.{◌≡◌, ℕ, ◌+◌, ◌<◌, ◌^◌, ◌↔◌, ◌⊎◌, Bool, List, [], ◌∷◌, ◌++◌, length, map, replicate, get_or, Contains, Option, Some, None}
-use Rattle.std.proofs.Common.{IfSome, inl, inr, arith, ap, ◌∙◌, sym, subst, below_more}
+use Rattle.std.proofs.Common.{◌≡◌, ℕ, ◌+◌, ◌<◌, ◌↔◌, ◌⊎◌, Bool, List, [], ◌∷◌, ◌++◌, length, map, replicate, get_or, Contains}
+use Rattle.std.proofs.Common.{inl, inr, arith, ap, ◌∙◌, sym, subst, below_more}
 use Rattle.std.specs.Bool.{OnTrue}
 use Rattle.std.proofs.lemmas.Bool.{cases_lt}
 use Rattle.std.proofs.lemmas.List.{get_or_past, get_or-replicate, length_push, length-map, length-replicate}
@@ -17,6 +17,7 @@ use Rattle.igp_theory.specs.declared.phase.Phase.TheVariants.{Old, Middle, New}
 use Rattle.igp_theory.proofs.LoopLaws.{old_or_new_step}
 use Rattle.igp_theory.proofs.SameTables.{follows_over}
 use Rattle.order_core.specs.Marks.{IsMarked}
+use Rattle.prefix_atoms.specs.Classes.{IsInClass}
 use Rattle.rib_mix.specs.Answers.{IsAlikeAt}
 use Rattle.loop_finder.specs.steps.Ends.{ReadHops, AreNoHops, EndStep, HasBothSteps, hops_at}
 use Rattle.loop_finder.specs.steps.Making.{IsHopsOf, IsMaking, IsRead, IsReadAt, IsSameAt}
@@ -24,7 +25,7 @@ use Rattle.loop_finder.specs.steps.PartRows.{AreKept, HasHops, HasMarked, HaveHo
 use Rattle.loop_finder.specs.Parts.{PhaseHops, hops_of, no_hops, StepsOf, StepsEver, HasStepOf, AllMove, HaveReturning, IsPart}
 use Rattle.loop_finder.specs.steps.Parts.{AreAllBut, AddsUnless}
 use Rattle.loop_finder.specs.steps.Returns.{MarksAgain, MarksReturns}
-use Rattle.loop_finder.specs.Mixes.{sample_of, Mix, migration_in}
+use Rattle.loop_finder.specs.Mixes.{Mix, migration_in, class_in, ClassIn, least_of}
 use Rattle.loop_finder.specs.declared.parts.Making.{Making}
 use Rattle.loop_finder.proofs.ClassFacts.{steps_to_those}
 use Rattle.loop_finder.proofs.ClassVerdicts.{one_target}
@@ -49,30 +50,19 @@ none_in f a n bare = record {
     at u = subst (λ (hops : List ℕ). get_or (map f (replicate n a)) u hops ≡ hops) bare (get_or-map f (replicate n a) u a ∙ ap f (same u))
 
 -- what was read of a router is so where the same was read
-pub read_same : (m : Mix) (atom : ℕ) (one other : ReadHops) (u : ℕ) → IsReadAt m atom one u → IsSameAt one other u → IsReadAt m atom other u
-read_same m atom one other u read same = record {
-  olds = subst (IsHopsOf m atom u Old) same.olds read.olds;
-  news = subst (IsHopsOf m atom u New) same.news read.news;
+pub read_same : (c : ClassIn) (one other : ReadHops) (u : ℕ) → IsReadAt c one u → IsSameAt one other u → IsReadAt c other u
+read_same c one other u read same = record {
+  olds = subst (IsHopsOf c u Old) same.olds read.olds;
+  news = subst (IsHopsOf c u New) same.news read.news;
 }
 
 -- and for a class for whose packets the router does the same
-pub read_alike : (m : Mix) (atom other : ℕ) (lists : ReadHops) (u : ℕ) → IsReadAt m atom lists u → IsAlikeAt (migration_in m) m.classes u atom other
-    → IsReadAt m other lists u
+pub read_alike : (m : Mix) (atom other : ℕ) (lists : ReadHops) (u : ℕ) → IsReadAt (class_in m atom) lists u → IsAlikeAt (migration_in m) m.classes u atom other
+    → IsReadAt (class_in m other) lists u
 read_alike m atom other lists u read alike = record {
   olds = record { next = read.olds.next; is = (alike Old read.olds.next).0 read.olds.is; leads = read.olds.leads };
   news = record { next = read.news.next; is = (alike New read.news.next).0 read.news.is; leads = read.news.leads };
 }
-
--- what was read of the class that is known
-pub known_class : (m : Mix) (known : Option ℕ) (lists : ReadHops)
-    → IfSome known (λ other. IsRead m other lists) → IfSome known (λ other. other < length m.classes.samples)
-known_class m None lists is = tt
-known_class m (Some other) lists is = is.class
-
-pub known_at : (m : Mix) (known : Option ℕ) (one other : ReadHops) (u : ℕ)
-    → IfSome known (λ k. IsRead m k one) → u < length m.net → IsSameAt one other u → IfSome known (λ k. IsReadAt m k other u)
-known_at m None one other u is within same = tt
-known_at m (Some k) one other u is within same = read_same m k one other u (is.each u within) same
 
 -- the same was read of a router twice
 pub same_twice : (one other third : ReadHops) (u : ℕ) → IsSameAt one other u → IsSameAt other third u → IsSameAt one third u
@@ -120,58 +110,58 @@ returns_still one other n changed marks none olds news same returns =
     ))
 
 -- where each router has a step in both ends or is one of the target's, all others move
-pub all_move_from : (m : Mix) (atom : ℕ) (p : Block) (lists : ReadHops)
-    → IsNetwork m.net → IsTarget m.net (sample_of m.classes atom) p → IsRead m atom lists
-    → ((u : ℕ) → u < length m.net → HasBothSteps lists u ⊎ Connected m.net u p) → AllMove m atom
-all_move_from m atom p lists network target read each u must = elim (each u must.router) [
+pub all_move_from : (c : ClassIn) (p : Block) (lists : ReadHops)
+    → IsNetwork c.mixture.net → IsTarget c.mixture.net (least_of c) p → IsRead c lists
+    → ((u : ℕ) → u < length c.mixture.net → HasBothSteps lists u ⊎ Connected c.mixture.net u p) → AllMove c
+all_move_from c p lists network target read each u must = elim (each u must.router) [
   | inl both ↦ (
     step Old (hops_at lists.olds u) (read.each u must.router).olds both.0,
     step New (hops_at lists.news u) (read.each u must.router).news both.1,
   )
-  | inr connected ↦ absurd (must.away (subst (λ (q : Block). Connected m.net u q)
-      (one_target m.net (sample_of m.classes atom) p must.target network target must.is_target) connected))
+  | inr connected ↦ absurd (must.away (subst (λ (q : Block). Connected c.mixture.net u q)
+      (one_target c.mixture.net (least_of c) p must.target network target must.is_target) connected))
 ]
   where
-    step : (phase : Phase) (hops : List ℕ) → IsHopsOf m atom u phase hops → 0 < length hops → HasStepOf m atom u phase
+    step : (phase : Phase) (hops : List ℕ) → IsHopsOf c u phase hops → 0 < length hops → HasStepOf c u phase
     step phase hops are some = record {
       hop = get_or hops 0 0;
-      steps = (steps_to_those m atom u phase hops read.class read.address are must (get_or hops 0 0)).0 (Contains-get_or hops 0 0 some);
+      steps = (steps_to_those c u phase hops read.least are must (get_or hops 0 0)).0 (Contains-get_or hops 0 0 some);
     }
 
 -- a step of both networks is one of what was read
-over_read : (m : Mix) (atom : ℕ) (lists : ReadHops) (x y : ℕ) → IsRead m atom lists → StepsEver m atom x y → EndStep lists x y
-over_read m atom lists x y read (inl one) =
-    inl ((steps_to_those m atom x Old (hops_at lists.olds x) read.class read.address (read.each x one.must.router).olds one.must y).1 one)
-over_read m atom lists x y read (inr other) =
-    inr ((steps_to_those m atom x New (hops_at lists.news x) read.class read.address (read.each x other.must.router).news other.must y).1 other)
+over_read : (c : ClassIn) (lists : ReadHops) (x y : ℕ) → IsRead c lists → StepsEver c x y → EndStep lists x y
+over_read c lists x y read (inl one) =
+    inl ((steps_to_those c x Old (hops_at lists.olds x) read.least (read.each x one.must.router).olds one.must y).1 one)
+over_read c lists x y read (inr other) =
+    inr ((steps_to_those c x New (hops_at lists.news x) read.least (read.each x other.must.router).news other.must y).1 other)
 
 -- the routers that are returned to, by what is known of the class that was read
-pub returns_known : (m : Mix) (atom : ℕ) (making : Making) (marks : List Bool)
-    → IsMaking (length m.net) making → IsRead m atom making.lists → marks ≡ making.marks.items → MarksReturns (StepsEver m atom) marks
-returns_known m atom making marks is read same u h hops follows = subst (λ (xs : List Bool). IsMarked xs u) (sym same)
-    (is.returns u h hops (follows_over (λ x y steps. over_read m atom making.lists x y read steps) u (h ∷ hops) u follows))
+pub returns_known : (c : ClassIn) (making : Making) (marks : List Bool)
+    → IsMaking (length c.mixture.net) making → IsRead c making.lists → marks ≡ making.marks.items → MarksReturns (StepsEver c) marks
+returns_known c making marks is read same u h hops follows = subst (λ (xs : List Bool). IsMarked xs u) (sym same)
+    (is.returns u h hops (follows_over (λ x y steps. over_read c making.lists x y read steps) u (h ∷ hops) u follows))
 
 -- Rows
 
 -- a row with what is kept of the hops of each phase
-pub row_made : (m : Mix) (atom : ℕ) (marks : List Bool) (u : ℕ)
-    (olds middles news kept_olds kept_middles kept_news : List ℕ) → atom < length m.classes.samples → sample_of m.classes atom < 2 ^ 32
-    → MustForward m.net (sample_of m.classes atom) u → IsHopsOf m atom u Old olds → IsHopsOf m atom u Middle middles
-    → IsHopsOf m atom u New news → AreKept olds marks kept_olds → AreKept middles marks kept_middles → AreKept news marks kept_news
-    → IsRowOf m atom marks u (record { old = kept_olds; middle = kept_middles; new = kept_news })
-row_made m atom marks u olds middles news kept_olds kept_middles kept_news within address must is_old is_middle is_new are_old are_middle are_new =
+pub row_made : (c : ClassIn) (marks : List Bool) (u : ℕ)
+    (olds middles news kept_olds kept_middles kept_news : List ℕ)
+    → IsInClass c.mixture.classes c.atom (least_of c) → MustForward c.mixture.net (least_of c) u → IsHopsOf c u Old olds → IsHopsOf c u Middle middles
+    → IsHopsOf c u New news → AreKept olds marks kept_olds → AreKept middles marks kept_middles → AreKept news marks kept_news
+    → IsRowOf c marks u (record { old = kept_olds; middle = kept_middles; new = kept_news })
+row_made c marks u olds middles news kept_olds kept_middles kept_news least must is_old is_middle is_new are_old are_middle are_new =
     record { steps = steps; all = all }
   where
-    exact : (phase : Phase) (hops : List ℕ) → IsHopsOf m atom u phase hops → (h : ℕ) → Contains hops h ↔ StepsOf m atom u phase h
-    exact phase hops are = steps_to_those m atom u phase hops within address are must
+    exact : (phase : Phase) (hops : List ℕ) → IsHopsOf c u phase hops → (h : ℕ) → Contains hops h ↔ StepsOf c u phase h
+    exact phase hops are = steps_to_those c u phase hops least are must
 
     steps : (phase : Phase) (h : ℕ) → Contains (hops_of (record { old = kept_olds; middle = kept_middles; new = kept_news }) phase) h
-        → StepsOf m atom u phase h
+        → StepsOf c u phase h
     steps Old h among = (exact Old olds is_old h).0 (are_old.from h among)
     steps Middle h among = (exact Middle middles is_middle h).0 (are_middle.from h among)
     steps New h among = (exact New news is_new h).0 (are_new.from h among)
 
-    all : (phase : Phase) (h : ℕ) → StepsOf m atom u phase h → IsMarked marks u → IsMarked marks h
+    all : (phase : Phase) (h : ℕ) → StepsOf c u phase h → IsMarked marks u → IsMarked marks h
         → Contains (hops_of (record { old = kept_olds; middle = kept_middles; new = kept_news }) phase) h
     all Old h one here there = are_old.all h ((exact Old olds is_old h).1 one) there
     all Middle h one here there = are_middle.all h ((exact Middle middles is_middle h).1 one) there
@@ -184,23 +174,23 @@ none_among Middle h = Contains-none h
 none_among New h = Contains-none h
 
 -- a router may have none that has no mark, or has no packets to pass on
-pub row_none : (m : Mix) (atom : ℕ) (marks : List Bool) (u : ℕ) (row : PhaseHops)
-    → row ≡ no_hops → (IsMarked marks u → ¬ MustForward m.net (sample_of m.classes atom) u) → IsRowOf m atom marks u row
-row_none m atom marks u row none never = record {
+pub row_none : (c : ClassIn) (marks : List Bool) (u : ℕ) (row : PhaseHops)
+    → row ≡ no_hops → (IsMarked marks u → ¬ MustForward c.mixture.net (least_of c) u) → IsRowOf c marks u row
+row_none c marks u row none never = record {
   steps = λ phase h among. absurd (none_among phase h (subst (λ (x : PhaseHops). Contains (hops_of x phase) h) none among));
   all = λ phase h steps here there. absurd (never here steps.must);
 }
 
 -- a row with the marked ones of a router's hops has all of these
-pub row_has : (m : Mix) (atom : ℕ) (marks : List Bool) (u : ℕ) (row own : PhaseHops) → atom < length m.classes.samples → sample_of m.classes atom < 2 ^ 32
-    → ((phase : Phase) → IsHopsOf m atom u phase (hops_of own phase)) → HasMarked marks row.old own.old → HasMarked marks row.middle own.middle
-    → HasMarked marks row.new own.new → HasHops m atom marks u row
-row_has m atom marks u row own within address are olds middles news = all
+pub row_has : (c : ClassIn) (marks : List Bool) (u : ℕ) (row own : PhaseHops) → IsInClass c.mixture.classes c.atom (least_of c)
+    → ((phase : Phase) → IsHopsOf c u phase (hops_of own phase)) → HasMarked marks row.old own.old → HasMarked marks row.middle own.middle
+    → HasMarked marks row.new own.new → HasHops c marks u row
+row_has c marks u row own least are olds middles news = all
   where
-    among : (phase : Phase) (h : ℕ) → StepsOf m atom u phase h → Contains (hops_of own phase) h
-    among phase h steps = (steps_to_those m atom u phase (hops_of own phase) within address (are phase) steps.must h).1 steps
+    among : (phase : Phase) (h : ℕ) → StepsOf c u phase h → Contains (hops_of own phase) h
+    among phase h steps = (steps_to_those c u phase (hops_of own phase) least (are phase) steps.must h).1 steps
 
-    all : HasHops m atom marks u row
+    all : HasHops c marks u row
     all Old h steps here there = olds h (among Old h steps) there
     all Middle h steps here there = middles h (among Middle h steps) there
     all New h steps here there = news h (among New h steps) there
@@ -216,37 +206,38 @@ each_more {X} Is xs longer x d n is many each one = subst (λ (ys : List X). (le
 )
 
 -- one row more
-pub AreFirstRows-more : (m : Mix) (atom : ℕ) (marks : List Bool) (n : ℕ)
-    (rows longer : List PhaseHops) (row : PhaseHops) → longer ≡ rows ++ row ∷ [] → AreFirstRows m atom marks n rows
-    → IsRowOf m atom marks n row → AreFirstRows m atom marks (n + 1) longer
-AreFirstRows-more m atom marks n rows longer row is are one =
-    let more = each_more (IsRowOf m atom marks) rows longer row no_hops n is are.many are.each one in
+pub AreFirstRows-more : (c : ClassIn) (marks : List Bool) (n : ℕ)
+    (rows longer : List PhaseHops) (row : PhaseHops) → longer ≡ rows ++ row ∷ [] → AreFirstRows c marks n rows
+    → IsRowOf c marks n row → AreFirstRows c marks (n + 1) longer
+AreFirstRows-more c marks n rows longer row is are one =
+    let more = each_more (IsRowOf c marks) rows longer row no_hops n is are.many are.each one in
     record { many = more.0; each = more.1 }
 
 -- The part
 
 -- rows with all hops between marked routers have each step from which a walk leads back
-pub have_returning : (m : Mix) (atom : ℕ) (marks : List Bool) (rows : List PhaseHops) → length marks ≡ length m.net
-    → MarksReturns (StepsEver m atom) marks → HaveHops m atom marks rows → HaveReturning m atom rows
-have_returning m atom marks rows many marked have u h hops phase steps follows =
+pub have_returning : (c : ClassIn) (marks : List Bool) (rows : List PhaseHops) → length marks ≡ length c.mixture.net
+    → MarksReturns (StepsEver c) marks → HaveHops c marks rows → HaveReturning c rows
+have_returning c marks rows many marked have u h hops phase steps follows =
     let here : IsMarked marks u = marked u h hops (old_or_new_step phase steps, follows) in
-    let next = follows_on (StepsEver m atom) u h hops (old_or_new_step phase steps) follows in
+    let next = follows_on (StepsEver c) u h hops (old_or_new_step phase steps) follows in
     let there : IsMarked marks h = marked h next.first next.rest next.follows in
     have.each u (omega (arith, many, steps.must.router)) phase h steps here there
 
 -- the part with the rows of all routers, for the addresses of a class
 pub part_made : (m : Mix) (atom : ℕ) (marks : List Bool) (moves : Bool)
-    (rows : List PhaseHops) → atom < length m.classes.samples → length marks ≡ length m.net → MarksReturns (StepsEver m atom) marks
-    → OnTrue moves (AllMove m atom) → AreFirstRows m atom marks (length marks) rows → IsPart m (record { atom = atom; moves = moves; rows = rows })
+    (rows : List PhaseHops) → atom < length m.classes.samples → length marks ≡ length m.net → MarksReturns (StepsEver (class_in m atom)) marks
+    → OnTrue moves (AllMove (class_in m atom)) → AreFirstRows (class_in m atom) marks (length marks) rows →
+    IsPart m (record { atom = atom; moves = moves; rows = rows })
 part_made m atom marks moves rows within many marked move are = record {
   class = within;
   many = omega (arith, are.many, many);
   moves = move;
   steps = steps;
-  returns = have_returning m atom marks rows many marked (record { many = are.many; each = λ u below. (are.each u below).all });
+  returns = have_returning (class_in m atom) marks rows many marked (record { many = are.many; each = λ u below. (are.each u below).all });
 }
   where
-    steps : (u h : ℕ) (phase : Phase) → Contains (hops_of (get_or rows u no_hops) phase) h → StepsOf m atom u phase h
+    steps : (u h : ℕ) (phase : Phase) → Contains (hops_of (get_or rows u no_hops) phase) h → StepsOf (class_in m atom) u phase h
     steps u h phase among = elim (cases_lt u (length marks)) [
       | inl below ↦ (are.each u below).steps phase h among
       | inr past ↦ absurd (none_among phase h (subst (λ (row : PhaseHops). Contains (hops_of row phase) h)
@@ -254,12 +245,6 @@ part_made m atom marks moves rows within many marked move are = record {
     ]
 
 -- Which routers are listed
-
-pub AreAllBut-none : (Is : ℕ → Type 0) (routers : List ℕ) → routers ≡ [] → AreAllBut Is 0 routers
-AreAllBut-none Is routers none = subst (λ (xs : List ℕ). AreAllBut Is 0 xs) (sym none) (record {
-  below = λ k d within. absurd (omega (arith, within));
-  whole = λ u below. absurd (omega (arith, below));
-})
 
 -- the next router
 pub AreAllBut-more : (Is : ℕ → Type 0) (n : ℕ) (old new : List ℕ) → AreAllBut Is n old → AddsUnless (Is n) n old new → AreAllBut Is (n + 1) new

@@ -3,7 +3,7 @@ use Rattle.std.proofs.Common.{◌≡◌, ℕ, suc, ◌+◌, ◌<◌, ◌≤◌, 
 use Rattle.std.proofs.Common.{sym, ap, ◌∙◌, subst}
 use Rattle.std.specs.List.{All}
 use Rattle.std.proofs.lemmas.Bool.Decides.{eqb_tells}
-use Rattle.std.proofs.lemmas.List.{get_or-set_other, length-set, length_push, append-nil, append_assoc, get_or_default}
+use Rattle.std.proofs.lemmas.List.{get_or-set_other, length-set, length_push, append_assoc, get_or_default}
 use Rattle.std.proofs.lemmas.List.Elements.{All-nil, All-push, Contains-append_left, Contains-push}
 use Rattle.std.proofs.lemmas.List.Sums.{sum_by-set, count_by-le-length}
 use Rattle.igp_theory.specs.States.{Follows}
@@ -53,10 +53,6 @@ AreReached-more goal marks reached r are within bare apart = record {
   count = omega (arith, are.count, one_more marks r within bare, length_push reached r);
   apart = λ marked. are.apart (sym (get_or-set_other marks r goal true false (λ same. apart (sym same))) ∙ marked);
 }
-
--- nothing more is reached
-pub ReachesMore-same : (marks : List Bool) (reached : List ℕ) → ReachesMore marks reached marks reached
-ReachesMore-same marks reached = record { marked = λ u marked. marked; added = []; listed = sym (append-nil reached) }
 
 -- first some are reached, then others
 pub ReachesMore-then : (marks marks' marks'' : List Bool) (reached reached' reached'' : List ℕ) → ReachesMore marks reached marks' reached' →

@@ -1,6 +1,6 @@
 -- The turns of a ring, one after another.
 use Rattle.std.proofs.Common.{◌≡◌, ℕ, suc, ◌+◌, ◌<◌, ◌≤◌, ◌⊎◌, inl, inr, List, [], ◌∷◌, ◌++◌, length, get_or, take, arith, sym, ap, ◌∙◌, subst}
-use Rattle.std.proofs.lemmas.List.{take_more, take_all, map_push, length-map, length-take-le, get_or_default, get_or_past}
+use Rattle.std.proofs.lemmas.List.{take_more, take_all, map_push, get_or_default, get_or_past}
 use Rattle.igp_theory.specs.Loops.{EachToNext, AroundRing}
 use Rattle.igp_theory.specs.declared.phase.Phase.TheVariants.{Old, New}
 use Rattle.igp_theory.proofs.LoopLaws.{old_or_new_step}
@@ -69,14 +69,6 @@ IsPartRing-more c routers turns place turn within router tagged part = record {
       (next_by_number c (numbered (here_in routers place)) turn turns (get_or_default routers place (get_or routers 0 0) 0 within
       ∙ sym router) part.tags) tagged;
 }
-
--- how many turns are written
-pub part_length : (c : ClassState) (routers : List ℕ) (turns : List Turn) (place : ℕ) → place < length routers → IsPartRing c routers turns place
-    → length turns ≡ place
-part_length c routers turns place within part =
-    let e : length (routers_of turns) ≡ length turns = length-map turns (λ (r : Turn). r.router) in
-    let k : length (take place routers) ≡ place = length-take-le place routers (omega arith) in
-    sym e ∙ ap length part.routers_are ∙ k
 
 -- all turns of a ring
 pub ring_whole : (c : ClassState) (routers : List ℕ) (turns : List Turn) (place : ℕ) → length routers ≤ place → IsPartRing c routers turns place

@@ -6,10 +6,11 @@ use Rattle.igp_theory.specs.declared.phase.Phase.{Phase}
 use Rattle.igp_theory.proofs.SameTables.{SameHops, found_ring_over}
 use Rattle.order_core.specs.declared.turn.Turn.{Turn}
 use Rattle.loop_finder.specs.Faults.{state_in}
+use Rattle.loop_finder.specs.Parts.{ClassPart, AreParts}
 use Rattle.loop_finder.specs.Mixes.{sample_of, Mix, migration_in}
 use Rattle.loop_finder.specs.steps.ClassSteps.{ClassState, ClassStep, IsStuckIn}
 use Rattle.loop_finder.specs.Soundness.{ClassesOf, SoundAt, Sound}
-use Rattle.loop_finder.specs.steps.Verdicts.{Verdict, IsClassVerdict, Told, SoundBelow, Faulty}
+use Rattle.loop_finder.specs.steps.Verdicts.{Verdict, IsClassVerdict, Told, SoundBelow, Faulty, two_states}
 use Rattle.loop_finder.specs.declared.fault.Fault.{Fault}
 use Rattle.loop_finder.specs.declared.fault.Fault.TheVariants.{Loop, Missing}
 use Rattle.loop_finder.proofs.Between.{has_step, between_itself}
@@ -42,22 +43,23 @@ fault_from m phases forwards atom turns (Missing a u) address below verdict =
 
 -- the fault that is told of a class is that of a state which is sound for the classes before it
 pub faulty_at : (m : Mix) (phases : List Phase) (atom : ℕ) (turns : List Turn) (fault : Fault) → ClassesOf m → atom < length m.classes.samples
-    → ((k : ℕ) → k < atom → SoundAt m (state_in phases) (sample_of m.classes k)) → IsClassVerdict m phases phases atom (Some fault) turns →
+    → ((k : ℕ) → k < atom → SoundAt m (state_in phases) (sample_of m.classes k)) → IsClassVerdict (two_states m phases phases) atom (Some fault) turns →
     Faulty m (state_in phases) fault turns
 faulty_at m phases atom turns fault are within before told =
     fault_from m phases told.forwards atom turns fault (sample_in m.classes atom are within).address
     (below_from m (state_in phases) atom are within before) told.verdict
 
 -- no fault tells that the state is sound, a fault tells it
-pub sound_of_told : (m : Mix) (phases : List Phase) (result : Option Fault) (turns : List Turn) → ClassesOf m → Told m phases phases result turns
-    → IfNone result (Sound m (state_in phases))
-sound_of_told m phases None turns are told = sound_from_classes m (state_in phases) (length m.classes.samples) are (omega arith) (λ j below.
-    told j below (state_in phases) (between_itself (length m.net) phases))
-sound_of_told m phases (Some fault) turns are told = tt
-
-pub fault_of_told : (m : Mix) (phases : List Phase) (result : Option Fault) (turns : List Turn) → ClassesOf m → Told m phases phases result turns
-    → IfSome result (λ fault. Faulty m (state_in phases) fault turns)
-fault_of_told m phases None turns are told = tt
-fault_of_told m phases (Some fault) turns are told =
-    faulty_at m phases told.atom turns fault are told.within (λ j below. told.before j below (state_in phases) (between_itself (length m.net) phases))
-    told.here
+pub told_of_state : {m : Mix} {parts : List ClassPart} {n : ℕ} (phases : List Phase) (result : Option Fault) (turns : List Turn) → AreParts m parts n
+    → Told (two_states m phases phases) result turns
+    → IfNone result (Sound m (state_in phases)) × IfSome result (λ fault. Faulty m (state_in phases) fault turns)
+told_of_state {m} phases None turns are told = (
+  sound_from_classes m (state_in phases) (length m.classes.samples) are.classes (omega arith) (λ j below.
+      told j below (state_in phases) (between_itself (length m.net) phases)),
+  tt,
+)
+told_of_state {m} phases (Some fault) turns are told = (
+  tt,
+  faulty_at m phases told.atom turns fault are.classes told.within (λ j below. told.before j below (state_in phases) (between_itself (length m.net) phases))
+      told.here,
+)

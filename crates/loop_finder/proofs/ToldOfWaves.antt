@@ -12,10 +12,11 @@ use Rattle.igp_theory.proofs.FoundRings.{found_ring_returns}
 use Rattle.igp_theory.proofs.LoopWaves.{return_is_unsound}
 use Rattle.igp_theory.proofs.SameTables.{SameHops, found_ring_over}
 use Rattle.loop_finder.specs.Faults.{state_in, told_fault}
+use Rattle.loop_finder.specs.Parts.{ClassPart, AreParts}
 use Rattle.loop_finder.specs.Mixes.{sample_of, Mix, migration_in}
 use Rattle.loop_finder.specs.steps.ClassSteps.{ClassState, ClassStep, IsStuck, Moves}
-use Rattle.loop_finder.specs.Soundness.{ClassesOf, SoundAt}
-use Rattle.loop_finder.specs.steps.Verdicts.{Verdict, Told, SoundWave, FaultyWave, IsBetween}
+use Rattle.loop_finder.specs.Soundness.{SoundAt}
+use Rattle.loop_finder.specs.steps.Verdicts.{Verdict, Told, SoundWave, FaultyWave, IsBetween, two_states}
 use Rattle.loop_finder.specs.steps.WaveStarts.{AreSwitchedBefore}
 use Rattle.loop_finder.specs.declared.fault.Fault.{Fault}
 use Rattle.loop_finder.specs.declared.fault.Fault.TheVariants.{Loop, Missing}
@@ -111,18 +112,18 @@ fault_from c ranks w turns (Missing a u) ends address below verdict =
     (missing_in_one least lack (λ v before must. steps_in_all c ranks w v ends (verdict.1.1 v before) must))
 
 -- no fault tells that every state of the wave is sound, a fault tells it
-pub sound_of_told : (m : Mix) (ranks : List ℕ) (w : ℕ) (first last : List Phase) (result : Option Fault) (turns : List Turn)
-    → AreEnds (length m.net) ranks w first last → ClassesOf m → Told m first last result turns → IfNone result (SoundWave m ranks w)
-sound_of_told m ranks w first last None turns ends are told = λ state of_wave.
-    sound_from_classes m state (length m.classes.samples) are (omega arith) (λ j below. told j below state (wave_between state ends of_wave))
-sound_of_told m ranks w first last (Some fault) turns ends are told = tt
-
-pub fault_of_told : (m : Mix) (ranks : List ℕ) (w : ℕ) (first last : List Phase) (result : Option Fault) (turns : List Turn)
-    → AreEnds (length m.net) ranks w first last → ClassesOf m → Told m first last result turns
-    → IfSome result (λ fault. FaultyWave m ranks w (told_fault fault turns))
-fault_of_told m ranks w first last None turns ends are told = tt
-fault_of_told m ranks w first last (Some fault) turns ends are told =
-    fault_from (record { mixture = m; first = first; last = last; forwards = told.here.forwards; atom = told.atom }) ranks w turns fault ends
-    (sample_in m.classes told.atom are told.within).address
-    (λ b less state of_wave. below_from m state told.atom are told.within (λ j below. told.before j below state (wave_between state ends of_wave)) b
-    less) told.here.verdict
+pub told_of_wave : {m : Mix} {parts : List ClassPart} {n w : ℕ} {ranks : List ℕ} {first last : List Phase} (result : Option Fault) (turns : List Turn)
+    → AreParts m parts n → AreEnds (length m.net) ranks w first last → Told (two_states m first last) result turns
+    → IfNone result (SoundWave m ranks w) × IfSome result (λ fault. FaultyWave m ranks w (told_fault fault turns))
+told_of_wave {m} None turns are ends told = (
+  λ state of_wave. sound_from_classes m state (length m.classes.samples) are.classes (omega arith) (λ j below.
+      told j below state (wave_between state ends of_wave)),
+  tt,
+)
+told_of_wave {m} {w = w} {ranks = ranks} {first = first} {last = last} (Some fault) turns are ends told = (
+  tt,
+  fault_from (record { mixture = m; first = first; last = last; forwards = told.here.forwards; atom = told.atom }) ranks w turns fault ends
+      (sample_in m.classes told.atom are.classes told.within).address
+      (λ b less state of_wave. below_from m state told.atom are.classes told.within (λ j below. told.before j below state (wave_between state ends of_wave))
+      b less) told.here.verdict,
+)

@@ -10,7 +10,7 @@ use Rattle.order_core.specs.Marks.{IsMarked}
 use Rattle.order_core.specs.Rings.{IsTurned}
 use Rattle.order_core.proofs.DistinctLists.{length-le_from_distinct}
 use Rattle.loop_finder.specs.steps.Live.{ArePeeled}
-use Rattle.loop_finder.specs.steps.Walks.{IsMarkedHop, IsWalk}
+use Rattle.loop_finder.specs.steps.Walks.{BeginsAt, IsMarkedHop, IsWalk}
 use Rattle.loop_finder.proofs.LiveLaws.{marked_below, live_from_marked, marked_from_live}
 use Rattle.loop_finder.proofs.RingLaws.{each_to_next_push, all_from_each}
 
@@ -51,10 +51,8 @@ IsOnWay-more step marks start path last next way hop fresh = record {
 }
 
 pub walk_from_way : (step : ℕ → ℕ → Type 0) (marks : List Bool) (start : ℕ) (path : List ℕ) (last next place : ℕ) → IsOnWay step marks start path last →
-    IsMarkedHop step marks last next → place < length path → get_or path place 0 ≡ next → IsWalk step marks start path place
+    IsMarkedHop step marks last next → place < length path → get_or path place 0 ≡ next → IsWalk step marks path place
 walk_from_way step marks start path last next place way hop within same = record {
-  visited = way.visited;
-  begins = way.begins;
   within = within;
   distinct = way.distinct;
   goes = subst (λ (n : ℕ). EachToNext (IsMarkedHop step marks) n path) (sym same)
@@ -88,10 +86,10 @@ live_hop step marks n s u h many peeled some is = record {
 -- the ring that a walk ends in, turned, is the one that is told
 pub found_from_walk : (step : ℕ → ℕ → Type 0) (marks : List Bool) (n start place : ℕ) (path ring : List ℕ) → length marks ≡ n →
     ArePeeled step marks → IsMarked marks start
-    → ((q : ℕ) → IsMarked marks q → start ≤ q) → IsWalk step marks start path place → IsTurned (drop place path) ring → IsFoundRing step n ring
-found_from_walk step marks n start place path ring many peeled some lowest walk turned = record {
+    → ((q : ℕ) → IsMarked marks q → start ≤ q) → BeginsAt start path → IsWalk step marks path place → IsTurned (drop place path) ring → IsFoundRing step n ring
+found_from_walk step marks n start place path ring many peeled some lowest begins walk turned = record {
   start = start;
-  visited = walk.visited;
+  visited = begins.0;
   begins = record {
     live = live_from_marked step marks peeled n start some;
     lowest = λ v live. lowest v (marked_from_live step marks start peeled some v (subst (λ (m : ℕ). IsLive step m v) (sym many) live));
@@ -99,9 +97,9 @@ found_from_walk step marks n start place path ring many peeled some lowest walk 
   lead = take place path;
   again = get_or path place 0;
   rest = drop (place + 1) path;
-  in_order = sym walk.begins ∙ sym (take-append-drop place path) ∙ ap (λ (xs : List ℕ). take place path ++ xs) (drop_more path place 0 walk.within);
-  distinct = subst (λ (xs : List ℕ). AllPairs (λ u v. u ≢ v) xs) walk.begins walk.distinct;
-  goes = subst (λ (xs : List ℕ). EachToNext (IsLowestLiveHop step n) (get_or path place 0) xs) walk.begins
+  in_order = sym begins.1 ∙ sym (take-append-drop place path) ∙ ap (λ (xs : List ℕ). take place path ++ xs) (drop_more path place 0 walk.within);
+  distinct = subst (λ (xs : List ℕ). AllPairs (λ u v. u ≢ v) xs) begins.1 walk.distinct;
+  goes = subst (λ (xs : List ℕ). EachToNext (IsLowestLiveHop step n) (get_or path place 0) xs) begins.1
       (each_to_next_over (λ (u h : ℕ). live_hop step marks n start u h many peeled some) (get_or path place 0) path walk.goes);
   front = turned.front;
   back = turned.back;

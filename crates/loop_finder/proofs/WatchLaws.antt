@@ -1,5 +1,5 @@
 -- The places at which a change of a router is looked at, and what it leaves sound.
-use Rattle.std.proofs.Common.{◌≡◌, ℕ, ◌+◌, ◌<◌, ◌≤◌, Bool, true, List, [], ◌∷◌, ◌++◌, length, get_or, Contains, Option, Some, None, IfNone, IfSome, inl, inr}
+use Rattle.std.proofs.Common.{◌≡◌, ℕ, ◌+◌, ◌<◌, ◌≤◌, Bool, true, List, [], ◌∷◌, ◌++◌, length, get_or, Contains, Option, Some, None, IfNone, inl, inr}
 use Rattle.std.proofs.Common.{arith, sym, ◌∙◌, ap, subst}
 use Rattle.std.specs.List.{AllPairs}
 use Rattle.std.proofs.lemmas.List.{get_or_default}
@@ -9,13 +9,13 @@ use Rattle.igp_theory.specs.declared.phase.Phase.{Phase}
 use Rattle.order_core.specs.declared.turn.Turn.{Turn}
 use Rattle.loop_finder.specs.Faults.{state_in}
 use Rattle.loop_finder.specs.Parts.{PhaseHops, ClassPart, hops_of, no_hops, IsPart, AreParts, part_hops}
-use Rattle.loop_finder.specs.steps.Parts.{AreAllBut, PartStep}
+use Rattle.loop_finder.specs.steps.Parts.{AddsUnless, AreAllBut, PartStep}
 use Rattle.loop_finder.specs.Returns.{NeverReturnsTo}
 use Rattle.loop_finder.specs.Mixes.{sample_of, Mix}
 use Rattle.loop_finder.specs.Soundness.{SoundAt, Sound}
-use Rattle.loop_finder.specs.steps.Verdicts.{IsClassVerdict, Faulty}
+use Rattle.loop_finder.specs.steps.Verdicts.{IsClassVerdict, two_states}
 use Rattle.loop_finder.specs.Watches.{IsIdle, AreFirstPlaces, ArePlacesOf, IsWatch}
-use Rattle.loop_finder.specs.steps.Watches.{PhaseChange, LeadsFrom, AddsPlace, StaysSoundAt, StaysSound, TurnsFaulty}
+use Rattle.loop_finder.specs.steps.Watches.{PhaseChange, LeadsFrom, StaysSoundAt, StaysSound, TurnsFaulty}
 use Rattle.loop_finder.specs.declared.fault.Fault.{Fault}
 use Rattle.loop_finder.proofs.Between.{between_itself, clear_told}
 use Rattle.loop_finder.proofs.ClassVerdicts.{sample_in}
@@ -35,16 +35,9 @@ idle_from atom moves rows u row move within at bare = record {
   bare = λ phase h among. bare phase h (subst (λ (x : PhaseHops). Contains (hops_of x phase) h) (sym (at ∙ get_or_default rows u row no_hops within)) among);
 }
 
-pub AreFirstPlaces-none : (parts : List ClassPart) (u : ℕ) (places : List ℕ) → places ≡ [] → AreFirstPlaces parts u 0 places
-AreFirstPlaces-none parts u places none = subst (λ (xs : List ℕ). AreFirstPlaces parts u 0 xs) (sym none) (record {
-  ascending = λ i j d before within. absurd (omega (arith, within));
-  below = λ k d within. absurd (omega (arith, within));
-  whole = λ p d below. absurd (omega (arith, below));
-})
-
 -- the next place
 pub AreFirstPlaces-more : (parts : List ClassPart) (u n : ℕ) (part : ClassPart) (old new : List ℕ) → n < length parts → part ≡ get_or parts n part
-    → AreFirstPlaces parts u n old → AddsPlace part u n old new → AreFirstPlaces parts u (n + 1) new
+    → AreFirstPlaces parts u n old → AddsUnless (IsIdle part u) n old new → AreFirstPlaces parts u (n + 1) new
 AreFirstPlaces-more parts u n part old new within at are added = record {
   ascending = elim added [
     | inl more ↦ subst Ascends (sym more) (all_pairs_push (λ (p q : ℕ). p < q) old n are.ascending are.below)
@@ -63,9 +56,6 @@ AreFirstPlaces-more parts u n part old new within at are added = record {
           | inl more ↦ inl more
           | inr none ↦ inr (none.0, subst (λ (x : ClassPart). IsIdle x u) (at ∙ get_or_default parts n part d within) none.1)
         ])
-
-pub IsWatch-none : (parts : List ClassPart) (watch : List (List ℕ)) → length watch ≡ 0 → IsWatch parts 0 watch
-IsWatch-none parts watch none = record { many = none; each = λ u below. absurd (omega (arith, below)) }
 
 -- the next router
 pub IsWatch-more : (parts : List ClassPart) (n : ℕ) (watch longer : List (List ℕ)) (places : List ℕ) → longer ≡ watch ++ places ∷ [] → IsWatch parts n watch
@@ -99,7 +89,7 @@ stays_where_kept m part change is moves kept before leads sound = part_keeps_sou
 
 -- and where no fault of the class is told
 pub stays_where_told : (m : Mix) (change : PhaseChange) (atom a : ℕ) (result : Option Fault) (turns : List Turn) → a ≡ atom
-    → IsClassVerdict m change.phases change.phases a result turns → IfNone result (StaysSoundAt m change atom)
+    → IsClassVerdict (two_states m change.phases change.phases) a result turns → IfNone result (StaysSoundAt m change atom)
 stays_where_told m change atom a None turns is told = λ before leads sound. subst (λ (x : ℕ). SoundAt m (state_in change.phases) (sample_of m.classes x)) is
     (clear_told m change.phases change.phases a turns told (state_in change.phases) (between_itself (length m.net) change.phases))
 stays_where_told m change atom a (Some fault) turns is told = tt
@@ -142,7 +132,7 @@ stays_sound_at_all m parts places change i are placed whole stays before leads s
 pub turns_faulty_at : (m : Mix) (parts : List ClassPart) (places : List ℕ) (change : PhaseChange) (i : ℕ) (part : ClassPart)
     (fault : Fault) (turns : List Turn) → AreParts m parts (length m.classes.samples) → ArePlacesOf parts change.router places → i < length places
     → part ≡ get_or parts (get_or places i 0) part → StayFirst m parts places change i
-    → IsClassVerdict m change.phases change.phases part.atom (Some fault) turns → TurnsFaulty m change fault turns
+    → IsClassVerdict (two_states m change.phases change.phases) part.atom (Some fault) turns → TurnsFaulty m change fault turns
 turns_faulty_at m parts places change i part fault turns are placed within at stays told before leads sound =
     let there : get_or places i 0 < length parts = placed.below i 0 within in
     let is : IsPart m part = subst (λ (x : ClassPart). IsPart m x) (sym at) (are.each (get_or places i 0) part there) in
@@ -157,8 +147,3 @@ pub sound_after : (m : Mix) (change : PhaseChange) (before : State) (result : Op
     → IfNone result (StaysSound m change) → IfNone result (Sound m (state_in change.phases))
 sound_after m change before None leads sound stays = stays before leads sound
 sound_after m change before (Some fault) leads sound stays = tt
-
-pub faulty_after : (m : Mix) (change : PhaseChange) (before : State) (result : Option Fault) (turns : List Turn) → LeadsFrom (length m.net) change before
-    → Sound m before → IfSome result (λ fault. TurnsFaulty m change fault turns) → IfSome result (λ fault. Faulty m (state_in change.phases) fault turns)
-faulty_after m change before None turns leads sound turned = tt
-faulty_after m change before (Some fault) turns leads sound turned = turned before leads sound

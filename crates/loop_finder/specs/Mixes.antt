@@ -29,3 +29,16 @@ migration_in m = listed_migration m.net m.old m.new
 -- the least address of a class
 abbrev pub sample_of : Classes → ℕ → ℕ
 sample_of classes atom = slice_index classes.samples atom
+
+-- a class of what is mixed, by its number
+pub record ClassIn : Type 0 where
+  pub mixture : Mix
+  pub atom : ℕ
+
+-- the class with this number
+abbrev pub class_in : Mix → ℕ → ClassIn
+class_in m atom = record { mixture = m; atom = atom }
+
+-- its least address
+abbrev pub least_of : ClassIn → ℕ
+least_of c = sample_of c.mixture.classes c.atom

@@ -5,7 +5,7 @@ use Rattle.igp_theory.specs.Forwarding.{MustForward, Steps, HasStep}
 use Rattle.igp_theory.specs.States.{State, Follows}
 use Rattle.igp_theory.specs.declared.phase.Phase.{Phase}
 use Rattle.igp_theory.specs.declared.phase.Phase.TheVariants.{Old, Middle, New}
-use Rattle.loop_finder.specs.Mixes.{sample_of, Mix, migration_in}
+use Rattle.loop_finder.specs.Mixes.{sample_of, Mix, migration_in, ClassIn, class_in, least_of}
 use Rattle.loop_finder.specs.Soundness.{ClassesOf, SoundAt}
 
 -- Parts
@@ -35,24 +35,24 @@ abbrev pub part_hops : ClassPart → ℕ → Phase → List ℕ
 part_hops part u phase = hops_of (slice_index_or part.rows u no_hops) phase
 
 -- a router steps to another in a phase, for the addresses of a class
-abbrev pub StepsOf : Mix → ℕ → ℕ → Phase → ℕ → Type 0
-StepsOf m atom u phase h = Steps (migration_in m) u phase (sample_of m.classes atom) h
+abbrev pub StepsOf : ClassIn → ℕ → Phase → ℕ → Type 0
+StepsOf c u phase h = Steps (migration_in c.mixture) u phase (least_of c) h
 
 -- a router has a step in a phase
-abbrev pub HasStepOf : Mix → ℕ → ℕ → Phase → Type 0
-HasStepOf m atom u phase = HasStep (migration_in m) u phase (sample_of m.classes atom)
+abbrev pub HasStepOf : ClassIn → ℕ → Phase → Type 0
+HasStepOf c u phase = HasStep (migration_in c.mixture) u phase (least_of c)
 
 -- the steps of both networks: a router steps to another in Old or in New
-abbrev pub StepsEver : Mix → ℕ → ℕ → ℕ → Type 0
-StepsEver m atom u h = StepsOf m atom u Old h ⊎ StepsOf m atom u New h
+abbrev pub StepsEver : ClassIn → ℕ → ℕ → Type 0
+StepsEver c u h = StepsOf c u Old h ⊎ StepsOf c u New h
 
 -- each router that has to pass packets on has a step in both networks
-abbrev pub AllMove : Mix → ℕ → Type 0
-AllMove m atom = (u : ℕ) → MustForward m.net (sample_of m.classes atom) u → HasStepOf m atom u Old × HasStepOf m atom u New
+abbrev pub AllMove : ClassIn → Type 0
+AllMove c = (u : ℕ) → MustForward c.mixture.net (least_of c) u → HasStepOf c u Old × HasStepOf c u New
 
 -- some rows have each step of a class from which a walk over the steps of both networks leads back
-abbrev pub HaveReturning : Mix → ℕ → List PhaseHops → Type 0
-HaveReturning m atom rows = (u h : ℕ) (hops : List ℕ) (phase : Phase) → StepsOf m atom u phase h → Follows (StepsEver m atom) h hops u →
+abbrev pub HaveReturning : ClassIn → List PhaseHops → Type 0
+HaveReturning c rows = (u h : ℕ) (hops : List ℕ) (phase : Phase) → StepsOf c u phase h → Follows (StepsEver c) h hops u →
     Contains (hops_of (slice_index_or rows u no_hops) phase) h
 
 -- the part of a class: it has only steps of the class, and each step from which a walk over the steps of both
@@ -60,9 +60,9 @@ HaveReturning m atom rows = (u h : ℕ) (hops : List ℕ) (phase : Phase) → St
 pub record IsPart (m : Mix) (part : ClassPart) : Type 0 where
   pub class : part.atom < length m.classes.samples
   pub many : length part.rows ≡ length m.net
-  pub moves : OnTrue part.moves (AllMove m part.atom)
-  pub steps : (u h : ℕ) (phase : Phase) → Contains (part_hops part u phase) h → StepsOf m part.atom u phase h
-  pub returns : HaveReturning m part.atom part.rows
+  pub moves : OnTrue part.moves (AllMove (class_in m part.atom))
+  pub steps : (u h : ℕ) (phase : Phase) → Contains (part_hops part u phase) h → StepsOf (class_in m part.atom) u phase h
+  pub returns : HaveReturning (class_in m part.atom) part.rows
 
 -- What the parts tell
 

@@ -4,7 +4,7 @@ ghost use Rattle.loop_finder.specs.Mixes.{mix_of};
 ghost use Rattle.loop_finder.specs.Faults.{KeepsRing};
 ghost use Rattle.loop_finder.specs.Parts.{AreParts, IsPart, part_hops};
 ghost use Rattle.loop_finder.specs.Rooms.{HasRoom};
-ghost use Rattle.loop_finder.specs.steps.Verdicts.{IsClassVerdict};
+ghost use Rattle.loop_finder.specs.steps.Verdicts.{IsClassVerdict, two_states};
 ghost use Rattle.loop_finder.specs.Watches.{ArePlacesOf};
 ghost use Rattle.loop_finder.specs.steps.Watches.{StaysSound, StaysSoundAt, TurnsFaulty};
 
@@ -16,8 +16,8 @@ use crate::room::Room;
 use rib_mix::{Mixed, Phase};
 use route_core::RouteSource;
 
-/// The fault of a state that came of a sound one by a change of a router, which was in this phase. Looked at are the parts at the places that
-/// such a change concerns, and of those in which the router's hops change only the walks through it.
+/// The fault of a state that came of a sound one by a change of a router, which was in this phase. Looked at are the parts
+/// at the places that such a change concerns, and of those in which the router's hops change only the walks through it.
 pub fn turned_fault<O: RouteSource, N: RouteSource>(
     mixed: &Mixed<'_, O, N>,
     parts: &[Part<'_>],
@@ -34,7 +34,8 @@ pub fn turned_fault<O: RouteSource, N: RouteSource>(
     requires room { HasRoom (length mixed.now.net) room.old }
     ensures room { HasRoom (length mixed.now.net) room.new }
     ensures sound { IfNone result (StaysSound (mix_of O.table N.table mixed.now) (record { phases = phases.now; router = router; was = was })) }
-    ensures fault { IfSome result (λ fault. TurnsFaulty (mix_of O.table N.table mixed.now) (record { phases = phases.now; router = router; was = was }) fault room.new.ring.items) }
+    ensures fault { IfSome result (λ fault. TurnsFaulty (mix_of O.table N.table mixed.now)
+        (record { phases = phases.now; router = router; was = was }) fault room.new.ring.items) }
     ensures ring { KeepsRing result room.old.ring.items room.new.ring.items }
 {
     for place in places {
@@ -59,8 +60,10 @@ fn part_fault<O: RouteSource, N: RouteSource>(
     requires router { router < length mixed.now.net }
     requires room { HasRoom (length mixed.now.net) room.old }
     ensures room { HasRoom (length mixed.now.net) room.new }
-    ensures sound { IfNone result (StaysSoundAt (mix_of O.table N.table mixed.now) (record { phases = phases.now; router = router; was = was }) part.now.atom) }
-    ensures told { IfSome result (λ fault. IsClassVerdict (mix_of O.table N.table mixed.now) phases.now phases.now part.now.atom (Some fault) room.new.ring.items) }
+    ensures sound { IfNone result (StaysSoundAt (mix_of O.table N.table mixed.now)
+        (record { phases = phases.now; router = router; was = was }) part.now.atom) }
+    ensures told { IfSome result (λ fault. IsClassVerdict (two_states (mix_of O.table N.table mixed.now) phases.now phases.now)
+        part.now.atom (Some fault) room.new.ring.items) }
     ensures ring { KeepsRing result room.old.ring.items room.new.ring.items }
 {
     if keeps_hops(part, router, was, phases[router as usize]) {

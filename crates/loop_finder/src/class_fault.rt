@@ -1,14 +1,14 @@
-ghost use Rattle.std.specs.Prelude.{◌≡◌, ◌<◌, ◌≤◌, ◌^◌, ◌↔◌, ℕ, length};
+ghost use Rattle.std.specs.Prelude.{◌≡◌, ◌<◌, ◌≤◌, ◌↔◌, ℕ, length};
 ghost use Rattle.std.specs.Bool.{OnFalse, OnTrue};
 ghost use Rattle.std.specs.Vec.{vec_capacity};
 ghost use Rattle.net_model.specs.Network.{Connected};
-ghost use Rattle.prefix_atoms.specs.Classes.{HasTarget};
+ghost use Rattle.prefix_atoms.specs.Classes.{HasTarget, IsInClass};
 ghost use Rattle.order_core.specs.Marks.{IsMarked};
 ghost use Rattle.loop_finder.specs.Faults.{KeepsRing};
 ghost use Rattle.loop_finder.specs.Rooms.{HasRoom};
 ghost use Rattle.loop_finder.specs.Mixes.{mix_of, sample_of};
 ghost use Rattle.loop_finder.specs.steps.ClassSteps.{AreForwarders, state_over};
-ghost use Rattle.loop_finder.specs.steps.Verdicts.{IsClassVerdict, Verdict};
+ghost use Rattle.loop_finder.specs.steps.Verdicts.{IsClassVerdict, Verdict, two_states};
 
 use crate::class_steps::ClassSteps;
 use crate::fault::Fault;
@@ -33,7 +33,7 @@ pub fn class_fault<O: RouteSource, N: RouteSource>(
     requires last { length last.now ≡ length mixed.now.net }
     requires room { HasRoom (length mixed.now.net) room.old }
     ensures room { HasRoom (length mixed.now.net) room.new }
-    ensures told { IsClassVerdict (mix_of O.table N.table mixed.now) first.now last.now atom result room.new.ring.items }
+    ensures told { IsClassVerdict (two_states (mix_of O.table N.table mixed.now) first.now last.now) atom result room.new.ring.items }
     ensures ring { KeepsRing result room.old.ring.items room.new.ring.items }
 {
     if !mark_class(mixed, atom, &mut room.forwards) {
@@ -56,7 +56,7 @@ pub fn class_target<O: RouteSource, N: RouteSource>(
 ) -> Option<Prefix>
     requires atom { atom < length mixed.now.classes.samples }
     ensures target { HasTarget mixed.now.net (sample_of mixed.now.classes atom) result }
-    ensures address { sample_of mixed.now.classes atom < 2 ^ 32 }
+    ensures least { IsInClass mixed.now.classes atom (sample_of mixed.now.classes atom) }
 {
     mixed.atoms().target(atom)
 }
@@ -71,7 +71,6 @@ fn mark_class<O: RouteSource, N: RouteSource>(
     requires many { length forwards.old ≡ length mixed.now.net }
     ensures forwarders { OnTrue result (AreForwarders mixed.now.net (sample_of mixed.now.classes atom) forwards.new) }
     ensures none { OnFalse result (HasTarget mixed.now.net (sample_of mixed.now.classes atom) None) }
-    ensures address { sample_of mixed.now.classes atom < 2 ^ 32 }
 {
     match class_target(mixed, atom) {
         Some(target) => {

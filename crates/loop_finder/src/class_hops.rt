@@ -1,8 +1,9 @@
-ghost use Rattle.std.specs.Prelude.{◌≡◌, ◌<◌, ◌↔◌, ◌^◌, ℕ, Contains, length};
+ghost use Rattle.std.specs.Prelude.{◌≡◌, ◌<◌, ◌↔◌, ℕ, Contains, length};
 ghost use Rattle.loop_finder.specs.steps.Making.{IsHopsOf};
+ghost use Rattle.prefix_atoms.specs.Classes.{IsInClass};
 ghost use Rattle.rib_mix.specs.Answers.{NextLeadsTo};
 ghost use Rattle.loop_finder.specs.Parts.{StepsOf};
-ghost use Rattle.loop_finder.specs.Mixes.{mix_of, sample_of};
+ghost use Rattle.loop_finder.specs.Mixes.{mix_of, sample_of, class_in};
 ghost use Rattle.loop_finder.specs.steps.ClassSteps.{AreForwarders};
 
 use rib_mix::{Mixed, Next, Phase};
@@ -18,11 +19,10 @@ pub fn class_hops<'m, O: RouteSource, N: RouteSource>(
     router: u32,
 ) -> &'m [u32]
     requires atom { atom < length mixed.now.classes.samples }
-    requires address { sample_of mixed.now.classes atom < 2 ^ 32 }
     requires many { length forwards.now ≡ length mixed.now.net }
     requires forwards { AreForwarders mixed.now.net (sample_of mixed.now.classes atom) forwards.now }
     requires router { router < length mixed.now.net }
-    ensures { (h : ℕ) → Contains result.now h ↔ StepsOf (mix_of O.table N.table mixed.now) atom router phase h }
+    ensures { (h : ℕ) → Contains result.now h ↔ StepsOf (class_in (mix_of O.table N.table mixed.now) atom) router phase h }
 {
     if !forwards[router as usize] {
         return &[];
@@ -39,7 +39,8 @@ pub fn next_hops<'m, O: RouteSource, N: RouteSource>(
 ) -> &'m [u32]
     requires atom { atom < length mixed.now.classes.samples }
     requires router { router < length mixed.now.net }
-    ensures { IsHopsOf (mix_of O.table N.table mixed.now) atom router phase result.now }
+    ensures least { IsInClass mixed.now.classes atom (sample_of mixed.now.classes atom) }
+    ensures hops { IsHopsOf (class_in (mix_of O.table N.table mixed.now) atom) router phase result.now }
 {
     hops_of(mixed.hops(router, atom, phase))
 }

@@ -1,4 +1,4 @@
-ghost use Rattle.std.specs.Prelude.{◌≡◌, ◌<◌, ◌↔◌, ◌^◌, ℕ, Contains, IsTrue, length};
+ghost use Rattle.std.specs.Prelude.{◌≡◌, ◌<◌, ◌↔◌, ℕ, Contains, IsTrue, length};
 ghost use Rattle.std.specs.Bool.{OnFalse, OnTrue};
 ghost use Rattle.igp_theory.specs.Forwarding.{MustForward};
 ghost use Rattle.loop_finder.specs.Faults.{state_in};
@@ -49,7 +49,6 @@ impl<'s, 'm, O: RouteSource, N: RouteSource> ClassSteps<'s, 'm, O, N> {
         atom: u32,
     ) -> ClassSteps<'s, 'm, O, N>
         requires atom { atom < length mixed.now.classes.samples }
-        requires address { sample_of mixed.now.classes atom < 2 ^ 32 }
         requires first { length first.now ≡ length mixed.now.net }
         requires last { length last.now ≡ length mixed.now.net }
         requires many { length forwards.now ≡ length mixed.now.net }

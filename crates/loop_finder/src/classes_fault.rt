@@ -3,7 +3,7 @@ ghost use Rattle.loop_finder.specs.Mixes.{mix_of};
 ghost use Rattle.loop_finder.specs.Faults.{KeepsRing};
 ghost use Rattle.loop_finder.specs.Parts.{AreParts, IsPart};
 ghost use Rattle.loop_finder.specs.Rooms.{HasRoom};
-ghost use Rattle.loop_finder.specs.steps.Verdicts.{IsClearAt, IsClassVerdict, Told};
+ghost use Rattle.loop_finder.specs.steps.Verdicts.{IsClearAt, IsClassVerdict, Told, two_states};
 
 use crate::class_fault::class_fault;
 use crate::fault::Fault;
@@ -26,7 +26,7 @@ pub fn classes_fault<O: RouteSource, N: RouteSource>(
     requires last { length last.now ≡ length mixed.now.net }
     requires room { HasRoom (length mixed.now.net) room.old }
     ensures room { HasRoom (length mixed.now.net) room.new }
-    ensures told { Told (mix_of O.table N.table mixed.now) first.now last.now result room.new.ring.items }
+    ensures told { Told (two_states (mix_of O.table N.table mixed.now) first.now last.now) result room.new.ring.items }
     ensures ring { KeepsRing result room.old.ring.items room.new.ring.items }
 {
     for part in parts {
@@ -52,7 +52,8 @@ fn fault_in<O: RouteSource, N: RouteSource>(
     requires room { HasRoom (length mixed.now.net) room.old }
     ensures room { HasRoom (length mixed.now.net) room.new }
     ensures clear { IfNone result (IsClearAt (mix_of O.table N.table mixed.now) first.now last.now part.now.atom) }
-    ensures told { IfSome result (λ fault. IsClassVerdict (mix_of O.table N.table mixed.now) first.now last.now part.now.atom (Some fault) room.new.ring.items) }
+    ensures told { IfSome result (λ fault. IsClassVerdict (two_states (mix_of O.table N.table mixed.now) first.now last.now)
+        part.now.atom (Some fault) room.new.ring.items) }
     ensures ring { KeepsRing result room.old.ring.items room.new.ring.items }
 {
     if is_clear(part, first, last, mixed.net().routers(), room) {

@@ -1,10 +1,11 @@
-ghost use Rattle.std.specs.Prelude.{◌≡◌, ◌<◌, ◌^◌, ℕ, IfOk, IfSome, OnOk, length, slice_set};
+ghost use Rattle.std.specs.Prelude.{◌≡◌, ◌<◌, ℕ, IfOk, IfSome, OnOk, length, slice_set};
 ghost use Rattle.std.specs.Bool.{OnTrue};
+ghost use Rattle.prefix_atoms.specs.Classes.{IsInClass};
 ghost use Rattle.loop_finder.specs.steps.EndPairs.{new_hops, old_hops};
 ghost use Rattle.loop_finder.specs.steps.Ends.{HasBothSteps, hops_at};
 ghost use Rattle.loop_finder.specs.steps.Making.{AreNoEnds, IsKnownAt, IsRead, IsReadAt, IsSameAt};
 ghost use Rattle.loop_finder.specs.steps.Parts.{AddsUnless, AreAllBut};
-ghost use Rattle.loop_finder.specs.Mixes.{mix_of, sample_of};
+ghost use Rattle.loop_finder.specs.Mixes.{mix_of, sample_of, class_in};
 
 use crate::class_hops::next_hops;
 use crate::ends::Ends;
@@ -84,12 +85,11 @@ pub fn read_class<'m, O: RouteSource, N: RouteSource>(
     changed: &mut Vec<u32>,
 ) -> Result<(), OutOfMemory>
     requires routers { routers ≡ length mixed.now.net }
-    requires atom { atom < length mixed.now.classes.samples }
-    requires address { sample_of mixed.now.classes atom < 2 ^ 32 }
+    requires least { IsInClass mixed.now.classes atom (sample_of mixed.now.classes atom) }
     requires olds { length lists.old.olds ≡ length mixed.now.net }
     requires news { length lists.old.news ≡ length mixed.now.net }
-    requires known { IfSome known (λ other. IsRead (mix_of O.table N.table mixed.now) other lists.old) }
-    ensures read { OnOk result (IsRead (mix_of O.table N.table mixed.now) atom lists.new) }
+    requires known { IfSome known (λ other. IsRead (class_in (mix_of O.table N.table mixed.now) other) lists.old) }
+    ensures read { OnOk result (IsRead (class_in (mix_of O.table N.table mixed.now) atom) lists.new) }
     ensures changed { OnOk result (AreAllBut (IsSameAt lists.old lists.new) (length mixed.now.net) changed.new.items) }
 {
     changed.clear();
@@ -113,8 +113,8 @@ fn read_router<'m, O: RouteSource, N: RouteSource>(
     requires olds { length lists.old.olds ≡ length mixed.now.net }
     requires news { length lists.old.news ≡ length mixed.now.net }
     requires class { IfSome known (λ other. other < length mixed.now.classes.samples) }
-    requires known { IfSome known (λ other. IsReadAt (mix_of O.table N.table mixed.now) other lists.old router) }
-    ensures read { OnOk result (IsReadAt (mix_of O.table N.table mixed.now) atom lists.new router) }
+    requires known { IfSome known (λ other. IsReadAt (class_in (mix_of O.table N.table mixed.now) other) lists.old router) }
+    ensures read { OnOk result (IsReadAt (class_in (mix_of O.table N.table mixed.now) atom) lists.new router) }
     ensures olds_many { OnOk result (length lists.new.olds ≡ length lists.old.olds) }
     ensures news_many { OnOk result (length lists.new.news ≡ length lists.old.news) }
     ensures others { OnOk result ((u : ℕ) → ¬ (u ≡ router) → IsSameAt lists.old lists.new u) }

@@ -1,4 +1,4 @@
-ghost use Rattle.std.specs.Prelude.{◌≡◌, ◌<◌, ◌^◌, ℕ, Contains, IfOk, OnOk, length};
+ghost use Rattle.std.specs.Prelude.{◌≡◌, ◌<◌, ℕ, Contains, IfOk, OnOk, length};
 ghost use Rattle.std.specs.Bool.{OnTrue};
 ghost use Rattle.order_core.specs.Marks.{IsMarked};
 ghost use Rattle.loop_finder.specs.steps.Targets.{IsTargetIn};
@@ -7,7 +7,7 @@ ghost use Rattle.loop_finder.specs.steps.PartRows.{AreKept, AreRowsOf, HasHops, 
 ghost use Rattle.loop_finder.specs.Parts.{AllMove, IsPart, StepsEver, hops_of, no_hops, part_hops};
 ghost use Rattle.loop_finder.specs.steps.Parts.{AddsUnless, AreSteppers, IsBareIn};
 ghost use Rattle.loop_finder.specs.steps.Returns.{MarksReturns};
-ghost use Rattle.loop_finder.specs.Mixes.{mix_of, sample_of};
+ghost use Rattle.loop_finder.specs.Mixes.{mix_of, sample_of, class_in};
 ghost use Rattle.loop_finder.specs.Watches.{IsIdle};
 
 use crate::class_hops::next_hops;
@@ -117,11 +117,10 @@ impl<'m> Part<'m> {
         moves: bool,
     ) -> Result<Part<'m>, OutOfMemory>
         requires atom { atom < length mixed.now.classes.samples }
-        requires address { sample_of mixed.now.classes atom < 2 ^ 32 }
         requires target { IsTargetIn mixed.now.net (sample_of mixed.now.classes atom) target }
         requires marks { length marks.now ≡ length mixed.now.net }
-        requires returns { MarksReturns (StepsEver (mix_of O.table N.table mixed.now) atom) marks.now }
-        requires moves { OnTrue moves (AllMove (mix_of O.table N.table mixed.now) atom) }
+        requires returns { MarksReturns (StepsEver (class_in (mix_of O.table N.table mixed.now) atom)) marks.now }
+        requires moves { OnTrue moves (AllMove (class_in (mix_of O.table N.table mixed.now) atom)) }
         ensures part { IfOk result (IsPart (mix_of O.table N.table mixed.now)) }
         ensures class { IfOk result (λ part. part.atom ≡ atom) }
     {
@@ -183,9 +182,8 @@ impl<'m> Part<'m> {
     ) -> bool
         requires rows { length self.now.rows ≡ length mixed.now.net }
         requires atom { atom < length mixed.now.classes.samples }
-        requires address { sample_of mixed.now.classes atom < 2 ^ 32 }
         requires marks { length marks.now ≡ length mixed.now.net }
-        ensures { OnTrue result (HaveHops (mix_of O.table N.table mixed.now) atom marks.now self.now.rows) }
+        ensures { OnTrue result (HaveHops (class_in (mix_of O.table N.table mixed.now) atom) marks.now self.now.rows) }
     {
         self.digest == digest && have_hops(mixed, atom, marks, self.rows.as_slice())
     }
@@ -200,9 +198,8 @@ fn have_hops<O: RouteSource, N: RouteSource>(
 ) -> bool
     requires rows { length rows.now ≡ length mixed.now.net }
     requires atom { atom < length mixed.now.classes.samples }
-    requires address { sample_of mixed.now.classes atom < 2 ^ 32 }
     requires marks { length marks.now ≡ length mixed.now.net }
-    ensures { OnTrue result (HaveHops (mix_of O.table N.table mixed.now) atom marks.now rows.now) }
+    ensures { OnTrue result (HaveHops (class_in (mix_of O.table N.table mixed.now) atom) marks.now rows.now) }
 {
     for router in 0..mixed.net().routers() {
         if !has_hops(mixed, atom, router, marks, &rows[router as usize]) {
@@ -221,9 +218,8 @@ fn has_hops<O: RouteSource, N: RouteSource>(
     row: &Row<'_>,
 ) -> bool
     requires atom { atom < length mixed.now.classes.samples }
-    requires address { sample_of mixed.now.classes atom < 2 ^ 32 }
     requires router { router < length mixed.now.net }
-    ensures { OnTrue result (HasHops (mix_of O.table N.table mixed.now) atom marks.now router row.now) }
+    ensures { OnTrue result (HasHops (class_in (mix_of O.table N.table mixed.now) atom) marks.now router row.now) }
 {
     if !is_marked(marks, router) {
         return true;
@@ -241,9 +237,8 @@ fn has_marked_hops<O: RouteSource, N: RouteSource>(
     row: &Row<'_>,
 ) -> bool
     requires atom { atom < length mixed.now.classes.samples }
-    requires address { sample_of mixed.now.classes atom < 2 ^ 32 }
     requires router { router < length mixed.now.net }
-    ensures { OnTrue result (HasHops (mix_of O.table N.table mixed.now) atom marks.now router row.now) }
+    ensures { OnTrue result (HasHops (class_in (mix_of O.table N.table mixed.now) atom) marks.now router row.now) }
 {
     let own = Row {
         old: next_hops(mixed, atom, Phase::Old, router),
@@ -319,10 +314,9 @@ fn rows_of<'m, O: RouteSource, N: RouteSource>(
     marks: &[bool],
 ) -> Result<Vec<Row<'m>>, OutOfMemory>
     requires atom { atom < length mixed.now.classes.samples }
-    requires address { sample_of mixed.now.classes atom < 2 ^ 32 }
     requires target { IsTargetIn mixed.now.net (sample_of mixed.now.classes atom) target }
     requires marks { length marks.now ≡ length mixed.now.net }
-    ensures { IfOk result (λ rows. AreRowsOf (mix_of O.table N.table mixed.now) atom marks.now rows.items) }
+    ensures { IfOk result (λ rows. AreRowsOf (class_in (mix_of O.table N.table mixed.now) atom) marks.now rows.items) }
 {
     let mut rows = Vec::with_capacity(alloc, marks.len())?;
     for router in 0..mixed.net().routers() {
@@ -341,10 +335,9 @@ fn row_of<'m, O: RouteSource, N: RouteSource>(
     marks: &[bool],
 ) -> Row<'m>
     requires atom { atom < length mixed.now.classes.samples }
-    requires address { sample_of mixed.now.classes atom < 2 ^ 32 }
     requires target { IsTargetIn mixed.now.net (sample_of mixed.now.classes atom) target }
     requires router { router < length mixed.now.net }
-    ensures { IsRowOf (mix_of O.table N.table mixed.now) atom marks.now router result }
+    ensures { IsRowOf (class_in (mix_of O.table N.table mixed.now) atom) marks.now router result }
 {
     if !is_marked(marks, router) {
         return Row::empty();

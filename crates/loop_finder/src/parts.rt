@@ -1,10 +1,11 @@
-ghost use Rattle.std.specs.Prelude.{◌≡◌, ◌+◌, ◌<◌, ◌^◌, ℕ, All, None, Some, IfOk, OnOk, length};
+ghost use Rattle.std.specs.Prelude.{◌≡◌, ◌+◌, ◌<◌, ℕ, All, None, Some, IfOk, OnOk, length};
 ghost use Rattle.std.specs.Bool.{OnTrue};
+ghost use Rattle.prefix_atoms.specs.Classes.{IsInClass};
 ghost use Rattle.loop_finder.specs.steps.Targets.{IsTargetIn};
 ghost use Rattle.loop_finder.specs.steps.Making.{IsKnownClass, IsMaking, IsRead};
 ghost use Rattle.loop_finder.specs.steps.PartRows.{HasEarlierHops};
 ghost use Rattle.loop_finder.specs.Parts.{AllMove, AreParts, IsCovered};
-ghost use Rattle.loop_finder.specs.Mixes.{mix_of, sample_of};
+ghost use Rattle.loop_finder.specs.Mixes.{mix_of, sample_of, class_in};
 
 use crate::class_fault::class_target;
 use crate::end_lists::{EndLists, read_class};
@@ -57,12 +58,11 @@ impl<'m> Making<'m> {
     ) -> Result<(), OutOfMemory>
         requires making { IsMaking (length mixed.now.net) self.old }
         requires routers { routers ≡ length mixed.now.net }
-        requires atom { atom < length mixed.now.classes.samples }
-        requires address { sample_of mixed.now.classes atom < 2 ^ 32 }
+        requires least { IsInClass mixed.now.classes atom (sample_of mixed.now.classes atom) }
         requires known { IsKnownClass (mix_of O.table N.table mixed.now) self.old }
         ensures making { OnOk result (IsMaking (length mixed.now.net) self.new) }
         ensures known { OnOk result (self.new.known ≡ Some atom) }
-        ensures read { OnOk result (IsRead (mix_of O.table N.table mixed.now) atom self.new.lists) }
+        ensures read { OnOk result (IsRead (class_in (mix_of O.table N.table mixed.now) atom) self.new.lists) }
     {
         let known = self.known;
         read_class(
@@ -134,11 +134,9 @@ fn add_known<'m, O: RouteSource, N: RouteSource>(
     making: &Making<'m>,
     parts: &mut Vec<Part<'m>>,
 ) -> Result<(), OutOfMemory>
-    requires atom { atom < length mixed.now.classes.samples }
-    requires address { sample_of mixed.now.classes atom < 2 ^ 32 }
     requires target { IsTargetIn mixed.now.net (sample_of mixed.now.classes atom) target }
     requires making { IsMaking (length mixed.now.net) making.now }
-    requires read { IsRead (mix_of O.table N.table mixed.now) atom making.now.lists }
+    requires read { IsRead (class_in (mix_of O.table N.table mixed.now) atom) making.now.lists }
     requires parts { AreParts (mix_of O.table N.table mixed.now) parts.old.items atom }
     ensures { OnOk result (AreParts (mix_of O.table N.table mixed.now) parts.new.items (atom + 1)) }
 {
@@ -160,7 +158,7 @@ fn all_move<O: RouteSource, N: RouteSource>(
 ) -> bool
     requires { IsMaking (length mixed.now.net) making.now }
     ensures { OnTrue result ((atom : ℕ) → IsTargetIn mixed.now.net (sample_of mixed.now.classes atom) target →
-        IsRead (mix_of O.table N.table mixed.now) atom making.now.lists → AllMove (mix_of O.table N.table mixed.now) atom) }
+        IsRead (class_in (mix_of O.table N.table mixed.now) atom) making.now.lists → AllMove (class_in (mix_of O.table N.table mixed.now) atom)) }
 {
     for router in 0..mixed.net().routers() {
         if !making.lists.moves(router) && !mixed.originates(router, target) {
@@ -178,11 +176,9 @@ fn is_covered<O: RouteSource, N: RouteSource>(
     making: &Making<'_>,
     parts: &[Part<'_>],
 ) -> bool
-    requires atom { atom < length mixed.now.classes.samples }
-    requires address { sample_of mixed.now.classes atom < 2 ^ 32 }
     requires making { IsMaking (length mixed.now.net) making.now }
-    requires read { IsRead (mix_of O.table N.table mixed.now) atom making.now.lists }
-    requires all { AllMove (mix_of O.table N.table mixed.now) atom }
+    requires read { IsRead (class_in (mix_of O.table N.table mixed.now) atom) making.now.lists }
+    requires all { AllMove (class_in (mix_of O.table N.table mixed.now) atom) }
     requires parts { AreParts (mix_of O.table N.table mixed.now) parts.now atom }
     ensures { OnTrue result (IsCovered (mix_of O.table N.table mixed.now) parts.now atom) }
 {
@@ -202,10 +198,9 @@ fn has_earlier<O: RouteSource, N: RouteSource>(
     parts: &[Part<'_>],
 ) -> bool
     requires atom { atom < length mixed.now.classes.samples }
-    requires address { sample_of mixed.now.classes atom < 2 ^ 32 }
     requires marks { length marks.now ≡ length mixed.now.net }
     requires parts { All (λ part. length part.rows ≡ length mixed.now.net) parts.now }
-    ensures { OnTrue result (HasEarlierHops (mix_of O.table N.table mixed.now) atom marks.now parts.now) }
+    ensures { OnTrue result (HasEarlierHops (class_in (mix_of O.table N.table mixed.now) atom) marks.now parts.now) }
 {
     for part in parts {
         if part.has_hops_of(mixed, atom, marks, digest) {

@@ -5,7 +5,7 @@ ghost use Rattle.igp_theory.specs.Loops.{IsFoundRing};
 ghost use Rattle.order_core.specs.Marks.{IsMarked};
 ghost use Rattle.order_core.specs.Rings.{IsTurned};
 ghost use Rattle.loop_finder.specs.steps.Live.{ArePeeled};
-ghost use Rattle.loop_finder.specs.steps.Walks.{IsMarkedHop, IsWalk, PlaceOf, ReturnsNever};
+ghost use Rattle.loop_finder.specs.steps.Walks.{BeginsAt, IsMarkedHop, IsWalk, PlaceOf, ReturnsNever};
 
 use crate::graph::StepGraph;
 use crate::live::{first_marked, lowest_marked_hop, mark_live};
@@ -36,7 +36,8 @@ fn walk<G: StepGraph>(graph: &G, live: &[bool], start: u32, path: &mut Vec<u32>)
     requires peeled { ArePeeled (G.step graph.now) live.now }
     requires start { IsMarked live.now start }
     requires room { length live.now ≤ vec_capacity path.old }
-    ensures walk { IsWalk (G.step graph.now) live.now start path.new.items result }
+    ensures begins { BeginsAt start path.new.items }
+    ensures walk { IsWalk (G.step graph.now) live.now path.new.items result }
     ensures capacity { vec_capacity path.old ≤ vec_capacity path.new }
 {
     path.clear();

@@ -51,7 +51,8 @@ fn tag_of<O: RouteSource, N: RouteSource>(
     next: u32,
 ) -> Tag
     requires router { router < length steps.now.mixture.net }
-    requires some { StepsBy (state_over O.table N.table steps.now) router Phase.Old next ⊎ StepsBy (state_over O.table N.table steps.now) router Phase.New next }
+    requires some { StepsBy (state_over O.table N.table steps.now) router Phase.Old next
+        ⊎ StepsBy (state_over O.table N.table steps.now) router Phase.New next }
     ensures { IsTagged (state_over O.table N.table steps.now) (record { router = router; tag = result }) next }
 {
     let old = steps.leads(router, Phase::Old, next);

@@ -1,6 +1,6 @@
 ghost use Rattle.std.specs.Prelude.{◌≡◌, ◌<◌, All, IfOk, OnOk, length};
-ghost use Rattle.loop_finder.specs.Watches.{ArePlacesOf, IsWatch};
-ghost use Rattle.loop_finder.specs.steps.Watches.{AddsPlace};
+ghost use Rattle.loop_finder.specs.steps.Parts.{AddsUnless};
+ghost use Rattle.loop_finder.specs.Watches.{ArePlacesOf, IsIdle, IsWatch};
 
 use crate::part::Part;
 use rib_mix::OutOfMemory;
@@ -50,7 +50,7 @@ fn add_place(
     places: &mut Vec<usize>,
 ) -> Result<(), OutOfMemory>
     requires { router < length part.now.rows }
-    ensures { OnOk result (AddsPlace part.now router place places.old.items places.new.items) }
+    ensures { OnOk result (AddsUnless (IsIdle part.now router) place places.old.items places.new.items) }
 {
     if part.is_idle(router) {
         return Ok(());

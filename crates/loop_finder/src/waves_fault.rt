@@ -8,7 +8,7 @@ ghost use Rattle.igp_theory.specs.States.{all_old};
 ghost use Rattle.loop_finder.specs.Parts.{AreParts};
 ghost use Rattle.loop_finder.specs.Rooms.{HasRoom};
 ghost use Rattle.loop_finder.specs.Soundness.{Sound};
-ghost use Rattle.loop_finder.specs.steps.Verdicts.{FaultyWave, FaultyWaves, IsClearAt, SoundWave, SoundWaves, Told};
+ghost use Rattle.loop_finder.specs.steps.Verdicts.{FaultyWave, FaultyWaves, IsClearAt, SoundWave, SoundWaves, Told, two_states};
 ghost use Rattle.loop_finder.specs.steps.WaveStarts.{AreSwitchedBefore};
 ghost use Rattle.loop_finder.specs.steps.WaveStarts.{AreClearParts, BeginsSound};
 
@@ -140,7 +140,7 @@ fn stirred_fault<O: RouteSource, N: RouteSource>(
     requires last { length last.now ≡ length mixed.now.net }
     requires room { HasRoom (length mixed.now.net) room.old }
     ensures room { HasRoom (length mixed.now.net) room.new }
-    ensures told { Told (mix_of O.table N.table mixed.now) first.now last.now result room.new.ring.items }
+    ensures told { Told (two_states (mix_of O.table N.table mixed.now) first.now last.now) result room.new.ring.items }
     ensures ring { KeepsRing result room.old.ring.items room.new.ring.items }
 {
     for place in 0..parts.len() {

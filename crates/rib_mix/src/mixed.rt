@@ -1,9 +1,9 @@
-ghost use Rattle.std.specs.Prelude.{◌≡◌, ◌<◌, ◌↔◌, IfOk, IsTrue, length};
+ghost use Rattle.std.specs.Prelude.{◌≡◌, ◌<◌, ◌↔◌, IfOk, IsTrue, length, slice_index};
 ghost use Rattle.std.specs.Bool.{OnTrue};
 ghost use Rattle.net_model.specs.Network.{Connected};
 ghost use Rattle.net_model.specs.Refusals.{IsNetwork};
 ghost use Rattle.igp_theory.specs.Migrations.{migration};
-ghost use Rattle.prefix_atoms.specs.Classes.{AreClasses, SourceEntry};
+ghost use Rattle.prefix_atoms.specs.Classes.{AreClasses, IsInClass, SourceEntry};
 ghost use Rattle.rib_mix.specs.Answers.{IsAlikeAt, IsNextAtAnEnd, IsNextOf, ShowsEntry};
 ghost use Rattle.rib_mix.specs.Mixture.{migration_of};
 ghost use Rattle.rib_mix.specs.Cells.{IsKeptUse};
@@ -119,6 +119,7 @@ impl<'a, O: RouteSource, N: RouteSource> Mixed<'a, O, N> {
         requires router { router < length self.now.net }
         requires atom { atom < length self.now.classes.samples }
         ensures next { IsNextOf (migration_of O.table N.table self.now) self.now.classes router atom phase result }
+        ensures least { IsInClass self.now.classes atom (slice_index self.now.classes.samples atom) }
         ensures middle { phase ≡ Phase.Middle
             → IsNextAtAnEnd (migration_of O.table N.table self.now) self.now.classes router atom result }
     {

@@ -1,5 +1,5 @@
 -- The steps of two states, for the addresses of one class: both are the state looked at, or the ends of a wave.
-use Rattle.std.specs.Prelude.{◌≡◌, ℕ, ◌<◌, ◌↔◌, ◌^◌, ◌⊎◌, Bool, List, length, Option, Some, None}
+use Rattle.std.specs.Prelude.{◌≡◌, ℕ, ◌<◌, ◌↔◌, ◌⊎◌, Bool, List, length, Option, Some, None}
 use Rattle.net_model.specs.Network.{Network}
 use Rattle.igp_theory.specs.Forwarding.{MustForward, Steps}
 use Rattle.igp_theory.specs.Loops.{IsTag}
@@ -37,7 +37,6 @@ AreForwarders net a forwards = (u : ℕ) → IsMarked forwards u ↔ MustForward
 -- what two states and a class keep
 pub record IsClassState (c : ClassState) : Type 0 where
   pub inside : c.atom < length c.mixture.classes.samples
-  pub address : sample_of c.mixture.classes c.atom < 2 ^ 32
   pub first_phases : length c.first ≡ length c.mixture.net
   pub last_phases : length c.last ≡ length c.mixture.net
   pub many : length c.forwards ≡ length c.mixture.net

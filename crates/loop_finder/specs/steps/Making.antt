@@ -1,12 +1,13 @@
 -- What is read of classes, and what parts are made with.
-use Rattle.std.specs.Prelude.{◌≡◌, ℕ, ◌<◌, ◌^◌, ◌↔◌, List, length, vec_len, Contains, Option, Some, IfSome}
+use Rattle.std.specs.Prelude.{◌≡◌, ℕ, ◌<◌, ◌↔◌, List, length, vec_len, Contains, Option, Some, IfSome}
 use Rattle.igp_theory.specs.declared.phase.Phase.{Phase}
 use Rattle.igp_theory.specs.declared.phase.Phase.TheVariants.{Old, New}
+use Rattle.prefix_atoms.specs.Classes.{IsInClass}
 use Rattle.rib_mix.specs.Answers.{IsAlikeAt, IsNextOf, NextLeadsTo}
 use Rattle.rib_mix.specs.declared.next.Next.{Next}
 use Rattle.loop_finder.specs.steps.Ends.{ReadHops, EndStep, AreNoHops, hops_at}
 use Rattle.loop_finder.specs.steps.Returns.{MarksReturns}
-use Rattle.loop_finder.specs.Mixes.{sample_of, Mix, migration_in}
+use Rattle.loop_finder.specs.Mixes.{Mix, migration_in, ClassIn, class_in, least_of}
 use Rattle.loop_finder.specs.declared.parts.Making.{Making}
 
 -- nothing is read yet of n routers
@@ -20,27 +21,26 @@ pub record IsSameAt (one other : ReadHops) (u : ℕ) : Type 0 where
   pub news : hops_at one.news u ≡ hops_at other.news u
 
 -- these are the hops of what router u does in a phase with the packets of a class
-pub record IsHopsOf (m : Mix) (atom u : ℕ) (phase : Phase) (hops : List ℕ) : Type 0 where
+pub record IsHopsOf (c : ClassIn) (u : ℕ) (phase : Phase) (hops : List ℕ) : Type 0 where
   pub next : Next
-  pub is : IsNextOf (migration_in m) m.classes u atom phase next
+  pub is : IsNextOf (migration_in c.mixture) c.mixture.classes u c.atom phase next
   pub leads : (h : ℕ) → Contains hops h ↔ NextLeadsTo next h
 
 -- this was read of router u for a class
-pub record IsReadAt (m : Mix) (atom : ℕ) (lists : ReadHops) (u : ℕ) : Type 0 where
-  pub olds : IsHopsOf m atom u Old (hops_at lists.olds u)
-  pub news : IsHopsOf m atom u New (hops_at lists.news u)
+pub record IsReadAt (c : ClassIn) (lists : ReadHops) (u : ℕ) : Type 0 where
+  pub olds : IsHopsOf c u Old (hops_at lists.olds u)
+  pub news : IsHopsOf c u New (hops_at lists.news u)
 
--- this was read of a class
-pub record IsRead (m : Mix) (atom : ℕ) (lists : ReadHops) : Type 0 where
-  pub class : atom < length m.classes.samples
-  pub address : sample_of m.classes atom < 2 ^ 32
-  pub olds_many : length lists.olds ≡ length m.net
-  pub news_many : length lists.news ≡ length m.net
-  pub each : (u : ℕ) → u < length m.net → IsReadAt m atom lists u
+-- this was read of a class, which has its least address
+pub record IsRead (c : ClassIn) (lists : ReadHops) : Type 0 where
+  pub least : IsInClass c.mixture.classes c.atom (least_of c)
+  pub olds_many : length lists.olds ≡ length c.mixture.net
+  pub news_many : length lists.news ≡ length c.mixture.net
+  pub each : (u : ℕ) → u < length c.mixture.net → IsReadAt c lists u
 
 -- this was read of the class that is known
 abbrev pub IsKnownClass : Mix → Making → Type 0
-IsKnownClass m making = IfSome making.known (λ atom. IsRead m atom making.lists)
+IsKnownClass m making = IfSome making.known (λ atom. IsRead (class_in m atom) making.lists)
 
 -- a class is known, and router u does the same for another
 pub record IsKnownAt (m : Mix) (known : Option ℕ) (u atom : ℕ) : Type 0 where

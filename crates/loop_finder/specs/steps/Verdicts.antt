@@ -31,11 +31,20 @@ Verdict c None turns = ((u : ℕ) → Moves c u) × ReturnsNever (ClassStep c)
 Verdict c (Some (Loop a)) turns = IsClassLoop c a turns
 Verdict c (Some (Missing a u)) turns = (a ≡ sample_of c.mixture.classes c.atom) × FirstStuck c (Some u)
 
+-- two states over what is mixed: the phase of each router in the first and in the last
+pub record TwoStates : Type 0 where
+  pub mixture : Mix
+  pub first : List Phase
+  pub last : List Phase
+
+-- those in which the routers have these phases
+abbrev pub two_states : Mix → List Phase → List Phase → TwoStates
+two_states m first last = record { mixture = m; first = first; last = last }
+
 -- what is told of the class with this number, whichever routers have to pass packets on
-pub record IsClassVerdict (m : Mix) (first last : List Phase) (atom : ℕ) (result : Option Fault)
-    (turns : List Turn) : Type 0 where
+pub record IsClassVerdict (s : TwoStates) (atom : ℕ) (result : Option Fault) (turns : List Turn) : Type 0 where
   pub forwards : List Bool
-  pub verdict : Verdict (record { mixture = m; first = first; last = last; forwards = forwards; atom = atom }) result turns
+  pub verdict : Verdict (record { mixture = s.mixture; first = s.first; last = s.last; forwards = forwards; atom = atom }) result turns
 
 -- a state is sound for all addresses below one
 abbrev pub SoundBelow : Mix → State → ℕ → Type 0
@@ -55,16 +64,16 @@ abbrev pub AreClear : Mix → List Phase → List Phase → ℕ → Type 0
 AreClear m first last n = (k : ℕ) → k < n → IsClearAt m first last k
 
 -- the fault of the first class that has one
-pub record IsFirstTold (m : Mix) (first last : List Phase) (fault : Fault) (turns : List Turn) : Type 0 where
+pub record IsFirstTold (s : TwoStates) (fault : Fault) (turns : List Turn) : Type 0 where
   pub atom : ℕ
-  pub within : atom < length m.classes.samples
-  pub before : AreClear m first last atom
-  pub here : IsClassVerdict m first last atom (Some fault) turns
+  pub within : atom < length s.mixture.classes.samples
+  pub before : AreClear s.mixture s.first s.last atom
+  pub here : IsClassVerdict s atom (Some fault) turns
 
 -- what is told of all classes
-abbrev pub Told : Mix → List Phase → List Phase → Option Fault → List Turn → Type 0
-Told m first last None turns = AreClear m first last (length m.classes.samples)
-Told m first last (Some fault) turns = IsFirstTold m first last fault turns
+abbrev pub Told : TwoStates → Option Fault → List Turn → Type 0
+Told s None turns = AreClear s.mixture s.first s.last (length s.mixture.classes.samples)
+Told s (Some fault) turns = IsFirstTold s fault turns
 
 -- the fault of a state, as an answer with the turns beside it
 abbrev pub Faulty : Mix → State → Fault → List Turn → Type 0

@@ -19,11 +19,13 @@ abbrev pub LowestMarkedHop : (ℕ → ℕ → Type 0) → List Bool → ℕ → 
 LowestMarkedHop step marks u None = (h : ℕ) → step u h → ¬ IsMarked marks h
 LowestMarkedHop step marks u (Some h) = IsMarkedHop step marks u h
 
--- a walk from a router, each time to the lowest-numbered marked hop, over distinct routers; the hop of the
--- last one is the router at this place
-pub record IsWalk (step : ℕ → ℕ → Type 0) (marks : List Bool) (start : ℕ) (path : List ℕ) (place : ℕ) : Type 0 where
-  pub visited : List ℕ
-  pub begins : path ≡ start ∷ visited
+-- a path begins at a router
+abbrev pub BeginsAt : ℕ → List ℕ → Type 0
+BeginsAt start path = (visited : List ℕ) × (path ≡ start ∷ visited)
+
+-- a walk, each time to the lowest-numbered marked hop, over distinct routers; the hop of the last one is the router at
+-- this place
+pub record IsWalk (step : ℕ → ℕ → Type 0) (marks : List Bool) (path : List ℕ) (place : ℕ) : Type 0 where
   pub within : place < length path
   pub distinct : AllPairs (λ u v. u ≢ v) path
   pub goes : EachToNext (IsMarkedHop step marks) (slice_index path place) path

@@ -1,20 +1,14 @@
 -- Changes of a router, and what becomes of the faults of states.
-use Rattle.std.specs.Prelude.{◌≡◌, ℕ, ◌⊎◌, List, [], ◌∷◌, ◌++◌, length}
+use Rattle.std.specs.Prelude.{◌≡◌, ℕ, List, length}
 use Rattle.igp_theory.specs.States.{State}
 use Rattle.igp_theory.specs.declared.phase.Phase.{Phase}
 use Rattle.order_core.specs.declared.turn.Turn.{Turn}
 use Rattle.loop_finder.specs.Faults.{state_in}
-use Rattle.loop_finder.specs.Parts.{ClassPart}
 use Rattle.loop_finder.specs.steps.Parts.{DifferAt}
 use Rattle.loop_finder.specs.Mixes.{sample_of, Mix}
 use Rattle.loop_finder.specs.Soundness.{SoundAt, Sound}
 use Rattle.loop_finder.specs.steps.Verdicts.{Faulty}
 use Rattle.loop_finder.specs.declared.fault.Fault.{Fault}
-use Rattle.loop_finder.specs.Watches.{IsIdle}
-
--- a place is added at the end, or the router is idle there
-abbrev pub AddsPlace : ClassPart → ℕ → ℕ → List ℕ → List ℕ → Type 0
-AddsPlace part u place old new = (new ≡ old ++ place ∷ []) ⊎ ((new ≡ old) × IsIdle part u)
 
 -- a change of a router: the phases that come of it, the router, and its phase before
 pub record PhaseChange : Type 0 where

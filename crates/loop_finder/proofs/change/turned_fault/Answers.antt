@@ -1,16 +1,10 @@
-use Rattle.std.proofs.Common.{ℕ, get_or, sym, ◌∙◌, subst, below_more}
+use Rattle.std.proofs.Common.{ℕ, get_or, ◌∙◌, subst, below_more}
 use Rattle.std.proofs.lemmas.List.{get_or_default}
-use Rattle.loop_finder.specs.Parts.{ClassPart, IsPart}
+use Rattle.loop_finder.specs.Parts.{ClassPart}
 use Rattle.loop_finder.specs.steps.Watches.{StaysSoundAt}
 use Rattle.loop_finder.proofs.WatchLaws.{stays_sound_at_all, turns_faulty_at}
 use Rattle.loop_finder.specs.Mixes.{mix_of}
 use Rattle.loop_finder.proofs.change.turned_fault.Goals as goal
-
-pub part_fault-requires-clause-part : goal.part_fault-requires-clause-part
-part_fault-requires-clause-part g c =
-    subst (λ (x : ClassPart). IsPart (mix_of g.O.RouteSource.table g.N.RouteSource.table c.args.mixed.now) x) (sym c.index-parts-place.is)
-    (c.requires.parts.each (get_or c.args.places.now c.loop-place.place-index 0) c.index-parts-place.result
-    (c.requires.places.below c.loop-place.place-index 0 c.loop-place-test.true))
 
 pub loop-place-preserved : goal.loop-place-preserved
 loop-place-preserved g c = record {

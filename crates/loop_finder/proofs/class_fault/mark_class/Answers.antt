@@ -1,4 +1,4 @@
-use Rattle.std.proofs.Common.{◌≡◌, ℕ, ◌<◌, ◌↔◌, length, ap, arith, ◌∙◌, subst}
+use Rattle.std.proofs.Common.{◌≡◌, ℕ, ◌<◌, ◌↔◌, length, ap, ◌∙◌, subst}
 use Rattle.net_model.specs.Network.{Network, Connected}
 use Rattle.net_model.specs.Refusals.{IsNetwork}
 use Rattle.igp_theory.specs.Forwarding.{IsTarget}
@@ -6,12 +6,6 @@ use Rattle.order_core.specs.Marks.{IsMarked}
 use Rattle.loop_finder.specs.Mixes.{sample_of}
 use Rattle.loop_finder.proofs.ClassVerdicts.{forwarders_from}
 use Rattle.loop_finder.proofs.class_fault.mark_class.Goals as goal
-
-pub mark_forwarders-requires-clause-routers : goal.mark_forwarders-requires-clause-routers
-mark_forwarders-requires-clause-routers g c = c.routers-routers.ensures.count ∙ ap (λ (n : Network). length n) c.net.ensures
-
-pub mark_forwarders-requires-clause-many : goal.mark_forwarders-requires-clause-many
-mark_forwarders-requires-clause-many g c = omega (arith, c.requires.many, c.routers-routers.ensures.count, ap (λ (n : Network). length n) c.net.ensures)
 
 pub returns-in-Some-clause-forwarders : goal.returns-in-Some-clause-forwarders
 returns-in-Some-clause-forwarders g c =

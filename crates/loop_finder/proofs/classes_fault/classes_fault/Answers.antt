@@ -1,15 +1,10 @@
 use Rattle.std.proofs.Common.{◌≡◌, ℕ, ◌<◌, [], length, get_or, true, arith, sym, ap, ◌∙◌, subst, below_more}
 use Rattle.std.proofs.lemmas.List.{get_or_default}
-use Rattle.loop_finder.specs.Parts.{ClassPart, IsPart}
+use Rattle.loop_finder.specs.Parts.{ClassPart}
 use Rattle.loop_finder.specs.Mixes.{sample_of, mix_of}
 use Rattle.loop_finder.specs.Soundness.{SoundAt}
 use Rattle.loop_finder.proofs.PartLists.{sound_before, sound_whole}
 use Rattle.loop_finder.proofs.classes_fault.classes_fault.Goals as goal
-
-pub fault_in-requires-clause-part : goal.fault_in-requires-clause-part
-fault_in-requires-clause-part g c =
-    subst (λ (x : ClassPart). IsPart (mix_of g.O.RouteSource.table g.N.RouteSource.table c.args.mixed.now) x) (sym c.part-item.is)
-    (c.requires.parts.each c.loop-part.part-index c.part-item.result c.loop-part-test.true)
 
 pub loop-part-preserved : goal.loop-part-preserved
 loop-part-preserved g c = record {

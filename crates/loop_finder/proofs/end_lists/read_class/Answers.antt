@@ -1,33 +1,17 @@
-use Rattle.std.proofs.Common.{arith, refl, ◌∙◌, below_more}
-use Rattle.loop_finder.specs.steps.Making.{IsReadAt, IsSameAt}
-use Rattle.loop_finder.proofs.PartRows.{AreAllBut-none, changed_more, known_at, known_class, read_same, same_twice}
-use Rattle.loop_finder.specs.Mixes.{mix_of}
+use Rattle.std.proofs.Common.{arith, ◌∙◌, below_more}
+use Rattle.loop_finder.specs.steps.Making.{IsReadAt}
+use Rattle.loop_finder.proofs.PartRows.{changed_more, read_same, same_twice}
+use Rattle.loop_finder.specs.Mixes.{mix_of, ClassIn, class_in}
 use Rattle.loop_finder.proofs.end_lists.read_class.Goals as goal
-
-pub loop-router-init : goal.loop-router-init
-loop-router-init g c = record {
-  olds_many = c.requires.olds;
-  news_many = c.requires.news;
-  read = λ u below. absurd (omega (arith, below));
-  rest = λ u past. record { olds = refl; news = refl };
-  changed = AreAllBut-none (IsSameAt c.args.lists.now c.args.lists.now) c.clear.new.self.items c.clear.ensures.items;
-}
-
-pub read_router-requires-clause-class : goal.read_router-requires-clause-class
-read_router-requires-clause-class g c = known_class (mix_of g.O.RouteSource.table g.N.RouteSource.table c.args.mixed.now) c.args.known
-    c.args.lists.now c.requires.known
-
-pub read_router-requires-clause-known : goal.read_router-requires-clause-known
-read_router-requires-clause-known g c =
-    known_at (mix_of g.O.RouteSource.table g.N.RouteSource.table c.args.mixed.now) c.args.known c.args.lists.now c.loop-router.lists c.loop-router.router
-    c.requires.known (omega (arith, c.requires.routers, c.loop-router-test.true)) (c.loop-router.invariant.rest c.loop-router.router (omega arith))
 
 pub loop-router-preserved : goal.loop-router-preserved
 loop-router-preserved g c = record {
   olds_many = c.in_ok-read_router.ensures.olds_many ∙ c.loop-router.invariant.olds_many;
   news_many = c.in_ok-read_router.ensures.news_many ∙ c.loop-router.invariant.news_many;
-  read = below_more (IsReadAt (mix_of g.O.RouteSource.table g.N.RouteSource.table c.args.mixed.now) c.args.atom c.read_router.new.lists) c.loop-router.router
-      (λ u below. read_same (mix_of g.O.RouteSource.table g.N.RouteSource.table c.args.mixed.now) c.args.atom c.loop-router.lists c.read_router.new.lists u
+  read =
+      let here : ClassIn = class_in (mix_of g.O.RouteSource.table g.N.RouteSource.table c.args.mixed.now) c.args.atom in
+      below_more (IsReadAt here c.read_router.new.lists) c.loop-router.router
+      (λ u below. read_same here c.loop-router.lists c.read_router.new.lists u
       (c.loop-router.invariant.read u below) (c.in_ok-read_router.ensures.others u (λ same. absurd (omega (arith, same, below)))))
       c.in_ok-read_router.ensures.read;
   rest = λ u past. same_twice c.args.lists.now c.loop-router.lists c.read_router.new.lists u (c.loop-router.invariant.rest u (omega (arith, past)))

@@ -1,14 +1,9 @@
-use Rattle.std.proofs.Common.{ℕ, ◌<◌, arith, sym, subst}
+use Rattle.std.proofs.Common.{subst}
 use Rattle.std.specs.Bool.{OnFalse}
 use Rattle.loop_finder.specs.steps.Parts.{PartState, PartStep}
 use Rattle.loop_finder.specs.Returns.{NeverReturnsTo}
 use Rattle.loop_finder.proofs.OnFalse.{on_not}
-use Rattle.loop_finder.proofs.PartLaws.{part_inside}
 use Rattle.loop_finder.proofs.follow.passes_part_never.Goals as goal
-
-pub may_return-requires-clause-inside : goal.may_return-requires-clause-inside
-may_return-requires-clause-inside c = subst (λ (x : PartState). (u h : ℕ) → PartStep x.part x.first x.last u h → u < x.routers) (sym c.new-steps.ensures)
-    (λ u h steps. omega (arith, part_inside c.args.part.now c.args.first.now c.args.last.now u h steps, c.requires.rows))
 
 pub returns-clause-never : goal.returns-clause-never
 returns-clause-never c = on_not (NeverReturnsTo (PartStep c.args.part.now c.args.first.now c.args.last.now) c.args.router) c.may_return.result

@@ -5,9 +5,6 @@ use Rattle.loop_finder.proofs.OnFalse.{on_true}
 use Rattle.loop_finder.proofs.PartRows.{steps_within}
 use Rattle.loop_finder.proofs.level_marks.mark_level.Goals as goal
 
-pub loop-router-init : goal.loop-router-init
-loop-router-init c = record { level = λ u below. absurd (omega (arith, below)); stay = λ u none marked. marked }
-
 pub loop-router-preserved : goal.loop-router-preserved
 loop-router-preserved c = AreLevelled-more (EndStep c.args.lists.now) c.args.layers.now c.args.marks.now c.loop-router.marks c.mark_router.new.marks
     c.loop-router.router c.loop-router.invariant c.if-not-mark_router.ensures.level c.if-not-mark_router.ensures.kept

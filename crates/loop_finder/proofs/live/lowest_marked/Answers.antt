@@ -1,5 +1,5 @@
 use Rattle.std.proofs.Common.{ℕ, List, Option, ◌++◌, ◌∷◌, [], take, get_or, subst, sym, arith}
-use Rattle.std.proofs.lemmas.List.{take_more, take_all}
+use Rattle.std.proofs.lemmas.List.{take_more}
 use Rattle.loop_finder.specs.steps.Live.{LowestMarked}
 use Rattle.loop_finder.proofs.LowestSteps.{lowest_more}
 use Rattle.loop_finder.proofs.live.lowest_marked.Goals as goal
@@ -12,7 +12,3 @@ loop-router-preserved c =
     (subst (λ (lowest : Option ℕ). LowestMarked (xs ++ get_or c.args.routers.now c.loop-router.router-index 0 ∷ []) c.args.marks.now lowest)
     (sym c.lower_of-lowest.ensures) (lowest_more c.args.marks.now xs c.loop-router.lowest (get_or c.args.routers.now c.loop-router.router-index 0)
     c.marked_one.result c.loop-router.invariant c.marked_one.ensures))
-
-pub returns : goal.returns
-returns c = subst (λ (ys : List ℕ). LowestMarked ys c.args.marks.now c.loop-router.lowest) (take_all c.loop-router.router-index c.args.routers.now
-    c.loop-router-test.false) c.loop-router.invariant

@@ -6,7 +6,7 @@ use Rattle.loop_finder.specs.steps.Orders.{IsStateOf}
 use Rattle.loop_finder.specs.Soundness.{Sound}
 use Rattle.loop_finder.specs.Watches.{ArePlacesOf}
 use Rattle.loop_finder.proofs.OrderStates.{changed_inside, same_state, state_advanced, state_stays}
-use Rattle.loop_finder.proofs.WatchLaws.{sound_after, faulty_after}
+use Rattle.loop_finder.proofs.WatchLaws.{sound_after}
 use Rattle.loop_finder.specs.Mixes.{mix_of}
 use Rattle.loop_finder.proofs.order_fault.change_fault.Goals as goal
 
@@ -35,22 +35,11 @@ turned_fault-requires-clause-places g c =
     (sym (c.as_slice-places.ensures ∙ c.index-watch-router.is ∙ get_or_default c.args.watch.now c.in-Some.router.now c.index-watch-router.result [] within))
     (c.requires.watch.each c.in-Some.router.now inside)
 
-pub turned_fault-requires-clause-router : goal.turned_fault-requires-clause-router
-turned_fault-requires-clause-router g c =
-    changed_inside c.args.order.now (length c.args.mixed.now.net) (c.args.k / 2) c.in-Some.router.now c.requires.routers c.in-Some.ensures.lookup.3.0
-    c.in-Some.ensures.lookup.1
-
 pub returns-clause-sound : goal.returns-clause-sound
 returns-clause-sound g c =
     sound_after (mix_of g.O.RouteSource.table g.N.RouteSource.table c.args.mixed.now) _ (state_in c.args.phases.now) c.turned_fault.result
     (record { here = c.advance-was.ensures.was; others = λ v within apart. c.advance-was.ensures.state.others v apart })
     c.requires.before c.turned_fault.ensures.sound
-
-pub returns-clause-fault : goal.returns-clause-fault
-returns-clause-fault g c =
-    faulty_after (mix_of g.O.RouteSource.table g.N.RouteSource.table c.args.mixed.now) _ (state_in c.args.phases.now) c.turned_fault.result
-    c.turned_fault.new.room.ring.items (record { here = c.advance-was.ensures.was; others = λ v within apart. c.advance-was.ensures.state.others v apart })
-    c.requires.before c.turned_fault.ensures.fault
 
 pub returns-then-is_known-clause-state : goal.returns-then-is_known-clause-state
 returns-then-is_known-clause-state g c =

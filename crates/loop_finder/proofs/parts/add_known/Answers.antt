@@ -1,7 +1,6 @@
 use Rattle.std.proofs.Common.{◌+◌, List, sym, subst}
-use Rattle.loop_finder.specs.Mixes.{mix_of}
+use Rattle.loop_finder.specs.Mixes.{mix_of, class_in}
 use Rattle.loop_finder.specs.Parts.{ClassPart, AreParts, IsCovered}
-use Rattle.loop_finder.proofs.OnFalse.{on_true}
 use Rattle.loop_finder.proofs.PartLists.{AreParts-more, AreParts-push}
 use Rattle.loop_finder.proofs.PartRows.{returns_known}
 use Rattle.loop_finder.proofs.parts.add_known.Goals as goal
@@ -12,17 +11,9 @@ returns-then-is_covered g c =
     (subst (λ (xs : List ClassPart). IsCovered (mix_of g.O.RouteSource.table g.N.RouteSource.table c.args.mixed.now) xs c.args.atom) c.as_slice.ensures.value
     c.if-is_covered.ensures)
 
-pub is_covered-requires-clause-all : goal.is_covered-requires-clause-all
-is_covered-requires-clause-all g c =
-    let all = rw c.if-moves.true at c.all_move-moves.ensures in all c.args.atom c.requires.target c.requires.read
-
-pub build-requires-clause-moves : goal.build-requires-clause-moves
-build-requires-clause-moves g c =
-    on_true c.all_move-moves.result c.all_move-moves.ensures (λ all. all c.args.atom c.requires.target c.requires.read)
-
 pub build-requires-clause-returns : goal.build-requires-clause-returns
 build-requires-clause-returns g c =
-    returns_known (mix_of g.O.RouteSource.table g.N.RouteSource.table c.args.mixed.now) c.args.atom c.args.making.now c.as_slice-marks.result.now
+    returns_known (class_in (mix_of g.O.RouteSource.table g.N.RouteSource.table c.args.mixed.now) c.args.atom) c.args.making.now c.as_slice-marks.result.now
     c.requires.making c.requires.read c.as_slice-marks.ensures.value
 
 pub returns : goal.returns

@@ -1,7 +1,3 @@
-use Rattle.std.proofs.Common.{length, ap, ◌∙◌, subst}
-use Rattle.std.proofs.lemmas.Result.{on_ok_weaker}
-use Rattle.net_model.specs.Network.{Network}
-use Rattle.net_model.specs.Refusals.{IsNetwork}
 use Rattle.loop_finder.specs.Parts.{never_unsound}
 use Rattle.loop_finder.proofs.PartLaws.{never_without}
 use Rattle.loop_finder.proofs.PartLists.{AreParts-more}
@@ -12,12 +8,3 @@ pub returns-in_default-clause-parts : goal.returns-in_default-clause-parts
 returns-in_default-clause-parts g c =
     AreParts-more (mix_of g.O.RouteSource.table g.N.RouteSource.table c.args.mixed.now) c.args.parts.now.items c.args.atom c.requires.parts
     (never_unsound (never_without (mix_of g.O.RouteSource.table g.N.RouteSource.table c.args.mixed.now) c.args.atom c.in_default.ensures.target))
-
-pub read-requires-clause-routers : goal.read-requires-clause-routers
-read-requires-clause-routers g c = c.routers.ensures.count ∙ ap (λ (n : Network). length n) c.net.ensures
-
-pub add_known-requires-clause-target : goal.add_known-requires-clause-target
-add_known-requires-clause-target g c = record { network = subst IsNetwork c.net.ensures c.routers.ensures.network; target = c.in-Some.ensures.target }
-
-pub returns-clause-known : goal.returns-clause-known
-returns-clause-known g c = on_ok_weaker c.add_known.result (λ added. rw (c.in_ok-read.ensures.known) c.in_ok-read.ensures.read) c.add_known.ensures

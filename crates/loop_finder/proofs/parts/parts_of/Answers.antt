@@ -1,23 +1,9 @@
-use Rattle.std.proofs.Common.{◌≡◌, ℕ, ◌≤◌, ◌^◌, List, length, ap, ◌∙◌, arith, sym, subst}
-use Rattle.net_model.specs.Network.{Network}
+use Rattle.std.proofs.Common.{◌≡◌, ℕ, ◌≤◌, ◌^◌, length, ap, ◌∙◌, arith, subst}
 use Rattle.prefix_atoms.specs.Classes.{Classes}
-use Rattle.loop_finder.specs.steps.Making.{IsMaking}
-use Rattle.loop_finder.specs.Parts.{ClassPart, AreParts}
-use Rattle.loop_finder.proofs.PartLists.{AreParts-none}
+use Rattle.loop_finder.specs.Parts.{AreParts}
 use Rattle.loop_finder.proofs.StateVerdicts.{classes_few}
 use Rattle.loop_finder.specs.Mixes.{mix_of}
 use Rattle.loop_finder.proofs.parts.parts_of.Goals as goal
-
-pub loop-atom-init : goal.loop-atom-init
-loop-atom-init g c =
-    let routers : c.routers.result ≡ length c.args.mixed.now.net = c.routers.ensures.count ∙ ap (λ (n : Network). length n) c.net.ensures in
-    record {
-      making = subst (λ (n : ℕ). IsMaking n c.in_ok-making.making) routers c.in_ok-making.ensures.making;
-      known = rw (c.in_ok-making.ensures.known) tt;
-      parts = subst (λ (xs : List ClassPart). AreParts (mix_of g.O.RouteSource.table g.N.RouteSource.table c.args.mixed.now) xs 0)
-          (sym c.new-parts.ensures.items)
-          (AreParts-none (mix_of g.O.RouteSource.table g.N.RouteSource.table c.args.mixed.now) c.atoms.ensures.classes);
-    }
 
 pub overflow_cast-atom : goal.overflow_cast-atom
 overflow_cast-atom g c =
@@ -26,12 +12,6 @@ overflow_cast-atom g c =
     let few : length c.args.mixed.now.classes.samples ≤ 2 ^ 32 =
     classes_few c.args.mixed.now.classes.prefixes c.args.mixed.now.classes.samples c.atoms.ensures.classes.classing.samples in
     omega (arith, many, few, c.loop-atom-test.true)
-
-pub add_part-requires-clause-atom : goal.add_part-requires-clause-atom
-add_part-requires-clause-atom g c =
-    let many : c.count-atom-end.result ≡ length c.args.mixed.now.classes.samples =
-    c.count-atom-end.ensures.count ∙ ap (λ (x : Classes). length x.samples) c.atoms.ensures.atoms in
-    omega (arith, many, c.loop-atom-test.true)
 
 pub returns : goal.returns
 returns g c =

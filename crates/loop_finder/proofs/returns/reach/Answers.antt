@@ -1,20 +1,7 @@
-use Rattle.std.proofs.Common.{◌≡◌, ℕ, ◌<◌, length, get_or, arith, refl, ◌∙◌, subst, below_more}
-use Rattle.std.proofs.lemmas.List.{get_or_default}
+use Rattle.std.proofs.Common.{ℕ, ◌<◌, length, get_or, arith, below_more}
 use Rattle.order_core.specs.Marks.{IsMarked}
-use Rattle.loop_finder.proofs.Reaching.{ReachesMore-same, ReachesMore-then}
+use Rattle.loop_finder.proofs.Reaching.{ReachesMore-then}
 use Rattle.loop_finder.proofs.returns.reach.Goals as goal
-
-pub loop-router-init : goal.loop-router-init
-loop-router-init c = record {
-  reached = c.requires.reached;
-  more = ReachesMore-same c.args.seen.now c.args.reached.now.items;
-  routers = λ k below. absurd (omega (arith, below));
-  many = refl;
-  capacity = omega arith;
-}
-
-pub reach_one-requires-clause-count : goal.reach_one-requires-clause-count
-reach_one-requires-clause-count c = c.loop-router.invariant.reached.count
 
 pub loop-router-preserved : goal.loop-router-preserved
 loop-router-preserved c = record {
@@ -28,10 +15,3 @@ loop-router-preserved c = record {
   many = omega (arith, c.loop-router.invariant.many, c.reach_one.auto.seen);
   capacity = omega (arith, c.loop-router.invariant.capacity, c.reach_one.ensures.capacity);
 }
-
-pub returns-clause-routers : goal.returns-clause-routers
-returns-clause-routers c h among within =
-    let is : get_or c.args.routers.now among.0 0 ≡ h = get_or_default c.args.routers.now among.0 0 h among.1 ∙ among.2 in
-    subst (λ (x : ℕ). x < length c.args.seen.now → IsMarked c.loop-router.seen x) is
-    (λ below. c.loop-router.invariant.routers among.0 (omega (arith, among.1, c.loop-router-test.false)) (omega (arith, below, c.loop-router.invariant.many)))
-    within

@@ -1,9 +1,9 @@
-use Rattle.std.proofs.Common.{ℕ, ◌≡◌, ◌+◌, ◌⊎◌, List, length, get_or, refl, subst, sym, arith}
+use Rattle.std.proofs.Common.{ℕ, ◌+◌, ◌⊎◌, List, get_or, refl, subst, sym, arith}
 use Rattle.igp_theory.specs.declared.phase.Phase.TheVariants.{Old, New}
 use Rattle.order_core.specs.declared.turn.Turn.{Turn}
 use Rattle.loop_finder.specs.steps.Rings.{next_in}
 use Rattle.loop_finder.specs.steps.ClassSteps.{StepsBy, ClassStep, IsTagged, state_over}
-use Rattle.loop_finder.proofs.TagSteps.{old_or_new, steps_inside, ring_step, IsPartRing, IsPartRing-more, part_length, ring_whole}
+use Rattle.loop_finder.proofs.TagSteps.{old_or_new, steps_inside, ring_step, IsPartRing, IsPartRing-more, ring_whole}
 use Rattle.loop_finder.proofs.tags.write_ring.Goals as goal
 
 pub tag_of-tag-requires-clause-router : goal.tag_of-tag-requires-clause-router
@@ -33,18 +33,6 @@ loop-place-preserved g c =
       room = omega (arith, c.loop-place.invariant.room, c.add_turn.ensures.capacity);
       capacity = omega (arith, c.loop-place.invariant.capacity, c.add_turn.ensures.capacity);
     }
-
-pub add_turn-requires : goal.add_turn-requires
-add_turn-requires g c =
-    let many : length c.loop-place.ring.items ≡ c.loop-place.place =
-    part_length (state_over g.O.RouteSource.table g.N.RouteSource.table c.args.steps.now) c.args.routers.now c.loop-place.ring.items c.loop-place.place
-    c.loop-place-test.true c.loop-place.invariant.part in
-    omega (arith, many, c.loop-place.ring.ok.0, c.loop-place.invariant.room)
-
-pub returns-clause-routers : goal.returns-clause-routers
-returns-clause-routers g c =
-    (ring_whole (state_over g.O.RouteSource.table g.N.RouteSource.table c.args.steps.now) c.args.routers.now c.loop-place.ring.items c.loop-place.place
-    c.loop-place-test.false c.loop-place.invariant.part).0
 
 pub returns-clause-tags : goal.returns-clause-tags
 returns-clause-tags g c =

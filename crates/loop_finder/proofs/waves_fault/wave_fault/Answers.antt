@@ -1,6 +1,6 @@
 use Rattle.std.proofs.Common.{arith}
 use Rattle.loop_finder.proofs.CalmLaws.{clear_parts}
-use Rattle.loop_finder.proofs.ToldOfWaves.{sound_of_told, fault_of_told}
+use Rattle.loop_finder.proofs.ToldOfWaves.{told_of_wave}
 use Rattle.loop_finder.specs.Mixes.{mix_of}
 use Rattle.loop_finder.proofs.waves_fault.wave_fault.Goals as goal
 
@@ -13,29 +13,17 @@ stirred_fault-requires-clause-calm g c =
     (begins c.switch_before.new.phases (omega (arith, c.switch_before.auto.phases, c.requires.first, c.requires.ranks)) c.switch_before.ensures)
 
 pub returns-then-begun-clause-sound : goal.returns-then-begun-clause-sound
-returns-then-begun-clause-sound g c =
-    sound_of_told (mix_of g.O.RouteSource.table g.N.RouteSource.table c.args.mixed.now) c.args.ranks.now c.args.wave c.switch_before.new.phases
-    c.switch_before-2.new.phases c.stirred_fault.result c.stirred_fault.new.room.ring.items
-    (record { each = c.requires.ranks; begins = c.switch_before.ensures; ends = c.switch_before-2.ensures })
-    c.requires.parts.classes c.stirred_fault.ensures.told
+returns-then-begun-clause-sound g c = (told_of_wave c.stirred_fault.result c.stirred_fault.new.room.ring.items c.requires.parts
+    (record { each = c.requires.ranks; begins = c.switch_before.ensures; ends = c.switch_before-2.ensures }) c.stirred_fault.ensures.told).0
 
 pub returns-then-begun-clause-fault : goal.returns-then-begun-clause-fault
-returns-then-begun-clause-fault g c =
-    fault_of_told (mix_of g.O.RouteSource.table g.N.RouteSource.table c.args.mixed.now) c.args.ranks.now c.args.wave c.switch_before.new.phases
-    c.switch_before-2.new.phases c.stirred_fault.result c.stirred_fault.new.room.ring.items
-    (record { each = c.requires.ranks; begins = c.switch_before.ensures; ends = c.switch_before-2.ensures })
-    c.requires.parts.classes c.stirred_fault.ensures.told
+returns-then-begun-clause-fault g c = (told_of_wave c.stirred_fault.result c.stirred_fault.new.room.ring.items c.requires.parts
+    (record { each = c.requires.ranks; begins = c.switch_before.ensures; ends = c.switch_before-2.ensures }) c.stirred_fault.ensures.told).1
 
 pub returns-else-begun-clause-sound : goal.returns-else-begun-clause-sound
-returns-else-begun-clause-sound g c =
-    sound_of_told (mix_of g.O.RouteSource.table g.N.RouteSource.table c.args.mixed.now) c.args.ranks.now c.args.wave c.switch_before.new.phases
-    c.switch_before-2.new.phases c.classes_fault.result c.classes_fault.new.room.ring.items
-    (record { each = c.requires.ranks; begins = c.switch_before.ensures; ends = c.switch_before-2.ensures })
-    c.requires.parts.classes c.classes_fault.ensures.told
+returns-else-begun-clause-sound g c = (told_of_wave c.classes_fault.result c.classes_fault.new.room.ring.items c.requires.parts
+    (record { each = c.requires.ranks; begins = c.switch_before.ensures; ends = c.switch_before-2.ensures }) c.classes_fault.ensures.told).0
 
 pub returns-else-begun-clause-fault : goal.returns-else-begun-clause-fault
-returns-else-begun-clause-fault g c =
-    fault_of_told (mix_of g.O.RouteSource.table g.N.RouteSource.table c.args.mixed.now) c.args.ranks.now c.args.wave c.switch_before.new.phases
-    c.switch_before-2.new.phases c.classes_fault.result c.classes_fault.new.room.ring.items
-    (record { each = c.requires.ranks; begins = c.switch_before.ensures; ends = c.switch_before-2.ensures })
-    c.requires.parts.classes c.classes_fault.ensures.told
+returns-else-begun-clause-fault g c = (told_of_wave c.classes_fault.result c.classes_fault.new.room.ring.items c.requires.parts
+    (record { each = c.requires.ranks; begins = c.switch_before.ensures; ends = c.switch_before-2.ensures }) c.classes_fault.ensures.told).1

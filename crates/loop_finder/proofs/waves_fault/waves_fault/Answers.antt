@@ -14,13 +14,6 @@ returns-then-not-is_wave-clause-sound g c =
     sound_to_last (mix_of g.O.RouteSource.table g.N.RouteSource.table c.args.mixed.now) c.args.ranks.now c.loop-wave.wave c.requires.ranks (λ among.
     false≢true (c.if-not-is_wave.ensures.1 among)) c.loop-wave.invariant.sound
 
-pub returns-in-Some-clause-fault : goal.returns-in-Some-clause-fault
-returns-in-Some-clause-fault g c = record {
-  wave = c.loop-wave.wave;
-  number_is = refl;
-  is_fault = record { is_wave = c.if-not-is_wave.ensures.0 refl; before = c.loop-wave.invariant.sound; here = c.in-Some.ensures.fault };
-}
-
 pub loop-wave-preserved : goal.loop-wave-preserved
 loop-wave-preserved g c = record {
   sound = below_more (SoundWave (mix_of g.O.RouteSource.table g.N.RouteSource.table c.args.mixed.now) c.args.ranks.now) c.loop-wave.wave

@@ -7,7 +7,7 @@ use Rattle.loop_finder.specs.Faults.{Finding}
 use Rattle.loop_finder.specs.Orders.{AreFirstStates}
 use Rattle.loop_finder.specs.Soundness.{Sound}
 use Rattle.loop_finder.proofs.FaultLaws.{none_seamless}
-use Rattle.loop_finder.proofs.OrderStates.{same_state, known_after}
+use Rattle.loop_finder.proofs.OrderStates.{same_state}
 use Rattle.loop_finder.specs.Mixes.{mix_of}
 use Rattle.loop_finder.proofs.finder.Finder.order_fault.Goals as goal
 
@@ -39,24 +39,3 @@ copy_from_slice-requires g c =
     let order : IsOrder (length c.self.inside.mixed.now.net) c.args.order.now =
     subst (λ (x : Finding g.row.O.Denot g.row.N.Denot). IsOrder (length x.mixture.net) c.args.order.now) (sym c.self.view_is) c.requires in
     omega (arith, c.self.inside.order.ok.0, c.self.invariant.order_many, order_length (length c.self.inside.mixed.now.net) c.args.order.now order)
-
-pub invariant_of-self : goal.invariant_of-self
-invariant_of-self g c =
-    let order : IsOrder (length c.self.inside.mixed.now.net) c.args.order.now =
-    subst (λ (x : Finding g.row.O.Denot g.row.N.Denot). IsOrder (length x.mixture.net) c.args.order.now) (sym c.self.view_is) c.requires in
-    record {
-      parts_are = c.self.invariant.parts_are;
-      watch_is = c.self.invariant.watch_is;
-      ranks_many = c.self.invariant.ranks_many;
-      calm_is = c.self.invariant.calm_is;
-      order_many = ap length c.copy_from_slice.ensures.items ∙ order_length (length c.self.inside.mixed.now.net) c.args.order.now order;
-      order_is = subst (λ (xs : List ℕ). AreFirstStates (Sound (mix_of g.O.RouteSource.table g.N.RouteSource.table c.self.inside.mixed.now)) xs
-          c.sound_states-self-inside.result) (sym c.copy_from_slice.ensures.items)
-          (known_after (mix_of g.O.RouteSource.table g.N.RouteSource.table c.self.inside.mixed.now) c.args.order.now c.order_fault-found.result
-          c.order_fault-found.new.room.ring.items c.sound_states-self-inside.result
-          c.order_fault-found.ensures.sound c.order_fault-found.ensures.fault c.sound_states-self-inside.ensures);
-      begun_is = c.self.invariant.begun_is;
-      phases_many = c.self.invariant.phases_many;
-      later_many = c.self.invariant.later_many;
-      room_is = c.order_fault-found.ensures.room;
-    }

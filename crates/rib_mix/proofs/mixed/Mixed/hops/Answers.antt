@@ -1,4 +1,4 @@
-use Rattle.std.proofs.Common.{◌<◌, length, arith, subst, sym}
+use Rattle.std.proofs.Common.{◌<◌, ◌^◌, length, get_or, arith, subst, sym}
 use Rattle.igp_theory.specs.declared.phase.Phase.{Phase}
 use Rattle.rib_mix.specs.Answers.{IsNextAtAnEnd, IsNextOf}
 use Rattle.rib_mix.specs.Mixture.{Mixture, migration_of}
@@ -38,6 +38,12 @@ returns g c =
           x.classes c.args.router c.args.atom c.args.phase c.next_of.result)
           c.self.view_is
           (answer_of _ c.args.atom c.args.phase (use_in c.at-cell.result c.args.phase) c.next_of.result here.place (cell c.args.phase) shows);
+      least = record {
+        class = c.requires.atom;
+        address = subst (λ (x : Mixture g.row.O.Denot g.row.N.Denot). get_or x.classes.samples c.args.atom 0 < 2 ^ 32) c.self.view_is
+            (here.place.classes.classing.samples.addresses c.args.atom 0 (atom_along _ _ c.args.atom c.self.view_is c.requires.atom));
+        alike = λ p member. (λ h. h, λ h. h);
+      };
       middle = λ same. subst
           (λ (x : Mixture g.row.O.Denot g.row.N.Denot). IsNextAtAnEnd (migration_of g.O.RouteSource.table g.N.RouteSource.table x)
           x.classes c.args.router c.args.atom c.next_of.result)

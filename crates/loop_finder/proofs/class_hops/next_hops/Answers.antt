@@ -1,4 +1,0 @@
-use Rattle.loop_finder.proofs.class_hops.next_hops.Goals as goal
-
-pub returns : goal.returns
-returns g c = record { next = c.hops.result; is = c.hops.ensures.next; leads = c.hops_of.ensures }
