@@ -10,7 +10,7 @@ use Rattle.order_core.specs.Marks.{IsMarked}
 use Rattle.order_core.specs.Rings.{IsTurned}
 use Rattle.order_core.proofs.DistinctLists.{length-le_from_distinct}
 use Rattle.loop_finder.specs.steps.Live.{ArePeeled}
-use Rattle.loop_finder.specs.steps.Walks.{BeginsAt, IsMarkedHop, IsWalk}
+use Rattle.loop_finder.specs.steps.Walks.{PathBegins, IsMarkedHop, IsWalk}
 use Rattle.loop_finder.proofs.LiveLaws.{marked_below, live_from_marked, marked_from_live}
 use Rattle.loop_finder.proofs.RingLaws.{each_to_next_push, all_from_each}
 
@@ -86,7 +86,7 @@ live_hop step marks n s u h many peeled some is = record {
 -- the ring that a walk ends in, turned, is the one that is told
 pub found_from_walk : (step : ℕ → ℕ → Type 0) (marks : List Bool) (n start place : ℕ) (path ring : List ℕ) → length marks ≡ n →
     ArePeeled step marks → IsMarked marks start
-    → ((q : ℕ) → IsMarked marks q → start ≤ q) → BeginsAt start path → IsWalk step marks path place → IsTurned (drop place path) ring → IsFoundRing step n ring
+    → ((q : ℕ) → IsMarked marks q → start ≤ q) → PathBegins start path → IsWalk step marks path place → IsTurned (drop place path) ring → IsFoundRing step n ring
 found_from_walk step marks n start place path ring many peeled some lowest begins walk turned = record {
   start = start;
   visited = begins.0;

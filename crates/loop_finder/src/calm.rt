@@ -93,7 +93,7 @@ impl<'s> StepGraph for WaveSteps<'s> {
 }
 
 /// Of none of some parts is anything known, for any ranking.
-pub fn none_known(alloc: Global, parts: &[Part<'_>]) -> Result<Vec<u32>, OutOfMemory>
+pub(crate) fn none_known(alloc: Global, parts: &[Part<'_>]) -> Result<Vec<u32>, OutOfMemory>
     ensures { IfOk result (λ calm. (ranks : List ℕ) → AreCalm parts.now ranks calm.items) }
 {
     let calm = vec![in alloc; 0; parts.len()]?;
@@ -102,7 +102,7 @@ pub fn none_known(alloc: Global, parts: &[Part<'_>]) -> Result<Vec<u32>, OutOfMe
 
 /// Makes what is known of some parts for one ranking hold for another. In the waves before each changed rank of a part's
 /// routers nothing changes for the part; from there on it is looked at.
-pub fn renew(
+pub(crate) fn renew(
     parts: &[Part<'_>],
     watch: &[Places],
     routers: u32,
@@ -301,7 +301,7 @@ fn returns_in(
 }
 
 /// The least of some numbers.
-pub fn least_of(numbers: &[u32]) -> u32
+pub(crate) fn least_of(numbers: &[u32]) -> u32
     ensures { (k : ℕ) → k < length numbers.now → result ≤ slice_index numbers.now k }
 {
     let mut least = u32::MAX;

@@ -2,7 +2,7 @@ use crate::end_lists::EndLists;
 use crate::ends::Ends;
 
 /// What stands for the layer of a router that has none.
-pub const NO_LAYER: u32 = u32::MAX;
+pub(crate) const NO_LAYER: u32 = u32::MAX;
 
 /// How a chain of routers goes on after one of them.
 #[derive(Clone, Copy)]
@@ -18,7 +18,7 @@ enum Link {
 /// Gives layers, falling, to a router and those after it, where they are a chain: each steps to the next one and else only to
 /// routers that have layers, and the last to no others. These are all below the layer that is given next; tells
 /// the one that is given next after them.
-pub fn close_chain(
+pub(crate) fn close_chain(
     lists: &EndLists<'_>,
     first: u32,
     next: u32,
@@ -104,13 +104,13 @@ fn are_below(routers: &[u32], next: u32, numbers: &[u32]) -> bool {
 }
 
 /// Sets the number of a router.
-pub fn set_number(numbers: &mut [u32], router: u32, number: u32) {
+pub(crate) fn set_number(numbers: &mut [u32], router: u32, number: u32) {
     if let Some(own) = numbers.get_mut(router as usize) {
         *own = number;
     }
 }
 
 /// The number of a router; that of a lowest layer where it isn't there.
-pub fn number_of(numbers: &[u32], router: u32) -> u32 {
+pub(crate) fn number_of(numbers: &[u32], router: u32) -> u32 {
     numbers.get(router as usize).copied().unwrap_or(0)
 }

@@ -18,7 +18,7 @@ use route_core::RouteSource;
 
 /// The fault of a state that came of a sound one by a change of a router, which was in this phase. Looked at are the parts
 /// at the places that such a change concerns, and of those in which the router's hops change only the walks through it.
-pub fn turned_fault<O: RouteSource, N: RouteSource>(
+pub(crate) fn turned_fault<O: RouteSource, N: RouteSource>(
     mixed: &Mixed<'_, O, N>,
     parts: &[Part<'_>],
     places: &[usize],

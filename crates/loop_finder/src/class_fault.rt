@@ -21,7 +21,7 @@ use rib_mix::{Mixed, Phase};
 use route_core::RouteSource;
 
 /// The fault of the steps of two states for a class, at the class's least address.
-pub fn class_fault<O: RouteSource, N: RouteSource>(
+pub(crate) fn class_fault<O: RouteSource, N: RouteSource>(
     mixed: &Mixed<'_, O, N>,
     first: &[Phase],
     last: &[Phase],
@@ -50,7 +50,7 @@ pub fn class_fault<O: RouteSource, N: RouteSource>(
 }
 
 /// The target of a class, none where its addresses have none.
-pub fn class_target<O: RouteSource, N: RouteSource>(
+pub(crate) fn class_target<O: RouteSource, N: RouteSource>(
     mixed: &Mixed<'_, O, N>,
     atom: u32,
 ) -> Option<Prefix>

@@ -11,7 +11,7 @@ use route_core::RouteSource;
 
 /// The routers that a router steps to in a phase for the addresses of a class, where it's known which routers have to
 /// pass its packets on.
-pub fn class_hops<'m, O: RouteSource, N: RouteSource>(
+pub(crate) fn class_hops<'m, O: RouteSource, N: RouteSource>(
     mixed: &'m Mixed<'_, O, N>,
     atom: u32,
     phase: Phase,
@@ -31,7 +31,7 @@ pub fn class_hops<'m, O: RouteSource, N: RouteSource>(
 }
 
 /// The routers that a router steps to in a phase for the addresses of a class, where it has to pass their packets on.
-pub fn next_hops<'m, O: RouteSource, N: RouteSource>(
+pub(crate) fn next_hops<'m, O: RouteSource, N: RouteSource>(
     mixed: &'m Mixed<'_, O, N>,
     atom: u32,
     phase: Phase,

@@ -13,7 +13,7 @@ use std::marker::Model;
 
 /// The steps of two states, for the addresses of one class: each router has the hops of both.
 #[derive(Drop)]
-pub struct ClassSteps<'s, 'm, O: RouteSource, N: RouteSource> {
+pub(crate) struct ClassSteps<'s, 'm, O: RouteSource, N: RouteSource> {
     mixed: &'s Mixed<'m, O, N>,
     first: &'s [Phase],
     last: &'s [Phase],

@@ -14,7 +14,7 @@ use rib_mix::{Mixed, Phase};
 use route_core::RouteSource;
 
 /// The fault of the steps of two states, for the first class that has one.
-pub fn classes_fault<O: RouteSource, N: RouteSource>(
+pub(crate) fn classes_fault<O: RouteSource, N: RouteSource>(
     mixed: &Mixed<'_, O, N>,
     parts: &[Part<'_>],
     first: &[Phase],

@@ -16,7 +16,7 @@ use std::marker::Model;
 
 /// What is read of a class: the hops of all routers in both networks, of each as if it had to pass the class's packets on.
 #[derive(Drop)]
-pub struct EndLists<'m> {
+pub(crate) struct EndLists<'m> {
     all: Vec<Ends<'m>>,
 }
 
@@ -76,7 +76,7 @@ impl<'m> EndLists<'m> {
 }
 
 /// Reads a class, and tells the routers that are read: those that don't do the same as for the class that is known.
-pub fn read_class<'m, O: RouteSource, N: RouteSource>(
+pub(crate) fn read_class<'m, O: RouteSource, N: RouteSource>(
     mixed: &'m Mixed<'_, O, N>,
     routers: u32,
     atom: u32,

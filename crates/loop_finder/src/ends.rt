@@ -4,7 +4,7 @@ ghost use Rattle.loop_finder.specs.steps.EndPairs.{new_hops, old_hops};
 
 /// The hops of a router in both networks. One hop in each is told itself, so that it isn't looked up again.
 #[derive(Clone, Copy)]
-pub enum Ends<'m> {
+pub(crate) enum Ends<'m> {
     /// This hop alone, in both.
     One(u32),
     /// One hop in the old network, and another one in the new one.

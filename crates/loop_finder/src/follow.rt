@@ -72,7 +72,7 @@ impl<'s> StepGraph for PartSteps<'s> {
 }
 
 /// Whether all routers move, and no walk over the steps of a part in two states returns to a router.
-pub fn passes_part_never(
+pub(crate) fn passes_part_never(
     part: &Part<'_>,
     first: &[Phase],
     last: &[Phase],
@@ -98,7 +98,7 @@ pub fn passes_part_never(
 }
 
 /// Whether all routers move, and no walk over the steps of a part in two states returns.
-pub fn is_clear(
+pub(crate) fn is_clear(
     part: &Part<'_>,
     first: &[Phase],
     last: &[Phase],

@@ -1,7 +1,7 @@
 ghost use Rattle.std.specs.Prelude.{◌≡◌, ◌<◌, ◌↔◌, ◌⊎◌, ℕ, Contains};
 
 /// Routers, numbered from 0, and their steps for one address.
-pub trait StepGraph {
+pub(crate) trait StepGraph {
     /// How many routers there are.
     ghost size: { Self → ℕ };
 

@@ -5,7 +5,7 @@ use crate::fault::Fault;
 
 /// How many states from the first on an order shares with another of as many routers, of whose states so many are asked
 /// about.
-pub fn shared_states(kept: &[u32], states: usize, order: &[u32]) -> usize
+pub(crate) fn shared_states(kept: &[u32], states: usize, order: &[u32]) -> usize
     requires { length kept.now ≡ length order.now }
     ensures within { result ≤ states }
     ensures same { (k u : ℕ) → k < result → state_of order.now k u ≡ state_of kept.now k u }
@@ -30,7 +30,7 @@ fn shared_places(one: &[u32], other: &[u32]) -> usize
 
 /// How many states of an order, from the first on, are sound by what was found of it: all of them, or those before the
 /// first unsound one.
-pub fn sound_states(found: Option<(u32, Fault)>, order: &[u32]) -> usize
+pub(crate) fn sound_states(found: Option<(u32, Fault)>, order: &[u32]) -> usize
     ensures { MatchOption found (result ≡ 2 * length order.now + 1) (λ first. result ≡ first.0) }
 {
     match found {

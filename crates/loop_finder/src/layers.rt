@@ -14,7 +14,7 @@ use std::alloc::Global;
 /// number and layer in one place: D. Pearce, Information Processing Letters 116 (2016), 47): each strongly connected part gets
 /// a layer, above those of all parts to which steps lead from it.
 #[derive(Drop)]
-pub struct Layers {
+pub(crate) struct Layers {
     /// The layer of each router. While it has none it's the highest number of the routers that it is known to lead to.
     numbers: Vec<u32>,
     /// What the search knows of each router that it reached.

@@ -13,7 +13,12 @@ use crate::live::mark_all;
 /// Marks the routers to which a walk over the steps of both networks may return, where it's known which were marked before the
 /// steps of some routers changed: those of strongly connected parts, by the layers of the routers to which steps lead from these and
 /// from the marked ones. The others keep their marks. All routers are marked where some step leads to a higher layer.
-pub fn mark_returns(lists: &EndLists<'_>, changed: &[u32], layers: &mut Layers, marks: &mut [bool])
+pub(crate) fn mark_returns(
+    lists: &EndLists<'_>,
+    changed: &[u32],
+    layers: &mut Layers,
+    marks: &mut [bool],
+)
     requires olds { length marks.old ≡ length lists.now.olds }
     requires news { length marks.old ≡ length lists.now.news }
     ensures { MarksAgain (EndStep lists.now) changed.now marks.old marks.new }

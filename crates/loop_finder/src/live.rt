@@ -9,7 +9,7 @@ use crate::graph::StepGraph;
 
 /// Marks the routers from which steps lead on for ever: all routers at first, less those that step to no
 /// marked one, until none is left to be taken.
-pub fn mark_live<G: StepGraph>(graph: &G, live: &mut [bool])
+pub(crate) fn mark_live<G: StepGraph>(graph: &G, live: &mut [bool])
     requires { length live.old ≡ G.size graph.now }
     ensures peeled { ArePeeled (G.step graph.now) live.new }
     ensures few { length live.new < 2 ^ 32 }
@@ -22,7 +22,7 @@ pub fn mark_live<G: StepGraph>(graph: &G, live: &mut [bool])
 }
 
 /// Marks every router.
-pub fn mark_all(marks: &mut [bool])
+pub(crate) fn mark_all(marks: &mut [bool])
     ensures { (r : ℕ) → r < length marks.new → IsMarked marks.new r }
 {
     for mark in marks.iter_mut() {
@@ -31,7 +31,7 @@ pub fn mark_all(marks: &mut [bool])
 }
 
 /// Takes the mark from every router.
-pub fn mark_none(marks: &mut [bool])
+pub(crate) fn mark_none(marks: &mut [bool])
     ensures { (r : ℕ) → ¬ IsMarked marks.new r }
 {
     for mark in marks.iter_mut() {
@@ -40,7 +40,7 @@ pub fn mark_none(marks: &mut [bool])
 }
 
 /// Whether no router is marked.
-pub fn none_marked(marks: &[bool]) -> bool
+pub(crate) fn none_marked(marks: &[bool]) -> bool
     ensures { OnTrue result ((u : ℕ) → ¬ IsMarked marks.now u) }
 {
     let mut some = false;
@@ -105,7 +105,7 @@ fn peel_one<G: StepGraph>(graph: &G, live: &mut [bool], u: u32) -> bool
 }
 
 /// The lowest-numbered marked hop of a router.
-pub fn lowest_marked_hop<G: StepGraph>(graph: &G, marks: &[bool], router: u32) -> Option<u32>
+pub(crate) fn lowest_marked_hop<G: StepGraph>(graph: &G, marks: &[bool], router: u32) -> Option<u32>
     requires { router < G.size graph.now }
     ensures { LowestMarkedHop (G.step graph.now) marks.now router result }
 {
@@ -146,14 +146,14 @@ fn marked_one(marks: &[bool], router: u32) -> Option<u32>
 }
 
 /// Whether a router is marked.
-pub fn is_marked(marks: &[bool], router: u32) -> bool
+pub(crate) fn is_marked(marks: &[bool], router: u32) -> bool
     ensures { IsTrue result ↔ IsMarked marks.now router }
 {
     marks.get(router as usize).copied().unwrap_or(false)
 }
 
 /// The lowest-numbered marked router of all.
-pub fn first_marked(marks: &[bool]) -> Option<u32>
+pub(crate) fn first_marked(marks: &[bool]) -> Option<u32>
     requires { length marks.now < 2 ^ 32 }
     ensures { FirstMarked marks.now result }
 {

@@ -22,7 +22,7 @@ use rib_mix::{Mixed, Phase};
 use route_core::RouteSource;
 
 /// The fault of a state.
-pub fn state_fault<O: RouteSource, N: RouteSource>(
+pub(crate) fn state_fault<O: RouteSource, N: RouteSource>(
     mixed: &Mixed<'_, O, N>,
     parts: &[Part<'_>],
     phases: &[Phase],
@@ -40,7 +40,7 @@ pub fn state_fault<O: RouteSource, N: RouteSource>(
 }
 
 /// Whether the state in which every router is in its old phase is sound. The room may keep the ring of its fault.
-pub fn begin_is_sound<O: RouteSource, N: RouteSource>(
+pub(crate) fn begin_is_sound<O: RouteSource, N: RouteSource>(
     mixed: &Mixed<'_, O, N>,
     parts: &[Part<'_>],
     phases: &mut [Phase],
@@ -63,7 +63,7 @@ pub fn begin_is_sound<O: RouteSource, N: RouteSource>(
 /// states are known to be sound from the first on.
 ///
 /// After a change only the walks through the changed router are followed, since the state before was sound.
-pub fn order_fault<O: RouteSource, N: RouteSource>(
+pub(crate) fn order_fault<O: RouteSource, N: RouteSource>(
     mixed: &Mixed<'_, O, N>,
     parts: &[Part<'_>],
     watch: &[Places],

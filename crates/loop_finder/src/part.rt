@@ -24,7 +24,7 @@ const DIGEST_FACTOR: u64 = 0x9e37_79b9_7f4a_7c15;
 /// The hops of a router by which a walk may return to it, in each phase: those of its entry where one of them is marked, else
 /// none.
 #[derive(Drop)]
-pub struct Row<'m> {
+pub(crate) struct Row<'m> {
     old: &'m [u32],
     middle: &'m [u32],
     new: &'m [u32],
@@ -84,7 +84,7 @@ impl<'m> Row<'m> {
 /// The part of a class's steps that loops can take: for each router and phase the hops by which a walk over the
 /// steps of both networks may return to the router.
 #[derive(Drop)]
-pub struct Part<'m> {
+pub(crate) struct Part<'m> {
     atom: u32,
     moves: bool,
     /// A number that parts share in which the same routers are marked, so that most others are told apart at once.
@@ -271,7 +271,7 @@ fn is_among(others: &[u32], marks: &[bool], router: u32) -> bool
 }
 
 /// A number made of the marked routers.
-pub fn digest_of(marks: &[bool]) -> u64 {
+pub(crate) fn digest_of(marks: &[bool]) -> u64 {
     let mut digest = 0u64;
     for mark in marks {
         digest = digest

@@ -20,7 +20,7 @@ use std::alloc::Global;
 
 /// What parts are made with: what was read of the latest class, and what is known of it.
 #[derive(Drop)]
-pub struct Making<'m> {
+pub(crate) struct Making<'m> {
     /// The class, none before the first.
     pub known: Option<u32>,
     /// What was read of it.
@@ -88,7 +88,7 @@ impl<'m> Making<'m> {
 ///
 /// Takes time of the classes and the routers, and of the classes and the parts. Only those steps of a class are searched to
 /// which steps lead from routers that don't do the same as for the class before.
-pub fn parts_of<'m, O: RouteSource, N: RouteSource>(
+pub(crate) fn parts_of<'m, O: RouteSource, N: RouteSource>(
     alloc: Global,
     mixed: &'m Mixed<'_, O, N>,
 ) -> Result<Vec<Part<'m>>, OutOfMemory>

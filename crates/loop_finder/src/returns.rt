@@ -10,7 +10,7 @@ use crate::live::mark_none;
 use crate::ring::visit;
 
 /// Whether steps lead from a router back to it.
-pub fn may_return<G: StepGraph>(
+pub(crate) fn may_return<G: StepGraph>(
     graph: &G,
     router: u32,
     seen: &mut [bool],

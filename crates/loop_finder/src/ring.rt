@@ -5,13 +5,13 @@ ghost use Rattle.igp_theory.specs.Loops.{IsFoundRing};
 ghost use Rattle.order_core.specs.Marks.{IsMarked};
 ghost use Rattle.order_core.specs.Rings.{IsTurned};
 ghost use Rattle.loop_finder.specs.steps.Live.{ArePeeled};
-ghost use Rattle.loop_finder.specs.steps.Walks.{BeginsAt, IsMarkedHop, IsWalk, PlaceOf, ReturnsNever};
+ghost use Rattle.loop_finder.specs.steps.Walks.{PathBegins, IsMarkedHop, IsWalk, PlaceOf, ReturnsNever};
 
 use crate::graph::StepGraph;
 use crate::live::{first_marked, lowest_marked_hop, mark_live};
 
 /// Finds the ring of steps that is told where there is one, and leaves it in `path`; whether there is one.
-pub fn find_ring<G: StepGraph>(graph: &G, live: &mut [bool], path: &mut Vec<u32>) -> bool
+pub(crate) fn find_ring<G: StepGraph>(graph: &G, live: &mut [bool], path: &mut Vec<u32>) -> bool
     requires size { length live.old ≡ G.size graph.now }
     requires room { length live.old ≤ vec_capacity path.old }
     ensures none { OnFalse result (ReturnsNever (G.step graph.now)) }
@@ -36,7 +36,7 @@ fn walk<G: StepGraph>(graph: &G, live: &[bool], start: u32, path: &mut Vec<u32>)
     requires peeled { ArePeeled (G.step graph.now) live.now }
     requires start { IsMarked live.now start }
     requires room { length live.now ≤ vec_capacity path.old }
-    ensures begins { BeginsAt start path.new.items }
+    ensures begins { PathBegins start path.new.items }
     ensures walk { IsWalk (G.step graph.now) live.now path.new.items result }
     ensures capacity { vec_capacity path.old ≤ vec_capacity path.new }
 {
@@ -54,7 +54,7 @@ fn walk<G: StepGraph>(graph: &G, live: &[bool], start: u32, path: &mut Vec<u32>)
 }
 
 /// Adds a router for which there is room.
-pub fn visit(path: &mut Vec<u32>, router: u32)
+pub(crate) fn visit(path: &mut Vec<u32>, router: u32)
     requires { vec_len path.old < vec_capacity path.old }
     ensures items { path.new.items ≡ path.old.items ++ router ∷ [] }
     ensures capacity { vec_capacity path.old ≤ vec_capacity path.new }

@@ -7,7 +7,7 @@ use std::alloc::Global;
 
 /// Room to work in, made once.
 #[derive(Drop)]
-pub struct Room {
+pub(crate) struct Room {
     /// For each router whether it has to pass packets on.
     pub forwards: Vec<bool>,
     /// For each router whether it's live.

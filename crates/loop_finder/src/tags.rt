@@ -12,7 +12,7 @@ use rib_mix::Phase;
 use route_core::RouteSource;
 
 /// Writes the turns of a ring: its routers with their tags.
-pub fn write_ring<O: RouteSource, N: RouteSource>(
+pub(crate) fn write_ring<O: RouteSource, N: RouteSource>(
     steps: &ClassSteps<'_, '_, O, N>,
     routers: &[u32],
     ring: &mut Vec<Turn>,

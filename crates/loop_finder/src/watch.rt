@@ -9,7 +9,7 @@ use std::marker::Model;
 
 /// The places of the parts that a change of a router may make unsound, ascending.
 #[derive(Drop)]
-pub struct Places {
+pub(crate) struct Places {
     all: Vec<usize>,
 }
 
@@ -60,7 +60,11 @@ fn add_place(
 }
 
 /// For each router the places of the parts that a change of it may make unsound.
-pub fn watch_of(alloc: Global, parts: &[Part<'_>], routers: u32) -> Result<Vec<Places>, OutOfMemory>
+pub(crate) fn watch_of(
+    alloc: Global,
+    parts: &[Part<'_>],
+    routers: u32,
+) -> Result<Vec<Places>, OutOfMemory>
     requires { All (λ part. length part.rows ≡ routers) parts.now }
     ensures { IfOk result (λ watch. IsWatch parts.now routers watch.items) }
 {

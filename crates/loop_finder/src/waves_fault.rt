@@ -26,7 +26,7 @@ use route_core::RouteSource;
 ///
 /// `calm` tells for each part before which wave it is calm: where the first state of such a wave is sound, all its states
 /// are sound for the class of the part.
-pub fn waves_fault<O: RouteSource, N: RouteSource>(
+pub(crate) fn waves_fault<O: RouteSource, N: RouteSource>(
     mixed: &Mixed<'_, O, N>,
     parts: &[Part<'_>],
     begun: bool,

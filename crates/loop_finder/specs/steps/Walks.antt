@@ -20,8 +20,8 @@ LowestMarkedHop step marks u None = (h : ℕ) → step u h → ¬ IsMarked marks
 LowestMarkedHop step marks u (Some h) = IsMarkedHop step marks u h
 
 -- a path begins at a router
-abbrev pub BeginsAt : ℕ → List ℕ → Type 0
-BeginsAt start path = (visited : List ℕ) × (path ≡ start ∷ visited)
+abbrev pub PathBegins : ℕ → List ℕ → Type 0
+PathBegins start path = (visited : List ℕ) × (path ≡ start ∷ visited)
 
 -- a walk, each time to the lowest-numbered marked hop, over distinct routers; the hop of the last one is the router at
 -- this place
