@@ -1,16 +1,9 @@
 use Rattle.std.proofs.Common.{◌+◌, ℕ, List, length, arith, subst, sym}
 use Rattle.precedence_set.specs.steps.Chaining.{parents_in}
 use Rattle.precedence_set.proofs.LayerFacts.{pair_at_below}
-use Rattle.precedence_set.proofs.ChainFacts.{AreParents, AreParents-begin, AreParents-passed, AreParents-more, parents_lowest}
+use Rattle.precedence_set.proofs.ChainFacts.{AreParents, AreParents-passed, AreParents-more, parents_lowest}
 use Rattle.precedence_set.proofs.chaining.find_parents.Goals.{then-layers-u, else-layers-u}
 use Rattle.precedence_set.proofs.chaining.find_parents.Goals as goal
-
-pub loop-i-init : goal.loop-i-init
-loop-i-init c = AreParents-begin c.args.pairs.now c.args.layers.now c.forget_parents.new.parents 4294967295 (omega (
-  arith,
-  c.requires.parents_length,
-  c.forget_parents.auto.parents,
-)) c.forget_parents.ensures
 
 pub loop-i-preserved : goal.loop-i-preserved
 loop-i-preserved c = elim c.if-layers-u.branch [

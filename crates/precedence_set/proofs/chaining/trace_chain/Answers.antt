@@ -1,7 +1,7 @@
 -- Each step goes back to the parent of the router after it.
 use Rattle.std.proofs.Common.{◌≡◌, ◌-◌, ℕ, zero, suc, length, length-set, arith, subst, refl, set, ◌∙◌}
 use Rattle.precedence_set.specs.steps.Chaining.{trace}
-use Rattle.precedence_set.proofs.ChainFacts.{IsTraced, IsTraced-begin, IsTraced-down, IsChain-traced, IsChain-none, some_in_last, count_few, rank_few}
+use Rattle.precedence_set.proofs.ChainFacts.{IsTraced, IsTraced-begin, IsTraced-down, IsChain-traced, some_in_last, count_few, rank_few}
 use Rattle.precedence_set.proofs.chaining.trace_chain.Goals as goal
 
 by_count : (n : ℕ) → ¬ (n ≡ 0) → suc (n - 1) ≡ n
@@ -85,6 +85,3 @@ returns c =
     none c.loop-k.invariant in
     IsChain-traced (length c.args.layers.now) c.args.pairs.now c.args.layers.now c.loop-k.out c.args.count traced c.requires.count
     (omega (arith, few, c.requires.count, c.requires.out_length, c.loop-k.auto.out, length-set {A = ℕ}))
-
-pub returns-then-count-eq0 : goal.returns-then-count-eq0
-returns-then-count-eq0 c = IsChain-none c.args.pairs.now c.args.layers.now c.args.out.now c.args.count c.if-count-eq0.true c.requires.count

@@ -2,7 +2,7 @@
 use Rattle.std.proofs.Common.{ℕ, ◌<◌, Option, subst, sym}
 use Rattle.precedence_set.specs.steps.Walking.{walk}
 use Rattle.precedence_set.proofs.SuccessorFacts.{IsFirstFrom-first, IsFirstFrom-next, IsWalked, IsWalked-begin, IsWalked-step, left_after}
-use Rattle.precedence_set.proofs.SuccessorFacts.{left_after-smaller, lowest-after, lowest-marked, lowest-lowest, lowest-none}
+use Rattle.precedence_set.proofs.SuccessorFacts.{left_after-smaller, lowest-after, lowest-lowest, lowest-none}
 use Rattle.precedence_set.proofs.following.lowest_marked_after.Goals as goal
 
 pub loop-at-init : goal.loop-at-init
@@ -27,9 +27,6 @@ loop-at-smaller c =
 
 pub returns-clause-after : goal.returns-clause-after
 returns-clause-after c = lowest-after (walk c.args.pairs.now c.args.x c.loop-at.at) c.args.marks.now _ c.loop-at.invariant
-
-pub returns-clause-marked : goal.returns-clause-marked
-returns-clause-marked c = lowest-marked (walk c.args.pairs.now c.args.x c.loop-at.at) c.args.marks.now _ c.loop-at.invariant
 
 pub returns-clause-lowest : goal.returns-clause-lowest
 returns-clause-lowest c = lowest-lowest c.args.pairs.now c.args.marks.now c.args.x c.loop-at.at _ c.loop-at.invariant c.in_default.not-Some

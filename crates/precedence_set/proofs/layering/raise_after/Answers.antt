@@ -30,12 +30,6 @@ loop-at-preserved c =
     IsRaising-step c.args.pairs.now c.args.layers.now c.loop-at.layers c.args.u (get_or c.args.layers.now c.args.u 0 + 1) c.in-Some.number c.next-at.result _ r
     (omega (arith, v_in, c.loop-at.auto.layers)) first c.max.ensures
 
-pub returns-clause-no_lower : goal.returns-clause-no_lower
-returns-clause-no_lower c = c.loop-at.invariant.no_lower
-
 pub returns-clause-above : goal.returns-clause-above
 returns-clause-above c = HasPassed-end c.args.pairs.now c.args.u c.loop-at.at (λ v. get_or c.args.layers.now c.args.u 0 + 1 ≤ rank_of c.loop-at.layers v)
     c.loop-at.invariant.walked c.in_default.not-Some
-
-pub returns-clause-from : goal.returns-clause-from
-returns-clause-from c = c.loop-at.invariant.from

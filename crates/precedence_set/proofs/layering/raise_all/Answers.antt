@@ -2,11 +2,8 @@ use Rattle.std.proofs.Common.{ℕ, ◌≡◌, arith, subst, sym, length}
 use Rattle.order_core.specs.Rankings.{IsRanking}
 use Rattle.precedence_set.specs.Layers.{AreLayers}
 use Rattle.precedence_set.proofs.LayerFacts.{layers_rank}
-use Rattle.precedence_set.proofs.RaiseFacts.{AreRaised, AreRaised-begin, AreRaised-step, AreLayers-raised}
+use Rattle.precedence_set.proofs.RaiseFacts.{AreRaised, AreRaised-step, AreLayers-raised}
 use Rattle.precedence_set.proofs.layering.raise_all.Goals as goal
-
-pub loop-k-init : goal.loop-k-init
-loop-k-init c = AreRaised-begin c.args.pairs.now c.args.order.now c.clear_numbers.new.numbers c.clear_numbers.ensures
 
 pub loop-k-preserved : goal.loop-k-preserved
 loop-k-preserved c =

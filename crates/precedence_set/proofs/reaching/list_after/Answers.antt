@@ -1,19 +1,12 @@
 -- Each step of the walk lists the router where the next pair leads.
 use Rattle.std.proofs.Common.{◌≡◌, ℕ, ◌<◌, Bool, List, Option, length, get_or, arith, subst, sym}
 use Rattle.order_core.specs.Marks.{IsMarked}
-use Rattle.order_core.proofs.Marked.{marked_count-le, marked_in}
+use Rattle.order_core.proofs.Marked.{marked_in}
 use Rattle.precedence_set.specs.steps.Marks.{AreListed, marked_list}
 use Rattle.precedence_set.specs.steps.Walking.{walk}
 use Rattle.precedence_set.proofs.ReachFacts.{IsReachingOn, IsReachingOn-begin, IsReachingOn-step}
 use Rattle.precedence_set.proofs.SuccessorFacts.{HasPassed-end, IsFirstFrom-first, IsFirstFrom-next, left_after, left_after-smaller}
 use Rattle.precedence_set.proofs.reaching.list_after.Goals as goal
-
-pub offset_bounds-list-k : goal.offset_bounds-list-k
-offset_bounds-list-k c =
-    omega (arith, c.requires.place, c.requires.listed.counted, marked_count-le c.args.marks.now, c.requires.marks_length, c.requires.small)
-
-pub bounds-list-k : goal.bounds-list-k
-bounds-list-k c = omega (arith, c.requires.place, c.requires.listed.counted, marked_count-le c.args.marks.now, c.requires.marks_length)
 
 -- the router at a place in use is one of the marked ones
 listed_in : (marks : List Bool) (list : List ℕ) (count k : ℕ) → AreListed marks list count → k < count → length marks ≡ length list →

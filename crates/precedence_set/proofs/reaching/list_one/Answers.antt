@@ -6,20 +6,10 @@ use Rattle.order_core.proofs.Marked.{marked_count-room}
 use Rattle.precedence_set.proofs.ReachFacts.{AreListed-more}
 use Rattle.precedence_set.proofs.reaching.list_one.Goals as goal
 
-pub offset_bounds-list-count : goal.offset_bounds-list-count
-offset_bounds-list-count c =
-    let room = marked_count-room c.args.marks.now c.args.w c.requires.w_in (λ marked. false≢true (sym c.if-marks-w.false ∙ marked)) in
-    omega (arith, room, c.requires.listed.counted, c.requires.marks_length, c.requires.small)
-
 pub bounds-list-count : goal.bounds-list-count
 bounds-list-count c =
     let room = marked_count-room c.args.marks.now c.args.w c.requires.w_in (λ marked. false≢true (sym c.if-marks-w.false ∙ marked)) in
     omega (arith, room, c.requires.listed.counted, c.requires.marks_length)
-
-pub overflow_add-result : goal.overflow_add-result
-overflow_add-result c =
-    let room = marked_count-room c.args.marks.now c.args.w c.requires.w_in (λ marked. false≢true (sym c.if-marks-w.false ∙ marked)) in
-    omega (arith, room, c.requires.listed.counted, c.requires.marks_length, c.requires.small)
 
 pub returns-clause-listed : goal.returns-clause-listed
 returns-clause-listed c =

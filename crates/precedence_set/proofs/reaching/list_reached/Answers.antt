@@ -1,15 +1,9 @@
 -- Each turn of the loop walks over the pairs from one router more.
-use Rattle.std.proofs.Common.{arith}
-use Rattle.order_core.proofs.Marked.{marked_count-le}
 use Rattle.precedence_set.proofs.ReachFacts.{AreListed-none, IsReaching-step, IsReaching-end}
 use Rattle.precedence_set.proofs.reaching.list_reached.Goals as goal
 
 pub list_one-count-requires-clause-listed : goal.list_one-count-requires-clause-listed
 list_one-count-requires-clause-listed c = AreListed-none c.unmark_all.new.marks c.args.list.now c.unmark_all.ensures
-
-pub loop-k-smaller : goal.loop-k-smaller
-loop-k-smaller c =
-    omega (arith, c.loop-k-test.true, c.loop-k.invariant.listed.counted, marked_count-le c.loop-k.marks, c.requires.marks_length)
 
 pub loop-k-preserved : goal.loop-k-preserved
 loop-k-preserved c =
@@ -21,6 +15,3 @@ loop-k-preserved c =
 pub returns-clause-complete : goal.returns-clause-complete
 returns-clause-complete c =
     IsReaching-end c.args.pairs.now c.args.u c.args.v c.loop-k.marks c.loop-k.list c.loop-k.k c.loop-k.count c.loop-k-test.false c.loop-k.invariant
-
-pub returns-clause-within : goal.returns-clause-within
-returns-clause-within c = omega (arith, c.loop-k.invariant.listed.counted, marked_count-le c.loop-k.marks, c.requires.marks_length)

@@ -70,15 +70,6 @@ loop-at-preserved c =
     c.free_one-count.ensures.counts c.free_one-count.ensures.count c.free_one-count.ensures.order c.free_one-count.ensures.same_count
     c.free_one-count.ensures.same_order)
 
-pub returns-clause-listing : goal.returns-clause-listing
-returns-clause-listing c = c.loop-at.invariant.listing
-
-pub returns-clause-within : goal.returns-clause-within
-returns-clause-within c = c.loop-at.invariant.within
-
 pub returns-clause-counted : goal.returns-clause-counted
 returns-clause-counted c = IsFreeing-end (length c.loop-at.order) c.args.pairs.now c.loop-at.counts c.loop-at.order c.args.k c.loop-at.count c.loop-at.at
     c.loop-at.invariant c.in_default.not-Some
-
-pub returns-clause-placed : goal.returns-clause-placed
-returns-clause-placed c = c.loop-at.invariant.before

@@ -32,14 +32,6 @@ list_after-count-requires-clause-listed c = elim (cases_lt c.loop-k.k c.loop-k.c
       ))
 ]
 
-pub loop-k-preserved : goal.loop-k-preserved
-loop-k-preserved c = record {
-  placed = omega (arith, c.list_after-count.ensures.placed);
-  within = c.list_after-count.ensures.within;
-  listing = c.list_after-count.ensures.listing;
-  counted = c.list_after-count.ensures.counted;
-}
-
 pub returns : goal.returns
 returns c = IsTopological-whole (length c.loop-k.order) c.args.pairs.now c.loop-k.counts c.loop-k.order c.loop-k.count c.loop-k.invariant.listing
     (omega (arith, c.loop-k.invariant.placed, c.loop-k.invariant.within)) (omega arith)

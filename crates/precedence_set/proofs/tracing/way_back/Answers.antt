@@ -2,7 +2,7 @@
 use Rattle.std.proofs.Common.{◌≡◌, ◌≢◌, true, false, Option, Some, None, eqb, length, length-set, arith, refl, sym, ap, ◌∙◌, ℕ}
 use Rattle.std.specs.Option.{option_eq}
 use Rattle.std.proofs.lemmas.Bool.{eq-eqb, eqb-true, false≢true}
-use Rattle.precedence_set.proofs.TraceFacts.{IsWalking-begin, IsWalking-end, IsWalking-step, IsLowestAhead-found, room_for_found, step_is_nearer}
+use Rattle.precedence_set.proofs.TraceFacts.{IsWalking-end, IsWalking-step, IsLowestAhead-found, room_for_found, step_is_nearer}
 use Rattle.precedence_set.proofs.tracing.way_back.Goals as goal
 
 some_from_eq : (next : Option ℕ) (u : ℕ) → true ≡ option_eq eqb next (Some u) → next ≡ Some u
@@ -11,11 +11,6 @@ some_from_eq (Some w) u e = ap (λ (x : ℕ). Some x) (eqb-true w u (sym e))
 
 differs_from_eq : (next : Option ℕ) (u : ℕ) → false ≡ option_eq eqb next (Some u) → next ≢ Some u
 differs_from_eq next u e same = false≢true (e ∙ ap (λ (o : Option ℕ). option_eq eqb o (Some u)) same ∙ eq-eqb u u refl)
-
-pub loop-count-init : goal.loop-count-init
-loop-count-init c =
-    IsWalking-begin (length c.args.path.now) c.args.pairs.now c.args.u c.args.v c.args.marks.now c.args.path.now
-    (omega (arith, c.requires.differ, c.requires.u_in, c.requires.v_in)) c.requires.u_in c.requires.v_in c.requires.differ c.requires.begun c.requires.complete
 
 pub returns-then-eq-clause-closes : goal.returns-then-eq-clause-closes
 returns-then-eq-clause-closes c =

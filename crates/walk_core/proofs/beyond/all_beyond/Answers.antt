@@ -15,4 +15,3 @@ loop-place-preserved c =
     subst (λ (l : List Port). IsLan l → AreWalksFrom mesh.rows l mesh.count reach) c.ports_at.ensures c.in_ok-walks_beyond.ensures in
     subst (λ (l : List Reach). KnowsBeyond (record { count = mesh.count; segments = mesh.segments; rows = mesh.rows; beyond = l }) (place + 1))
     (sym {A = List Reach} c.in_ok-push.ensures.items) (knows_segment mesh place reach c.loop-place.invariant from)
-

@@ -18,4 +18,3 @@ loop-port-preserved c =
 pub returns-clause-nearest : goal.returns-clause-nearest
 returns-clause-nearest c =
     (nearest_of_all c.args.rows.now c.args.ports.now c.loop-port.port-index c.args.v _ c.loop-port-test.false c.loop-port.invariant).cheapest
-

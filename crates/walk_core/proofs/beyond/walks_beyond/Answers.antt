@@ -19,4 +19,3 @@ loop-v-preserved c =
     (knows_more rows ports v distances hops d ends c.loop-v.invariant c.in_ok-distance.ensures.nearest
     (ends_ordered rows ports v d c.find_ends.new.ends.items ends c.put_in_order.ensures.kept c.in_ok-distance.ensures.ends)
     c.put_in_order.ensures.ascending))
-

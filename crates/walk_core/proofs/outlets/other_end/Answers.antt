@@ -1,12 +1,8 @@
-use Rattle.std.proofs.Common.{◌≡◌, ◌++◌, ◌∷◌, [], ◌+◌, ℕ, List, Contains, take, get_or, inl, inr, sym, ap, subst, ◌∙◌, arith}
-use Rattle.std.proofs.lemmas.List.{get_or_default, take_more, take_all}
+use Rattle.std.proofs.Common.{◌≡◌, ◌++◌, ◌∷◌, [], ◌+◌, ℕ, List, Contains, take, get_or, inl, inr, sym, ap, subst, ◌∙◌}
+use Rattle.std.proofs.lemmas.List.{take_more, take_all}
 use Rattle.std.proofs.lemmas.List.Elements.{Contains-push_cases}
 use Rattle.walk_core.specs.declared.segment.Port.{Port}
-use Rattle.walk_core.proofs.OutletLaws.{far_end_at}
 use Rattle.walk_core.proofs.outlets.other_end.Goals as goal
-
-pub loop-port-init : goal.loop-port-init
-loop-port-init c = λ p among. absurd (omega (arith, among.1))
 
 pub loop-port-preserved : goal.loop-port-preserved
 loop-port-preserved c p among =
@@ -27,11 +23,3 @@ returns c = record {
   only = λ p among. inl (c.loop-port.invariant p
       (subst (λ (l : List Port). Contains l p) (sym (take_all c.loop-port.port-index c.args.ports.now c.loop-port-test.false)) among));
 }
-
-pub returns-then-port-vertex : goal.returns-then-port-vertex
-returns-then-port-vertex c =
-    let none : Port = record { vertex = 0; cost = 0 } in
-    let ports : List Port = c.args.ports.now in
-    let i : ℕ = c.loop-port.port-index in
-    far_end_at ports c.args.vertex i (get_or ports i none) c.requires.few c.requires.port c.loop-port-test.true
-    (get_or_default ports i (get_or ports i none) none c.loop-port-test.true) c.if-port-vertex.true

@@ -5,31 +5,14 @@ use Rattle.walk_core.specs.steps.SegmentWalks.{IsFarEnd, IsLan}
 use Rattle.walk_core.specs.declared.outlets.Outlet.{Outlet}
 use Rattle.walk_core.specs.declared.segment.Port.{Port}
 use Rattle.walk_core.proofs.FloodLaws.{vertex_below}
-use Rattle.walk_core.proofs.OutletLaws.{AreOutletsOnto, outlets_step, outlets_end}
+use Rattle.walk_core.proofs.OutletLaws.{AreOutletsOnto, outlets_step}
 use Rattle.walk_core.proofs.outlets.push_outlets.Goals as goal
-
-pub loop-port-init : goal.loop-port-init
-loop-port-init c = record {
-  long = refl;
-  onto = λ u below. record {
-    each = (c.requires.before u below).each;
-    before = (c.requires.before u below).every;
-    here = λ k before port at is. absurd (omega (arith, before));
-  };
-}
 
 pub index_mut-requires : goal.index_mut-requires
 index_mut-requires c =
     let below = vertex_below c.args.segments.now c.args.place c.loop-port.port-index (length c.args.all.now.items) c.ports_at-ports.result.now
     c.requires.place c.ports_at-ports.ensures c.loop-port-test.true c.requires.segments in
     omega (arith, below, c.loop-port.invariant.long, c.loop-port.all.ok.0)
-
-pub far_end-requires : goal.far_end-requires
-far_end-requires c =
-    let none : Port = record { vertex = 0; cost = 0 } in
-    let ports : List Port = c.ports_at-ports.result.now in
-    let i : ℕ = c.loop-port.port-index in
-    (i, get_or ports i none, c.loop-port-test.true, get_or_default ports i (get_or ports i none) none c.loop-port-test.true, refl)
 
 pub loop-port-preserved : goal.loop-port-preserved
 loop-port-preserved c =
@@ -67,7 +50,3 @@ loop-port-preserved c =
       long = length-set all port.vertex c.push.new.self ∙ c.loop-port.invariant.long;
       onto = subst (λ (l : List Outlet). AreOutletsOnto segments c.args.place (i + 1) (set all port.vertex l)) (sym pushed) onto;
     }
-
-pub returns-clause-added : goal.returns-clause-added
-returns-clause-added c = λ u below. outlets_end c.args.segments.now u c.args.place c.loop-port.port-index (get_or c.loop-port.all.items u [])
-    (omega (arith, c.loop-port-test.false, ap length c.ports_at-ports.ensures)) (c.loop-port.invariant.onto u below)

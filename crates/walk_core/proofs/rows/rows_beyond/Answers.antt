@@ -1,5 +1,4 @@
-use Rattle.std.proofs.Common.{◌≡◌, ℕ, ◌<◌, List, [], Option, length, length-set, get_or, arith, ap, sym, subst, ◌∙◌}
-use Rattle.walk_core.specs.steps.Rows.{AreLeastDistances}
+use Rattle.std.proofs.Common.{◌≡◌, ℕ, ◌<◌, List, Option, length, length-set, arith, ap, sym, subst, ◌∙◌}
 use Rattle.walk_core.proofs.ReachLaws.{known_more}
 use Rattle.walk_core.proofs.rows.rows_beyond.Goals as goal
 
@@ -22,13 +21,3 @@ loop-i-preserved g c =
       long = length-set rows to row ∙ c.loop-i.invariant.long;
       known = known_more arc ends rows c.loop-i.i to row within (ap (λ (p : ℕ × ℕ). p.0) e) c.loop-i.invariant.known c.in_ok-rows-2.ensures.least;
     }
-
-pub returns : goal.returns
-returns g c =
-    let arc = g.G.CostGraph.has_arc c.args.graph.now in
-    let laws = g.met.G.CostGraph in
-    let all : c.loop-i.i ≡ g.G.CostGraph.arc_count c.args.graph.now c.args.root = omega (arith, c.arcs-i-end.ensures) in
-    λ h cost over.
-    let at = laws.arc_is_counted c.args.graph.now c.args.root h cost c.requires over in
-    let known = c.loop-i.invariant.known at.0 (omega (arith, at.1)) in
-    subst (λ (p : ℕ × ℕ). AreLeastDistances arc p.0 (get_or c.loop-i.rows.items p.0 [])) at.2 known

@@ -2,12 +2,9 @@ use Rattle.std.proofs.Common.{ℕ, ◌∙◌, List, get_or, ap, refl, sym, subst
 use Rattle.std.specs.Vec.{vec_len, vec_capacity}
 use Rattle.std.proofs.lemmas.List.{get_or_default}
 use Rattle.walk_core.specs.steps.Adding.{AddsNumbers}
-use Rattle.walk_core.proofs.AddingLaws.{IsBelow, adds_below, adds_nothing, adds_one, leads_all, leads_more, leads_nowhere}
+use Rattle.walk_core.proofs.AddingLaws.{IsBelow, adds_below, adds_nothing, adds_one, leads_all, leads_more}
 use Rattle.walk_core.proofs.union.add_below.Goals as goal
 use Rattle.walk_core.proofs.union.add_below.Goals.{then-number-count, else-number-count}
-
-pub loop-number-init : goal.loop-number-init
-loop-number-init c = (leads_nowhere (IsBelow c.args.count) c.args.list.now c.args.numbers.now.items, (omega (arith, c.requires), refl))
 
 pub loop-number-preserved : goal.loop-number-preserved
 loop-number-preserved c =

@@ -2,12 +2,9 @@ use Rattle.std.proofs.Common.{get_or}
 use Rattle.std.proofs.lemmas.List.{get_or_default}
 use Rattle.walk_core.specs.BestOffers.{total_towards}
 use Rattle.walk_core.specs.declared.offers.Offer.{Offer}
-use Rattle.walk_core.proofs.CheapestLaws.{nothing_costs, cheapest_step, cheapest_end}
+use Rattle.walk_core.proofs.CheapestLaws.{cheapest_step, cheapest_end}
 use Rattle.walk_core.proofs.OfferLaws.{best_of_cheapest}
 use Rattle.walk_core.proofs.walks.LeastWalks.best_cost.Goals as goal
-
-pub loop-offer-init : goal.loop-offer-init
-loop-offer-init c = nothing_costs (total_towards c.args.self.now)
 
 pub loop-offer-preserved : goal.loop-offer-preserved
 loop-offer-preserved c =

@@ -2,20 +2,9 @@ use Rattle.std.proofs.Common.{ℕ, List, [], ◌+◌, ◌≡◌, get_or, inl, sy
 use Rattle.walk_core.specs.Segments.{SendsAcross}
 use Rattle.walk_core.specs.Walks.{Arcs}
 use Rattle.walk_core.specs.steps.FirstHops.{AreFirstHops}
-use Rattle.walk_core.proofs.ExitLaws.{exit_fits, exits_lead}
-use Rattle.walk_core.proofs.ReachLaws.{hops_more, lists_of_all, no_hops_listed}
+use Rattle.walk_core.proofs.ExitLaws.{exits_lead}
+use Rattle.walk_core.proofs.ReachLaws.{hops_more, lists_of_all}
 use Rattle.walk_core.proofs.ways.Ways.hops_over_exits.Goals as goal
-
-pub loop-v-init : goal.loop-v-init
-loop-v-init c = subst (λ (l : List (List ℕ)). AreFirstHops (SendsAcross c.args.self.now.segments) c.args.exits.root 0 l) (sym c.in_ok-hops.ensures)
-    (no_hops_listed (SendsAcross c.args.self.now.segments) c.args.exits.root)
-
-pub push_exits-requires-clause-one : goal.push_exits-requires-clause-one
-push_exits-requires-clause-one c = exit_fits c.args.self.now c.requires.exits.outlets c.args.exits.one c.requires.mesh (omega arith) c.requires.exits.are.one
-
-pub push_exits-requires-clause-other : goal.push_exits-requires-clause-other
-push_exits-requires-clause-other c =
-    exit_fits c.args.self.now c.requires.exits.outlets c.args.exits.other c.requires.mesh (omega arith) c.requires.exits.are.other
 
 pub loop-v-preserved : goal.loop-v-preserved
 loop-v-preserved c =
