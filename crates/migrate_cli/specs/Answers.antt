@@ -62,4 +62,3 @@ pub record Answers (call : Call) (before after : Outside) (status : Status) : Ty
   pub asked : List (List ℕ)
   pub asked_is : after.asked ≡ before.asked ++ asked
   pub ends : Ends call asked (course before after) status
-

@@ -32,4 +32,3 @@ pub data IsPrepareVerdict (design : NamedText) (routers : Configured) : Status �
   prepared : (said : Design) (settled : List SettledRouter) → SaysDesign design.text said → Settles said routers.net settled →
       FitsNetwork routers.net settled →
       IsPrepareVerdict design routers Done (prepared_texts routers.net settled routers.configs)
-

@@ -16,7 +16,11 @@ pub(crate) struct Answer {
 }
 
 /// The answer that something is refused.
-pub(crate) fn refuse(alloc: Global, status: Status, refusal: &Refusal<'_>) -> Result<Answer, OutOfMemory>
+pub(crate) fn refuse(
+    alloc: Global,
+    status: Status,
+    refusal: &Refusal<'_>,
+) -> Result<Answer, OutOfMemory>
     requires { IsPrinted refusal.now }
     ensures status { IfOk result (λ answer. answer.status ≡ status) }
     ensures text { IfOk result (λ answer. answer.text ≡ refusal_text refusal.now) }

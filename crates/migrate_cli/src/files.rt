@@ -85,7 +85,10 @@ pub(crate) fn text_names<'a, 'b>(command: &'b Command<'a>) -> &'b [&'a str]
 }
 
 /// The files that a command reads, in the order in which it reads them.
-pub(crate) fn files_of<'a>(alloc: Global, command: &Command<'a>) -> Result<Vec<Wanted<'a>>, OutOfMemory>
+pub(crate) fn files_of<'a>(
+    alloc: Global,
+    command: &Command<'a>,
+) -> Result<Vec<Wanted<'a>>, OutOfMemory>
     ensures { IfOk result (λ files. map file_of files.items ≡ files_of (request_of command.now)) }
 {
     let mut files = own_files(alloc, command)?;

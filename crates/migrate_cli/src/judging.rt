@@ -24,7 +24,11 @@ use sample_network::sample_text;
 use std::alloc::{AllocError, Global};
 
 /// The answer of a command to the texts of its files.
-pub(crate) fn judge(alloc: Global, command: &Command<'_>, texts: &[Bytes]) -> Result<Answer, OutOfMemory>
+pub(crate) fn judge(
+    alloc: Global,
+    command: &Command<'_>,
+    texts: &[Bytes],
+) -> Result<Answer, OutOfMemory>
     requires range { IsInRange (request_of command.now) }
     requires short { AreShort (files_of (request_of command.now)) texts.now }
     ensures { IfOk result (λ answer. let request = request_of command.now in

@@ -80,7 +80,11 @@ fn plan_mixed<O: RouteSource, N: RouteSource>(
 }
 
 /// The answer that this is planned.
-pub(crate) fn planned_answer(alloc: Global, net: &Net, planned: &Planned) -> Result<Answer, OutOfMemory>
+pub(crate) fn planned_answer(
+    alloc: Global,
+    net: &Net,
+    planned: &Planned,
+) -> Result<Answer, OutOfMemory>
     requires { IsTellable net.now planned.now }
     ensures status { IfOk result (λ answer. answer.status ≡ plan_status planned.now) }
     ensures text { IfOk result (λ answer. answer.text ≡ plan_text (names_of net.now) planned.now) }

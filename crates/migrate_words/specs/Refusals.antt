@@ -17,4 +17,3 @@ IsRefusal words OutOfMemory = Unit {0}
 abbrev pub AnswersWords : List Text → Result Command WordsRefused → Type 0
 AnswersWords words (Ok command) = Asks words (request_of command)
 AnswersWords words (Err refused) = IsRefusal words refused
-

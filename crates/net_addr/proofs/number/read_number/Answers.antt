@@ -15,4 +15,3 @@ loop-byte-preserved c = record {
   digits = below_more _ _ c.loop-byte.invariant.digits c.in_ok-value.ensures.0.0;
   within = omega (arith, c.in_ok-value.ensures);
 }
-
