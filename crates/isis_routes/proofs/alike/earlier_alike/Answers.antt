@@ -1,13 +1,6 @@
-use Rattle.std.proofs.Common.{ℕ, List, Option, length, ap}
-use Rattle.isis_routes.proofs.AlikeFacts.{named_more, named_none}
+use Rattle.isis_routes.proofs.AlikeFacts.{named_more}
 use Rattle.isis_routes.proofs.DestinationFacts.{pushed_count}
 use Rattle.isis_routes.proofs.alike.earlier_alike.Goals as goal
-
-pub loop-place-init : goal.loop-place-init
-loop-place-init c = record {
-  count = ap (λ (l : List (Option ℕ)). length l) c.new-all.ensures.items;
-  alike = named_none c.args.destinations.now c.new-all.result.items c.new-all.ensures.items;
-}
 
 pub loop-place-preserved : goal.loop-place-preserved
 loop-place-preserved c = record {

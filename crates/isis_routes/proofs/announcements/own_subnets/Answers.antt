@@ -1,16 +1,13 @@
 use Rattle.route_tables.proofs.ListFacts.{exactly_added}
 use Rattle.isis_routes.specs.steps.Offered.{IsOfferOf, OwnAnnouncement}
 use Rattle.isis_routes.proofs.HomeFacts.{home_is_router, offered_is_connected}
-use Rattle.isis_routes.proofs.OfferLists.{given_start, given_more, given_end}
+use Rattle.isis_routes.proofs.OfferLists.{given_more, given_end}
 use Rattle.isis_routes.specs.declared.level.Level.TheVariants.{Two}
 use Rattle.isis_routes.proofs.announcements.own_subnets.Goals as goal
 
 pub push_own_subnets-requires : goal.push_own_subnets-requires
 push_own_subnets-requires c =
     home_is_router c.args.net.now c.args.dest c.args.homes.now c.loop-router.router-index c.requires c.loop-router-test.true
-
-pub loop-router-init : goal.loop-router-init
-loop-router-init c = given_start (OwnAnnouncement c.args.net.now c.args.dest) c.new-offers.result.items c.args.homes.now
 
 pub loop-router-preserved : goal.loop-router-preserved
 loop-router-preserved c =

@@ -1,16 +1,13 @@
 use Rattle.std.proofs.Common.{get_or}
 use Rattle.isis_routes.specs.steps.Offered.{LevelOneAnnouncement}
 use Rattle.isis_routes.proofs.Announced.{announces_both, level_one_added, listed_runs, runs_within}
-use Rattle.isis_routes.proofs.OfferLists.{given_start, given_more, given_end}
+use Rattle.isis_routes.proofs.OfferLists.{given_more, given_end}
 use Rattle.isis_routes.proofs.announcements.push_level_one.Goals as goal
 
 pub cost-requires-clause-router : goal.cost-requires-clause-router
 cost-requires-clause-router c =
     runs_within c.args.domain.now.net (get_or c.args.both.now c.loop-router.router-index 0)
     (listed_runs c.args.domain.now.net c.args.both.now c.loop-router.router-index c.requires.both c.loop-router-test.true)
-
-pub loop-router-init : goal.loop-router-init
-loop-router-init c = given_start (LevelOneAnnouncement c.args.domain.now.net c.args.one.now.dest) c.args.offers.now.items c.args.both.now
 
 pub loop-router-preserved : goal.loop-router-preserved
 loop-router-preserved c =

@@ -1,15 +1,9 @@
 use Rattle.std.proofs.Common.{refl}
-use Rattle.std.proofs.lemmas.Bool.{false≢true}
 use Rattle.std.proofs.lemmas.Result.{on_ok_weaker}
 use Rattle.igp_theory.specs.Isis.{OffersLevelTwo}
 use Rattle.isis_routes.specs.steps.Offered.{OwnAnnouncement}
-use Rattle.isis_routes.proofs.OfferLists.{no_offers, offers_same}
+use Rattle.isis_routes.proofs.OfferLists.{offers_same}
 use Rattle.isis_routes.proofs.announcements.push_own_subnets.Goals as goal
-
-pub returns-then-not-runs_level_two : goal.returns-then-not-runs_level_two
-returns-then-not-runs_level_two c =
-    no_offers c.args.offers.now.items c.args.router (OwnAnnouncement c.args.net.now c.args.dest c.args.router)
-    (λ k announces. false≢true (c.if-not-runs_level_two.ensures.runs.1 announces.runs))
 
 pub returns : goal.returns
 returns c =

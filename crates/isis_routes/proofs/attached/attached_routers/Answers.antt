@@ -1,16 +1,8 @@
 use Rattle.std.proofs.Common.{◌≡◌, ℕ, Some, get_or}
 use Rattle.igp_theory.specs.Isis.{OffersDefault}
 use Rattle.isis_routes.proofs.AreaFacts.{attached_both}
-use Rattle.isis_routes.proofs.Announced.{listed_runs}
-use Rattle.isis_routes.proofs.OfferLists.{given_start, given_more, holds_given, offers_same}
+use Rattle.isis_routes.proofs.OfferLists.{given_more, holds_given, offers_same}
 use Rattle.isis_routes.proofs.attached.attached_routers.Goals as goal
-
-pub default_cost-requires-clause-router : goal.default_cost-requires-clause-router
-default_cost-requires-clause-router c =
-    listed_runs c.args.net.now c.args.both.now c.loop-router.router-index c.requires.both c.loop-router-test.true
-
-pub loop-router-init : goal.loop-router-init
-loop-router-init c = given_start (OffersDefault c.args.net.now) c.new-offers.result.items c.args.both.now
 
 pub loop-router-preserved : goal.loop-router-preserved
 loop-router-preserved c =

@@ -1,12 +1,10 @@
-use Rattle.std.proofs.Common.{◌≡◌, ◌∙◌, All, List, sym, subst}
-use Rattle.std.specs.List.Sorted.{IsNonDecreasingBy}
+use Rattle.std.proofs.Common.{◌≡◌, ◌∙◌, All, sym, subst}
 use Rattle.isis_routes.specs.steps.Destinations.{HasAnnouncements, AreIsisDestinations, isis_prefixes}
 use Rattle.net_addr.specs.Addresses.{Block}
 use Rattle.net_model.specs.Network.{Network}
 use Rattle.std.specs.List.{Contains}
 use Rattle.isis_routes.specs.steps.Candidates.{IsIsisCandidate}
 use Rattle.isis_routes.specs.steps.Homes.{AreHomes}
-use Rattle.isis_routes.specs.declared.homes.Home.{Home}
 use Rattle.route_tables.proofs.DestinationLists.{if_ok_both}
 use Rattle.isis_routes.proofs.DestinationFacts.{are_destinations}
 use Rattle.isis_routes.proofs.destinations.destinations.Goals as goal
@@ -14,10 +12,6 @@ use Rattle.isis_routes.proofs.destinations.destinations.Goals as goal
 pub each_destination-requires-clause-homes : goal.each_destination-requires-clause-homes
 each_destination-requires-clause-homes c = subst (AreHomes c.args.domain.now.net) (sym c.as_slice.ensures.value) (subst (λ (net : Network). AreHomes
     net c.in_ok-homes.homes.items) c.net-network.ensures.is c.in_ok-homes.ensures.exact)
-
-pub each_destination-requires-clause-sorted : goal.each_destination-requires-clause-sorted
-each_destination-requires-clause-sorted c =
-    subst (λ (l : List Home). IsNonDecreasingBy (λ (h : Home). h.dest.base) l) (sym c.as_slice.ensures.value) c.in_ok-homes.ensures.sorted
 
 pub returns : goal.returns
 returns c =

@@ -3,14 +3,11 @@ use Rattle.std.specs.List.{Any}
 use Rattle.net_model.specs.Configuration.{Configuration}
 use Rattle.net_model.specs.Network.{Connected}
 use Rattle.net_model.specs.declared.interface.Interface.{Interface}
-use Rattle.route_tables.proofs.ListFacts.{below_start, below_step, adds_same, exactly_below}
+use Rattle.route_tables.proofs.ListFacts.{below_step, adds_same, exactly_below}
 use Rattle.isis_routes.specs.steps.Homes.{IsOwnSubnet}
 use Rattle.isis_routes.specs.declared.homes.Home.{Home}
 use Rattle.isis_routes.proofs.HomeFacts.{RouterHome, router_home_is, home_below}
 use Rattle.isis_routes.proofs.homes.all_homes.Goals as goal
-
-pub loop-w-init : goal.loop-w-init
-loop-w-init c = below_start (RouterHome c.args.net.now) c.new-homes.result.items
 
 pub loop-w-preserved : goal.loop-w-preserved
 loop-w-preserved c =

@@ -1,12 +1,8 @@
 use Rattle.net_model.specs.declared.interface.Interface.{Interface}
-use Rattle.route_tables.proofs.ListFacts.{adds_start, adds_step, adds_end}
+use Rattle.route_tables.proofs.ListFacts.{adds_step, adds_end}
 use Rattle.isis_routes.specs.steps.Homes.{IsOwnSubnet}
 use Rattle.isis_routes.specs.declared.homes.Home.{Home}
 use Rattle.isis_routes.proofs.homes.push_homes.Goals as goal
-
-pub loop-interface-init : goal.loop-interface-init
-loop-interface-init c =
-    adds_start (λ (h : Home) (i : Interface). IsOwnSubnet i c.args.w h) c.args.homes.now.items c.args.interfaces.now
 
 pub loop-interface-preserved : goal.loop-interface-preserved
 loop-interface-preserved c =

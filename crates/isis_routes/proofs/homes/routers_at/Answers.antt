@@ -1,14 +1,10 @@
 use Rattle.std.proofs.Common.{ℕ}
 use Rattle.std.specs.List.{Any}
-use Rattle.route_tables.proofs.ListFacts.{adds_start, adds_step, exactly_added, exactly_same, adds_end}
+use Rattle.route_tables.proofs.ListFacts.{adds_step, exactly_added, exactly_same, adds_end}
 use Rattle.isis_routes.specs.steps.Homes.{IsHomeOf}
 use Rattle.isis_routes.specs.declared.homes.Home.{Home}
 use Rattle.isis_routes.proofs.HomeFacts.{begins_with}
 use Rattle.isis_routes.proofs.homes.routers_at.Goals as goal
-
-pub loop-home-init : goal.loop-home-init
-loop-home-init c =
-    adds_start (λ (u : ℕ) (h : Home). IsHomeOf c.args.dest h u) c.new-routers.result.items c.homes_from-run.result.now
 
 pub loop-home-preserved : goal.loop-home-preserved
 loop-home-preserved c =

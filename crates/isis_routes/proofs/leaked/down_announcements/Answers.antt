@@ -1,10 +1,7 @@
 use Rattle.std.proofs.Common.{◌≡◌, ℕ, Some, get_or}
 use Rattle.igp_theory.specs.Isis.{DownAnnouncement}
-use Rattle.isis_routes.proofs.OfferLists.{given_start, given_more, holds_given, offers_same}
+use Rattle.isis_routes.proofs.OfferLists.{given_more, holds_given, offers_same}
 use Rattle.isis_routes.proofs.leaked.down_announcements.Goals as goal
-
-pub loop-router-init : goal.loop-router-init
-loop-router-init c = given_start (DownAnnouncement c.args.domain.now.net c.args.one.now.dest) c.new-offers.result.items c.args.leaking.now
 
 pub loop-router-preserved : goal.loop-router-preserved
 loop-router-preserved c =

@@ -1,19 +1,11 @@
-use Rattle.std.proofs.Common.{◌∙◌, refl, sym}
+use Rattle.std.proofs.Common.{◌∙◌, sym}
 use Rattle.std.proofs.lemmas.Bool.{false≢true}
 use Rattle.route_tables.proofs.ListFacts.{none_of, some_of}
 use Rattle.isis_routes.proofs.LeakedOffers.{leaked_is, leaks_none, leaks_within}
 use Rattle.isis_routes.proofs.leaked.leaked_cost.Goals as goal
 
-pub cost-requires-clause-router : goal.cost-requires-clause-router
-cost-requires-clause-router c = leaks_within c.args.domain.now.net c.args.router c.requires.leaks
-
 pub best_cost-requires-clause-router : goal.best_cost-requires-clause-router
 best_cost-requires-clause-router c = leaks_within c.args.domain.now.net c.args.router c.requires.leaks
-
-pub returns-then-is_connected : goal.returns-then-is_connected
-returns-then-is_connected c k =
-    leaks_none c.args.domain.now.net c.args.one.now.dest c.args.router k
-    (λ down. down.away ((c.requires.one.homes c.args.router).0 (c.if-is_connected.ensures.0 refl)))
 
 pub returns-then-is_some : goal.returns-then-is_some
 returns-then-is_some c k =

@@ -1,14 +1,11 @@
 use Rattle.isis_routes.specs.steps.Offered.{OffersIn}
 use Rattle.isis_routes.proofs.HomeFacts.{home_is_router, offered_is_connected}
-use Rattle.isis_routes.proofs.OfferLists.{given_start, given_more, holds_given}
+use Rattle.isis_routes.proofs.OfferLists.{given_more, holds_given}
 use Rattle.isis_routes.proofs.offers.level_offers.Goals as goal
 
 pub push_router_offers-requires : goal.push_router_offers-requires
 push_router_offers-requires c =
     home_is_router c.args.net.now c.args.dest c.args.homes.now c.loop-router.router-index c.requires c.loop-router-test.true
-
-pub loop-router-init : goal.loop-router-init
-loop-router-init c = given_start (OffersIn c.args.net.now c.args.level c.args.dest) c.new-offers.result.items c.args.homes.now
 
 pub loop-router-preserved : goal.loop-router-preserved
 loop-router-preserved c =

@@ -1,12 +1,8 @@
 use Rattle.net_model.specs.declared.interface.Interface.{Interface}
 use Rattle.walk_core.specs.declared.offers.Offer.{Offer}
-use Rattle.route_tables.proofs.ListFacts.{adds_start, adds_step, adds_end}
+use Rattle.route_tables.proofs.ListFacts.{adds_step, adds_end}
 use Rattle.isis_routes.specs.steps.Offered.{AsksIn, IsOffer}
 use Rattle.isis_routes.proofs.offers.push_offers.Goals as goal
-
-pub loop-interface-init : goal.loop-interface-init
-loop-interface-init c =
-    adds_start (λ (o : Offer) (i : Interface). IsOffer c.args.router (AsksIn c.args.level c.args.dest i) o) c.args.offers.now.items c.args.interfaces.now
 
 pub loop-interface-preserved : goal.loop-interface-preserved
 loop-interface-preserved c =

@@ -1,12 +1,9 @@
 use Rattle.std.proofs.Common.{arith}
 use Rattle.net_model.proofs.NetworkFacts.{HasConfiguration-within}
-use Rattle.route_tables.proofs.ListFacts.{below_start, below_step}
+use Rattle.route_tables.proofs.ListFacts.{below_step}
 use Rattle.isis_routes.specs.steps.Routing.{RunsBothLevels, IsThisRouter}
 use Rattle.isis_routes.proofs.RunFacts.{routers_all, where_added}
 use Rattle.isis_routes.proofs.runs.routers_of_both_levels.Goals as goal
-
-pub loop-u-init : goal.loop-u-init
-loop-u-init c = below_start (IsThisRouter (RunsBothLevels c.args.net.now)) c.new-routers.result.items
 
 pub loop-u-preserved : goal.loop-u-preserved
 loop-u-preserved c =

@@ -1,5 +1,5 @@
 use Rattle.std.proofs.Common.{◌≡◌, List, get_or, subst}
-use Rattle.route_tables.proofs.DestinationLists.{element_at, prefix_is}
+use Rattle.route_tables.proofs.DestinationLists.{element_at}
 use Rattle.isis_routes.specs.steps.Destinations.{HasAnnouncements}
 use Rattle.isis_routes.specs.declared.destinations.Destination.{Destination}
 use Rattle.isis_routes.proofs.protocol.Isis.destination.Goals as goal
@@ -10,12 +10,3 @@ returns-clause-announced c =
     element_at (λ (x : Destination). x.one.dest) (HasAnnouncements c.args.self.now.domain.net) c.args.self.now.destinations c.args.place d
     c.known.ensures.known.announced c.requires
     (subst (λ (l : List Destination). d ≡ get_or l c.args.place d) c.known.ensures.is c.index-known-place.is)
-
-pub returns-clause-dest : goal.returns-clause-dest
-returns-clause-dest c =
-    let d : Destination = c.index-known-place.result in
-    prefix_is (λ (x : Destination). x.one.dest) c.args.self.now.destinations c.args.place d c.requires
-    (subst (λ (l : List Destination). d ≡ get_or l c.args.place d) c.known.ensures.is c.index-known-place.is)
-
-pub returns-clause-domain : goal.returns-clause-domain
-returns-clause-domain c = c.known.ensures.domain
