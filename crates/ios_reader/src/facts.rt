@@ -9,7 +9,7 @@ use net_model::Levels;
 
 /// An `ip address` line, at its place in the text.
 #[derive(Clone, Copy, Debug)]
-pub(crate) struct PlacedAddress {
+pub struct PlacedAddress {
     /// The number of the line.
     pub line: u32,
     /// The address that the line gives.
@@ -18,7 +18,7 @@ pub(crate) struct PlacedAddress {
 
 /// What the lines of an interface say in the end: of each form the last line, `None` where there is none.
 #[derive(Clone, Copy, Debug)]
-pub(crate) struct InterfaceFacts {
+pub struct InterfaceFacts {
     /// `ip address A M`, and `None` inside where `no ip address` took it away.
     pub address: Option<Option<PlacedAddress>>,
     /// `shutdown`, or `no shutdown`.
