@@ -1,5 +1,5 @@
 use Rattle.std.proofs.Common.{◌≡◌, ℕ}
-use Rattle.route_tables.proofs.ListFacts.{adds_start, adds_at, adds_end}
+use Rattle.route_tables.proofs.ListFacts.{adds_at, adds_end}
 use Rattle.ospf_routes.proofs.AreaFacts.{number_at}
 use Rattle.ospf_routes.proofs.BorderLists.{inner_at, inner_is_router}
 use Rattle.ospf_routes.proofs.IntraFacts.{part_for}
@@ -7,10 +7,6 @@ use Rattle.ospf_routes.proofs.SummaryFacts.{area_subnets_are}
 use Rattle.ospf_routes.specs.steps.Summarized.{IsAreaSubnet}
 use Rattle.ospf_routes.specs.declared.area_route.AreaRoute.{AreaRoute}
 use Rattle.ospf_routes.proofs.area_boundary.push_area_subnets.Goals as goal
-
-pub area-requires : goal.area-requires
-area-requires c =
-    (part_for c.args.domain.now c.args.destination.now c.args.part.now c.requires.destination c.requires.part).at.within
 
 pub subnet_summary-requires-clause-border : goal.subnet_summary-requires-clause-border
 subnet_summary-requires-clause-border c =
@@ -21,11 +17,6 @@ pub subnet_summary-requires-clause-router : goal.subnet_summary-requires-clause-
 subnet_summary-requires-clause-router c =
     inner_is_router c.args.domain.now.net c.area.result.now c.as_slice-b-items.result.now c.loop-b.b-index 0 c.area.ensures.area
     c.as_slice-b-items.ensures c.loop-b-test.true
-
-pub loop-b-init : goal.loop-b-init
-loop-b-init c =
-    adds_start (λ (r : AreaRoute) (b : ℕ). (r.at ≡ b) × IsAreaSubnet c.args.domain.now.net c.args.destination.now.dest c.args.part.now.area r)
-    c.args.routes.now.items c.as_slice-b-items.result.now
 
 pub loop-b-preserved : goal.loop-b-preserved
 loop-b-preserved c =

@@ -1,18 +1,12 @@
 use Rattle.std.proofs.Common.{◌∙◌, [], ℕ, List, get_or, subst}
 use Rattle.std.specs.List.{Any}
 use Rattle.std.proofs.lemmas.List.{get_or_default}
-use Rattle.route_tables.proofs.ListFacts.{adds_start, adds_more, adds_end}
+use Rattle.route_tables.proofs.ListFacts.{adds_more, adds_end}
 use Rattle.ospf_routes.specs.Lists.{Adds}
 use Rattle.ospf_routes.specs.steps.Summarized.{IsListedRange, IsRangeRoute}
 use Rattle.ospf_routes.specs.declared.area_route.AreaRoute.{AreaRoute}
 use Rattle.ospf_routes.specs.declared.ranges.ActiveRange.{ActiveRange}
 use Rattle.ospf_routes.proofs.area_boundary.push_ranges.Goals as goal
-
-pub bounds-ranges-b : goal.bounds-ranges-b
-bounds-ranges-b c = c.requires c.loop-b.b-index 0 c.loop-b-test.true
-
-pub loop-b-init : goal.loop-b-init
-loop-b-init c = adds_start (λ (r : AreaRoute) (b : ℕ). IsListedRange c.args.ranges.now c.args.dest b r) c.args.routes.now.items c.args.borders.now
 
 pub loop-b-preserved : goal.loop-b-preserved
 loop-b-preserved c =

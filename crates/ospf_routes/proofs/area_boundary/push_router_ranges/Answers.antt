@@ -1,12 +1,8 @@
-use Rattle.route_tables.proofs.ListFacts.{adds_start, adds_step, adds_end}
+use Rattle.route_tables.proofs.ListFacts.{adds_step, adds_end}
 use Rattle.ospf_routes.specs.steps.Summarized.{IsRangeRoute}
 use Rattle.ospf_routes.specs.declared.ranges.ActiveRange.{ActiveRange}
 use Rattle.ospf_routes.specs.declared.area_route.AreaRoute.{AreaRoute}
 use Rattle.ospf_routes.proofs.area_boundary.push_router_ranges.Goals as goal
-
-pub loop-active-init : goal.loop-active-init
-loop-active-init c =
-    adds_start (λ (r : AreaRoute) (a : ActiveRange). IsRangeRoute a c.args.dest c.args.b r) c.args.routes.now.items c.args.ranges.now
 
 pub loop-active-preserved : goal.loop-active-preserved
 loop-active-preserved c =

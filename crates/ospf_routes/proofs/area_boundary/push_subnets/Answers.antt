@@ -1,21 +1,10 @@
-use Rattle.std.proofs.Common.{List, subst}
-use Rattle.std.specs.List.{Any, Contains}
-use Rattle.route_tables.proofs.ListFacts.{contains_at, adds_start, adds_more, adds_same, adds_end}
+use Rattle.std.specs.List.{Any}
+use Rattle.route_tables.proofs.ListFacts.{adds_more, adds_same, adds_end}
 use Rattle.ospf_routes.proofs.SummaryFacts.{subnets_are}
 use Rattle.ospf_routes.specs.steps.Summarized.{IsAreaSubnet, SummarizedSubnet}
 use Rattle.ospf_routes.specs.declared.area_route.AreaRoute.{AreaRoute}
 use Rattle.ospf_routes.specs.declared.intra_area.AreaOffers.{AreaOffers}
 use Rattle.ospf_routes.proofs.area_boundary.push_subnets.Goals as goal
-
-pub push_area_subnets-requires-clause-part : goal.push_area_subnets-requires-clause-part
-push_area_subnets-requires-clause-part c =
-    subst (λ (l : List AreaOffers). Contains l c.part-item.result) c.as_slice-part-items.ensures.value
-    (contains_at c.as_slice-part-items.result.now c.loop-part.part-index c.part-item.result c.loop-part-test.true c.part-item.is)
-
-pub loop-part-init : goal.loop-part-init
-loop-part-init c =
-    adds_start (λ (r : AreaRoute) (part : AreaOffers). IsAreaSubnet c.args.domain.now.net c.args.destination.now.dest part.area r)
-    c.args.routes.now.items c.as_slice-part-items.result.now
 
 pub loop-part-preserved : goal.loop-part-preserved
 loop-part-preserved c =

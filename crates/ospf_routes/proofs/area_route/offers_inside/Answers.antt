@@ -1,12 +1,8 @@
 use Rattle.walk_core.specs.declared.offers.Offer.{Offer}
-use Rattle.route_tables.proofs.ListFacts.{adds_start, adds_at, exactly_added, adds_end}
+use Rattle.route_tables.proofs.ListFacts.{adds_at, exactly_added, adds_end}
 use Rattle.ospf_routes.specs.steps.Offered.{InsideOf}
 use Rattle.ospf_routes.specs.declared.area_route.AreaRoute.{AreaRoute}
 use Rattle.ospf_routes.proofs.area_route.offers_inside.Goals as goal
-
-pub loop-route-init : goal.loop-route-init
-loop-route-init c =
-    adds_start (λ (o : Offer) (r : AreaRoute). InsideOf c.args.area r o) c.new-offers.result.items c.args.routes.now
 
 pub loop-route-preserved : goal.loop-route-preserved
 loop-route-preserved c =

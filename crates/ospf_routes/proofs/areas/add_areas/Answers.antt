@@ -1,12 +1,8 @@
 use Rattle.std.proofs.Common.{ℕ}
 use Rattle.net_model.specs.declared.interface.Interface.{Interface}
-use Rattle.route_tables.proofs.ListFacts.{adds_start, adds_step, adds_end}
+use Rattle.route_tables.proofs.ListFacts.{adds_step, adds_end}
 use Rattle.net_model.specs.Network.{RunsArea}
 use Rattle.ospf_routes.proofs.areas.add_areas.Goals as goal
-
-pub loop-interface-init : goal.loop-interface-init
-loop-interface-init c =
-    adds_start (λ (n : ℕ) (i : Interface). RunsArea n i) c.args.numbers.now.items c.args.interfaces.now
 
 pub loop-interface-preserved : goal.loop-interface-preserved
 loop-interface-preserved c =

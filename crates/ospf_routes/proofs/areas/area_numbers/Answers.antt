@@ -1,20 +1,13 @@
-use Rattle.std.proofs.Common.{◌∙◌, subst, List, ℕ, sym, refl, ap, arith}
+use Rattle.std.proofs.Common.{◌∙◌, ap, arith}
 use Rattle.net_model.specs.Configuration.{Configuration}
-use Rattle.ospf_routes.proofs.AreaFacts.{HaveNumbers, numbers_start, numbers_more, numbers_all}
+use Rattle.ospf_routes.proofs.AreaFacts.{numbers_more, numbers_all}
 use Rattle.ospf_routes.proofs.areas.area_numbers.Goals as goal
-
-pub loop-u-init : goal.loop-u-init
-loop-u-init c =
-    subst (λ (l : List ℕ). HaveNumbers c.args.net.now 0 l) (sym (c.in_ok-push.ensures.items)) (numbers_start c.args.net.now c.new-numbers.result.items 0 refl)
 
 pub loop-u-preserved : goal.loop-u-preserved
 loop-u-preserved c =
     numbers_more c.args.net.now c.loop-u.u c.config.result.now c.as_slice.result.now c.loop-u.numbers.items c.add_areas.new.numbers.items
     c.config.ensures.router (c.as_slice.ensures ∙ ap (λ (d : Configuration). d.interfaces) c.behind-net.view_is)
     c.loop-u.invariant c.in_ok-add_areas.ensures
-
-pub returns-clause-backbone : goal.returns-clause-backbone
-returns-clause-backbone c = c.loop-u.invariant.backbone
 
 pub returns-clause-every : goal.returns-clause-every
 returns-clause-every c =

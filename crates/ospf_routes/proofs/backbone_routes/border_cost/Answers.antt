@@ -7,9 +7,6 @@ use Rattle.ospf_routes.proofs.RangeFacts.{active_range_is}
 use Rattle.ospf_routes.proofs.SummaryFacts.{no_border_cost, border_cost_is}
 use Rattle.ospf_routes.proofs.backbone_routes.border_cost.Goals as goal
 
-pub returns-in_err-walks : goal.returns-in_err-walks
-returns-in_err-walks c = absurd (c.in_err-walks.ensures.none c.reach.ensures.known.backbone)
-
 pub best_cost-requires : goal.best_cost-requires
 best_cost-requires c =
     in_range c.in_ok-walks.walks.now (BackboneSummary c.args.domain.now.net c.args.destination.now.dest) c.args.backbone.now c.args.backbone.now
@@ -31,10 +28,6 @@ returns-then-contains c =
     no_border_cost c.args.domain.now.net c.args.destination.now.dest c.args.u
     (λ _ costs. costs.no_range ((active_range_is c.args.domain.now.net c.args.u c.args.destination.now.dest c.args.ranges.now c.requires.ranges).0
     (c.if-contains.ensures.0 refl)))
-
-pub returns-then-has_intra : goal.returns-then-has_intra
-returns-then-has_intra c =
-    no_border_cost c.args.domain.now.net c.args.destination.now.dest c.args.u (λ _ costs. costs.no_intra (c.if-has_intra.ensures.0 refl))
 
 pub returns : goal.returns
 returns c = λ cost.

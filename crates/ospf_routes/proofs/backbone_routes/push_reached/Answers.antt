@@ -2,7 +2,7 @@ use Rattle.std.proofs.Common.{[], ◌≡◌, ℕ, ◌<◌, get_or, length, sym, 
 use Rattle.std.proofs.lemmas.Bool.{eqb-true}
 use Rattle.ospf_routes.specs.steps.Summarized.{IsPassedOn}
 use Rattle.walk_core.specs.declared.offers.Offer.{Offer}
-use Rattle.route_tables.proofs.ListFacts.{adds_start, adds_at, adds_end, adds_nothing}
+use Rattle.route_tables.proofs.ListFacts.{adds_at, adds_end, adds_nothing}
 use Rattle.ospf_routes.proofs.BorderLists.{inner_at, inner_is_router}
 use Rattle.ospf_routes.proofs.PlaceFacts.{place_read}
 use Rattle.ospf_routes.specs.steps.Ranges.{AreActiveRanges}
@@ -40,11 +40,6 @@ pub reached_offer-offer-requires-clause-router : goal.reached_offer-offer-requir
 reached_offer-offer-requires-clause-router c =
     inner_is_router c.args.domain.now.net c.args.area.now c.as_slice-b-items.result.now c.loop-b.b-index 0 c.requires.area c.as_slice-b-items.ensures
     c.loop-b-test.true
-
-pub loop-b-init : goal.loop-b-init
-loop-b-init c =
-    adds_start (λ (o : Offer) (b : ℕ). (o.at ≡ b) × IsPassedOn c.args.domain.now.net c.args.area.now.number c.args.destination.now.dest o)
-    c.args.offers.now.items c.as_slice-b-items.result.now
 
 pub loop-b-preserved : goal.loop-b-preserved
 loop-b-preserved c =

@@ -1,9 +1,6 @@
-use Rattle.route_tables.proofs.ListFacts.{adds_start, adds_more, adds_end}
+use Rattle.route_tables.proofs.ListFacts.{adds_more, adds_end}
 use Rattle.ospf_routes.specs.steps.Candidates.{IsRangeOf}
 use Rattle.ospf_routes.proofs.candidates.add_ranges.Goals as goal
-
-pub loop-range-init : goal.loop-range-init
-loop-range-init c = adds_start IsRangeOf c.args.dests.now c.args.ranges.now
 
 pub loop-range-preserved : goal.loop-range-preserved
 loop-range-preserved c =

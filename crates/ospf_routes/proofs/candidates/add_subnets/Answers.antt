@@ -1,9 +1,6 @@
-use Rattle.route_tables.proofs.ListFacts.{adds_start, adds_step, adds_end}
+use Rattle.route_tables.proofs.ListFacts.{adds_step, adds_end}
 use Rattle.ospf_routes.specs.steps.Candidates.{HasOspfSubnet}
 use Rattle.ospf_routes.proofs.candidates.add_subnets.Goals as goal
-
-pub loop-interface-init : goal.loop-interface-init
-loop-interface-init c = adds_start HasOspfSubnet c.args.dests.now c.args.interfaces.now
 
 pub loop-interface-preserved : goal.loop-interface-preserved
 loop-interface-preserved c =

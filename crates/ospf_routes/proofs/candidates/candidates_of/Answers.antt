@@ -5,11 +5,8 @@ use Rattle.net_model.specs.declared.area.Range.{Range}
 use Rattle.net_model.specs.declared.interface.Interface.{Interface}
 use Rattle.route_tables.specs.Lists.{Adds}
 use Rattle.ospf_routes.specs.steps.Candidates.{HasOspfSubnet, IsRangeOf}
-use Rattle.ospf_routes.proofs.CandidateLists.{candidates_none, candidates_more, candidates_all}
+use Rattle.ospf_routes.proofs.CandidateLists.{candidates_more, candidates_all}
 use Rattle.ospf_routes.proofs.candidates.candidates_of.Goals as goal
-
-pub loop-router-init : goal.loop-router-init
-loop-router-init c = candidates_none c.args.net.now c.in_ok-dests.dests c.in_ok-dests.ensures
 
 pub loop-router-preserved : goal.loop-router-preserved
 loop-router-preserved c =

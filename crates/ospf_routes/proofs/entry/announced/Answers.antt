@@ -1,10 +1,7 @@
 use Rattle.std.proofs.Common.{length, None, refl}
-use Rattle.ospf_routes.proofs.EntryFacts.{heard_in_range, listened_entry, listened_place, listens_nowhere, no_route_no_entry}
+use Rattle.ospf_routes.proofs.EntryFacts.{heard_in_range, listened_entry, listened_place, no_route_no_entry}
 use Rattle.ospf_routes.proofs.RouteFacts.{listened_route_is}
 use Rattle.ospf_routes.proofs.entry.announced.Goals as goal
-
-pub walks-walks-requires-clause-zone : goal.walks-walks-requires-clause-zone
-walks-walks-requires-clause-zone c = (listened_place c.args.asked c.in-Some.zone c.requires.asked c.in-Some.is).at.within
 
 pub returns-in-Some-clause-some : goal.returns-in-Some-clause-some
 returns-in-Some-clause-some c =
@@ -34,9 +31,3 @@ returns-in-Some-clause-reached c = λ none.
     no_route_no_entry net u p c.requires.no_intra c.requires.no_range
     (listened_route_is net l.area p u c.walks-walks.result.now offers offers c.requires.no_intra c.requires.no_range l.listens
     (c.walks-walks.ensures.reach l.area l.at) (c.requires.asked.heard c.in-Some.zone c.in-Some.is l.area l.at) refl (length net) refl None none)
-
-pub returns-in-None-clause-none : goal.returns-in-None-clause-none
-returns-in-None-clause-none c =
-    let asked = c.args.asked in
-    no_route_no_entry asked.domain.now.net asked.router asked.destination.now.dest c.requires.no_intra c.requires.no_range
-    (λ cost costs. listens_nowhere asked c.requires.asked c.in-None.is costs.area costs.listens)

@@ -1,15 +1,11 @@
-use Rattle.std.proofs.Common.{Option, List, ℕ, MatchOption, subst, sym}
+use Rattle.std.proofs.Common.{Option, List, ℕ, MatchOption}
 use Rattle.std.proofs.lemmas.Result.{IfOk-weaker}
 use Rattle.igp_theory.specs.Ospf.{IntraAreaCost}
-use Rattle.walk_core.specs.BestOffers.{AreInRange, NoneTotals}
-use Rattle.walk_core.specs.declared.offers.Offer.{Offer}
+use Rattle.walk_core.specs.BestOffers.{NoneTotals}
 use Rattle.ospf_routes.proofs.RouteFacts.{area_route_is}
 use Rattle.route_tables.specs.BestRoutes.{AreBestHops}
 use Rattle.ospf_routes.specs.steps.Routing.{IsAreaRoute}
 use Rattle.ospf_routes.proofs.entry.area_hops.Goals as goal
-
-pub best_hops-requires : goal.best_hops-requires
-best_hops-requires c = subst (λ (l : List Offer). AreInRange c.in-Some.walks.now l) (sym c.as_slice.ensures.value) c.in-Some.ensures.range
 
 pub returns-in-Some : goal.returns-in-Some
 returns-in-Some c p is =
@@ -24,6 +20,3 @@ returns-in-Some c p is =
     (λ found best. area_route_is net part.area p c.args.u reach part.offers.items given c.in-Some.ensures.reach is.offers
     c.as_slice.ensures.value c.routers.result c.routers.ensures.count found best)
     c.best_hops.ensures
-
-pub returns-in-None : goal.returns-in-None
-returns-in-None c = λ _ _ cost costs. c.in-None.ensures.none costs.inside

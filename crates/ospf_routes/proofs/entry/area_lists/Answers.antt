@@ -1,16 +1,10 @@
-use Rattle.std.proofs.Common.{[], arith, subst, List, sym, take}
+use Rattle.std.proofs.Common.{subst, List, take}
 use Rattle.std.proofs.lemmas.List.{take_all}
 use Rattle.net_addr.proofs.SomeElement.{one_more}
 use Rattle.ospf_routes.proofs.IntraFacts.{part_at, some_part}
 use Rattle.ospf_routes.proofs.RouteFacts.{AreaListsSoFar, area_lists_more, area_lists_all}
 use Rattle.ospf_routes.specs.declared.intra_area.AreaOffers.{AreaOffers}
 use Rattle.ospf_routes.proofs.entry.area_lists.Goals as goal
-
-pub loop-part-init : goal.loop-part-init
-loop-part-init c =
-    let asked = c.args.asked in
-    subst (AreaListsSoFar asked.domain.now.net asked.destination.now.dest asked.router []) (sym c.new-lists.ensures.items)
-    (record { each = λ hops has. absurd (omega (arith, has.1)); every = λ n cost has costs. absurd (omega (arith, has.among.1)) })
 
 pub area_hops-requires-clause-part : goal.area_hops-requires-clause-part
 area_hops-requires-clause-part c =

@@ -2,9 +2,6 @@ use Rattle.ospf_routes.proofs.ZoneRoutes.{zone_route}
 use Rattle.ospf_routes.specs.steps.Asked.{HasIntraRoute, HasNoIntraRoute}
 use Rattle.ospf_routes.proofs.entry.area_route.Goals as goal
 
-pub best_route-requires : goal.best_route-requires
-best_route-requires c = c.in-Some.ensures.some.range
-
 pub returns-in-Some : goal.returns-in-Some
 returns-in-Some c =
     let asked = c.args.asked in

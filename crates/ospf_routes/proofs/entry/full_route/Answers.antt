@@ -1,31 +1,16 @@
 use Rattle.std.proofs.Common.{ℕ, length, MatchOption, refl}
 use Rattle.std.proofs.lemmas.Bool.{false≢true}
-use Rattle.std.proofs.lemmas.Option.{MatchOption-at_some, MatchOption-at_none}
+use Rattle.std.proofs.lemmas.Option.{MatchOption-at_none}
 use Rattle.std.proofs.lemmas.Result.{IfOk-weaker}
 use Rattle.net_addr.specs.Addresses.{Block}
-use Rattle.igp_theory.specs.Ospf.{OspfEntry, intra_area, discard}
+use Rattle.igp_theory.specs.Ospf.{OspfEntry, discard}
 use Rattle.walk_core.specs.BestOffers.{NoneTotals}
 use Rattle.walk_core.specs.Reach.{Reach}
-use Rattle.route_tables.proofs.BestRoutes.{route_by_hops, route_by_discard}
+use Rattle.route_tables.proofs.BestRoutes.{route_by_discard}
 use Rattle.ospf_routes.specs.steps.AreaReach.{area_reach}
-use Rattle.ospf_routes.specs.steps.Asked.{HasIntraRoute, HasNoIntraRoute, IsFoundRoute, IsRoute, MakesIntraRoute}
-use Rattle.ospf_routes.proofs.EntryFacts.{connected_has_none, found_by, home_is, range_is}
+use Rattle.ospf_routes.specs.steps.Asked.{HasNoIntraRoute, IsFoundRoute, IsRoute, MakesIntraRoute}
+use Rattle.ospf_routes.proofs.EntryFacts.{found_by, home_is, range_is}
 use Rattle.ospf_routes.proofs.entry.full_route.Goals as goal
-
-pub returns-then-is_home : goal.returns-then-is_home
-returns-then-is_home c =
-    let asked = c.args.asked in
-    connected_has_none asked.domain.now.net asked.router asked.destination.now.dest ((home_is asked c.requires).0 (c.if-is_home.ensures.0 refl))
-
-pub returns-in-Some : goal.returns-in-Some
-returns-in-Some c =
-    let asked = c.args.asked in
-    let net = asked.domain.now.net in
-    let reach : ℕ → Reach = area_reach asked.domain.now.areas asked.router in
-    route_by_hops reach (length asked.domain.now.areas) (length net) (HasIntraRoute asked) (OspfEntry net asked.router asked.destination.now.dest)
-    c.in-Some.route
-    (λ hops route. intra_area (λ is. false≢true (c.if-is_home.ensures.1 ((home_is asked c.requires).1 is))) route.is route.hops_are)
-    (MatchOption-at_some (HasNoIntraRoute asked) (MakesIntraRoute asked) c.in-Some.route c.in-Some.is c.in_ok-route.ensures)
 
 pub returns-then-contains : goal.returns-then-contains
 returns-then-contains c =
@@ -37,10 +22,6 @@ returns-then-contains c =
     (discard (λ is. false≢true (c.if-is_home.ensures.1 ((home_is asked c.requires).1 is)))
     (MatchOption-at_none (HasNoIntraRoute asked) (MakesIntraRoute asked) c.in_default.is c.in_ok-route.ensures)
     ((range_is asked c.requires).0 (c.if-contains.ensures.0 refl)) refl)
-
-pub announced-requires-clause-no_intra : goal.announced-requires-clause-no_intra
-announced-requires-clause-no_intra c =
-    MatchOption-at_none (HasNoIntraRoute c.args.asked) (MakesIntraRoute c.args.asked) c.in_default.is c.in_ok-route.ensures
 
 pub announced-requires-clause-no_range : goal.announced-requires-clause-no_range
 announced-requires-clause-no_range c = λ is. false≢true (c.if-contains.ensures.1 ((range_is c.args.asked c.requires).1 is))

@@ -6,9 +6,6 @@ use Rattle.ospf_routes.specs.steps.Asked.{IsRoute}
 use Rattle.ospf_routes.proofs.EntryFacts.{decided_found}
 use Rattle.ospf_routes.proofs.entry.route_by.Goals as goal
 
-pub best_route-requires : goal.best_route-requires
-best_route-requires c = c.requires.decides.range
-
 pub returns : goal.returns
 returns c =
     let asked = c.args.asked in

@@ -3,9 +3,6 @@ use Rattle.std.proofs.lemmas.Bool.{false≢true}
 use Rattle.ospf_routes.proofs.EntryFacts.{decided_target}
 use Rattle.ospf_routes.proofs.entry.target_by.Goals as goal
 
-pub best_target-requires : goal.best_target-requires
-best_target-requires c = c.requires.decides.range
-
 pub returns : goal.returns
 returns c =
     decided_target c.args.asked c.args.deciding c.best_target.result c.requires.decides

@@ -1,5 +1,4 @@
 use Rattle.std.proofs.Common.{◌≡◌, ◌∷◌, [], List, inl, inr, refl, sym, subst}
-use Rattle.std.proofs.lemmas.Bool.{false≢true}
 use Rattle.std.proofs.lemmas.List.Elements.{Contains-append_left, Contains-push_cases}
 use Rattle.std.specs.List.{Any}
 use Rattle.std.proofs.lemmas.List.Quantifiers.{Any-push}
@@ -7,13 +6,6 @@ use Rattle.ospf_routes.specs.declared.area_route.AreaRoute.{AreaRoute}
 use Rattle.ospf_routes.specs.steps.Destinations.{AddsPart, IsPartAt}
 use Rattle.ospf_routes.specs.declared.intra_area.AreaOffers.{AreaOffers}
 use Rattle.ospf_routes.proofs.intra_area.push_part.Goals as goal
-
-pub returns-then-not-has_route : goal.returns-then-not-has_route
-returns-then-not-has_route c = record {
-  each = λ other has. inl has;
-  kept = λ other has. has;
-  added = λ any. absurd (false≢true (c.if-not-has_route.ensures.1 any));
-}
 
 pub returns : goal.returns
 returns c =

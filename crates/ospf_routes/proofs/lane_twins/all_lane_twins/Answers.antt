@@ -1,14 +1,8 @@
 use Rattle.std.proofs.Common.{◌+◌, [], ℕ, Option, List, sym, subst}
 use Rattle.ospf_routes.specs.steps.Places.{AreEach}
 use Rattle.ospf_routes.specs.steps.LaneTwins.{AreTwinsAlone}
-use Rattle.ospf_routes.proofs.PlaceFacts.{places_none, places_more}
+use Rattle.ospf_routes.proofs.PlaceFacts.{places_more}
 use Rattle.ospf_routes.proofs.lane_twins.all_lane_twins.Goals as goal
-
-pub loop-zone-init : goal.loop-zone-init
-loop-zone-init c =
-    let Are : ℕ → List (Option ℕ) → Type 0 =
-    λ zone. AreTwinsAlone c.args.destinations.now (record { domain = c.args.domain.now; listens = c.args.listens.now; zone = zone }) in
-    subst (λ (l : List (List (Option ℕ))). AreEach Are [] 0 l) (sym c.in_ok-all.ensures.items) (places_none Are [])
 
 pub loop-zone-preserved : goal.loop-zone-preserved
 loop-zone-preserved c =

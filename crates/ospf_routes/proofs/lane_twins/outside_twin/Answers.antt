@@ -12,11 +12,6 @@ is_outside-requires-clause-destination c =
     (all_at (IsDestinationIn c.args.domain.now) c.args.destinations.now c.args.place c.index-destinations-place.result
     c.requires.destinations.each c.requires.place c.index-destinations-place.is).is
 
-pub into_area-announced-requires : goal.into_area-announced-requires
-into_area-announced-requires c =
-    announced_within c.args.domain.now c.args.destinations.now c.args.summaries.now c.args.place c.args.zone c.requires.summaries c.requires.place
-    c.requires.zone
-
 pub into_area-requires : goal.into_area-requires
 into_area-requires c =
     let far = c.requires.latest c.number_of_announcer.result c.in_ok-earlier.earlier (sym c.in_ok-earlier.ensures.earlier) in

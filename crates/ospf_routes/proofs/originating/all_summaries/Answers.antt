@@ -7,7 +7,7 @@ use Rattle.ospf_routes.specs.Lists.{Exactly}
 use Rattle.ospf_routes.specs.steps.Destinations.{IsDestinationIn, ospf_prefixes}
 use Rattle.ospf_routes.specs.steps.Heard.{AddsRow, IsSummaryRow, AreHeardBelow}
 use Rattle.ospf_routes.specs.declared.intra_area.Destination.{Destination}
-use Rattle.ospf_routes.proofs.HeardFacts.{heard_more, heard_none}
+use Rattle.ospf_routes.proofs.HeardFacts.{heard_more}
 use Rattle.ospf_routes.proofs.originating.all_summaries.Goals as goal
 
 pub keep_summaries-requires-clause-destination : goal.keep_summaries-requires-clause-destination
@@ -18,16 +18,6 @@ keep_summaries-requires-clause-destination c =
 pub keep_summaries-requires-clause-borders : goal.keep_summaries-requires-clause-borders
 keep_summaries-requires-clause-borders c =
     subst (λ (l : List ℕ). Exactly (IsBorderRouter c.args.domain.now.net) l) (sym c.as_slice.ensures.value) c.in_ok-borders.ensures
-
-pub loop-destination-init : goal.loop-destination-init
-loop-destination-init c =
-    let domain = c.args.domain.now in
-    let dests : List Block = ospf_prefixes c.args.destinations.now in
-    record {
-      heard = subst (AreHeardBelow domain dests 0) (sym c.none-summaries.ensures)
-          (heard_none domain dests c.zones.result c.zones.ensures.count);
-      within = omega arith;
-    }
 
 pub loop-destination-preserved : goal.loop-destination-preserved
 loop-destination-preserved c =

@@ -1,14 +1,10 @@
-use Rattle.std.proofs.Common.{◌≡◌, ℕ, arith, length, subst, sym}
+use Rattle.std.proofs.Common.{ℕ, subst, sym}
 use Rattle.net_addr.specs.Addresses.{Block}
-use Rattle.ospf_routes.specs.steps.Heard.{AddsRow, IsSummaryRow}
 use Rattle.ospf_routes.specs.steps.Offered.{AreOffers}
 use Rattle.ospf_routes.specs.steps.Summarized.{IsHeard}
 use Rattle.ospf_routes.specs.declared.areas.AreaWalks.{AreaWalks}
-use Rattle.ospf_routes.proofs.HeardFacts.{heard_here, row_more, row_none}
+use Rattle.ospf_routes.proofs.HeardFacts.{heard_here, row_more}
 use Rattle.ospf_routes.proofs.originating.keep_into_areas.Goals as goal
-
-pub loop-zone-init : goal.loop-zone-init
-loop-zone-init c = row_none c.args.domain.now c.args.destination.now.dest c.args.summaries.now
 
 pub loop-zone-preserved : goal.loop-zone-preserved
 loop-zone-preserved c =
@@ -19,10 +15,3 @@ loop-zone-preserved c =
     row_more domain p k c.args.summaries.now c.loop-zone.summaries c.keep.new.self c.as_slice.result.now c.loop-zone.invariant c.in_ok-keep.ensures
     (heard_here domain p k a c.as_slice.result.now c.area.ensures.is
     (subst (AreOffers (IsHeard domain.net p a.number)) (sym c.as_slice.ensures.value) c.in_ok-put_summaries.ensures))
-
-pub returns : goal.returns
-returns c =
-    let all : c.loop-zone.zone ≡ length c.args.domain.now.areas =
-    omega (arith, c.loop-zone-test.false, c.loop-zone.auto.zone-end, c.zones-zone-end.ensures.count) in
-    subst (λ (m : ℕ). AddsRow (IsSummaryRow c.args.domain.now c.args.destination.now.dest m) c.args.summaries.now c.loop-zone.summaries) all
-    c.loop-zone.invariant

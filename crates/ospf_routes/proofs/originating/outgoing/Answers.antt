@@ -1,6 +1,4 @@
 use Rattle.std.proofs.Common.{refl, subst, sym}
-use Rattle.std.proofs.lemmas.Bool.{false≢true}
-use Rattle.std.proofs.lemmas.Option.{none-some}
 use Rattle.ospf_routes.specs.steps.Summarized.{Announces}
 use Rattle.ospf_routes.proofs.originating.outgoing.Goals as goal
 
@@ -10,10 +8,4 @@ returns-then-announces c o = (
       let is = (c.outside_offer.ensures o).0 e in
       record { outside = is; announces = subst (Announces c.args.domain.now.net c.args.area.now.number) (sym is.at) (c.if-announces.ensures.0 refl) },
   λ is. (c.outside_offer.ensures o).1 is.outside,
-)
-
-pub returns-else-announces : goal.returns-else-announces
-returns-else-announces c o = (
-  λ no. absurd (none-some o no),
-  λ is. absurd (false≢true (c.if-announces.ensures.1 (subst (Announces c.args.domain.now.net c.args.area.now.number) is.outside.at is.announces))),
 )

@@ -1,12 +1,8 @@
 use Rattle.walk_core.specs.declared.offers.Offer.{Offer}
-use Rattle.route_tables.proofs.ListFacts.{adds_start, adds_at, adds_end}
+use Rattle.route_tables.proofs.ListFacts.{adds_at, adds_end}
 use Rattle.ospf_routes.specs.steps.Summarized.{IsOutgoing}
 use Rattle.ospf_routes.specs.declared.area_route.AreaRoute.{AreaRoute}
 use Rattle.ospf_routes.proofs.originating.push_announced.Goals as goal
-
-pub loop-route-init : goal.loop-route-init
-loop-route-init c =
-    adds_start (λ (o : Offer) (x : AreaRoute). IsOutgoing c.args.domain.now.net c.args.area.now.number o x) c.args.offers.now.items c.args.routes.now
 
 pub loop-route-preserved : goal.loop-route-preserved
 loop-route-preserved c =

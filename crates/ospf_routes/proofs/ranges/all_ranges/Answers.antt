@@ -1,13 +1,8 @@
 use Rattle.std.proofs.Common.{◌+◌, [], subst, List, sym}
-use Rattle.ospf_routes.proofs.PlaceFacts.{places_none, places_more}
+use Rattle.ospf_routes.proofs.PlaceFacts.{places_more}
 use Rattle.ospf_routes.specs.steps.Ranges.{AreActiveRanges, AreRangesBelow}
 use Rattle.ospf_routes.specs.declared.ranges.ActiveRange.{ActiveRange}
 use Rattle.ospf_routes.proofs.ranges.all_ranges.Goals as goal
-
-pub loop-b-init : goal.loop-b-init
-loop-b-init c =
-    subst (λ (l : List (List ActiveRange)). AreRangesBelow c.args.domain.now.net 0 l) (sym c.new-ranges.ensures.items)
-    (places_none (AreActiveRanges c.args.domain.now.net) [])
 
 pub loop-b-preserved : goal.loop-b-preserved
 loop-b-preserved c =

@@ -1,7 +1,7 @@
 use Rattle.std.proofs.Common.{ℕ, subst, sym}
 use Rattle.std.specs.List.{Any}
 use Rattle.igp_theory.specs.Ospf.{IsComponent}
-use Rattle.route_tables.proofs.ListFacts.{adds_start, adds_step, exactly_added, adds_end}
+use Rattle.route_tables.proofs.ListFacts.{adds_step, exactly_added, adds_end}
 use Rattle.ospf_routes.proofs.RangeFacts.{component_costs_are}
 use Rattle.ospf_routes.specs.steps.Destinations.{IsDestinationIn}
 use Rattle.ospf_routes.specs.declared.intra_area.Destination.{Destination}
@@ -11,11 +11,6 @@ pub component_cost-cost-requires-clause-destination : goal.component_cost-cost-r
 component_cost-cost-requires-clause-destination c =
     subst (IsDestinationIn c.args.domain.now) (sym c.destination-item.is)
     (c.requires.destinations.each c.loop-destination.destination-index c.destination-item.result c.loop-destination-test.true)
-
-pub loop-destination-init : goal.loop-destination-init
-loop-destination-init c =
-    adds_start (λ (n : ℕ) (d : Destination). IsComponent c.args.domain.now.net c.args.b c.args.range.now d.dest n)
-    c.new-costs.result.items c.args.destinations.now
 
 pub loop-destination-preserved : goal.loop-destination-preserved
 loop-destination-preserved c =

@@ -2,11 +2,8 @@ use Rattle.std.proofs.Common.{◌≡◌, List, subst, sym}
 use Rattle.net_addr.specs.Addresses.{Block}
 use Rattle.ospf_routes.specs.Lists.{Adds}
 use Rattle.ospf_routes.specs.declared.ranges.ActiveRange.{ActiveRange}
-use Rattle.route_tables.proofs.ListFacts.{adds_start, adds_more, adds_end, adds_one}
+use Rattle.route_tables.proofs.ListFacts.{adds_more, adds_end, adds_one}
 use Rattle.ospf_routes.proofs.ranges.push_prefixes.Goals as goal
-
-pub loop-active-init : goal.loop-active-init
-loop-active-init c = adds_start (λ p (a : ActiveRange). a.range.dest ≡ p) c.args.prefixes.now.items c.args.actives.now
 
 pub loop-active-preserved : goal.loop-active-preserved
 loop-active-preserved c =

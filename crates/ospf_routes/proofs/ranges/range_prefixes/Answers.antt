@@ -2,13 +2,9 @@ use Rattle.std.proofs.Common.{◌≡◌, List, subst}
 use Rattle.std.specs.List.{Any}
 use Rattle.ospf_routes.specs.Lists.{Adds}
 use Rattle.ospf_routes.specs.declared.ranges.ActiveRange.{ActiveRange}
-use Rattle.route_tables.proofs.ListFacts.{adds_start, adds_more, adds_end}
+use Rattle.route_tables.proofs.ListFacts.{adds_more, adds_end}
 use Rattle.ospf_routes.proofs.RangeFacts.{hold_ranges}
 use Rattle.ospf_routes.proofs.ranges.range_prefixes.Goals as goal
-
-pub loop-actives-init : goal.loop-actives-init
-loop-actives-init c =
-    adds_start (λ p (actives : List ActiveRange). Any (λ (a : ActiveRange). a.range.dest ≡ p) actives) c.new-prefixes.result.items c.args.ranges.now
 
 pub loop-actives-preserved : goal.loop-actives-preserved
 loop-actives-preserved c =

@@ -1,17 +1,11 @@
 use Rattle.std.proofs.Common.{ℕ, get_or, refl}
-use Rattle.std.proofs.lemmas.Bool.{false≢true}
 use Rattle.std.proofs.lemmas.List.{get_or_default}
 use Rattle.walk_core.specs.declared.offers.Offer.{Offer}
-use Rattle.route_tables.proofs.ListFacts.{adds_nothing, adds_start, adds_more, adds_end}
+use Rattle.route_tables.proofs.ListFacts.{adds_more, adds_end}
 use Rattle.ospf_routes.proofs.BorderLists.{inner_at, inner_is_router}
 use Rattle.ospf_routes.proofs.SummaryFacts.{defaults_are}
-use Rattle.ospf_routes.specs.steps.Summarized.{HasDefault, RouterDefault}
+use Rattle.ospf_routes.specs.steps.Summarized.{RouterDefault}
 use Rattle.ospf_routes.proofs.stub_areas.push_defaults.Goals as goal
-
-pub returns-then-not-is_all_addresses : goal.returns-then-not-is_all_addresses
-returns-then-not-is_all_addresses c =
-    adds_nothing c.args.offers.now.items (HasDefault c.args.domain.now.net c.args.area.now.number c.args.dest)
-    (λ o is. false≢true (c.if-not-is_all_addresses.ensures.1 is.all))
 
 pub push_router_defaults-requires-clause-border : goal.push_router_defaults-requires-clause-border
 push_router_defaults-requires-clause-border c =
@@ -22,10 +16,6 @@ pub push_router_defaults-requires-clause-router : goal.push_router_defaults-requ
 push_router_defaults-requires-clause-router c =
     inner_is_router c.args.domain.now.net c.args.area.now c.as_slice-b-items.result.now c.loop-b.b-index 0 c.requires
     c.as_slice-b-items.ensures c.loop-b-test.true
-
-pub loop-b-init : goal.loop-b-init
-loop-b-init c =
-    adds_start (λ (o : Offer) (b : ℕ). RouterDefault c.args.domain.now.net c.args.area.now.number b o) c.args.offers.now.items c.as_slice-b-items.result.now
 
 pub loop-b-preserved : goal.loop-b-preserved
 loop-b-preserved c =

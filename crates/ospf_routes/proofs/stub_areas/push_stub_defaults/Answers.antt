@@ -1,12 +1,8 @@
 use Rattle.net_model.specs.declared.area.Stub.{Stub}
 use Rattle.walk_core.specs.declared.offers.Offer.{Offer}
-use Rattle.route_tables.proofs.ListFacts.{adds_start, adds_at, adds_end}
+use Rattle.route_tables.proofs.ListFacts.{adds_at, adds_end}
 use Rattle.ospf_routes.specs.steps.Summarized.{IsDefault}
 use Rattle.ospf_routes.proofs.stub_areas.push_stub_defaults.Goals as goal
-
-pub loop-stub-init : goal.loop-stub-init
-loop-stub-init c =
-    adds_start (λ (o : Offer) (s : Stub). IsDefault c.args.area c.args.b o s) c.args.offers.now.items c.args.stubs.now
 
 pub loop-stub-preserved : goal.loop-stub-preserved
 loop-stub-preserved c =

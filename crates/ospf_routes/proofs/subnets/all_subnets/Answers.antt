@@ -2,14 +2,11 @@ use Rattle.std.proofs.Common.{◌∙◌, ap, arith}
 use Rattle.std.specs.List.{Any}
 use Rattle.net_model.specs.Configuration.{Configuration}
 use Rattle.net_model.specs.declared.interface.Interface.{Interface}
-use Rattle.route_tables.proofs.ListFacts.{below_start, below_step, adds_same, exactly_below}
+use Rattle.route_tables.proofs.ListFacts.{below_step, adds_same, exactly_below}
 use Rattle.ospf_routes.proofs.SubnetFacts.{RouterSubnet, router_subnet_is, subnet_below}
 use Rattle.ospf_routes.specs.steps.Subnets.{IsInterfaceSubnet, IsUpSubnet}
 use Rattle.ospf_routes.specs.declared.subnets.Subnet.{Subnet}
 use Rattle.ospf_routes.proofs.subnets.all_subnets.Goals as goal
-
-pub loop-w-init : goal.loop-w-init
-loop-w-init c = below_start (RouterSubnet c.args.net.now) c.new-all.result.items
 
 pub loop-w-preserved : goal.loop-w-preserved
 loop-w-preserved c =

@@ -1,9 +1,6 @@
-use Rattle.route_tables.proofs.ListFacts.{adds_start, adds_step, exactly_added, adds_end}
+use Rattle.route_tables.proofs.ListFacts.{adds_step, exactly_added, adds_end}
 use Rattle.ospf_routes.specs.steps.Subnets.{IsHome}
 use Rattle.ospf_routes.proofs.subnets.homes_among.Goals as goal
-
-pub loop-subnet-init : goal.loop-subnet-init
-loop-subnet-init c = adds_start (IsHome c.args.dest) c.new-homes.result.items c.args.subnets.now
 
 pub loop-subnet-preserved : goal.loop-subnet-preserved
 loop-subnet-preserved c =

@@ -1,11 +1,8 @@
 use Rattle.net_model.specs.declared.interface.Interface.{Interface}
-use Rattle.route_tables.proofs.ListFacts.{adds_start, adds_step, adds_end}
+use Rattle.route_tables.proofs.ListFacts.{adds_step, adds_end}
 use Rattle.ospf_routes.specs.steps.Subnets.{IsInterfaceSubnet}
 use Rattle.ospf_routes.specs.declared.subnets.Subnet.{Subnet}
 use Rattle.ospf_routes.proofs.subnets.push_router_subnets.Goals as goal
-
-pub loop-interface-init : goal.loop-interface-init
-loop-interface-init c = adds_start (λ (s : Subnet) (i : Interface). IsInterfaceSubnet c.args.w i s) c.args.all.now.items c.args.interfaces.now
 
 pub loop-interface-preserved : goal.loop-interface-preserved
 loop-interface-preserved c =

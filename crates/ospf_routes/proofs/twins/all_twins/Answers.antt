@@ -6,14 +6,8 @@ use Rattle.ospf_routes.specs.steps.Destinations.{ospf_prefixes}
 use Rattle.ospf_routes.specs.steps.Ranges.{HoldRanges}
 use Rattle.ospf_routes.specs.steps.Twins.{AreEarlierBy}
 use Rattle.ospf_routes.specs.declared.intra_area.Destination.{Destination}
-use Rattle.ospf_routes.proofs.HeardFacts.{heard_within}
 use Rattle.ospf_routes.proofs.TwinFacts.{earlier_more, twin_found}
 use Rattle.ospf_routes.proofs.twins.all_twins.Goals as goal
-
-pub twin_of-requires-clause-summaries : goal.twin_of-requires-clause-summaries
-twin_of-requires-clause-summaries c =
-    heard_within c.args.domain.now (ospf_prefixes c.args.destinations.now) (length c.args.destinations.now) c.args.summaries.now
-    c.requires.summaries
 
 pub loop-place-preserved : goal.loop-place-preserved
 loop-place-preserved c =

@@ -1,11 +1,7 @@
-use Rattle.std.proofs.Common.{ℕ, List, take, sym, subst}
-use Rattle.ospf_routes.proofs.RouteFacts.{AreSomeOf, some_of_none, some_of_more, united_of_all}
+use Rattle.std.proofs.Common.{ℕ, List, sym, subst}
+use Rattle.ospf_routes.proofs.RouteFacts.{some_of_more, united_of_all}
 use Rattle.ospf_routes.specs.steps.Routing.{AreUnited}
 use Rattle.ospf_routes.proofs.united.united.Goals as goal
-
-pub loop-list-init : goal.loop-list-init
-loop-list-init c =
-    subst (λ (l : List ℕ). AreSomeOf (take 0 c.args.lists.now) c.args.count l) (sym c.new-hops.ensures.items) (some_of_none c.args.lists.now c.args.count)
 
 pub loop-list-preserved : goal.loop-list-preserved
 loop-list-preserved c =

@@ -1,12 +1,9 @@
 use Rattle.std.proofs.Common.{◌≡◌, ℕ, arith, Some}
 use Rattle.net_model.specs.Network.{IsBorderRouter}
-use Rattle.route_tables.proofs.ListFacts.{below_start, below_step, adds_same, exactly_below}
+use Rattle.route_tables.proofs.ListFacts.{below_step, adds_same, exactly_below}
 use Rattle.ospf_routes.specs.steps.AreaReach.{IsThisBorder}
 use Rattle.ospf_routes.proofs.BorderLists.{border_below_count}
 use Rattle.ospf_routes.proofs.domain.Domain.borders.Goals as goal
-
-pub loop-u-init : goal.loop-u-init
-loop-u-init c = below_start (IsThisBorder c.args.self.now.net) c.new-borders.result.items
 
 pub loop-u-preserved : goal.loop-u-preserved
 loop-u-preserved c =

@@ -1,11 +1,8 @@
 use Rattle.std.proofs.Common.{◌≡◌, ℕ, arith, Some}
-use Rattle.route_tables.proofs.ListFacts.{below_start, below_step, adds_same, exactly_below}
+use Rattle.route_tables.proofs.ListFacts.{below_step, adds_same, exactly_below}
 use Rattle.ospf_routes.specs.steps.Members.{IsBorderIn, IsThisBorderAmong}
 use Rattle.ospf_routes.proofs.BorderLists.{inner_below_count, inner_is}
 use Rattle.ospf_routes.proofs.members.Borders.of_area.Goals as goal
-
-pub loop-u-init : goal.loop-u-init
-loop-u-init c = below_start (IsThisBorderAmong c.args.net.now c.args.members.now) c.new-routers.result.items
 
 pub loop-u-preserved : goal.loop-u-preserved
 loop-u-preserved c =

@@ -1,6 +1,5 @@
-use Rattle.std.proofs.Common.{◌≡◌, ◌<◌, length, sym, subst}
-use Rattle.route_tables.specs.Prefixes.{prefix_at}
-use Rattle.route_tables.proofs.DestinationLists.{element_at, prefix_is}
+use Rattle.std.proofs.Common.{◌<◌, length, sym, subst}
+use Rattle.route_tables.proofs.DestinationLists.{element_at}
 use Rattle.ospf_routes.specs.steps.Destinations.{IsDestinationIn, ospf_prefixes}
 use Rattle.ospf_routes.specs.steps.Networks.{OspfNetwork}
 use Rattle.ospf_routes.specs.declared.intra_area.Destination.{Destination}
@@ -13,10 +12,3 @@ returns-clause-known c =
     subst (λ (ospf : OspfNetwork). IsDestinationIn ospf.domain d) c.self.view_is
     (element_at (λ (x : Destination). x.dest) (IsDestinationIn c.self.inside.domain) c.self.inside.destinations.items
     c.args.place d c.self.invariant.destinations.each within c.index.ensures)
-
-pub returns-clause-dest : goal.returns-clause-dest
-returns-clause-dest c =
-    let within = subst (λ (ospf : OspfNetwork). c.args.place < length (ospf_prefixes ospf.destinations)) (sym c.self.view_is) c.requires in
-    let d : Destination = c.index.result.now in
-    subst (λ (ospf : OspfNetwork). d.dest ≡ prefix_at (ospf_prefixes ospf.destinations) c.args.place) c.self.view_is
-    (prefix_is (λ (x : Destination). x.dest) c.self.inside.destinations.items c.args.place d within c.index.ensures)

@@ -25,9 +25,6 @@ listed {own} {ospf} place zone same is within below =
       subst Heard same (is.announced.each place zone inside (subst (λ (n : ℕ). zone < n) (sym is.announced.areas_are) known)),
     )
 
-pub into_area-requires : goal.into_area-requires
-into_area-requires c = (listed c.args.place c.args.zone c.self.view_is c.self.invariant c.requires.place c.requires.zone).0
-
 pub returns : goal.returns
 returns c =
     let ospf : OspfNetwork = c.args.self.now in
