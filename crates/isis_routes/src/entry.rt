@@ -1,5 +1,6 @@
 ghost use Rattle.std.specs.Prelude.{IfOk};
-ghost use Rattle.isis_routes.specs.steps.Asked.{HasNoDownRoute, HasNoIsisEntry, HasNoLevelRoute, HasNoneBefore, HasNoneIn, IsAway, IsIsisQuestion, IsRouteElse};
+ghost use Rattle.isis_routes.specs.steps.Asked.{HasNoDownRoute, HasNoIsisEntry, HasNoLevelRoute, HasNoneBefore, HasNoneIn, IsAway};
+ghost use Rattle.isis_routes.specs.steps.Asked.{IsIsisQuestion, IsRouteElse};
 ghost use Rattle.isis_routes.specs.steps.Routing.{NoDefaultRoute};
 
 use crate::OutOfMemory;

@@ -86,7 +86,8 @@ live_hop step marks n s u h many peeled some is = record {
 -- the ring that a walk ends in, turned, is the one that is told
 pub found_from_walk : (step : ℕ → ℕ → Type 0) (marks : List Bool) (n start place : ℕ) (path ring : List ℕ) → length marks ≡ n →
     ArePeeled step marks → IsMarked marks start
-    → ((q : ℕ) → IsMarked marks q → start ≤ q) → PathBegins start path → IsWalk step marks path place → IsTurned (drop place path) ring → IsFoundRing step n ring
+    → ((q : ℕ) → IsMarked marks q → start ≤ q) → PathBegins start path → IsWalk step marks path place → IsTurned (drop place path) ring
+    → IsFoundRing step n ring
 found_from_walk step marks n start place path ring many peeled some lowest begins walk turned = record {
   start = start;
   visited = begins.0;

@@ -20,8 +20,7 @@ use Rattle.migrate_cli.specs.declared.status.Status.{Status}
 use Rattle.migrate_cli.specs.declared.status.Status.TheVariants.{Words, ReadFault, Limit}
 use Rattle.migrate_cli.proofs.ReadingFacts.{AreRead-length}
 use Rattle.migrate_cli.proofs.StopLaws.{StopsAfter, IsBrokenSo, broken_at, IsToldOf, long_breaks, total_breaks, told_with, told_files, told_up_to, one_list}
-use Rattle.migrate_cli.proofs.StopLaws.{none_past}
-use Rattle.migrate_cli.proofs.StopLaws.{same_place, same_limit}
+use Rattle.migrate_cli.proofs.StopLaws.{none_past, same_place, same_limit}
 use Rattle.migrate_cli.proofs.StopLaws.IsBrokenSo.{too_long, too_many}
 use Rattle.migrate_cli.proofs.SameAnswers.{AreSame}
 use Rattle.migrate_cli.proofs.VerdictLaws.{one_verdict}

@@ -4,9 +4,8 @@ use Rattle.std.proofs.lemmas.List.{length-map, get_or-map}
 use Rattle.std.proofs.lemmas.List.Elements.{All-cons, All-append}
 use Rattle.migrate_words.specs.Requests.{Request, check, prepare, plan, refute, scripts, replay, sample}
 use Rattle.migrate_cli.specs.Reading.{File, AreShort}
-use Rattle.migrate_cli.specs.CommandFiles.{config_file, config_names, config_texts, design_file, files_of, own_files, own_texts, text_file}
+use Rattle.migrate_cli.specs.CommandFiles.{config_file, config_names, config_texts, design_file, files_of, own_files, own_texts, text_file, text_names}
 use Rattle.migrate_cli.specs.steps.FilesRead.{ReadsFiles}
-use Rattle.migrate_cli.specs.CommandFiles.{text_names}
 
 -- the file is none that may be longer than 16 MiB
 abbrev IsSmall : File → Type 0

@@ -9,8 +9,7 @@ use Rattle.printed_lines.specs.Texts.{text_of}
 use Rattle.printed_lines.specs.Words.{dotted, spaced}
 use Rattle.sample_network.specs.SampleLinks.{sample_cost, far_end, link_before, loopback, sample_metric, near_end}
 use Rattle.sample_network.specs.SampleTexts.{sample_address_line, before_lines, sample_cost_line, sample_isis_lines, link_lines, loopback_lines}
-use Rattle.sample_network.specs.SampleTexts.{sample_metric_line}
-use Rattle.sample_network.specs.SampleTexts.{next_lines, sample_ospf_lines, sample_router_lines, routers_to, sample_text}
+use Rattle.sample_network.specs.SampleTexts.{sample_metric_line, next_lines, sample_ospf_lines, sample_router_lines, routers_to, sample_text}
 
 -- ---- words ----
 

@@ -125,7 +125,8 @@ fn judge_network(
     requires some { 0 < length net.now }
     requires own { AreShort (own_files (request_of command.now)) own.now }
     requires configs { All (λ text. length text ≤ FILE_MOST) configs.now }
-    ensures { IfOk result (λ answer. GiveNetwork configs.now net.now → IsVerdict (request_of command.now) (given_texts own.now configs.now) answer.status answer.text) }
+    ensures { IfOk result (λ answer. GiveNetwork configs.now net.now →
+        IsVerdict (request_of command.now) (given_texts own.now configs.now) answer.status answer.text) }
 {
     match off_start(command, net) {
         Some(router) => {

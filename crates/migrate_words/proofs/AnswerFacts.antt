@@ -17,8 +17,7 @@ use Rattle.migrate_words.specs.declared.refusal.WordsRefused.TheVariants.{Words,
 -- the command that was entered is what the words ask for
 pub answer_of_matches : (words : List Text) (matches : ArgMatches) (read : Result Command WordsRefused) → AreTaken words
     → subcommand_rows_of matches ≡ subcommand_of command_line words → ReadsAs request_of (IsEntered matches) read → AnswersWords words read
-answer_of_matches words matches (Ok command) taken same entered =
-    record { taken = taken; rows = entered.0; entered = sym same ∙ entered.1; given = entered.2 }
+answer_of_matches words matches (Ok command) taken same entered = record { taken = taken; rows = entered.0; entered = sym same ∙ entered.1; given = entered.2 }
 answer_of_matches words matches (Err (Words detail)) taken same none = absurd none
 answer_of_matches words matches (Err Number) taken same none =
     (taken, number_off words taken (λ request asks. none request (asks.rows, same ∙ asks.entered, asks.given)))

@@ -13,7 +13,8 @@ use Rattle.order_core.specs.Pairs.{Pair, IsPath, AreBelow, HasNoCycle}
 use Rattle.order_core.proofs.DistinctLists.{AllPairs-cons, length-le_from_distinct, Contains-from_distinct, place_from_Contains}
 use Rattle.order_core.proofs.Paths.{length-path}
 use Rattle.precedence_set.specs.steps.Walking.{pair_at, IsFirstFrom}
-use Rattle.precedence_set.specs.steps.Sorting.{StandsBelow, AreFree, AreLeftCounts, IsGone, IsGoneBy, IsListing, IsTopological, Queue, Stop, passing, queue, stop}
+use Rattle.precedence_set.specs.steps.Sorting.{StandsBelow, AreFree, AreLeftCounts, IsGone, IsGoneBy, IsListing, IsTopological, Queue, Stop}
+use Rattle.precedence_set.specs.steps.Sorting.{passing, queue, stop}
 use Rattle.precedence_set.proofs.LayerFacts.{pair_below}
 use Rattle.precedence_set.proofs.SortFacts.{AreLeftCounts-same, AreLeftCounts-gone, left_none, left_some}
 

@@ -1,6 +1,5 @@
 -- What a router has for a prefix, and uses for its parent, says what it uses for the addresses of the prefix.
-use Rattle.std.proofs.Common.{◌≡◌, ℕ, ◌<◌, ◌≤◌, ◌⊎◌, inl, inr, Bool, true, false, Option, Some, None, IfNone, MatchOption}
-use Rattle.std.proofs.Common.{⊎_elim, arith, refl, subst}
+use Rattle.std.proofs.Common.{◌≡◌, ℕ, ◌<◌, ◌≤◌, ◌⊎◌, inl, inr, Bool, true, false, Option, Some, None, IfNone, MatchOption, ⊎_elim, arith, refl, subst}
 use Rattle.std.proofs.lemmas.Bool.{cases_lt}
 use Rattle.net_addr.specs.Addresses.{Block, ContainsAddress}
 use Rattle.net_model.specs.Network.{Connected}

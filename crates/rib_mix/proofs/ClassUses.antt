@@ -177,4 +177,5 @@ one_way p k j cell is within at_k at_j phase next answer b inside =
 -- classes with the same cell are alike at a router
 pub alike_cells : (p : Place) (k j : ℕ) (cell : Cell) → IsPlace p → k < length p.classes.samples → j < length p.classes.samples
     → IsCell (sample p k) cell → IsCell (sample p j) cell → IsAlikeAt (move_of p) p.classes p.u k j
-alike_cells p k j cell is in_k in_j at_k at_j = λ phase next. (one_way p k j cell is in_k at_k at_j phase next, one_way p j k cell is in_j at_j at_k phase next)
+alike_cells p k j cell is in_k in_j at_k at_j =
+    λ phase next. (one_way p k j cell is in_k at_k at_j phase next, one_way p j k cell is in_j at_j at_k phase next)

@@ -1,6 +1,5 @@
 -- Lists that are made place by place.
-use Rattle.std.proofs.Common.{◌≡◌, List, get_or, All, arith}
-use Rattle.std.proofs.Common.{subst}
+use Rattle.std.proofs.Common.{◌≡◌, List, get_or, All, arith, subst}
 use Rattle.std.proofs.lemmas.List.{length-map, get_or-map, get_or_default}
 use Rattle.std.proofs.lemmas.List.Elements.{All-contains}
 use Rattle.net_addr.specs.Addresses.{Block, IsBlock}

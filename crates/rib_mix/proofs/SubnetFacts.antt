@@ -1,6 +1,5 @@
 -- The connected prefixes of a router, as they are listed.
-use Rattle.std.proofs.Common.{◌≡◌, ℕ, Bool, true, false, if◌then◌else◌, IsTrue, Contains, Option, Some, None, refl, sym, subst}
-use Rattle.std.proofs.Common.{◌∙◌}
+use Rattle.std.proofs.Common.{◌≡◌, ℕ, Bool, true, false, if◌then◌else◌, IsTrue, Contains, Option, Some, None, refl, sym, subst, ◌∙◌}
 use Rattle.std.specs.List.{filter_map}
 use Rattle.net_model.proofs.Members.{Contains-filter_map, Contains-in_filter_map}
 use Rattle.std.proofs.lemmas.Option.{same_Some}

@@ -1,5 +1,6 @@
 -- The walks from a vertex that reaches itself alone.
-use Rattle.std.proofs.Common.{◌≡◌, ◌∙◌, ℕ, ◌+◌, ◌<◌, zero, suc, List, [], ◌∷◌, ◌++◌, Option, Some, None, length, length-append, length-take-le, replicate, refl, sym, take}
+use Rattle.std.proofs.Common.{◌≡◌, ◌∙◌, ℕ, ◌+◌, ◌<◌, zero, suc, List, [], ◌∷◌, ◌++◌, Option, Some, None, length, length-append, length-take-le}
+use Rattle.std.proofs.Common.{replicate, refl, sym, take}
 use Rattle.std.proofs.Common.{Contains, ap, get_or, inl, inr, subst, arith}
 use Rattle.std.proofs.lemmas.Bool.{cases_lt}
 use Rattle.std.proofs.lemmas.List.{get_or-take, get_or_default, length-replicate}

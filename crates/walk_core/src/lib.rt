@@ -12,7 +12,8 @@
 //! | `walks`, `offers`, `found_walks`, `number_lists`, `long_lists` | what is known of the walks from a root, and the best of offers |
 //! | `distance`, `rows` | a distance in 8 bytes, and a row of those from one vertex |
 //! | `relax`, `hops` | over arcs: distances by relaxing, and first hops by the distances from where arcs lead |
-//! | `over_segments`, `segment_graph`, `outlets`, `flood` | over segments: the walks from all vertices, a graph of segments with its ports, distances from stale vertices, and onto a LAN at once |
+//! | `over_segments`, `segment_graph`, `outlets` | over segments: the walks from all vertices, and a graph of segments with its ports |
+//! | `flood` | distances over segments, from stale vertices, and onto a LAN at once |
 //! | `ends` | the distances from a root of one or two links, by those from the far ends |
 //! | `beyond`, `ways` | the walks that begin on a LAN, once for all roots, and first hops by these and by the distances from the ends of links |
 //! | `exits` | first hops from a root of two links, as most have, in one pass over the rows of their two ends |

@@ -42,7 +42,8 @@ loop-router-preserved c =
     let row : IsRow (site g router both) c.args.atoms.now.samples c.in_ok-row.row =
     row_made (site g router both 0) c.ospf_distance.result subnets c.args.atoms.now c.find.new.self.cells.items c.in_ok-row.row
     c.ospf_distance.ensures.network c.ospf_distance.ensures.distance own c.prefixes-prefixes.ensures.classing
-    (subst (λ (ps : List Block). AreOwnCells prefixes ps both c.ospf_distance.result c.find.new.self.cells.items) c.as_slice.ensures c.in_ok-find.ensures.cells)
+    (subst (λ (ps : List Block). AreOwnCells prefixes ps both c.ospf_distance.result c.find.new.self.cells.items) c.as_slice.ensures
+    c.in_ok-find.ensures.cells)
     (subst (λ (cells : List Cell). IsRowOfTops c.args.atoms.now.tops cells c.in_ok-row.row) c.as_slice-in-loop-router.ensures.value
     c.in_ok-row.ensures) in
     record {
@@ -52,5 +53,6 @@ loop-router-preserved c =
           (λ (u : ℕ) (row : List Cell). (both : BothTables) → slice_get c.args.tables.now u ≡ Some both → IsRow (site g u both) c.args.atoms.now.samples row)
           c.loop-router.rows.items c.push.new.self.items c.in_ok-row.row router c.loop-router.invariant.count c.loop-router.invariant.each
           c.in_ok-push.ensures.items
-          (λ other at. subst (λ (b : BothTables). IsRow (site g router b) c.args.atoms.now.samples c.in_ok-row.row) (same_Some both other (sym here ∙ at)) row);
+          (λ other at. subst (λ (b : BothTables). IsRow (site g router b) c.args.atoms.now.samples c.in_ok-row.row)
+          (same_Some both other (sym here ∙ at)) row);
     }

@@ -1,5 +1,6 @@
 use Rattle.std.proofs.Common.{◌≡◌, ◌∙◌, ◌+◌, false, true, List, Option, ℕ, sym, subst}
 use Rattle.walk_core.specs.Segments.{SendsAcross}
+use Rattle.walk_core.specs.Walks.{Arcs}
 use Rattle.walk_core.specs.steps.Ends.{AreSearched, IsShortRow}
 use Rattle.walk_core.proofs.EndLaws.{searched_more}
 use Rattle.walk_core.proofs.segment_graph.SegmentGraph.searched_rows.Goals as goal
@@ -7,11 +8,12 @@ use Rattle.walk_core.proofs.segment_graph.SegmentGraph.searched_rows.Goals.{then
 
 pub loop-root-preserved : goal.loop-root-preserved
 loop-root-preserved c =
-    subst (λ (l : List (List (Option ℕ))). AreSearched (SendsAcross c.args.self.now.segments) c.args.self.now.count c.args.by_ends.now (c.loop-root.root + 1) l)
-    (sym c.in_ok-push.ensures.items)
-    (searched_more (SendsAcross c.args.self.now.segments) c.args.self.now.count c.loop-root.root c.args.by_ends.now c.loop-root.rows.items c.if-by_ends-root.row
-    c.loop-root.invariant (λ free. elim c.if-by_ends-root.branch [
+    let arc : Arcs = SendsAcross c.args.self.now.segments in
+    let count : ℕ = c.args.self.now.count in
+    let root : ℕ = c.loop-root.root in
+    subst (λ (l : List (List (Option ℕ))). AreSearched arc count c.args.by_ends.now (root + 1) l) (sym c.in_ok-push.ensures.items)
+    (searched_more arc count root c.args.by_ends.now c.loop-root.rows.items c.if-by_ends-root.row c.loop-root.invariant
+    (λ free. elim c.if-by_ends-root.branch [
       | then-by_ends-root w ↦ absurd (let k : false ≡ true = sym free ∙ w.if-by_ends-root.true in cc)
-      | else-by_ends-root+in_ok-row w ↦ subst (λ (l : List (Option ℕ)). IsShortRow (SendsAcross c.args.self.now.segments) c.args.self.now.count c.loop-root.root l)
-          (sym w.row-is) w.in_ok-row.ensures
+      | else-by_ends-root+in_ok-row w ↦ subst (λ (l : List (Option ℕ)). IsShortRow arc count root l) (sym w.row-is) w.in_ok-row.ensures
     ]))

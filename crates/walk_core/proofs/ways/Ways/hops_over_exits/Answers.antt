@@ -20,6 +20,7 @@ loop-v-preserved c =
 
 pub returns-clause-exact : goal.returns-clause-exact
 returns-clause-exact c =
+    let root : ℕ = c.args.exits.root in
     let last : c.loop-v.v ≡ c.count-count.result = omega arith in
-    lists_of_all (SendsAcross c.args.self.now.segments) c.args.exits.root c.args.self.now.count c.loop-v.v (get_or c.args.self.now.rows c.args.exits.root []) c.loop-v.hops
+    lists_of_all (SendsAcross c.args.self.now.segments) root c.args.self.now.count c.loop-v.v (get_or c.args.self.now.rows root []) c.loop-v.hops
     (c.count-count.ensures.mesh.rows.each c.args.exits.root c.requires.root) c.loop-v.invariant (inl (last ∙ c.count-count.ensures.value))
