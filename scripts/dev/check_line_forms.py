@@ -1,0 +1,332 @@
+#!/usr/bin/env python3
+"""Compares the table of line forms in docs/operators.md with the forms that the reader knows.
+
+Usage: scripts/dev/check_line_forms.py [--tries PROGRAM] [--list]
+
+The forms are taken from the definitions of lines (crates/ios_lines/specs): each way through `head_of`, `interface_line`,
+`ospf_line` and `isis_line` that ends in a line of its own is a form, with the words that decide it, the words that its
+value may have and the kinds of its faults. The table has to hold each form in one row and no form twice, has to name its
+words in this row, and a row has to name each kind of fault that one of its forms has by itself.
+
+With `--tries` the built program reads small configurations: the rows of line_tries.txt beside this script, each a line put
+at its place and the answer of `plan`, and then calls on whole files with the texts that the page quotes. Each form has to
+be tried, each kind that a row names has to be met by a try of this row, and each answer has to be the one that stands
+there. `--list` prints the forms. Nothing is printed where all is well, else a line for each that isn't, and the status is 1.
+"""
+
+import argparse
+import itertools
+import pathlib
+import re
+import subprocess
+import sys
+import tempfile
+
+TOP = pathlib.Path(__file__).resolve().parent.parent.parent
+SPECS = TOP / "crates" / "ios_lines" / "specs"
+PAGE = TOP / "docs" / "operators.md"
+TRIES = pathlib.Path(__file__).resolve().parent / "line_tries.txt"
+
+# The places of lines: what the table calls them, the definition that says what a line says, and its file.
+PLACES = {
+    "At indent 0": ("head_of", "Heads.antt"),
+    "Under `interface`": ("interface_line", "InterfaceLines.antt"),
+    "Under `router ospf`": ("ospf_line", "OspfLines.antt"),
+    "Under `router isis`": ("isis_line", "IsisLines.antt"),
+}
+# Lines that have a meaning at any place; they are no lines of a section.
+ANYWHERE = "Anywhere"
+LINE_TYPES = {"Head", "InterfaceLine", "OspfLine", "IsisLine"}
+SKIPPED = {"Skipped", "Other"}
+# What stands for a word of a form that isn't written out.
+SAMPLES = {"A": "10.0.0.1", "M": "255.255.255.252", "W": "0.0.0.255", "NAME": "Loopback0", "TAG": "core", "X": "x",
+           "N": "7", "P": "1", "C": "5", "K": "k", "L": "l", "..": "x"}
+
+wrong = []
+
+
+# ---- the definitions ----
+
+TOKEN = re.compile(r'"([^"]*)"|\(|\)|\{|\}|&&|\|\||[^\s(){}"]+')
+
+
+def tokens_of(text):
+    return [("text", m.group(1)) if m.group(1) is not None else m.group(0) for m in TOKEN.finditer(text)]
+
+
+class Expression:
+    """Reads an expression of a definition: conditions, applications and words."""
+
+    def __init__(self, text):
+        self.tokens = tokens_of(text)
+        self.at = 0
+
+    def peek(self):
+        return self.tokens[self.at] if self.at < len(self.tokens) else None
+
+    def take(self, wanted=None):
+        token = self.peek()
+        if wanted is not None and token != wanted:
+            raise ValueError(f"{wanted} was wanted, and not {token}")
+        self.at += 1
+        return token
+
+    def whole(self):
+        if self.peek() == "if":
+            self.take()
+            condition = self.either()
+            self.take("then")
+            yes = self.whole()
+            self.take("else")
+            return ("if", condition, yes, self.whole())
+        return self.either()
+
+    def either(self):
+        parts = [self.both()]
+        while self.peek() == "||":
+            self.take()
+            parts.append(self.both())
+        return ("or", parts) if len(parts) > 1 else parts[0]
+
+    def both(self):
+        parts = [self.applied()]
+        while self.peek() == "&&":
+            self.take()
+            parts.append(self.applied())
+        return ("and", parts) if len(parts) > 1 else parts[0]
+
+    def applied(self):
+        parts = []
+        while self.peek() not in (None, ")", "}", "&&", "||", "then", "else"):
+            parts.append(self.atom())
+        return ("call", parts) if len(parts) > 1 else parts[0]
+
+    def atom(self):
+        token = self.take()
+        if token in ("(", "{"):
+            inside = self.whole() if token == "(" else self.applied()
+            self.take(")" if token == "(" else "}")
+            return inside
+        return token
+
+
+class Definitions:
+    """The definitions of a file and of Words.antt: result types, clauses of one argument list, and the text of each."""
+
+    def __init__(self, file):
+        self.result = {}
+        self.clauses = {}
+        for name in ("Words.antt", "InterfaceLines.antt", file):
+            text = re.sub(r"--.*", "", (SPECS / name).read_text())
+            for match in re.finditer(r"^(?:abbrev|unfoldable) pub (\S+) : (.*)\n((?:\S.*=.*\n(?:    .*\n)*)+)", text, re.M):
+                self.result[match.group(1)] = match.group(2).split("→")[-1].strip()
+                self.clauses[match.group(1)] = match.group(3)
+
+    def clause(self, name):
+        """The names of the arguments, and the body, of a definition with one clause."""
+        front, body = self.clauses[name].split("=", 1)
+        return front.split()[1:], Expression(body).whole()
+
+    def closure(self, text, seen):
+        """The texts of all definitions that a text names, itself first."""
+        found = [text]
+        for name in re.findall(r"[A-Za-z_][A-Za-z0-9_]*", text):
+            if name in self.clauses and name not in seen and self.result[name] not in LINE_TYPES:
+                seen.add(name)
+                found += self.closure(self.clauses[name], seen)
+        return found
+
+
+def put(expression, names):
+    """An expression with the values of its arguments in their places."""
+    if isinstance(expression, str):
+        return names.get(expression, expression)
+    if expression[0] == "text":
+        return expression
+    if expression[0] == "if":
+        return ("if",) + tuple(put(part, names) for part in expression[1:])
+    return (expression[0], [put(part, names) for part in expression[1]])
+
+
+def name_of(expression):
+    return expression[1][0] if isinstance(expression, tuple) and expression[0] == "call" else expression
+
+
+def ways(condition, definitions):
+    """The ways in which a condition holds: lists of tests, one of which has to hold whole."""
+    if isinstance(condition, tuple) and condition[0] == "or":
+        return [way for part in condition[1] for way in ways(part, definitions)]
+    if isinstance(condition, tuple) and condition[0] == "and":
+        return [sum(each, []) for each in itertools.product(*(ways(part, definitions) for part in condition[1]))]
+    name = name_of(condition)
+    if name.startswith("is_unsupported") or name == "is_leak":
+        arguments, body = definitions.clause(name)
+        return ways(put(body, dict(zip(arguments, condition[1][1:]))), definitions)
+    return [[condition]]
+
+
+def word_at(expression, words):
+    """The word that an expression names: of the line, or written out."""
+    name, rest = expression[1][0], expression[1][1:]
+    if name == "codes":
+        return rest[0][1]
+    place = int(rest[1])
+    return words[place] if place < len(words) else ""
+
+
+def holds(test, words):
+    name, rest = test[1][0], test[1][1:]
+    if name == "not":
+        return not holds(rest[0], words)
+    if name == "says":
+        return word_at(("call", ["word_at", *rest[:2]]), words) == word_at(rest[2], words)
+    if name in ("begins_with_two", "begins_with_three"):
+        return words[: len(rest) - 1] == [word_at(each, words) for each in rest[1:]]
+    if name == "lacks":
+        return len(words) <= int(rest[1])
+    if name == "bytes_eq":
+        return word_at(rest[0], words) == word_at(rest[1], words)
+    if name == "is_ascii_digit":
+        return word_at(rest[0][1][1], words)[:1].isdigit()
+    raise ValueError(f"a test that this script doesn't know: {name}")
+
+
+class Form:
+    """A way through the definition of a line: the tests that hold and those that don't, and the line that comes of it."""
+
+    def __init__(self, tests, line, definitions, entry):
+        self.tests = tests
+        self.line = name_of(line)
+        self.rows = []
+        faults = re.findall(rf"^\S*_line_fault \({self.line}\b[^)]*\) = (.*)$", definitions.clauses.get(f"{entry}_fault", ""), re.M)
+        texts = definitions.closure(f"{line} {' '.join(faults)}", set())
+        self.kinds = {kind for text in texts for kind in re.findall(r"[A-Z]\w+", text)} & KINDS
+        self.words = {word for text in texts for word in re.findall(r'codes "([a-z][^"]*)"', text)}
+
+    def __str__(self):
+        said = [word for test, held in self.tests if held and test[1][0] != "not" for word in re.findall(r"'text', '([^']*)'", str(test))]
+        return f"{' '.join(said)} ({self.line})"
+
+    def takes(self, words):
+        return all(all(holds(test, words) for test in way) == held for way, held in self.as_ways())
+
+    def as_ways(self):
+        return [([test], True) if held else (test, False) for test, held in self.tests]
+
+
+def forms_of(expression, definitions, entry, tests=()):
+    """All ways through an expression, in the order in which it looks at them."""
+    if isinstance(expression, tuple) and expression[0] == "if":
+        _, condition, yes, no = expression
+        for way in ways(condition, definitions):
+            yield from forms_of(yes, definitions, entry, tests + tuple((test, True) for test in way))
+            tests += ((way, False),)
+        yield from forms_of(no, definitions, entry, tests)
+        return
+    name = name_of(expression)
+    if definitions.result.get(name) in LINE_TYPES:
+        arguments, body = definitions.clause(name)
+        yield from forms_of(put(body, dict(zip(arguments, expression[1][1:]))), definitions, entry, tests)
+    else:
+        yield Form(tests, expression, definitions, entry)
+
+
+KINDS = set(re.findall(r"^    (\w+) = \d+,$", (TOP / "crates" / "ios_lines" / "src" / "kind.rt").read_text(), re.M))
+
+
+def reader_forms():
+    forms = {}
+    for place, (entry, file) in PLACES.items():
+        definitions = Definitions(file)
+        forms[place] = list(forms_of(definitions.clause(entry)[1], definitions, entry))
+    return forms
+
+
+def form_of(forms, place, words):
+    taking = [form for form in forms[place] if form.takes(words)]
+    if len(taking) != 1:
+        raise ValueError(f"{len(taking)} forms take {words}")
+    return taking[0]
+
+
+# ---- the table ----
+
+
+class Row:
+    def __init__(self, place, cells):
+        self.place = place
+        self.title = cells[0]
+        self.forms = re.findall(r"`([^`]+)`", cells[0])
+        said = re.findall(r"`([^`]+)`", " ".join(cells))
+        self.words = {word for each in said for word in each.replace("[", " ").replace("]", " ").split()}
+        self.kinds = self.words & KINDS
+        self.met = set()
+
+
+def table_rows():
+    rows, place = [], None
+    for line in PAGE.read_text().splitlines():
+        cells = [cell.strip() for cell in line.strip("|").split(" | ")]
+        label = re.fullmatch(r"\*\*(.*)\*\*", cells[0])
+        if not line.startswith("|"):
+            place = None
+        elif label and label.group(1) in (*PLACES, ANYWHERE):
+            place = label.group(1)
+        elif place:
+            rows.append(Row(place, cells))
+    return rows
+
+
+def written_out(form):
+    """The lines that a form of the table stands for: with each part in brackets and without it."""
+    part = re.search(r" \[([^\]]*)\]", form)
+    if not part:
+        return [[SAMPLES.get(word, word) for word in form.split()]]
+    return [line for each in ("", " " + part.group(1)) for line in written_out(form[: part.start()] + each + form[part.end():])]
+
+
+def check_table(forms, rows):
+    seen = set()
+    for row in rows:
+        for text in row.forms:
+            if (row.place, text) in seen:
+                wrong.append(f"{row.place}: `{text}` stands twice")
+            seen.add((row.place, text))
+            if row.place == ANYWHERE:
+                continue
+            for words in written_out(text):
+                form = form_of(forms, row.place, words)
+                if row not in form.rows:
+                    form.rows.append(row)
+    for place, form in ((place, form) for place in forms for form in forms[place]):
+        if len(form.rows) != 1:
+            wrong.append(f"{place}: {form} stands in {len(form.rows)} rows")
+        for row in form.rows:
+            if form.line in SKIPPED and "skipped" not in row.title and form.rows:
+                pass
+            for word in sorted(form.words - row.words):
+                wrong.append(f"{place}: the row of {form} doesn't name `{word}`")
+            for kind in sorted(form.kinds - row.kinds):
+                wrong.append(f"{place}: the row of {form} doesn't name {kind}")
+    missing = {"banner", "end"} - {text.split()[0] for place, text in seen if place == ANYWHERE}
+    wrong.extend(f"{ANYWHERE}: {word} stands in no row" for word in sorted(missing))
+
+
+def main():
+    parser = argparse.ArgumentParser(description=__doc__, formatter_class=argparse.RawDescriptionHelpFormatter)
+    parser.add_argument("--tries", metavar="PROGRAM")
+    parser.add_argument("--list", action="store_true")
+    options = parser.parse_args()
+    forms = reader_forms()
+    if options.list:
+        for place in forms:
+            for form in forms[place]:
+                print(f"{place}: {form} {sorted(form.words)} {sorted(form.kinds)}")
+        return 0
+    check_table(forms, table_rows())
+    print("\n".join(wrong), end="\n" if wrong else "")
+    return 1 if wrong else 0
+
+
+if __name__ == "__main__":
+    sys.exit(main())
