@@ -8,10 +8,13 @@ The forms are taken from the definitions of lines (crates/ios_lines/specs): each
 value may have and the kinds of its faults. The table has to hold each form in one row and no form twice, has to name its
 words in this row, and a row has to name each kind of fault that one of its forms has by itself.
 
-With `--tries` the built program reads small configurations: the rows of line_tries.txt beside this script, each a line put
-at its place and the answer of `plan`, and then calls on whole files with the texts that the page quotes. Each form has to
-be tried, each kind that a row names has to be met by a try of this row, and each answer has to be the one that stands
-there. `--list` prints the forms. Nothing is printed where all is well, else a line for each that isn't, and the status is 1.
+With `--tries` the built program is called: on each row of line_tries.txt beside this script, a line put at its place and
+the answer of `plan`, and then on whole files, with the texts that the page quotes (page_calls.py). Each form has to be
+tried, each kind that a row names has to be met by a try of this row, each text with its code under "What you meet first"
+by a call, and each answer has to be the one that stands there. `--list` prints the forms.
+
+Nothing is printed where all is well, else a line for each thing that isn't, and the status is 1. PROGRAM is
+crates/migrate/out/migrate once it is built. It isn't part of the gate.
 """
 
 import argparse
@@ -21,6 +24,8 @@ import re
 import subprocess
 import sys
 import tempfile
+
+from page_calls import CALLS, write_files
 
 TOP = pathlib.Path(__file__).resolve().parent.parent.parent
 SPECS = TOP / "crates" / "ios_lines" / "specs"
@@ -37,7 +42,6 @@ PLACES = {
 # Lines that have a meaning at any place; they are no lines of a section.
 ANYWHERE = "Anywhere"
 LINE_TYPES = {"Head", "InterfaceLine", "OspfLine", "IsisLine"}
-SKIPPED = {"Skipped", "Other"}
 # What stands for a word of a form that isn't written out.
 SAMPLES = {"A": "10.0.0.1", "M": "255.255.255.252", "W": "0.0.0.255", "NAME": "Loopback0", "TAG": "core", "X": "x",
            "N": "7", "P": "1", "C": "5", "K": "k", "L": "l", "..": "x"}
@@ -198,6 +202,7 @@ class Form:
         self.tests = tests
         self.line = name_of(line)
         self.rows = []
+        self.tried = False
         faults = re.findall(rf"^\S*_line_fault \({self.line}\b[^)]*\) = (.*)$", definitions.clauses.get(f"{entry}_fault", ""), re.M)
         texts = definitions.closure(f"{line} {' '.join(faults)}", set())
         self.kinds = {kind for text in texts for kind in re.findall(r"[A-Z]\w+", text)} & KINDS
@@ -261,6 +266,7 @@ class Row:
         self.words = {word for each in said for word in each.replace("[", " ").replace("]", " ").split()}
         self.kinds = self.words & KINDS
         self.met = set()
+        self.tried = False
 
 
 def table_rows():
@@ -302,14 +308,146 @@ def check_table(forms, rows):
         if len(form.rows) != 1:
             wrong.append(f"{place}: {form} stands in {len(form.rows)} rows")
         for row in form.rows:
-            if form.line in SKIPPED and "skipped" not in row.title and form.rows:
-                pass
             for word in sorted(form.words - row.words):
                 wrong.append(f"{place}: the row of {form} doesn't name `{word}`")
             for kind in sorted(form.kinds - row.kinds):
                 wrong.append(f"{place}: the row of {form} doesn't name {kind}")
     missing = {"banner", "end"} - {text.split()[0] for place, text in seen if place == ANYWHERE}
     wrong.extend(f"{ANYWHERE}: {word} stands in no row" for word in sorted(missing))
+
+
+# ---- tries ----
+
+# Two routers with both protocols; a try changes the first one.
+BASE = """hostname R1
+interface Loopback0
+ ip address 10.0.0.1 255.255.255.255
+ ip router isis
+interface GigabitEthernet0/0
+ ip address 10.0.12.1 255.255.255.252
+ ip router isis
+router ospf 1
+ network 10.0.0.0 0.0.255.255 area 0
+router isis
+ net 49.0001.0000.0000.0001.00
+ metric-style wide
+ distance 255
+end
+"""
+SECOND = BASE.replace("R1", "R2").replace("0.0.1 ", "0.0.2 ").replace("12.1 ", "12.2 ").replace("0001.00\n", "0002.00\n")
+SAME = "order 2\nwave R1 R2\nchain R1\n"
+
+# The places of tries: the first line of the section, and the place of the table.
+TRY_PLACES = {
+    "lo": ("interface Loopback0", "Under `interface`"),
+    "gi": ("interface GigabitEthernet0/0", "Under `interface`"),
+    "ospf": ("router ospf 1", "Under `router ospf`"),
+    "isis": ("router isis", "Under `router isis`"),
+    "top": ("end", "At indent 0"),
+    "behind": (None, None),
+}
+
+
+def place_in(lines, place):
+    """Where the lines of a try are put: at the end of the section, before the first `end`, or behind all."""
+    if place == "behind":
+        return len(lines)
+    head = lines.index(TRY_PLACES[place][0])
+    if place == "top":
+        return head
+    return next(at for at in range(head + 1, len(lines)) if not lines[at].startswith(" "))
+
+
+def changed(place, changes):
+    """The lines of the file of a try, the lines that were put into it, and the number of the last of them."""
+    lines = (BASE + SECOND).splitlines()
+    for change in (each for each in changes if each.startswith("-")):
+        start = lines.index(TRY_PLACES[place][0]) if place in ("lo", "gi") and f" {change[1:]}" in lines else 0
+        del lines[next(at for at in range(start, len(lines)) if lines[at].strip() == change[1:])]
+    added = [each for each in changes if not each.startswith("-")]
+    blank = "" if place in ("top", "behind") else " "
+    at = place_in(lines, place)
+    lines[at:at] = [blank + each for each in added]
+    return lines, added, at + len(added)
+
+
+def wanted_answer(answer, lines, last):
+    """The status and the text that an answer of line_tries.txt stands for."""
+    kind, _, where = answer.partition(" at ")
+    if answer == "same":
+        return 0, SAME
+    if kind in KINDS:
+        number = len(lines) + 1 if kind == "NoEnd" else last
+        if where:
+            number = 1 + next(at for at, line in enumerate(lines) if line.strip() == where)
+        return 5, f"refused net.cfg {number} {kind}\n"
+    status = 5 if answer.startswith("refused") else 7 if answer.startswith("unsound") else 0
+    return status, answer.replace(" / ", "\n") + "\n"
+
+
+def call(program, folder, words):
+    run = subprocess.run([program, *words], cwd=folder, capture_output=True, timeout=60, check=False)
+    return run.returncode, run.stdout.decode(errors="replace")
+
+
+def rows_of_line(forms, rows, place, line):
+    """The rows of the form that a line of a try has."""
+    words = line.split()
+    first = "end" if place == "behind" else words[0]
+    anywhere = [row for row in rows if row.place == ANYWHERE and first in (form.split()[0] for form in row.forms)]
+    if anywhere or line.startswith(" "):
+        return anywhere
+    form = form_of(forms, TRY_PLACES[place][1], words)
+    form.tried = True
+    return form.rows
+
+
+def try_lines(program, folder, forms, rows):
+    for number, line in enumerate(TRIES.read_text().splitlines(), 1):
+        if not line or line.startswith("#"):
+            continue
+        place, text, answer = (part.strip() for part in line.split(" | "))
+        lines, added, last = changed(place, [part[1:] if part.startswith(" ") else part for part in f" {text}".split(" ;")])
+        (folder / "net.cfg").write_text("\n".join(lines) + "\n")
+        wanted = wanted_answer(answer, lines, last)
+        got = call(program, folder, ["plan", "net.cfg"])
+        if got != wanted:
+            wrong.append(f"line_tries.txt {number}: {got} came, and {wanted} was wanted")
+        kind = answer.split(" at ")[0]
+        for each in added:
+            for row in rows_of_line(forms, rows, place, each):
+                row.tried = True
+                row.met |= {kind} & KINDS
+
+
+def try_calls(program, folder):
+    """The calls on whole files, and that each text that the page quotes is one of theirs."""
+    write_files(TOP / "examples", folder)
+    for words, status, text in CALLS:
+        got = call(program, folder, words.split())
+        if got[0] != status or not (got[1] == f"{text}\n" or (text.endswith("..") and got[1].startswith(text[:-2]))):
+            wrong.append(f"{words}: {got} came, and {status} with {text} was wanted")
+    part = PAGE.read_text().split("## What you meet first")[1].split("\n## ")[0]
+    for text, code in re.findall(r"`([^`]+)`, (\d)", part):
+        front = re.sub(r"\S+\.cfg", "FILE", text.removesuffix("..").rstrip())
+        if not any(int(code) == status and re.sub(r"\S+\.cfg", "FILE", said).startswith(front) for _, status, said in CALLS):
+            wrong.append(f"no call was tried that ends with {code} and {text}")
+
+
+def check_tries(program, forms, rows):
+    with tempfile.TemporaryDirectory() as folder:
+        try_lines(program, pathlib.Path(folder), forms, rows)
+        try_calls(program, pathlib.Path(folder))
+    for row in rows:
+        if not row.tried:
+            wrong.append(f"{row.place}: {row.title} isn't tried")
+        for kind in sorted(row.kinds - row.met):
+            wrong.append(f"{row.place}: {row.title} names {kind}, and no try meets it")
+        for kind in sorted(row.met - row.kinds):
+            wrong.append(f"{row.place}: {row.title} doesn't name {kind}, which a try meets")
+    for place, form in ((place, form) for place in forms for form in forms[place]):
+        if not form.tried:
+            wrong.append(f"{place}: {form} isn't tried")
 
 
 def main():
@@ -323,7 +461,10 @@ def main():
             for form in forms[place]:
                 print(f"{place}: {form} {sorted(form.words)} {sorted(form.kinds)}")
         return 0
-    check_table(forms, table_rows())
+    rows = table_rows()
+    check_table(forms, rows)
+    if options.tries:
+        check_tries(pathlib.Path(options.tries).resolve(), forms, rows)
     print("\n".join(wrong), end="\n" if wrong else "")
     return 1 if wrong else 0
 
