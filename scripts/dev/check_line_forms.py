@@ -196,44 +196,43 @@ def holds(test, words):
 
 
 class Form:
-    """A way through the definition of a line: the tests that hold and those that don't, and the line that comes of it."""
+    """A way through the definition of a line: tests that hold together or don't, and the line that comes of it."""
 
-    def __init__(self, tests, line, definitions, entry):
-        self.tests = tests
+    def __init__(self, looked_at, line, definitions, entry):
+        self.looked_at = looked_at
         self.line = name_of(line)
         self.rows = []
         self.tried = False
-        faults = re.findall(rf"^\S*_line_fault \({self.line}\b[^)]*\) = (.*)$", definitions.clauses.get(f"{entry}_fault", ""), re.M)
+        fault_of_line = definitions.clauses.get(f"{entry}_fault", "")
+        faults = re.findall(rf"^\S*_line_fault \({self.line}\b[^)]*\) = (.*)$", fault_of_line, re.M)
         texts = definitions.closure(f"{line} {' '.join(faults)}", set())
         self.kinds = {kind for text in texts for kind in re.findall(r"[A-Z]\w+", text)} & KINDS
         self.words = {word for text in texts for word in re.findall(r'codes "([a-z][^"]*)"', text)}
 
     def __str__(self):
-        said = [word for test, held in self.tests if held and test[1][0] != "not" for word in re.findall(r"'text', '([^']*)'", str(test))]
+        tests = [test for way, held in self.looked_at if held for test in way if test[1][0] != "not"]
+        said = [word for test in tests for word in re.findall(r"'text', '([^']*)'", str(test))]
         return f"{' '.join(said)} ({self.line})"
 
     def takes(self, words):
-        return all(all(holds(test, words) for test in way) == held for way, held in self.as_ways())
-
-    def as_ways(self):
-        return [([test], True) if held else (test, False) for test, held in self.tests]
+        return all(all(holds(test, words) for test in way) == held for way, held in self.looked_at)
 
 
-def forms_of(expression, definitions, entry, tests=()):
+def forms_of(expression, definitions, entry, looked_at=()):
     """All ways through an expression, in the order in which it looks at them."""
     if isinstance(expression, tuple) and expression[0] == "if":
         _, condition, yes, no = expression
         for way in ways(condition, definitions):
-            yield from forms_of(yes, definitions, entry, tests + tuple((test, True) for test in way))
-            tests += ((way, False),)
-        yield from forms_of(no, definitions, entry, tests)
+            yield from forms_of(yes, definitions, entry, looked_at + ((way, True),))
+            looked_at += ((way, False),)
+        yield from forms_of(no, definitions, entry, looked_at)
         return
     name = name_of(expression)
     if definitions.result.get(name) in LINE_TYPES:
         arguments, body = definitions.clause(name)
-        yield from forms_of(put(body, dict(zip(arguments, expression[1][1:]))), definitions, entry, tests)
+        yield from forms_of(put(body, dict(zip(arguments, expression[1][1:]))), definitions, entry, looked_at)
     else:
-        yield Form(tests, expression, definitions, entry)
+        yield Form(looked_at, expression, definitions, entry)
 
 
 KINDS = set(re.findall(r"^    (\w+) = \d+,$", (TOP / "crates" / "ios_lines" / "src" / "kind.rt").read_text(), re.M))
@@ -245,6 +244,10 @@ def reader_forms():
         definitions = Definitions(file)
         forms[place] = list(forms_of(definitions.clause(entry)[1], definitions, entry))
     return forms
+
+
+def all_forms(forms):
+    return [(place, form) for place in forms for form in forms[place]]
 
 
 def form_of(forms, place, words):
@@ -304,14 +307,12 @@ def check_table(forms, rows):
                 form = form_of(forms, row.place, words)
                 if row not in form.rows:
                     form.rows.append(row)
-    for place, form in ((place, form) for place in forms for form in forms[place]):
+    for place, form in all_forms(forms):
         if len(form.rows) != 1:
             wrong.append(f"{place}: {form} stands in {len(form.rows)} rows")
         for row in form.rows:
-            for word in sorted(form.words - row.words):
-                wrong.append(f"{place}: the row of {form} doesn't name `{word}`")
-            for kind in sorted(form.kinds - row.kinds):
-                wrong.append(f"{place}: the row of {form} doesn't name {kind}")
+            unsaid = sorted(form.words - row.words) + sorted(form.kinds - row.kinds)
+            wrong.extend(f"{place}: the row of {form} doesn't name {each}" for each in unsaid)
     missing = {"banner", "end"} - {text.split()[0] for place, text in seen if place == ANYWHERE}
     wrong.extend(f"{ANYWHERE}: {word} stands in no row" for word in sorted(missing))
 
@@ -441,13 +442,9 @@ def check_tries(program, forms, rows):
     for row in rows:
         if not row.tried:
             wrong.append(f"{row.place}: {row.title} isn't tried")
-        for kind in sorted(row.kinds - row.met):
-            wrong.append(f"{row.place}: {row.title} names {kind}, and no try meets it")
-        for kind in sorted(row.met - row.kinds):
-            wrong.append(f"{row.place}: {row.title} doesn't name {kind}, which a try meets")
-    for place, form in ((place, form) for place in forms for form in forms[place]):
-        if not form.tried:
-            wrong.append(f"{place}: {form} isn't tried")
+        wrong.extend(f"{row.place}: {row.title} names {kind}, and no try meets it" for kind in sorted(row.kinds - row.met))
+        wrong.extend(f"{row.place}: {row.title} doesn't name {kind}, which a try meets" for kind in sorted(row.met - row.kinds))
+    wrong.extend(f"{place}: {form} isn't tried" for place, form in all_forms(forms) if not form.tried)
 
 
 def main():
@@ -457,9 +454,8 @@ def main():
     options = parser.parse_args()
     forms = reader_forms()
     if options.list:
-        for place in forms:
-            for form in forms[place]:
-                print(f"{place}: {form} {sorted(form.words)} {sorted(form.kinds)}")
+        for place, form in all_forms(forms):
+            print(f"{place}: {form} {sorted(form.words)} {sorted(form.kinds)}")
         return 0
     rows = table_rows()
     check_table(forms, rows)

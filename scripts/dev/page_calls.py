@@ -85,7 +85,8 @@ CALLS = [
     ("prepare design.toml d1.cfg d2.cfg d3.cfg", 0, "hostname R1.."),
     ("check waves.txt r1.cfg r2.cfg r3.cfg", 0, "safe 6 waves 2"),
     ("check unsafe.txt r1.cfg r2.cfg r3.cfg", 1, "unsafe 2 10.0.0.3 loop R1 R2"),
-    ("scripts waves.txt r1.cfg r2.cfg r3.cfg", 0, "! wave 1\n! 1 R1\nrouter isis\n distance 115\n! 2 R1\nrouter ospf 1\n distance 255\n! 3 R3.."),
+    ("scripts waves.txt r1.cfg r2.cfg r3.cfg", 0,
+     "! wave 1\n! 1 R1\nrouter isis\n distance 115\n! 2 R1\nrouter ospf 1\n distance 255\n! 3 R3.."),
     ("replay waves.txt journal.txt r1.cfg r2.cfg r3.cfg", 0, "at 2 of 6\nnext R1 2\nnext R3 2"),
     # The morning after.
     ("plan new.cfg r2.cfg r3.cfg", 5, "refused network NotAtStart R1"),
@@ -120,7 +121,8 @@ def write_files(examples, folder):
     first, plain = ((folder / name).read_text() for name in ("r1.cfg", "d1.cfg"))
     texts = {
         "xr.cfg": XR, "xr-isis.cfg": edited(XR, ("router ospf 1\n", XR_ISIS + "router ospf 1\n")),
-        "xr-name.cfg": edited(XR, ("ospf 1", "ospf CORE")), "eos.cfg": EOS, "frr.cfg": FRR, "nx-os.cfg": NX_OS, "junos.cfg": JUNOS,
+        "xr-name.cfg": edited(XR, ("ospf 1", "ospf CORE")),
+        "eos.cfg": EOS, "frr.cfg": FRR, "nx-os.cfg": NX_OS, "junos.cfg": JUNOS,
         "flat.cfg": edited(plain, ("\n ", "\n")), "flat-isis.cfg": edited(first, ("\n ", "\n")),
         "mark.cfg": "\ufeff" + first,
         "banner-end.cfg": edited(first, ("R1\n", "R1\nbanner motd #\nend\n#\n")),
