@@ -153,22 +153,19 @@ module _ (block : List Section → List ℕ) where
 
   cut_behind : (raws : List (List ℕ)) (before pending : List ℕ) → IsWholeBefore before raws → AreRaw raws → IsCutBehind before pending raws
   cut_behind [] before pending whole are = cut_none before pending
-  cut_behind (raw ∷ raws) before pending whole are = by_here (ends_here before raw) refl
+  cut_behind (raw ∷ raws) before pending whole are = by_here (λ next. cut_behind raws (before ++ raw) next (whole_next before raw raws whole are.1.0) are.1.1) (ends_here before raw) refl
     where
       single : HasOneLine raw
       single = one_line raw are.0
 
-      abbrev whole_more : IsWholeBefore (before ++ raw) raws
-      whole_more = whole_next before raw raws whole are.1.0
-
-      by_here : (b : Bool) → ends_here before raw ≡ b → IsCutBehind before pending (raw ∷ raws)
-      by_here false off =
-          cut_plain before pending raw raws single.line whole single.is off (cut_behind raws (before ++ raw) (pending ++ raw) whole_more are.1.1)
-      by_here true here =
+      by_here : ((next : List ℕ) → IsCutBehind (before ++ raw) next raws) → (b : Bool) → ends_here before raw ≡ b →
+          IsCutBehind before pending (raw ∷ raws)
+      by_here behind false off = cut_plain before pending raw raws single.line whole single.is off (behind (pending ++ raw))
+      by_here behind true here =
           let two = and_parts (not (is_in_banner (lines_in before))) (is_end single.line)
           (ap (λ (ls : List TextLine). not (is_in_banner (lines_in before)) && begins_with_end ls) (sym single.is) ∙ here) in
           cut_end before pending raw raws single.line (record { whole = whole; outside = not-true (is_in_banner (lines_in before)) two.0 })
-          single.is two.1 here (cut_behind raws (before ++ raw) [] whole_more are.1.1)
+          single.is two.1 here (behind [])
 
   -- ---- a text ----
 

@@ -1,5 +1,5 @@
 -- The comments of changes in a script: one for each change of its flat run, with its number and its router.
-use Rattle.std.proofs.Common.{◌≡◌, ℕ, suc, ◌+◌, ◌^◌, ◌<◌, Bool, true, false, ◌&&◌, if◌then◌else◌, List, [], ◌∷◌, ◌++◌, length}
+use Rattle.std.proofs.Common.{◌≡◌, ℕ, zero, suc, ◌+◌, ◌^◌, ◌<◌, Bool, true, false, ◌&&◌, if◌then◌else◌, List, [], ◌∷◌, ◌++◌, length}
 use Rattle.std.proofs.Common.{filter, get_or, Option, Some, None, slice_get, refl, sym, ap, ◌∙◌, append-nil, arith}
 use Rattle.std.specs.Prelude.{decimal}
 use Rattle.std.specs.Char.{is_ascii_digit, IsAsciiDigit}
@@ -99,7 +99,7 @@ as_many_numbered net made (c ∷ changes) = ap suc (as_many_numbered net (made +
 each_numbered : (net : Network) (made : ℕ) (changes : List Change) (k : ℕ) (c : Change) → slice_get changes k ≡ Some c →
     slice_get (numbered net made changes) k ≡ Some (change_comment (made + (k + 1)) (name_on net (changed c)))
 each_numbered net made [] k c e = absurd cc
-each_numbered net made (d ∷ changes) 0 c e =
+each_numbered net made (d ∷ changes) zero c e =
     let same : d ≡ c = cc in ap (λ x. Some (change_comment (made + 1) (name_on net (changed x)))) same
 each_numbered net made (d ∷ changes) (suc k) c e =
     each_numbered net (made + 1) changes k c e

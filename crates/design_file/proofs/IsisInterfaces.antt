@@ -1,5 +1,5 @@
 -- For which interfaces of a router something is settled: those with an address that have an OSPF area or a name in the design.
-use Rattle.std.proofs.Common.{◌≡◌, ℕ, suc, ◌+◌, ◌<◌, Bool, true, false, ◌&&◌, ◌||◌, ◌⊎◌, inl, inr, ◌↔◌, List, [], ◌∷◌, length, Option, Some, None}
+use Rattle.std.proofs.Common.{◌≡◌, ℕ, suc, ◌+◌, ◌<◌, Bool, true, false, ◌&&◌, ◌||◌, ◌⊎◌, inl, inr, zero, ◌↔◌, List, [], ◌∷◌, length, Option, Some, None}
 use Rattle.std.proofs.Common.{refl, sym, ap, subst, ◌∙◌, get_or, arith}
 use Rattle.std.specs.Prelude.{Contains, IsSome, is_some, if◌then◌else◌}
 use Rattle.std.proofs.lemmas.Bool.{and_parts}
@@ -14,24 +14,16 @@ use Rattle.design_file.specs.declared.settled.SettledInterface.{SettledInterface
 
 -- ---- the test of an interface ----
 
-some_is : {T : Type 0} (o : Option T) → is_some o ≡ true → IsSome o
-some_is None e = absurd cc
-some_is (Some x) e = tt
-
-is_some_of : {T : Type 0} (o : Option T) → IsSome o → is_some o ≡ true
-is_some_of None some = absurd some
-is_some_of (Some x) some = refl
-
 either_is : {T U : Type 0} (o : Option T) (p : Option U) → (is_some o || is_some p) ≡ true → IsSome o ⊎ IsSome p
-either_is (Some x) p e = inl tt
-either_is None (Some y) e = inr tt
+either_is (Some x) p e = inl refl
+either_is None (Some y) e = inr refl
 either_is None None e = absurd cc
 
 is_either : {T U : Type 0} (o : Option T) (p : Option U) → IsSome o ⊎ IsSome p → (is_some o || is_some p) ≡ true
 is_either (Some x) p either = refl
 is_either None (Some y) either = refl
-is_either None None (inl some) = absurd some
-is_either None None (inr some) = absurd some
+is_either None None (inl some) = absurd cc
+is_either None None (inr some) = absurd cc
 
 module _ (metric : ℕ) (named : List DesignInterface) where
   abbrev own : Interface → Option DesignInterface
@@ -43,12 +35,18 @@ module _ (metric : ℕ) (named : List DesignInterface) where
   runs_if : (interface : Interface) → test interface ≡ true → RunsIsis named interface
   runs_if interface e =
       let both = and_parts (is_some interface.subnet) (is_some interface.area || is_some (own interface)) e in
-      record { address = some_is interface.subnet both.0; runs = either_is interface.area (own interface) both.1 }
+      record { address = both.0; runs = either_is interface.area (own interface) both.1 }
 
   if_runs : (interface : Interface) → RunsIsis named interface → test interface ≡ true
-  if_runs interface runs = rw (is_some_of interface.subnet runs.address) (is_either interface.area (own interface) runs.runs)
+  if_runs interface runs = rw runs.address (is_either interface.area (own interface) runs.runs)
 
   -- ---- the interfaces of a router ----
+
+  abbrev by : Interface → SettledInterface
+  by interface = settled_interface metric interface (own interface)
+
+  abbrev all : List Interface → List SettledInterface
+  all interfaces = settled_interfaces metric named interfaces
 
   record IsOne (interfaces : List Interface) (settled : SettledInterface) : Type 0 where
     interface : Interface
@@ -73,33 +71,26 @@ module _ (metric : ℕ) (named : List DesignInterface) where
   settled_is : (interfaces : List Interface) (settled : SettledInterface) →
       Contains (settled_interfaces metric named interfaces) settled → IsOne interfaces settled
   settled_is [] settled has = absurd (omega (arith, has.1))
-  settled_is (interface ∷ more) settled has = by_test (test interface) refl
-      (subst (λ (l : List SettledInterface). Contains l settled) refl has)
+  settled_is (interface ∷ more) settled has = by_test (settled_is more settled) (test interface) refl has
     where
-      abbrev later : List SettledInterface
-      later = settled_interfaces metric named more
-
-      abbrev here : SettledInterface
-      here = settled_interface metric interface (own interface)
-
-      by_place : test interface ≡ true → (k : ℕ) → k < length (here ∷ later) → get_or (here ∷ later) k settled ≡ settled → IsOne (interface ∷ more) settled
-      by_place e 0 within is = record {
+      by_place : (Contains (all more) settled → IsOne more settled) → test interface ≡ true → (k : ℕ) → k < length (by interface ∷ all more) → get_or (by interface ∷ all more) k settled ≡ settled → IsOne (interface ∷ more) settled
+      by_place further e zero within is = record {
         interface = interface;
         stands = first_one interface more;
         runs = runs_if interface e;
         is = sym is;
       }
-      by_place e (suc k) within is = one_later interface more settled (settled_is more settled (k, omega (arith, within), is))
+      by_place further e (suc k) within is = one_later interface more settled (further (k, omega (arith, within), is))
 
-      by_test : (b : Bool) → test interface ≡ b → Contains (if b then here ∷ later else later) settled → IsOne (interface ∷ more) settled
-      by_test false e has = one_later interface more settled (settled_is more settled has)
-      by_test true e has = by_place e has.0 has.1 has.2
+      by_test : (Contains (all more) settled → IsOne more settled) → (b : Bool) → test interface ≡ b → Contains (if b then by interface ∷ all more else all more) settled → IsOne (interface ∷ more) settled
+      by_test further false e has = one_later interface more settled (further has)
+      by_test further true e has = by_place further e has.0 has.1 has.2
 
   is_settled : (interfaces : List Interface) (settled : SettledInterface) (interface : Interface) → (k : ℕ) → k < length interfaces →
       get_or interfaces k interface ≡ interface → RunsIsis named interface → settled ≡ settled_interface metric interface (own interface) →
       Contains (settled_interfaces metric named interfaces) settled
   is_settled [] settled interface k within at runs is = absurd (omega (arith, within))
-  is_settled (first ∷ more) settled interface 0 within at runs is =
+  is_settled (first ∷ more) settled interface zero within at runs is =
       let one : test first ≡ true = ap test at ∙ if_runs interface runs in
       let same : settled_interface metric first (own first) ≡ settled = ap (λ (i : Interface). settled_interface metric i (own i)) at ∙ sym is in
       let has : Contains (settled_interface metric first (own first) ∷ settled_interfaces metric named more) settled = (0, omega arith, same) in
