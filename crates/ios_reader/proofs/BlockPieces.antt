@@ -37,11 +37,9 @@ put_none block before (raw ∷ raws) none =
 
 -- ---- the pieces ----
 
--- four lists and a fifth one, put together in two ways
-five : (a b c d e : List ℕ) → a ++ (b ++ (c ++ (d ++ e))) ≡ ((a ++ (b ++ c)) ++ d) ++ e
-five a b c d e =
-    ap (λ (l : List ℕ). a ++ l) (sym (append_assoc b c (d ++ e)))
-    ∙ sym (append_assoc a (b ++ c) (d ++ e)) ∙ sym (append_assoc (a ++ (b ++ c)) d e)
+-- what stands pending, a block and a line, before some more
+three : (a b c more : List ℕ) → a ++ ((b ++ c) ++ more) ≡ ((a ++ b) ++ c) ++ more
+three a b c more = sym (append_assoc a (b ++ c) more) ∙ ap (λ (l : List ℕ). l ++ more) (sym (append_assoc a b c))
 
 module _ (block : List Section → List ℕ) where
   -- of some lines behind a text, and of what stands pending before them since the last `end` line
@@ -125,7 +123,9 @@ module _ (block : List Section → List ℕ) where
             ∙ sym (append_assoc (pending ++ raw) (as_they_were next.pieces) next.rest);
         made =
             ap (λ (b : Bool). pending ++ (cond b own [] ++ raw ++ put_blocks block (before ++ raw) raws)) here
-            ∙ ap (λ (l : List ℕ). pending ++ (own ++ raw ++ l)) next.made ∙ five pending own raw (with_blocks next.pieces) next.rest;
+            ∙ ap (λ (l : List ℕ). pending ++ (own ++ raw ++ l)) next.made
+            ∙ three pending own raw (with_blocks next.pieces ++ next.rest)
+            ∙ sym (append_assoc (pending ++ own ++ raw) (with_blocks next.pieces) next.rest);
         ends = All-cons EndsAtEnd piece next.pieces
             (record { one = ap (λ (ls : List TextLine). length ls) is; ends = ap begins_with_end is ∙ e }) next.ends;
         parts =
@@ -138,18 +138,13 @@ module _ (block : List Section → List ℕ) where
             ap (λ (b : Bool). pending ++ cond (b || ends_among (before ++ raw) raws)
             (cond b own [] ++ raw ++ put_to_last block (before ++ raw) raws) []) here
             ∙ ap (λ (l : List ℕ). pending ++ (own ++ raw ++ l)) (after (ends_among (before ++ raw) raws) refl)
-            ∙ joined_piece (with_blocks next.pieces);
+            ∙ three pending own raw (with_blocks next.pieces);
         none = λ none. absurd (let no : true ≡ false = sym (ap (λ (b : Bool). b || ends_among (before ++ raw) raws) here) ∙ none in cc);
       }
     where
       after : (b : Bool) → ends_among (before ++ raw) raws ≡ b → put_to_last block (before ++ raw) raws ≡ with_blocks next.pieces
       after true more = next.some more
       after false more = put_none block (before ++ raw) raws more ∙ sym (ap with_blocks (next.none more))
-
-      joined_piece : (l : List ℕ) → pending ++ (block (open_sections before) ++ raw ++ l) ≡ (pending ++ block (open_sections before) ++ raw) ++ l
-      joined_piece l =
-          ap (λ (x : List ℕ). pending ++ x) (sym (append_assoc (block (open_sections before)) raw l))
-          ∙ sym (append_assoc pending (block (open_sections before) ++ raw) l)
 
   cut_behind : (raws : List (List ℕ)) (before pending : List ℕ) → IsWholeBefore before raws → AreRaw raws → IsCutBehind before pending raws
   cut_behind [] before pending whole are = cut_none before pending
