@@ -3,6 +3,7 @@ use Rattle.std.proofs.Common.{◌≡◌, ℕ, zero, suc, ◌+◌, ◌^◌, ◌<�
 use Rattle.std.proofs.Common.{filter, get_or, Option, Some, None, slice_get, refl, sym, ap, ◌∙◌, append-nil, arith}
 use Rattle.std.specs.Prelude.{decimal}
 use Rattle.std.specs.Char.{is_ascii_digit, IsAsciiDigit}
+use Rattle.std.proofs.lemmas.Bool.Decides.{nat_tests}
 use Rattle.std.proofs.lemmas.List.{get_or_append_left}
 use Rattle.std.proofs.lemmas.List.Elements.{filter-append}
 use Rattle.net_addr.specs.Numerals.{IsNumeral}
@@ -71,7 +72,7 @@ none_at_end net = by_test (list_any lacks_process net)
 
 -- ---- the comments of some changes ----
 
-numbered : Network → ℕ → List Change → List (List ℕ)
+abbrev numbered : Network → ℕ → List Change → List (List ℕ)
 numbered net made [] = []
 numbered net made (c ∷ changes) = change_comment (made + 1) (name_on net (changed c)) ∷ numbered net (made + 1) changes
 
@@ -100,7 +101,10 @@ each_numbered : (net : Network) (made : ℕ) (changes : List Change) (k : ℕ) (
     slice_get (numbered net made changes) k ≡ Some (change_comment (made + (k + 1)) (name_on net (changed c)))
 each_numbered net made [] k c e = absurd cc
 each_numbered net made (d ∷ changes) zero c e =
-    let same : d ≡ c = cc in ap (λ x. Some (change_comment (made + 1) (name_on net (changed x)))) same
+    let same : d ≡ c = cc in
+    let next : made + 1 ≡ made + (0 + 1) = omega arith in
+    ap (λ x. Some (change_comment (made + 1) (name_on net (changed x)))) same
+    ∙ ap (λ n. Some (change_comment n (name_on net (changed c)))) next
 each_numbered net made (d ∷ changes) (suc k) c e =
     each_numbered net (made + 1) changes k c e
     ∙ ap (λ n. Some (change_comment n (name_on net (changed c)))) (let same : made + 1 + (k + 1) ≡ made + (suc k + 1) = omega arith in same)
@@ -117,5 +121,8 @@ script_comments version net ranks fits =
     ∙ in_parts m 0 run (omega (arith, fits)) in
     record {
       as_many = ap length all ∙ as_many_numbered net 0 run;
-      each = λ k c e. ap (λ l. slice_get l k) all ∙ each_numbered net 0 run k c e;
+      each = λ k c e.
+          let from : 0 + (k + 1) ≡ k + 1 = omega arith in
+          ap (λ l. slice_get l k) all ∙ each_numbered net 0 run k c e
+          ∙ ap (λ n. Some (change_comment n (name_on net (changed c)))) from;
     }
