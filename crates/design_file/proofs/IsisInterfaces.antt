@@ -1,15 +1,12 @@
 -- For which interfaces of a router something is settled: those with an address that have an OSPF area or a name in the design.
-use Rattle.std.proofs.Common.{◌≡◌, ℕ, suc, ◌+◌, ◌<◌, Bool, true, false, ◌&&◌, ◌||◌, ◌⊎◌, inl, inr, zero, ◌↔◌, List, [], ◌∷◌, length, Option, Some, None}
-use Rattle.std.proofs.Common.{refl, sym, ap, subst, ◌∙◌, get_or, arith}
+use Rattle.std.proofs.Common.{◌≡◌, ℕ, suc, ◌<◌, Bool, true, false, ◌||◌, ◌⊎◌, inl, inr, zero, List, [], ◌∷◌, length, Option, Some, None}
+use Rattle.std.proofs.Common.{refl, sym, ap, ◌∙◌, get_or, arith}
 use Rattle.std.specs.Prelude.{Contains, IsSome, is_some, if◌then◌else◌}
 use Rattle.std.proofs.lemmas.Bool.{and_parts}
-use Rattle.net_model.specs.Configuration.{Configuration}
 use Rattle.net_model.specs.declared.interface.Interface.{Interface}
-use Rattle.design_file.specs.Settling.{before_others, interface_named, is_isis_interface, metric_for, named_for, settled_interface, settled_interfaces}
-use Rattle.design_file.specs.Laws.{RunsIsis, IsSettledOf, IsOneSettled, SettledInterfacesLaw}
-use Rattle.design_file.specs.declared.design.Design.{Design}
+use Rattle.design_file.specs.Settling.{interface_named, is_isis_interface, metric_for, named_for, settled_interface, settled_interfaces}
+use Rattle.design_file.specs.Laws.{RunsIsis, SettledInterfacesLaw}
 use Rattle.design_file.specs.declared.design.DesignInterface.{DesignInterface}
-use Rattle.design_file.specs.declared.design.DesignRouter.{DesignRouter}
 use Rattle.design_file.specs.declared.settled.SettledInterface.{SettledInterface}
 
 -- ---- the test of an interface ----

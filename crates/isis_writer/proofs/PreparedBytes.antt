@@ -1,12 +1,10 @@
 -- The bytes of a prepared text: those of the text up to its last `end` line, and the lines of its routers before `end` lines.
 use Rattle.std.proofs.Common.{◌≡◌, ℕ, Bool, true, false, List, [], refl, sym, ap, ◌∙◌}
-use Rattle.net_model.specs.Network.{Network}
 use Rattle.ios_sections.specs.TextLines.{Part, lines_in, parts_of}
 use Rattle.ios_reader.specs.Places.{raw_lines}
 use Rattle.ios_reader.specs.PutBlocks.{with_blocks}
 use Rattle.ios_reader.proofs.BlockPieces.{IsCutText, cut_text, ends_among}
 use Rattle.ios_reader.proofs.RawLines.{are_raw, raw_joined, whole_start}
-use Rattle.design_file.specs.declared.settled.SettledRouter.{SettledRouter}
 use Rattle.isis_writer.specs.Prepared.{PreparedBytesLaw, new_block, prepared_parts, prepared_text}
 use Rattle.isis_writer.proofs.PreparedLines.{none_ends}
 use Rattle.isis_writer.proofs.PreparedPlaces.{prepared_by_parts}

@@ -1,6 +1,6 @@
 -- The comments of changes in a script: one for each change of its flat run, with its number and its router.
 use Rattle.std.proofs.Common.{◌≡◌, ℕ, zero, suc, ◌+◌, ◌^◌, ◌<◌, Bool, true, false, ◌&&◌, if◌then◌else◌, List, [], ◌∷◌, ◌++◌, length}
-use Rattle.std.proofs.Common.{filter, get_or, Option, Some, None, slice_get, refl, sym, ap, ◌∙◌, append-nil, arith}
+use Rattle.std.proofs.Common.{filter, get_or, Option, Some, None, slice_get, refl, ap, ◌∙◌, append-nil, arith}
 use Rattle.std.specs.Prelude.{decimal}
 use Rattle.std.specs.Char.{is_ascii_digit, IsAsciiDigit}
 use Rattle.std.proofs.lemmas.Bool.Decides.{nat_tests}
