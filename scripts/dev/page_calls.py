@@ -53,6 +53,30 @@ interface loopback0
   ip router ospf 1 area 0.0.0.0
 router ospf 1
 """
+# What a session writes before and behind the configuration.
+FRONT = """R1#terminal length 0
+R1#show running-config
+Building configuration...
+
+Current configuration : 1234 bytes
+!
+version 15.4
+"""
+# A router without IS-IS that needs no routes: a change of it has no lines.
+LACKING = """hostname R2
+interface GigabitEthernet0/0
+ ip address 10.0.12.2 255.255.255.252
+router ospf 1
+ network 10.0.0.0 0.0.255.255 area 0
+end
+"""
+ITS_NEIGHBOR = LACKING.replace("R2", "R1").replace("12.2 ", "12.1 ").replace("252\n", "252\n ip router isis\n").replace("end\n", """\
+router isis
+ net 49.0001.0000.0000.0001.00
+ metric-style wide
+ distance 255
+end
+""")
 JUNOS = """system {
     host-name MX1;
 }
@@ -75,6 +99,7 @@ CALLS = [
     ("plan banner.cfg r2.cfg r3.cfg", 0, "order 2\nwave R3 is\nwave R2\nchain is R2"),
     ("plan cut.cfg r2.cfg r3.cfg", 5, "refused cut.cfg 22 NoEnd"),
     ("plan session.cfg r2.cfg r3.cfg", 5, "refused session.cfg 24 NoEnd"),
+    ("plan front.cfg r2.cfg r3.cfg", 0, "order 2\nwave R1 R3\nwave R2\nchain R1 R2"),
     # The way in its order.
     ("plan d1.cfg d2.cfg d3.cfg", 7, "unsound new 10.0.0.1 missing R2"),
     ("plan --budget 1 d1.cfg d2.cfg d3.cfg", 7, "unsound new 10.0.0.1 missing R2"),
@@ -87,7 +112,15 @@ CALLS = [
     ("check unsafe.txt r1.cfg r2.cfg r3.cfg", 1, "unsafe 2 10.0.0.3 loop R1 R2"),
     ("scripts waves.txt r1.cfg r2.cfg r3.cfg", 0,
      "! wave 1\n! 1 R1\nrouter isis\n distance 115\n! 2 R1\nrouter ospf 1\n distance 255\n! 3 R3.."),
+    ("scripts unsafe.txt r1.cfg r2.cfg r3.cfg", 0, "! 1 R2\nrouter isis\n distance 115.."),
     ("replay waves.txt journal.txt r1.cfg r2.cfg r3.cfg", 0, "at 2 of 6\nnext R1 2\nnext R3 2"),
+    ("replay waves.txt begun.txt r1.cfg r2.cfg r3.cfg", 0, "at 0 of 6\nnext R1 1\nnext R3 1"),
+    ("replay waves.txt back.txt r1.cfg r2.cfg r3.cfg", 0, "at 2 of 6\nnext R1 1"),
+    ("scripts one-wave.txt neighbor.cfg lacking.cfg", 0,
+     "! wave 1\n! 1 R1\nrouter isis\n distance 115\n! 2 R1\nrouter ospf 1\n distance 255\n! 3 R2\n! 4 R2\nrouter ospf 1\n"
+     " distance 255\n! end"),
+    ("replay one-wave.txt no-line.txt neighbor.cfg lacking.cfg", 1, "departs 4"),
+    ("replay one-wave.txt each-line.txt neighbor.cfg lacking.cfg", 0, "at 4 of 4\ndone"),
     # The morning after.
     ("plan new.cfg r2.cfg r3.cfg", 5, "refused network NotAtStart R1"),
     ("check waves.txt new.cfg r2.cfg r3.cfg", 5, "refused network NotAtStart R1"),
@@ -130,6 +163,10 @@ def write_files(examples, folder):
         "cut.cfg": edited(first, ("end\n", "")), "session.cfg": first + "interface Loopback9\n",
         "down.cfg": edited(first, ("252\n", "252\n shutdown\n")),
         "new.cfg": edited(first, ("area 0\n", "area 0\n distance 255\n"), ("wide\n distance 255\n", "wide\n")),
+        "front.cfg": FRONT + first + "\nR1#exit\n", "lacking.cfg": LACKING, "neighbor.cfg": ITS_NEIGHBOR,
+        "one-wave.txt": "order 2\nwave R1 R2\n", "no-line.txt": "journal 1\nR1 1\nR1 2\nR2 2\n",
+        "each-line.txt": "journal 1\nR1 1\nR1 2\nR2 1\nR2 2\n",
+        "begun.txt": "journal 1\n", "back.txt": "journal 1\nR3 1\nR3 2\n",
         "fourth-first.txt": "order 1\nR4\nR1\nR2\nR3\n",
         "many.cfg": "".join(f"hostname R{number}\nend\n" for number in range(201)),
     }
