@@ -1,5 +1,5 @@
 -- Destinations by their prefixes.
-use Rattle.std.proofs.Common.{◌≡◌, ◌≤◌, List, get_or, length, map, ap, arith, sym, subst}
+use Rattle.std.proofs.Common.{◌≡◌, List, ap, arith, sym, subst}
 use Rattle.std.specs.List.{All, Contains}
 use Rattle.std.specs.List.Sorted.{IsNonDecreasingBy}
 use Rattle.std.proofs.lemmas.List.{get_or-map, length-map}

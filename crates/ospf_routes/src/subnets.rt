@@ -2,6 +2,7 @@ ghost use Rattle.std.specs.Prelude.{◌≡◌, ◌↔◌, ℕ, Some, Any, IfOk, 
 ghost use Rattle.ospf_routes.specs.Lists.{Adds, Exactly};
 ghost use Rattle.ospf_routes.specs.steps.Subnets.{AreSubnetsAround, IsHome, IsInterfaceSubnet, IsSubnetRoute, IsUpSubnet};
 ghost use Rattle.ospf_routes.specs.declared.area_route.AreaRoute.{AreaRoute as Route};
+ghost use Rattle.ospf_routes.specs.declared.subnets.Subnet.{Subnet as SubnetValue};
 
 use crate::OutOfMemory;
 use crate::area_route::AreaRoute;

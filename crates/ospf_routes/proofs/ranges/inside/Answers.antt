@@ -1,4 +1,4 @@
-use Rattle.std.proofs.Common.{◌≡◌, ◌+◌, arith}
+use Rattle.std.proofs.Common.{arith}
 use Rattle.net_addr.proofs.Blocks.{ContainsAddress-bounds}
 use Rattle.net_addr.proofs.BoundaryFacts.{last_address-after}
 use Rattle.ospf_routes.proofs.ranges.inside.Goals as goal
