@@ -18,7 +18,7 @@ use Rattle.ospf_routes.specs.steps.Candidates.{IsOspfCandidate, subnet}
 use Rattle.ospf_routes.specs.steps.Destinations.{ospf_prefixes}
 use Rattle.ospf_routes.specs.Lists.{Exactly, Adds}
 use Rattle.ospf_routes.specs.steps.Ranges.{IsLonger, HasComponentCost, IsComponentOfSome, IsPicked, IsActiveAt}
-use Rattle.ospf_routes.specs.steps.Ranges.{HasActive, AreActiveRanges, AreRangesBelow, HoldRanges}
+use Rattle.ospf_routes.specs.steps.Ranges.{HasActive, AreActiveRanges, AreRangesAround, AreRangesBelow, HoldRanges}
 use Rattle.ospf_routes.specs.declared.intra_area.Destination.{Destination}
 use Rattle.ospf_routes.specs.declared.ranges.ActiveRange.{ActiveRange}
 use Rattle.net_addr.proofs.SomeElement.{any_of, any_in}
@@ -79,16 +79,20 @@ destination_of net ds p has P holds =
     let given = Contains-map (λ (d : Destination). d.dest) ds p has in
     any_of (λ (d : Destination). P d.dest) ds given.item given.among (subst P (sym given.gives) holds)
 
--- the costs of the components, over all destinations
-pub component_costs_are : (net : Network) (b : ℕ) (r : Range) (ds : List Destination) (costs : List ℕ) →
+-- the costs of the components, over those of the destinations that the range covers
+pub components_near : (net : Network) (b : ℕ) (r : Range) (ds near : List Destination) (costs : List ℕ) →
     ((p : Block) → IsOspfCandidate net p → Contains (ospf_prefixes ds) p) →
-    Exactly (λ c. Any (λ (d : Destination). IsComponent net b r d.dest c) ds) costs → Exactly (HasComponentCost net b r) costs
-component_costs_are net b r ds costs every are =
-    exactly_same costs (λ c. Any (λ (d : Destination). IsComponent net b r d.dest c) ds) (HasComponentCost net b r) are
+    ((d : Destination) → Contains ds d → Covers r.dest d.dest → Contains near d) →
+    Exactly (λ c. Any (λ (d : Destination). IsComponent net b r d.dest c) near) costs → Exactly (HasComponentCost net b r) costs
+components_near net b r ds near costs every covered are =
+    exactly_same costs (λ c. Any (λ (d : Destination). IsComponent net b r d.dest c) near) (HasComponentCost net b r) are
     (λ c. (
-      λ any. let f = any_in (λ (d : Destination). IsComponent net b r d.dest c) ds any in record { dest = f.item.dest; component = f.holds },
-      λ has. destination_of net ds has.dest (every has.dest (intra_is_candidate net r.area has.dest b c has.component.reached))
-          (λ (p : Block). IsComponent net b r p c) has.component,
+      λ any. let f = any_in (λ (d : Destination). IsComponent net b r d.dest c) near any in record { dest = f.item.dest; component = f.holds },
+      λ has.
+          let f = any_in (λ (d : Destination). IsComponent net b r d.dest c) ds
+          (destination_of net ds has.dest (every has.dest (intra_is_candidate net r.area has.dest b c has.component.reached))
+          (λ (p : Block). IsComponent net b r p c) has.component) in
+          any_of (λ (d : Destination). IsComponent net b r d.dest c) near f.item (covered f.item f.among f.holds.covered) f.holds,
     ))
 
 -- Range costs
@@ -173,6 +177,24 @@ actives_more net b front r old new (Some x) before is adds = record {
       (λ same. record { active = x; among = (adds x).1 (inr refl); range = is.range ∙ same })
       (Contains-push_cases front r s has);
 }
+
+-- the order of the active ranges doesn't matter
+pub actives_moved : (net : Network) (b : ℕ) (old new : List ActiveRange) → ((a : ActiveRange) → Contains new a ↔ Contains old a) →
+    AreActiveRanges net b old → AreActiveRanges net b new
+actives_moved net b old new same are = record {
+  exact = λ a. (λ has. (are.exact a).0 ((same a).0 has), λ costs. (same a).1 ((are.exact a).1 costs));
+  every = λ r active.
+      let h : HasActive old r = are.every r active in
+      record { active = h.active; among = (same h.active).1 h.among; range = h.range };
+}
+
+-- a condition on prefixes holds of some active range exactly where it does among those around the prefix
+pub any_around : (P : ActiveRange → Type 0) (all near : List ActiveRange) (p : Block) → ((a : ActiveRange) → P a → a.range.dest ≡ p) →
+    AreRangesAround all p near → Any P near ↔ Any P all
+any_around P all near p of around = (
+  λ any. let f = any_in P near any in any_of P all f.item (around.among f.item f.among) f.holds,
+  λ any. let f = any_in P all any in any_of P near f.item (around.every f.item f.among (of f.item f.holds)) f.holds,
+)
 
 pub actives_all : (net : Network) (b : ℕ) (config : Configuration) (given : List Range) (actives : List ActiveRange) → HasConfiguration net b config →
     given ≡ config.ranges → ActivesSoFar net b given actives → AreActiveRanges net b actives

@@ -102,7 +102,7 @@ fn push_ranges(
     ensures { OnOk result (Adds routes.old.items routes.new.items (λ r. Any (λ b. IsListedRange ranges.now dest b r) borders.now)) }
 {
     for b in borders {
-        push_router_ranges(routes, ranges[*b as usize].as_slice(), dest, *b)?;
+        push_router_ranges(routes, ranges[*b as usize].around(dest), dest, *b)?;
     }
     Ok(())
 }

@@ -14,6 +14,7 @@ ghost use Rattle.walk_core.specs.declared.offers.Offer.{Offer as OfferValue};
 use crate::OutOfMemory;
 use crate::area_route::{AreaRoute, offers_inside};
 use crate::domain::Domain;
+use crate::ordered::HasPrefix;
 use crate::subnets::{Subnets, homes_among, routes_among};
 use net_addr::Prefix;
 use std::alloc::Global;
@@ -39,6 +40,16 @@ pub(crate) struct Destination {
     pub homes: Vec<u32>,
     /// The offers of each area that has some.
     pub parts: Vec<AreaOffers>,
+}
+
+impl HasPrefix for Destination {
+    ghost prefix = { λ x. x.dest };
+
+    fn prefix(&self) -> Prefix
+        ensures { result ≡ self.now.dest }
+    {
+        self.dest
+    }
 }
 
 impl Destination {

@@ -7,7 +7,7 @@
 //! 1. `domain.rt`: a network and its areas (`areas.rt`, `members.rt`) with their least walks (section 16.1), whose segments the
 //!    tables keep, and routers, border routers (3.3), whom a router listens to (16.2). Its facts are known wherever one has it.
 //!    `destinations.rt`: what the routers know of each prefix before anything is summarized. `candidates.rt`, `subnets.rt`,
-//!    `intra_area.rt`: the prefixes, where each is connected, what the interfaces of each area offer of it, and what it costs
+//!    `intra_area.rt`, over lists in the order of their prefixes (`ordered.rt`): the prefixes, where each is connected, what the interfaces of each area offer of it, and what it costs
 //!    within an area.
 //! 2. `ranges.rt`: the active ranges of border routers (12.4.3, 11.1), and what they cost.
 //! 3. `all_summaries` (`originating.rt`, 12.4.3): what the border routers of each area announce of a prefix into it, for all
@@ -38,6 +38,7 @@ mod destinations;
 mod domain;
 mod intra_area;
 mod members;
+mod ordered;
 mod subnets;
 
 // Between areas

@@ -1,14 +1,18 @@
-ghost use Rattle.std.specs.Prelude.{◌≡◌, ◌<◌, ◌↔◌, ℕ, length, Some, Any, IfOk, IsTrue, OnOk, MatchOption};
+ghost use Rattle.std.specs.Prelude.{◌≡◌, ◌<◌, ◌↔◌, ℕ, length, Some, All, Any, Contains, IfOk, IsTrue, OnOk, MatchOption};
+ghost use Rattle.std.specs.List.Sorted.{IsNonDecreasingBy};
+ghost use Rattle.net_addr.specs.Addresses.{Covers};
 ghost use Rattle.net_model.specs.Network.{IsBorderRouter, Network};
 ghost use Rattle.igp_theory.specs.Ospf.{HasRange, IsActive, IsComponent};
 ghost use Rattle.ospf_routes.specs.steps.Destinations.{AreOspfDestinations, IsDestinationIn};
 ghost use Rattle.ospf_routes.specs.Lists.{Adds, Exactly};
-ghost use Rattle.ospf_routes.specs.steps.Ranges.{AreActiveRanges, AreRangesBelow, HasComponentCost, IsActiveAt, IsComponentOfSome, IsGreatestOf, IsLeastOf};
+ghost use Rattle.ospf_routes.specs.steps.Ranges.{AreActiveRanges, AreRangesAround, AreRangesBelow, HasComponentCost, IsActiveAt, IsComponentOfSome, IsGreatestOf, IsLeastOf};
 ghost use Rattle.ospf_routes.specs.steps.Ranges.{HoldRanges, IsLonger, IsPicked};
+ghost use Rattle.ospf_routes.specs.declared.intra_area.Destination.{Destination as DestinationValue};
 
 use crate::OutOfMemory;
 use crate::domain::Domain;
 use crate::intra_area::{Destination, part_cost, part_of};
+use crate::ordered::{HasPrefix, between, sort_by_base};
 use net_addr::Prefix;
 use net_model::Range;
 use route_tables::push_option;
@@ -24,7 +28,17 @@ pub(crate) struct ActiveRange {
     pub cost: u64,
 }
 
-/// The active ranges of a router.
+impl HasPrefix for ActiveRange {
+    ghost prefix = { λ x. x.range.dest };
+
+    fn prefix(&self) -> Prefix
+        ensures { result ≡ self.now.range.dest }
+    {
+        self.range.dest
+    }
+}
+
+/// The active ranges of a router, in the order of the addresses that they begin with.
 #[derive(Debug, Drop)]
 pub(crate) struct ActiveRanges {
     all: Vec<ActiveRange>,
@@ -32,11 +46,14 @@ pub(crate) struct ActiveRanges {
 
 impl Model for ActiveRanges {
     ghost use Rattle.std.specs.Prelude.{List};
+    ghost use Rattle.std.specs.List.Sorted.{IsNonDecreasingBy};
     ghost use Rattle.ospf_routes.specs.declared.ranges.ActiveRange.{ActiveRange};
 
     ghost Value = { List ActiveRange };
 
     ghost view = { λ x. x.all.items };
+
+    ghost invariant = { λ x. IsNonDecreasingBy (λ (a : ActiveRange). a.range.dest.base) x.all.items };
 }
 
 impl ActiveRanges {
@@ -67,12 +84,26 @@ impl ActiveRanges {
         self.all.as_slice()
     }
 
+    /// Those of a prefix, and others that begin with its address. It takes time of the logarithm of all of them.
+    pub fn around(&self, dest: Prefix) -> &[ActiveRange]
+        ensures { AreRangesAround self.now dest result.now }
+    {
+        between(self.all.as_slice(), dest.base(), dest.base())
+    }
+
     /// Whether the prefix is that of an active range.
     pub fn contains(&self, dest: Prefix) -> bool
         ensures { IsTrue result ↔ Any (λ a. a.range.dest ≡ dest) self.now }
     {
-        self.all.iter().any(|a| a.range.dest == dest)
+        is_among(self.around(dest), dest)
     }
+}
+
+/// Whether the prefix is that of one of these active ranges.
+fn is_among(ranges: &[ActiveRange], dest: Prefix) -> bool
+    ensures { IsTrue result ↔ Any (λ a. a.range.dest ≡ dest) ranges.now }
+{
+    ranges.iter().any(|a| a.range.dest == dest)
 }
 
 /// The active ranges of every router.
@@ -135,6 +166,7 @@ fn border_ranges(
             active_range(alloc, domain, destinations, b, range)?,
         )?;
     }
+    sort_by_base(&mut all);
     Ok(ActiveRanges { all })
 }
 
@@ -195,7 +227,7 @@ fn greatest(costs: &[u64]) -> Option<u64>
     costs.iter().copied().max()
 }
 
-/// The costs of the range's components.
+/// The costs of the range's components. Only destinations that begin with an address of the range are looked at.
 fn component_costs(
     alloc: Global,
     domain: &Domain<'_>,
@@ -208,12 +240,37 @@ fn component_costs(
     requires destinations { AreOspfDestinations domain.now destinations.now }
     ensures { IfOk result (λ costs. Exactly (HasComponentCost domain.now.net b range.now) costs.items) }
 {
+    costs_among(alloc, domain, inside(destinations, range.dest), b, range)
+}
+
+/// What those of some destinations cost that are components of the range.
+fn costs_among(
+    alloc: Global,
+    domain: &Domain<'_>,
+    near: &[Destination],
+    b: u32,
+    range: &Range,
+) -> Result<Vec<u64>, OutOfMemory>
+    requires router { b < length domain.now.net }
+    requires has { HasRange domain.now.net b range.now }
+    requires near { All (IsDestinationIn domain.now) near.now }
+    ensures { IfOk result (λ costs. Exactly (λ c. Any (λ d. IsComponent domain.now.net b range.now d.dest c) near.now) costs.items) }
+{
     let mut costs = Vec::new(alloc);
-    for destination in destinations {
+    for destination in near {
         let cost = component_cost(domain, destination, b, range);
         push_option(&mut costs, cost)?;
     }
     Ok(costs)
+}
+
+/// The destinations that the range covers, and others that begin with one of its addresses.
+fn inside(destinations: &[Destination], range: Prefix) -> &[Destination]
+    requires { IsNonDecreasingBy (λ (d : DestinationValue). d.dest.base) destinations.now }
+    ensures among { (d : DestinationValue) → Contains result.now d → Contains destinations.now d }
+    ensures every { (d : DestinationValue) → Contains destinations.now d → Covers range d.dest → Contains result.now d }
+{
+    between(destinations, range.base(), range.last())
 }
 
 /// What the prefix costs as a component of the range.
@@ -228,9 +285,12 @@ fn component_cost(
     requires destination { IsDestinationIn domain.now destination.now }
     ensures { (cost : ℕ) → (result ≡ Some cost) ↔ IsComponent domain.now.net b range.now destination.now.dest cost }
 {
+    if !range.dest.covers(destination.dest) {
+        return None;
+    }
     let part = part_of(destination.parts.as_slice(), range.area)?;
     let ranges = domain.config(b).ranges.as_slice();
-    if !range.dest.covers(destination.dest) || has_longer(ranges, *range, destination.dest) {
+    if has_longer(ranges, *range, destination.dest) {
         return None;
     }
     part_cost(domain, part, b)

@@ -1,5 +1,4 @@
-ghost use Rattle.std.specs.Prelude.{◌≡◌, ◌<◌, ◌≤◌, ◌↔◌, ℕ, length, slice_index_or, Some, Any, Contains, IfOk, OnOk};
-ghost use Rattle.std.specs.List.Sorted.{IsNonDecreasingBy};
+ghost use Rattle.std.specs.Prelude.{◌≡◌, ◌↔◌, ℕ, Some, Any, IfOk, OnOk};
 ghost use Rattle.ospf_routes.specs.Lists.{Adds, Exactly};
 ghost use Rattle.ospf_routes.specs.steps.Subnets.{AreSubnetsAround, IsHome, IsInterfaceSubnet, IsSubnetRoute, IsUpSubnet};
 ghost use Rattle.ospf_routes.specs.declared.area_route.AreaRoute.{AreaRoute as Route};
@@ -7,6 +6,7 @@ ghost use Rattle.ospf_routes.specs.declared.subnets.Subnet.{Subnet as SubnetValu
 
 use crate::OutOfMemory;
 use crate::area_route::AreaRoute;
+use crate::ordered::{HasPrefix, between, sort_by_base};
 use net_addr::Prefix;
 use net_model::{Interface, Net};
 use route_tables::push_option;
@@ -26,6 +26,16 @@ pub(crate) struct Subnet {
     pub asks: u64,
     /// Whether the interface forms adjacencies in its area: it is no loopback, and not passive.
     pub joins: bool,
+}
+
+impl HasPrefix for Subnet {
+    ghost prefix = { λ x. x.dest };
+
+    fn prefix(&self) -> Prefix
+        ensures { result ≡ self.now.dest }
+    {
+        self.dest
+    }
 }
 
 /// The subnets of some interfaces, in the order of the addresses that they begin with.
@@ -60,45 +70,8 @@ impl Subnets {
     pub fn around(&self, dest: Prefix) -> &[Subnet]
         ensures { AreSubnetsAround self.now dest result.now }
     {
-        with_base(self.all.as_slice(), dest.base())
+        between(self.all.as_slice(), dest.base(), dest.base())
     }
-}
-
-/// Puts them in the order of the addresses that they begin with.
-fn sort_by_base(all: &mut Vec<Subnet>)
-    ensures kept { (s : SubnetValue) → Contains all.new.items s ↔ Contains all.old.items s }
-    ensures sorted { IsNonDecreasingBy (λ (s : SubnetValue). s.dest.base) all.new.items }
-{
-    all.sort_unstable_by_key(|subnet| subnet.dest.base());
-}
-
-/// Those that begin with this address, of subnets in the order of theirs.
-fn with_base(all: &[Subnet], base: u32) -> &[Subnet]
-    requires { IsNonDecreasingBy (λ (s : SubnetValue). s.dest.base) all.now }
-    ensures among { (s : SubnetValue) → Contains result.now s → Contains all.now s }
-    ensures every { (s : SubnetValue) → Contains all.now s → s.dest.base ≡ base → Contains result.now s }
-{
-    let (_, from) = all.split_at(count_below(all, base));
-    let (here, _) = from.split_at(count_up_to(from, base));
-    here
-}
-
-/// How many of these subnets, which are in order, begin below this address.
-fn count_below(all: &[Subnet], base: u32) -> usize
-    requires { IsNonDecreasingBy (λ (s : SubnetValue). s.dest.base) all.now }
-    ensures within { result ≤ length all.now }
-    ensures below { (k : ℕ) (d : SubnetValue) → k < result → (slice_index_or all.now k d).dest.base < base }
-{
-    all.partition_point(|s| s.dest.base() < base)
-}
-
-/// How many of these subnets, which are in order, begin at this address or below it.
-fn count_up_to(all: &[Subnet], base: u32) -> usize
-    requires { IsNonDecreasingBy (λ (s : SubnetValue). s.dest.base) all.now }
-    ensures within { result ≤ length all.now }
-    ensures above { (k : ℕ) (d : SubnetValue) → result ≤ k → k < length all.now → base < (slice_index_or all.now k d).dest.base }
-{
-    all.partition_point(|s| s.dest.base() <= base)
 }
 
 /// The subnets of all routers.

@@ -1,5 +1,6 @@
 -- What the interfaces of each area offer of a prefix.
 use Rattle.std.specs.Prelude.{◌≡◌, ◌⊎◌, ℕ, List, map, All, Any, Contains}
+use Rattle.std.specs.List.Sorted.{IsNonDecreasingBy}
 use Rattle.net_addr.specs.Addresses.{Block}
 use Rattle.net_model.specs.Network.{Network, Connected}
 use Rattle.walk_core.specs.declared.offers.Offer.{Offer}
@@ -67,8 +68,9 @@ IsSomePart domain part = (p : Block) × IsPartFor domain p part
 abbrev pub ospf_prefixes : List Destination → List Block
 ospf_prefixes destinations = map (λ (d : Destination). d.dest) destinations
 
--- the destinations are distinct prefixes, and each candidate is one
+-- the destinations are distinct prefixes in the order of the addresses that they begin with, and each candidate is one
 pub record AreOspfDestinations (domain : OspfDomain) (destinations : List Destination) : Type 0 where
   pub each : All (IsDestinationIn domain) destinations
   pub distinct : AreDistinctPrefixes (ospf_prefixes destinations)
+  pub ordered : IsNonDecreasingBy (λ (d : Destination). d.dest.base) destinations
   pub every : (p : Block) → IsOspfCandidate domain.net p → Contains (ospf_prefixes destinations) p

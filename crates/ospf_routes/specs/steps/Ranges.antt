@@ -52,6 +52,11 @@ pub record HasActive (actives : List ActiveRange) (r : Range) : Type 0 where
   pub among : Contains actives active
   pub range : active.range ≡ r
 
+-- these are some of the active ranges, and among them all that are of the prefix p
+pub record AreRangesAround (all : List ActiveRange) (p : Block) (near : List ActiveRange) : Type 0 where
+  pub among : (a : ActiveRange) → Contains near a → Contains all a
+  pub every : (a : ActiveRange) → Contains all a → a.range.dest ≡ p → Contains near a
+
 -- these are the active ranges of router b, each at its cost
 pub record AreActiveRanges (net : Network) (b : ℕ) (actives : List ActiveRange) : Type 0 where
   pub exact : Exactly (λ (a : ActiveRange). RangeCost net b a.range a.cost) actives

@@ -1,7 +1,8 @@
 use Rattle.std.proofs.Common.{◌∙◌, [], ℕ, List, get_or, subst}
 use Rattle.std.specs.List.{Any}
 use Rattle.std.proofs.lemmas.List.{get_or_default}
-use Rattle.route_tables.proofs.ListFacts.{adds_more, adds_end}
+use Rattle.route_tables.proofs.ListFacts.{adds_more, adds_end, adds_same}
+use Rattle.ospf_routes.proofs.RangeFacts.{any_around}
 use Rattle.ospf_routes.specs.Lists.{Adds}
 use Rattle.ospf_routes.specs.steps.Summarized.{IsListedRange, IsRangeRoute}
 use Rattle.ospf_routes.specs.declared.area_route.AreaRoute.{AreaRoute}
@@ -18,8 +19,10 @@ loop-b-preserved c =
     adds_more (λ (r : AreaRoute) (b : ℕ). IsListedRange ranges p b r) c.args.routes.now.items c.loop-b.routes.items added
     c.args.borders.now i b c.loop-b-test.true (get_or_default c.args.borders.now i 0 b c.loop-b-test.true) c.loop-b.invariant
     (subst (λ (l : List ActiveRange). Adds c.loop-b.routes.items added (λ (r : AreaRoute). Any (λ (a : ActiveRange). IsRangeRoute a p b r) l))
-    (c.as_slice.ensures ∙ c.index-ranges-b.is ∙ get_or_default ranges b c.index-ranges-b.result [] (c.requires i 0 c.loop-b-test.true))
-    c.in_ok-push_router_ranges.ensures)
+    (c.index-ranges-b.is ∙ get_or_default ranges b c.index-ranges-b.result [] (c.requires i 0 c.loop-b-test.true))
+    (adds_same c.loop-b.routes.items added (λ (r : AreaRoute). Any (λ (a : ActiveRange). IsRangeRoute a p b r) c.around.result.now)
+    (λ (r : AreaRoute). Any (λ (a : ActiveRange). IsRangeRoute a p b r) c.index-ranges-b.result) c.in_ok-push_router_ranges.ensures
+    (λ r. any_around (λ (a : ActiveRange). IsRangeRoute a p b r) c.index-ranges-b.result c.around.result.now p (λ a is. is.dest) c.around.ensures)))
 
 pub returns : goal.returns
 returns c =

@@ -21,5 +21,6 @@ returns c =
     (λ all. All (IsDestinationIn domain) all.items)
     (λ all. AreOspfDestinations domain all.items)
     (λ all same each. are_destinations domain all.items c.in_ok-dests.dests (same ∙ c.as_slice.ensures.value) each c.as_slice.ensures.distinct
+    c.as_slice.ensures.ordered
     (subst (λ (n : Network). (p : Block) → IsOspfCandidate n p → Contains c.in_ok-dests.dests p) c.net-2.ensures.is c.in_ok-dests.ensures))
     c.each_destination.ensures.dests c.each_destination.ensures.each

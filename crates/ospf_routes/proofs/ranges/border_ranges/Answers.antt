@@ -3,7 +3,7 @@ use Rattle.std.proofs.lemmas.List.{take_all}
 use Rattle.net_model.specs.Configuration.{Configuration}
 use Rattle.net_model.specs.declared.area.Range.{Range}
 use Rattle.net_addr.proofs.SomeElement.{one_more}
-use Rattle.ospf_routes.proofs.RangeFacts.{ActivesSoFar, actives_more, actives_all}
+use Rattle.ospf_routes.proofs.RangeFacts.{ActivesSoFar, actives_more, actives_all, actives_moved}
 use Rattle.ospf_routes.proofs.ranges.border_ranges.Goals as goal
 
 pub loop-range-preserved : goal.loop-range-preserved
@@ -17,7 +17,8 @@ loop-range-preserved c =
 
 pub returns : goal.returns
 returns c =
-    actives_all c.args.domain.now.net c.args.b c.config.result.now c.as_slice-ranges.result.now c.loop-range.all.items c.config.ensures.router
+    actives_moved c.args.domain.now.net c.args.b c.loop-range.all.items c.sort_by_base.new.all.items c.sort_by_base.ensures.kept
+    (actives_all c.args.domain.now.net c.args.b c.config.result.now c.as_slice-ranges.result.now c.loop-range.all.items c.config.ensures.router
     (c.as_slice-ranges.ensures ∙ ap (λ (d : Configuration). d.ranges) c.behind-domain.view_is)
     (subst (λ (l : List Range). ActivesSoFar c.args.domain.now.net c.args.b l c.loop-range.all.items)
-    (take_all c.loop-range.range-index c.as_slice-ranges.result.now c.loop-range-test.false) c.loop-range.invariant)
+    (take_all c.loop-range.range-index c.as_slice-ranges.result.now c.loop-range-test.false) c.loop-range.invariant))

@@ -1,31 +1,28 @@
-use Rattle.std.proofs.Common.{ℕ, subst, sym}
-use Rattle.std.specs.List.{Any}
+use Rattle.std.proofs.Common.{ℕ}
+use Rattle.std.specs.List.{Any, Contains}
+use Rattle.std.proofs.lemmas.Result.{IfOk-weaker}
+use Rattle.std.proofs.lemmas.List.Elements.{All-contains, All-contains_itself, All-weaker}
+use Rattle.ospf_routes.proofs.RangeFacts.{components_near}
 use Rattle.igp_theory.specs.Ospf.{IsComponent}
-use Rattle.route_tables.proofs.ListFacts.{adds_step, exactly_added, adds_end}
-use Rattle.ospf_routes.proofs.RangeFacts.{component_costs_are}
+use Rattle.ospf_routes.specs.Lists.{Exactly}
+use Rattle.ospf_routes.specs.steps.Ranges.{HasComponentCost}
 use Rattle.ospf_routes.specs.steps.Destinations.{IsDestinationIn}
 use Rattle.ospf_routes.specs.declared.intra_area.Destination.{Destination}
 use Rattle.ospf_routes.proofs.ranges.component_costs.Goals as goal
 
-pub component_cost-cost-requires-clause-destination : goal.component_cost-cost-requires-clause-destination
-component_cost-cost-requires-clause-destination c =
-    subst (IsDestinationIn c.args.domain.now) (sym c.destination-item.is)
-    (c.requires.destinations.each c.loop-destination.destination-index c.destination-item.result c.loop-destination-test.true)
-
-pub loop-destination-preserved : goal.loop-destination-preserved
-loop-destination-preserved c =
-    adds_step (λ (n : ℕ) (d : Destination). IsComponent c.args.domain.now.net c.args.b c.args.range.now d.dest n)
-    c.new-costs.result.items c.loop-destination.costs.items c.push_option.new.all.items c.args.destinations.now c.loop-destination.destination-index
-    c.destination-item.result c.component_cost-cost.result c.loop-destination-test.true c.destination-item.is c.loop-destination.invariant
-    c.in_ok-push_option.ensures.ok c.component_cost-cost.ensures
+pub costs_among-requires-clause-near : goal.costs_among-requires-clause-near
+costs_among-requires-clause-near c =
+    let Is : Destination → Type 0 = IsDestinationIn c.args.domain.now in
+    All-weaker (Contains c.inside.result.now) Is
+    (λ d has. All-contains Is c.args.destinations.now d c.requires.destinations.each (c.inside.ensures.among d has))
+    c.inside.result.now (All-contains_itself c.inside.result.now)
 
 pub returns : goal.returns
 returns c =
-    component_costs_are c.args.domain.now.net c.args.b c.args.range.now c.args.destinations.now c.loop-destination.costs.items
-    c.requires.destinations.every
-    (exactly_added c.new-costs.result.items c.loop-destination.costs.items
-    (λ (n : ℕ). Any (λ (d : Destination). IsComponent c.args.domain.now.net c.args.b c.args.range.now d.dest n) c.args.destinations.now)
-    c.new-costs.ensures.items
-    (adds_end (λ (n : ℕ) (d : Destination). IsComponent c.args.domain.now.net c.args.b c.args.range.now d.dest n)
-    c.new-costs.result.items c.loop-destination.costs.items c.args.destinations.now c.loop-destination.destination-index c.loop-destination-test.false
-    c.loop-destination.invariant))
+    let net = c.args.domain.now.net in
+    IfOk-weaker c.costs_among.result
+    (λ costs. Exactly (λ (n : ℕ). Any (λ (d : Destination). IsComponent net c.args.b c.args.range.now d.dest n) c.inside.result.now) costs.items)
+    (λ costs. Exactly (HasComponentCost net c.args.b c.args.range.now) costs.items)
+    (λ costs are. components_near net c.args.b c.args.range.now c.args.destinations.now c.inside.result.now costs.items
+    c.requires.destinations.every c.inside.ensures.every are)
+    c.costs_among.ensures

@@ -1,4 +1,4 @@
-use Rattle.std.proofs.Common.{◌≡◌, ◌∙◌, List, ap, sym, subst}
+use Rattle.std.proofs.Common.{◌≡◌, ◌∙◌, List, ap, arith, sym, subst}
 use Rattle.std.specs.List.{Contains}
 use Rattle.net_addr.specs.Addresses.{Block}
 use Rattle.ospf_routes.specs.declared.subnets.Subnet.{Subnet}
@@ -8,8 +8,9 @@ pub returns : goal.returns
 returns c =
     let all : c.as_slice.result.now ≡ c.args.self.now = c.as_slice.ensures.value ∙ c.self.view_is in
     record {
-      among = λ s has. subst (λ (l : List Subnet). Contains l s) all (c.with_base.ensures.among s has);
+      among = λ s has. subst (λ (l : List Subnet). Contains l s) all (c.between.ensures.among s has);
       every = λ s has same.
-          c.with_base.ensures.every s (subst (λ (l : List Subnet). Contains l s) (sym all) has)
-          (ap (λ (p : Block). p.base) same ∙ sym c.base.ensures.value);
+          let begins = ap (λ (p : Block). p.base) same in
+          c.between.ensures.every s (subst (λ (l : List Subnet). Contains l s) (sym all) has)
+          (omega (arith, begins, c.base.ensures.value)) (omega (arith, begins, c.base-2.ensures.value));
     }

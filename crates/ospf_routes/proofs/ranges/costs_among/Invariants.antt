@@ -3,8 +3,8 @@ use Rattle.std.specs.List.{Any}
 use Rattle.igp_theory.specs.Ospf.{IsComponent}
 use Rattle.ospf_routes.specs.Lists.{Adds}
 use Rattle.ospf_routes.specs.declared.intra_area.Destination.{Destination}
-use Rattle.ospf_routes.proofs.ranges.component_costs.Given as goal
+use Rattle.ospf_routes.proofs.ranges.costs_among.Given as goal
 
 abbrev pub invariant-loop-destination : goal.invariant-loop-destination
 invariant-loop-destination l = Adds l.initial.costs.items l.costs.items
-    (λ (c : ℕ). Any (λ (d : Destination). IsComponent l.domain.net l.b l.range d.dest c) (take l.destination-index l.destinations))
+    (λ (c : ℕ). Any (λ (d : Destination). IsComponent l.domain.net l.b l.range d.dest c) (take l.destination-index l.near))
