@@ -5,7 +5,7 @@ use Rattle.std.specs.Prelude.{Contains, IsSome, is_some, if◌then◌else◌}
 use Rattle.std.proofs.lemmas.Bool.{and_parts}
 use Rattle.net_model.specs.declared.interface.Interface.{Interface}
 use Rattle.design_file.specs.Settling.{interface_named, is_isis_interface, metric_for, named_for, settled_interface, settled_interfaces}
-use Rattle.design_file.specs.Laws.{RunsIsis, SettledInterfacesLaw}
+use Rattle.design_file.specs.Laws.{IsIsisInterface, SettledInterfacesLaw}
 use Rattle.design_file.specs.declared.design.DesignInterface.{DesignInterface}
 use Rattle.design_file.specs.declared.settled.SettledInterface.{SettledInterface}
 
@@ -29,12 +29,12 @@ module _ (metric : ℕ) (named : List DesignInterface) where
   abbrev test : Interface → Bool
   test interface = is_isis_interface interface (own interface)
 
-  runs_if : (interface : Interface) → test interface ≡ true → RunsIsis named interface
+  runs_if : (interface : Interface) → test interface ≡ true → IsIsisInterface named interface
   runs_if interface e =
       let both = and_parts (is_some interface.subnet) (is_some interface.area || is_some (own interface)) e in
       record { address = both.0; runs = either_is interface.area (own interface) both.1 }
 
-  if_runs : (interface : Interface) → RunsIsis named interface → test interface ≡ true
+  if_runs : (interface : Interface) → IsIsisInterface named interface → test interface ≡ true
   if_runs interface runs = rw runs.address (is_either interface.area (own interface) runs.runs)
 
   -- ---- the interfaces of a router ----
@@ -48,7 +48,7 @@ module _ (metric : ℕ) (named : List DesignInterface) where
   record IsOne (interfaces : List Interface) (settled : SettledInterface) : Type 0 where
     interface : Interface
     stands : Contains interfaces interface
-    runs : RunsIsis named interface
+    runs : IsIsisInterface named interface
     is : settled ≡ settled_interface metric interface (own interface)
 
   first_one : (interface : Interface) (more : List Interface) → Contains (interface ∷ more) interface
@@ -70,7 +70,9 @@ module _ (metric : ℕ) (named : List DesignInterface) where
   settled_is [] settled has = absurd (omega (arith, has.1))
   settled_is (interface ∷ more) settled has = by_test (settled_is more settled) (test interface) refl has
     where
-      by_place : (Contains (all more) settled → IsOne more settled) → test interface ≡ true → (k : ℕ) → k < length (by interface ∷ all more) → get_or (by interface ∷ all more) k settled ≡ settled → IsOne (interface ∷ more) settled
+      by_place : (Contains (all more) settled → IsOne more settled) → test interface ≡ true →
+          (k : ℕ) → k < length (by interface ∷ all more) →
+          get_or (by interface ∷ all more) k settled ≡ settled → IsOne (interface ∷ more) settled
       by_place further e zero within is = record {
         interface = interface;
         stands = first_one interface more;
@@ -79,12 +81,13 @@ module _ (metric : ℕ) (named : List DesignInterface) where
       }
       by_place further e (suc k) within is = one_later interface more settled (further (k, omega (arith, within), is))
 
-      by_test : (Contains (all more) settled → IsOne more settled) → (b : Bool) → test interface ≡ b → Contains (if b then by interface ∷ all more else all more) settled → IsOne (interface ∷ more) settled
+      by_test : (Contains (all more) settled → IsOne more settled) → (b : Bool) → test interface ≡ b →
+          Contains (if b then by interface ∷ all more else all more) settled → IsOne (interface ∷ more) settled
       by_test further false e has = one_later interface more settled (further has)
       by_test further true e has = by_place further e has.0 has.1 has.2
 
   is_settled : (interfaces : List Interface) (settled : SettledInterface) (interface : Interface) → (k : ℕ) → k < length interfaces →
-      get_or interfaces k interface ≡ interface → RunsIsis named interface → settled ≡ settled_interface metric interface (own interface) →
+      get_or interfaces k interface ≡ interface → IsIsisInterface named interface → settled ≡ settled_interface metric interface (own interface) →
       Contains (settled_interfaces metric named interfaces) settled
   is_settled [] settled interface k within at runs is = absurd (omega (arith, within))
   is_settled (first ∷ more) settled interface zero within at runs is =
@@ -96,7 +99,7 @@ module _ (metric : ℕ) (named : List DesignInterface) where
       by_test (test first) (is_settled more settled interface k (omega (arith, within)) at runs is)
     where
       by_test : (b : Bool) → Contains (settled_interfaces metric named more) settled →
-          Contains (if b then settled_interface metric first (own first) ∷ settled_interfaces metric named more else settled_interfaces metric named more) settled
+          Contains (if b then by first ∷ all more else all more) settled
       by_test false has = has
       by_test true has = later_one (settled_interface metric first (own first)) settled (settled_interfaces metric named more) has
 

@@ -46,13 +46,13 @@ SettledOrRefusalLaw =
     Settles design net settled → RefusesDesign design net refusal → ⊥
 
 -- an interface of a router that has an address, and has an OSPF area or is one of those that the design names
-pub record RunsIsis (named : List DesignInterface) (interface : Interface) : Type 0 where
+pub record IsIsisInterface (named : List DesignInterface) (interface : Interface) : Type 0 where
   pub address : IsSome interface.subnet
   pub runs : IsSome interface.area ⊎ IsSome (interface_named interface.name named)
 
 -- what is settled for an interface of a router of which this is said, by what is said of the interface
 pub record IsSettledOf (design : Design) (own : Option DesignRouter) (interface : Interface) (settled : SettledInterface) : Type 0 where
-  pub runs : RunsIsis (named_for own) interface
+  pub runs : IsIsisInterface (named_for own) interface
   pub is : settled ≡ settled_interface (metric_for design own) interface (interface_named interface.name (named_for own))
 
 -- an interface of the router's configuration for which this is settled

@@ -148,7 +148,9 @@ module _ (block : List Section → List ℕ) where
 
   cut_behind : (raws : List (List ℕ)) (before pending : List ℕ) → IsWholeBefore before raws → AreRaw raws → IsCutBehind before pending raws
   cut_behind [] before pending whole are = cut_none before pending
-  cut_behind (raw ∷ raws) before pending whole are = by_here (λ next. cut_behind raws (before ++ raw) next (whole_next before raw raws whole are.1.0) are.1.1) (ends_here before raw) refl
+  cut_behind (raw ∷ raws) before pending whole are =
+      by_here (λ next. cut_behind raws (before ++ raw) next (whole_next before raw raws whole are.1.0) are.1.1)
+      (ends_here before raw) refl
     where
       single : HasOneLine raw
       single = one_line raw are.0

@@ -9,7 +9,7 @@ use Rattle.std.specs.Ordering.{nat_cmp, ordering_then}
 use Rattle.std.specs.declared.cmp.Ordering.TheVariants.{Less, Equal, Greater}
 use Rattle.net_addr.specs.Addresses.{Block}
 use Rattle.net_addr.proofs.BlockOrder.{block_cmp, block_eq, sorted_once}
-use Rattle.route_tables.specs.Prefixes.{AreInOrder}
+use Rattle.route_tables.specs.Prefixes.{BeginInOrder}
 
 below : (x y : Block) → block_cmp x y ≡ Less → x.base ≤ y.base
 below x y less = by_base (nat_cmp x.base y.base) refl less
@@ -19,7 +19,7 @@ below x y less = by_base (nat_cmp x.base y.base) refl less
     by_base Equal is e = let same = ranked x.base y.base Equal is in omega (arith, same)
     by_base Greater is e = absurd cc
 
-pub in_order_once : (ys zs : List Block) → IsSorted block_cmp ys → zs ≡ dedup block_eq ys → AreInOrder zs
+pub in_order_once : (ys zs : List Block) → IsSorted block_cmp ys → zs ≡ dedup block_eq ys → BeginInOrder zs
 in_order_once ys zs up is i j d order within =
     ⊎_elim
     (λ (at : i ≡ j). let e = ap (λ (k : ℕ). (get_or zs k d).base) at in omega (arith, e))

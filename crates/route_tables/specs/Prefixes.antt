@@ -8,8 +8,8 @@ abbrev pub AreDistinctPrefixes : List Block → Type 0
 AreDistinctPrefixes dests = AllPairs (λ (p q : Block). p ≢ q) dests
 
 -- the prefixes stand in the order of the addresses that they begin with
-abbrev pub AreInOrder : List Block → Type 0
-AreInOrder dests = IsNonDecreasingBy (λ (p : Block). p.base) dests
+abbrev pub BeginInOrder : List Block → Type 0
+BeginInOrder dests = IsNonDecreasingBy (λ (p : Block). p.base) dests
 
 -- the prefix at a place of the list
 abbrev pub prefix_at : List Block → ℕ → Block

@@ -1,7 +1,7 @@
 ghost use Rattle.std.specs.Prelude.{◌≡◌, ◌↔◌, ◌∷◌, [], Some, Contains, IfOk, IsTrue, OnOk, OnErr};
 ghost use Rattle.route_tables.specs.Lists.{Adds};
 ghost use Rattle.net_addr.specs.Addresses.{Block, default_prefix};
-ghost use Rattle.route_tables.specs.Prefixes.{AreDistinctPrefixes, AreInOrder};
+ghost use Rattle.route_tables.specs.Prefixes.{AreDistinctPrefixes, BeginInOrder};
 
 use crate::OutOfMemory;
 use crate::distinct::keep_each_prefix_once;
@@ -72,13 +72,13 @@ pub struct DistinctPrefixes {
 impl Model for DistinctPrefixes {
     ghost use Rattle.std.specs.Prelude.{List};
     ghost use Rattle.net_addr.specs.Addresses.{Block};
-    ghost use Rattle.route_tables.specs.Prefixes.{AreDistinctPrefixes, AreInOrder};
+    ghost use Rattle.route_tables.specs.Prefixes.{AreDistinctPrefixes, BeginInOrder};
 
     ghost Value = { List Block };
 
     ghost view = { λ x. x.all.items };
 
-    ghost invariant = { λ x. AreDistinctPrefixes x.all.items × AreInOrder x.all.items };
+    ghost invariant = { λ x. AreDistinctPrefixes x.all.items × BeginInOrder x.all.items };
 }
 
 impl DistinctPrefixes {
@@ -86,7 +86,7 @@ impl DistinctPrefixes {
     pub fn as_slice(&self) -> &[Prefix]
         ensures value { result.now ≡ self.now }
         ensures distinct { AreDistinctPrefixes self.now }
-        ensures ordered { AreInOrder self.now }
+        ensures ordered { BeginInOrder self.now }
     {
         self.all.as_slice()
     }

@@ -38,7 +38,7 @@ use Rattle.two_pass.specs.TwoFaults.{IsChainLineOf, IsWaveOf, two_header}
 use Rattle.two_pass.specs.TwoFiles.{AreTwoWaves, NamesTwo}
 use Rattle.two_pass.specs.TwoTexts.{item_word, items_line, two_text}
 use Rattle.two_pass.specs.steps.Found.{AreSeated, AscendWhereFound, IsEarlyItem, IsItemFound}
-use Rattle.two_pass.specs.steps.Standing.{HaveLedTo, Standing, StandsIn}
+use Rattle.two_pass.specs.steps.Standing.{HaveLedTo, TwoStanding, StandsIn}
 use Rattle.two_pass.proofs.FoundItems.{seating}
 use Rattle.two_pass.proofs.ReadTexts.{names_two}
 use Rattle.two_pass.proofs.TakenLines.{chain_leads, stands_in_wave, start_leads}
@@ -285,7 +285,7 @@ module _ (net : Network) (network : IsNetwork net) (ranks : List ℕ) (two : Are
   abbrev lines_below : ℕ → List (List ℕ)
   lines_below k = map (items_line (names_of net) (codes "wave")) (map (wave_of ranks) (numbers_below k))
 
-  abbrev stand : ℕ → Standing
+  abbrev stand : ℕ → TwoStanding
   stand k = record { ranks = ranks_below k ranks; waves = k; chained = false }
 
   lines_more : (k : ℕ) → lines_below (k + 1) ≡ lines_below k ++ items_line (names_of net) (codes "wave") (wave_of ranks k) ∷ []
@@ -365,7 +365,8 @@ module _ (net : Network) (network : IsNetwork net) (ranks : List ℕ) (two : Are
         } in
         let lead = chain_leads net (lines_below (wave_count ranks)) (stand (wave_count ranks)) led line (map word chain) says refl of_each in
         let whole = (lines_read_back (two_header ∷ (lines_below (wave_count ranks) ++ line ∷ [])) printed).texts in
-        names_two net text (lines_below (wave_count ranks) ++ line ∷ []) (record { ranks = ranks_below (wave_count ranks) ranks; waves = wave_count ranks; chained = true })
+        names_two net text (lines_below (wave_count ranks) ++ line ∷ [])
+        (record { ranks = ranks_below (wave_count ranks) ranks; waves = wave_count ranks; chained = true })
         lead whole ranks (all_below (wave_count ranks) ranks
         (All-weaker (Contains ranks) (λ r. r < wave_count ranks) (rank_below_count ranks) ranks (All-contains_itself ranks)))
 
