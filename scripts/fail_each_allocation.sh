@@ -8,6 +8,9 @@
 # first, and goes on without it. Where a run ends otherwise, it is told, and the script ends with 1. It needs a C
 # compiler, `cc`, and isn't part of the gate.
 #
+# scripts/fail_each_allocation.sh --deepest PROGRAM calls each command on a ring of 200 routers, which asks for so much memory
+# that two growths are refused of each call: the one behind which it holds the most, and the last one.
+#
 # The tests of a crate, which `rt test` leaves as out/NAME_tests, are such a program too, a test's name the word:
 # scripts/fail_each_allocation.sh --tests PROGRAM does so for each of them, and counts how they ended.
 set -u
@@ -20,14 +23,28 @@ here=$(dirname "$(dirname "$(readlink -f "$0")")")
 # The library that counts growths, and refuses the one of the number REFUSED.
 cc -O2 -shared -fPIC -o "$work/refuse.so" -x c - <<'SOURCE' || exit 2
 #include <fcntl.h>
+#include <malloc.h>
 #include <stdio.h>
 #include <stdlib.h>
 #include <unistd.h>
 
 extern void *__libc_malloc(size_t);
 extern void *__libc_realloc(void *, size_t);
+extern void __libc_free(void *);
 
 static long growths, refused = -1;
+
+/* The bytes that are held, the most that were, and the growth behind which they were. */
+static long held, most, deepest;
+
+static void *grown(void *block, size_t before) {
+    held += (long)malloc_usable_size(block) - (long)before;
+    if (held > most) {
+        most = held;
+        deepest = growths;
+    }
+    return block;
+}
 
 static int is_refused(void) {
     if (refused < 0) {
@@ -37,14 +54,22 @@ static int is_refused(void) {
     return ++growths == refused;
 }
 
-void *malloc(size_t size) { return is_refused() ? NULL : __libc_malloc(size); }
+void *malloc(size_t size) { return is_refused() ? NULL : grown(__libc_malloc(size), 0); }
 
-void *realloc(void *old, size_t size) { return is_refused() ? NULL : __libc_realloc(old, size); }
+void *realloc(void *old, size_t size) {
+    size_t before = malloc_usable_size(old);
+    return is_refused() ? NULL : grown(__libc_realloc(old, size), before);
+}
+
+void free(void *block) {
+    held -= (long)malloc_usable_size(block);
+    __libc_free(block);
+}
 
 __attribute__((destructor)) static void tell(void) {
     const char *name = getenv("GROWTHS");
-    char line[32];
-    int length = snprintf(line, sizeof line, "%ld\n", growths);
+    char line[64];
+    int length = snprintf(line, sizeof line, "%ld %ld\n", growths, deepest);
     int file = name ? open(name, O_WRONLY | O_CREAT | O_TRUNC, 0600) : -1;
     if (file >= 0 && write(file, line, (size_t)length) != length) _exit(70);
 }
@@ -84,24 +109,75 @@ end_of_test() {
     fi
 }
 
-# Refuses each growth of a call in turn, by the name of how its runs end.
+# Refuses growths of a call in turn, by the name of how its runs end: each of them, or those that `depths` tells.
 refuse_each() {
     end_of=$1
     shift
     run 0 "$@"
     ample_status=$?
     cp "$work/out" "$work/ample"
-    growths=$(cat "$work/growths")
+    read -r growths deepest <"$work/growths"
     : >"$work/ends"
-    number=1
-    while [ "$number" -le "$growths" ]; do
+    for number in $(numbers_to_refuse); do
         end=$("$end_of" "$number" "$@")
         echo "$end" >>"$work/ends"
         case $end in status*) echo "$*: growth $number of $growths refused: $end" ;; esac
-        number=$((number + 1))
     done
     echo "$2: $growths growths$(sort "$work/ends" | uniq -c | awk '{ count = $1; $1 = ""; printf ";%s: %d", $0, count }')"
     ! grep -q '^status' "$work/ends"
+}
+
+# The numbers of the growths that are refused of a call: each one, or the deepest and the last.
+numbers_to_refuse() {
+    if [ "$depths" = all ]; then
+        seq 1 "$growths"
+    else
+        printf '%s\n' "$deepest" "$growths" | sort -nu
+    fi
+}
+
+# A ring of so many routers whose last link is dear for OSPF and whose middle one is dear for IS-IS, with IS-IS where `isis` is 1.
+ring() {
+    awk -v n="$1" -v isis="$2" '
+        function end_of(number, link, address) {
+            printf "interface GigabitEthernet0/%d\n ip address 10.1.%d.%d 255.255.255.252\n", number, link, address
+            printf " ip ospf cost %d\n", link == n ? 1000 : 1
+            if (isis) printf " ip router isis\n isis metric %d\n", link == n / 2 ? 10000 : 10
+        }
+        BEGIN {
+            for (i = 1; i <= n; i++) {
+                printf "hostname S%03d\ninterface Loopback0\n ip address 10.0.0.%d 255.255.255.255\n", i, i
+                if (isis) print " ip router isis"
+                end_of(0, i, 1)
+                end_of(1, i == 1 ? n : i - 1, 2)
+                print "router ospf 1\n network 10.0.0.0 0.255.255.255 area 0"
+                if (isis) printf "router isis\n net 49.0001.0000.0000.%04d.00\n", i
+                if (isis) print " is-type level-2-only\n metric-style wide\n distance 255"
+                print "end"
+            }
+        }'
+}
+
+# A call of each command on a ring of 200 routers, planned by the program itself.
+refuse_deepest() {
+    depths=ends
+    cd "$work" || exit 2
+    ring 200 1 >ring.cfg
+    ring 200 0 >without_isis.cfg
+    echo 'area = "49.0001"' >design.toml
+    "$1" plan ring.cfg >waves.txt
+    "$1" plan --budget 100 ring.cfg >tree.txt
+    awk '/^wave / { for (i = 2; i <= NF; i++) print $i }' waves.txt >names.txt
+    { echo "order 1"; cat names.txt; } >order.txt
+    { echo "journal 1"; head -100 names.txt | sed 'p' | awk '{ print $1, 2 - NR % 2 }'; } >journal.txt
+    wrong=0
+    # shellcheck disable=SC2086
+    for call in "check order.txt ring.cfg" "check waves.txt ring.cfg" "plan ring.cfg" "plan --budget 100 ring.cfg" \
+        "refute tree.txt ring.cfg" "scripts waves.txt ring.cfg" "replay waves.txt journal.txt ring.cfg" \
+        "prepare design.toml without_isis.cfg" "sample 60"; do
+        refuse_each end_of_program "$1" $call || wrong=1
+    done
+    return $wrong
 }
 
 # A call of each command on the examples, as words behind the program.
@@ -127,9 +203,10 @@ refuse_each_command() {
     return $wrong
 }
 
+depths=all
 case ${1:-} in
 '')
-    echo "usage: scripts/fail_each_allocation.sh [--tests] PROGRAM [WORD...]" >&2
+    echo "usage: scripts/fail_each_allocation.sh [--tests | --deepest] PROGRAM [WORD...]" >&2
     exit 2
     ;;
 --tests)
@@ -139,6 +216,9 @@ case ${1:-} in
         refuse_each end_of_test "$program" "$test" || wrong=1
     done
     exit $wrong
+    ;;
+--deepest)
+    refuse_deepest "$(readlink -f "$2")"
     ;;
 *)
     program=$(readlink -f "$1")
