@@ -1,4 +1,4 @@
--- What is wrong in a design for a network, and how that is gathered.
+-- What is wrong in a design for a network.
 use Rattle.std.specs.Prelude.{◌≡◌, ℕ, Contains, IsSome, IsTrue, codes}
 use Rattle.net_model.specs.Configuration.{Configuration}
 use Rattle.net_model.specs.Lookups.{IsNamed}

@@ -68,7 +68,7 @@ process_lines number router =
 
 -- ---- the interfaces ----
 
--- the old configuration has a line `isis circuit-type` or `isis metric` for an interface
+-- a line of an interface is an `isis circuit-type` or an `isis metric` line
 abbrev pub is_old_line : InterfaceLine → Bool
 is_old_line (Circuit _) = true
 is_old_line (Metric _) = true
@@ -76,6 +76,7 @@ is_old_line (Metric1 _) = true
 is_old_line (Metric2 _) = true
 is_old_line _ = false
 
+-- the old configuration has such a line for the interface of this name
 abbrev pub has_old_line : List InterfaceSection → Word → Bool
 has_old_line old name = list_any (λ (s : InterfaceSection). bytes_eq s.name name && list_any (λ (l : InterfaceStatement). is_old_line l.says) s.lines) old
 

@@ -7,8 +7,8 @@ use Rattle.order_core.specs.declared.turn.Turn.{Turn}
 use Rattle.order_search.specs.Trees.{Real}
 use Rattle.order_search.specs.Meanings.{Good, Picked}
 
--- what is real decides what is good: every good ranking keeps the base, and where something real has an Old and a New
--- turn, it gives some Old turn's router a lower rank than some New turn's router
+-- what a good ranking owes to what is real: it keeps the base, and where something real has an Old and a New turn, it gives
+-- some Old turn's router a lower rank than some New turn's router. That a ranking with all this is good isn't said
 pub record IsDecisive (good : Good) (real : Real) (base : List Pair) : Type 0 where
   pub keeps_base : (ranks : List ℕ) → good ranks → KeepsPairs ranks base
   pub decides : (address : ℕ) (turns : List Turn) (ranks : List ℕ) →

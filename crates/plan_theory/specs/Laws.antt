@@ -13,8 +13,8 @@ use Rattle.plan_theory.specs.Plans.{IsPlanned}
 use Rattle.plan_theory.specs.declared.planned.Planned.{Planned}
 use Rattle.plan_theory.specs.declared.planned.Planned.TheVariants.{UnsoundOld, UnsoundNew, Searched}
 
--- loops decide which wave lists are seamless: each seamless one ranks some Old turn's router of every loop with both
--- tags before some New turn's router
+-- what a seamless wave list owes to the loops: it ranks some Old turn's router of every loop with both tags before some New
+-- turn's router. The other way is a law between sound ends alone (`WavesAreSeamlessByLoops`)
 abbrev pub WavesAreDecided : Migration → Type 0
 WavesAreDecided move = IsDecisive (AreSeamlessWaves move) (IsLoop move) []
 

@@ -5,7 +5,7 @@ use Rattle.igp_theory.specs.Migrations.{Migration}
 use Rattle.order_core.specs.Turns.{old_routers, new_routers}
 use Rattle.order_core.specs.declared.turn.Turn.{Turn}
 
--- in a loop of the network u is tagged Old and v is tagged New: it arises while u has its old routes and v its new ones
+-- in a loop of the network u is tagged Old and v is tagged New: it arises only while u has its old routes and v its new ones
 pub record AreTaggedInLoop (move : Migration) (u v : ℕ) : Type 0 where
   pub address : ℕ
   pub ring : List Turn
