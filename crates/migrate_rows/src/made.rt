@@ -1,4 +1,4 @@
-ghost use Rattle.std.specs.Prelude.{◌≡◌, ◌≤◌, ◌<◌, MatchOption};
+ghost use Rattle.std.specs.Prelude.{◌≡◌, ◌≤◌, ◌<◌, IfSome};
 
 use anyhow::Result;
 use std::alloc::Global;
@@ -71,7 +71,7 @@ fn made_greatest(alloc: Global, name: &str) -> Result<Option<Vec<u8>>> {
 
 /// The number of the router of a name `made/Si.cfg`, from 1 to 200.
 fn number_in(name: &str) -> Option<u32>
-    ensures { MatchOption result (Unit {0}) (λ i. 1 ≤ i × i ≤ 200) }
+    ensures { IfSome result (λ i. (1 ≤ i) × (i ≤ 200)) }
 {
     let (front, rest) = name.split_once('S')?;
     let (number, end) = rest.split_once('.')?;
