@@ -47,7 +47,7 @@ NewCounts Middle = Unit {0}
 NewCounts New = Unit {0}
 
 -- at router u in a phase this entry for p counts, at this distance: a connected prefix at 0, the old
--- table at the router's OSPF distance unless that is the greatest, the new table at that of IS-IS
+-- table at the router's OSPF distance unless that is the greatest, the new table at 115
 pub data Counts (move : Migration) (u : ℕ) (phase : Phase) (p : Block) : ℕ → Usable → Type 0 where
   connected_counts : Connected move.net u p → Counts move u phase p 0 connected
   old_counts : {distance : ℕ} {e : Entry} → OldCounts phase → (c : Configuration) → HasConfiguration move.net u c →

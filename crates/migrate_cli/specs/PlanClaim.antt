@@ -79,7 +79,7 @@ pub record HasWritten (call : Call) (configs : List (List ℕ)) (outside : Cours
   pub written : AddsBytes outside.before.written outside.after.written text
   pub holds : P net text
 
--- what each status of a `plan` of these files means
+-- what the statuses `Done` and `Negative` of a `plan` of these files mean; of the others nothing is said here
 abbrev pub MeansOf : Call → List (List ℕ) → Course → Status → Type 0
 MeansOf call configs outside Done = HasWritten call configs outside NamesSafeWaves
 MeansOf call configs outside Negative = HasWritten call configs outside ShowsThereIsNone

@@ -32,7 +32,7 @@ to_read content files = record { content = content; files = files }
 abbrev pub file_names : List File → List (List ℕ)
 file_names files = map (λ file. file.name) files
 
--- what is read of a file: one byte more than it may have, and all of it where it is shorter
+-- what is read of a file: at most one byte more than it may have; where the file tells what it holds, its first bytes up to that
 pub record IsReadOf (content : Contents) (file : File) (text : List ℕ) : Type 0 where
   pub told : IfSome (content file.name) (λ whole. text ≡ take (file.most + 1) whole)
   pub at_most : length text ≤ file.most + 1
