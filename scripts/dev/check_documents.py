@@ -2,9 +2,9 @@
 """Looks whether the documents name what there is: run it at the top of the repository, as scripts/dev/check_documents.py.
 
 In README.md, CONTRIBUTING.md and docs/*.md each link has to lead to a file and a heading, and each path in backquotes to a file:
-below docs/, scripts/, examples/ and crates/ (what is built aside), or below crates/ where it begins with a crate. A bare name of a file
-in a table of docs/words.md, or of docs/architecture.md before its crates, has to stand beside the file that is named before it,
-or in igp_theory/specs.
+below docs/, scripts/, examples/ and crates/ (what is built aside), or below crates/ where it begins with a crate. A bare name of
+a file in a table of docs/words.md, or of docs/architecture.md before its crates, has to stand beside the file that is named
+before it, or in igp_theory/specs.
 README.md has at most 200 lines, and no sentence of the pages in SHORT has more than 40 words.
 
 Nothing is printed where all is well, else a line for each thing that isn't, and the status is 1. It isn't part of the gate.
