@@ -1,5 +1,5 @@
 #!/bin/sh
-# Refuses each growth of memory in turn: scripts/fail_each_allocation.sh PROGRAM [WORD...]
+# Refuses each growth of memory in turn: scripts/dev/fail_each_allocation.sh PROGRAM [WORD...]
 #
 # PROGRAM is a built one, as crates/migrate/out/migrate. The call of these words, or without words some calls of
 # each command on the examples, is made once with ample memory, where its growths (calls of malloc and realloc) are counted,
@@ -8,17 +8,17 @@
 # first, and goes on without it. Where a run ends otherwise, it is told, and the script ends with 1. It needs a C
 # compiler, `cc`, and isn't part of the gate.
 #
-# scripts/fail_each_allocation.sh --deepest PROGRAM calls each command on a ring of 200 routers, which asks for so much memory
+# scripts/dev/fail_each_allocation.sh --deepest PROGRAM calls each command on a ring of 200 routers, which asks for so much memory
 # that two growths are refused of each call: the one behind which it holds the most, and the last one.
 #
 # The tests of a crate, which `rt test` leaves as out/NAME_tests, are such a program too, a test's name the word:
-# scripts/fail_each_allocation.sh --tests PROGRAM does so for each of them, and counts how they ended.
+# scripts/dev/fail_each_allocation.sh --tests PROGRAM does so for each of them, and counts how they ended.
 set -u
 
 seconds=60
 work=$(mktemp -d)
 trap 'rm -rf "$work"' EXIT
-here=$(dirname "$(dirname "$(readlink -f "$0")")")
+here=$(dirname "$(dirname "$(dirname "$(readlink -f "$0")")")")
 
 # The library that counts growths, and refuses the one of the number REFUSED.
 cc -O2 -shared -fPIC -o "$work/refuse.so" -x c - <<'SOURCE' || exit 2
@@ -206,7 +206,7 @@ refuse_each_command() {
 depths=all
 case ${1:-} in
 '')
-    echo "usage: scripts/fail_each_allocation.sh [--tests | --deepest] PROGRAM [WORD...]" >&2
+    echo "usage: scripts/dev/fail_each_allocation.sh [--tests | --deepest] PROGRAM [WORD...]" >&2
     exit 2
     ;;
 --tests)
