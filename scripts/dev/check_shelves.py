@@ -3,7 +3,7 @@
 
 Run it at the top of the repository:
 
-  scripts/check_shelves.py [CRATE..]
+  scripts/dev/check_shelves.py [CRATE..]
 
 A definition stands on the first shelf where a clause of a public call cites it, the model of a public type, a public
 trait, or another crate, or where such a definition cites it. All others are steps: private clauses and proofs alone cite

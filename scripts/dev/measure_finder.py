@@ -1,7 +1,7 @@
 #!/usr/bin/env python3
 """Measures the finder's part of a built `migrate_bench` beside another program of the planner's commands.
 
-    python3 scripts/measure_finder.py MEASURED OTHER BENCH [--runs N]
+    scripts/dev/measure_finder.py MEASURED OTHER BENCH [--runs N]
 
 MEASURED is the built `crates/migrate_bench/out/migrate_bench`, OTHER a program with the commands of `migrate` and with
 `serve`, BENCH a folder with `isp-200` and `ring-200` (their `*.cfg`, `order.txt`). Each call is run N times by each

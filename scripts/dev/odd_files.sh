@@ -1,5 +1,5 @@
 #!/bin/sh
-# Runs a built planner on files as users have them: scripts/odd_files.sh PROGRAM
+# Runs a built planner on files as users have them: scripts/dev/odd_files.sh PROGRAM
 #
 # Names with a blank and names that aren't UTF-8, what can't be read, pipes, and a standard output that takes nothing, each
 # with `check`, `plan` and `prepare`. A line for each run says the status, the first line of what was printed, and what stands
@@ -8,11 +8,11 @@
 set -u
 
 if [ $# -ne 1 ]; then
-    echo "usage: scripts/odd_files.sh PROGRAM" >&2
+    echo "usage: scripts/dev/odd_files.sh PROGRAM" >&2
     exit 2
 fi
 program=$(readlink -f "$1")
-examples=$(dirname "$(dirname "$(readlink -f "$0")")")/examples
+examples=$(dirname "$(dirname "$(dirname "$(readlink -f "$0")")")")/examples
 work=$(mktemp -d)
 trap 'rm -rf "$work"' EXIT
 chmod 755 "$work"

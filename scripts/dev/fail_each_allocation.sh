@@ -1,5 +1,5 @@
 #!/bin/sh
-# Refuses each growth of memory in turn: scripts/fail_each_allocation.sh PROGRAM [WORD...]
+# Refuses each growth of memory in turn: scripts/dev/fail_each_allocation.sh PROGRAM [WORD...]
 #
 # PROGRAM is a built one, as crates/migrate/out/migrate. The call of these words, or without words some calls of
 # each command on the examples, is made once with ample memory, where its growths (calls of malloc and realloc) are counted,
@@ -9,13 +9,13 @@
 # compiler, `cc`, and isn't part of the gate.
 #
 # The tests of a crate, which `rt test` leaves as out/NAME_tests, are such a program too, a test's name the word:
-# scripts/fail_each_allocation.sh --tests PROGRAM does so for each of them, and counts how they ended.
+# scripts/dev/fail_each_allocation.sh --tests PROGRAM does so for each of them, and counts how they ended.
 set -u
 
 seconds=60
 work=$(mktemp -d)
 trap 'rm -rf "$work"' EXIT
-here=$(dirname "$(dirname "$(readlink -f "$0")")")
+here=$(dirname "$(dirname "$(dirname "$(readlink -f "$0")")")")
 
 # The library that counts growths, and refuses the one of the number REFUSED.
 cc -O2 -shared -fPIC -o "$work/refuse.so" -x c - <<'SOURCE' || exit 2
@@ -129,7 +129,7 @@ refuse_each_command() {
 
 case ${1:-} in
 '')
-    echo "usage: scripts/fail_each_allocation.sh [--tests] PROGRAM [WORD...]" >&2
+    echo "usage: scripts/dev/fail_each_allocation.sh [--tests] PROGRAM [WORD...]" >&2
     exit 2
     ;;
 --tests)

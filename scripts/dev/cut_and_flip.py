@@ -1,12 +1,12 @@
 #!/usr/bin/env python3
 """Runs the built program on thousands of damaged files.
 
-Usage: scripts/cut_and_flip.py [--skip-missing] [--seconds N] PROGRAM COUNT [WORD...]
+Usage: scripts/dev/cut_and_flip.py [--skip-missing] [--seconds N] PROGRAM COUNT [WORD...]
 
 The words are those of one call that is answered, as `check ORDER CONFIG...`. Each run damages one of its files at
 random: it cuts it, flips a byte, puts a byte in, doubles a line, drops one, moves one, takes one from another file, or
 writes an odd word for a word. A call without a file, as `sample 3`, has its number damaged. Without words all seven
-commands are run, COUNT times each, on calls of the examples beside this script.
+commands are run, COUNT times each, on calls of the examples.
 
 Every run has to end by itself within the seconds (10 unless given), with a status that its command has for files that
 can be read, with the text that belongs to this status on standard output, and with nothing on standard error. The first
@@ -25,7 +25,7 @@ import sys
 import tempfile
 import time
 
-EXAMPLES = pathlib.Path(__file__).resolve().parent.parent / "examples"
+EXAMPLES = pathlib.Path(__file__).resolve().parent.parent.parent / "examples"
 
 NAME = rb"[A-Za-z0-9._-]{1,63}"
 NAMES = rb"(?: " + NAME + rb")+"

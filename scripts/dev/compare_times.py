@@ -1,7 +1,7 @@
 #!/usr/bin/env python3
 """Measures a built `migrate` beside another program of the same commands, and prints one table.
 
-    python3 scripts/compare_times.py OURS OTHER BENCH [--runs N] [--plan]
+    scripts/dev/compare_times.py OURS OTHER BENCH [--runs N] [--plan]
 
 OURS is the built program (`crates/migrate/out/migrate`), OTHER a program that takes the same words, BENCH a folder with
 `isp-200` and `ring-200` (their `*.cfg`, `order.txt`, `reversed.txt`). Each call is run N times by each program (9 unless
@@ -16,55 +16,12 @@ import os
 import pathlib
 import statistics
 import subprocess
-import sys
 import tempfile
 import time
 
-HERE = pathlib.Path(__file__).resolve().parent
+from make_network import areas, copy, filled, lan, ring
+
 FILLED = 10_000_000
-
-
-def router(name, number, interfaces, area_of):
-    """The configuration of a router: a loopback, and interfaces as (address, mask, cost, metric, area, kind)."""
-    lines = [f"hostname {name}", "interface Loopback0", f" ip address 10.255.{number // 256}.{number % 256} 255.255.255.255",
-             f" ip ospf 1 area {area_of}", " ip router isis"]
-    for place, (address, mask, cost, metric, area) in enumerate(interfaces):
-        lines += [f"interface GigabitEthernet0/{place}", f" ip address {address} {mask}", f" ip ospf 1 area {area}",
-                  f" ip ospf cost {cost}", " ip router isis", f" isis metric {metric}"]
-    lines += ["router ospf 1", "router isis", f" net 49.0001.0000.0000.{number:04d}.00", " is-type level-2-only",
-              " metric-style wide", " distance 255", "end"]
-    return "\n".join(lines) + "\n"
-
-
-def ring(count):
-    """A ring of routers; its last link is dear in OSPF, and all links cost the same in IS-IS."""
-    links = [[] for _ in range(count)]
-    for place in range(count):
-        base = f"10.1.{place}."
-        cost = 1000 if place == count - 1 else 1
-        links[place].append((base + "1", "255.255.255.252", cost, 10, 0))
-        links[(place + 1) % count].append((base + "2", "255.255.255.252", cost, 10, 0))
-    return [router(f"R{place:03d}", place + 1, links[place], 0) for place in range(count)]
-
-
-def lan(count):
-    """Routers on one LAN."""
-    return [router(f"R{place:03d}", place + 1, [(f"10.1.0.{place + 1}", "255.255.255.0", 1 + place % 7, 10 + place % 5, 0)], 0)
-            for place in range(count)]
-
-
-def areas(count):
-    """Areas of ten routers, each a chain behind a border router; the border routers make a ring in the backbone."""
-    links = [[] for _ in range(10 * count)]
-    for area in range(count):
-        first, after = 10 * area, 10 * ((area + 1) % count)
-        links[first].append((f"10.1.{area}.1", "255.255.255.252", 1 + area % 3, 10, 0))
-        links[after].append((f"10.1.{area}.2", "255.255.255.252", 1 + area % 3, 10, 0))
-        for place in range(first, first + 9):
-            base = f"10.2.{place}."
-            links[place].append((base + "1", "255.255.255.252", 1, 10, area + 1))
-            links[place + 1].append((base + "2", "255.255.255.252", 1, 10, area + 1))
-    return [router(f"R{place:03d}", place + 1, links[place], 0 if place % 10 == 0 else place // 10 + 1) for place in range(10 * count)]
 
 
 def written(folder, name, texts):
@@ -77,18 +34,24 @@ def written(folder, name, texts):
     return str(place / "order.txt"), [str(place / "all.cfg")]
 
 
+def files_of(folder):
+    """The configurations of a folder."""
+    return sorted(str(path) for path in folder.glob("*.cfg"))
+
+
 def calls(bench, folder, with_plan):
     """The calls of the table: a title and the words."""
     made = []
     for name in ("isp-200", "ring-200"):
-        configs = sorted(str(it) for it in pathlib.Path(bench, name).glob("*.cfg"))
-        made += [(f"check {order} {name}", ["check", str(pathlib.Path(bench, name, order)), *configs]) for order in ("order.txt", "reversed.txt")]
+        configs = files_of(pathlib.Path(bench, name))
+        for order in ("order.txt", "reversed.txt"):
+            made.append((f"check {order} {name}", ["check", str(pathlib.Path(bench, name, order)), *configs]))
         if with_plan:
             made.append((f"plan {name}", ["plan", *configs]))
-    filled = pathlib.Path(folder, "filled")
-    count = len(list(pathlib.Path(bench, "isp-200").glob("*.cfg")))
-    subprocess.run([sys.executable, str(HERE / "fill_configs.py"), str(pathlib.Path(bench, "isp-200")), str(filled), str(FILLED // count)], check=True)
-    made.append(("check order.txt isp-200 of 10 MB", ["check", str(pathlib.Path(bench, "isp-200", "order.txt")), *sorted(str(it) for it in filled.glob("*.cfg"))]))
+    provider, copies = pathlib.Path(bench, "isp-200"), pathlib.Path(folder, "filled")
+    size = FILLED // len(files_of(provider))
+    copy(provider, copies, lambda text: filled(text, size))
+    made.append(("check order.txt isp-200 of 10 MB", ["check", str(provider / "order.txt"), *files_of(copies)]))
     grown = [(f"ring of {it}", ring(it)) for it in (50, 100, 200)] + [(f"LAN of {it}", lan(it)) for it in (50, 100, 200)]
     grown += [(f"{it} areas of 10", areas(it)) for it in (5, 10, 19)]
     for title, texts in grown:
@@ -136,8 +99,8 @@ def main():
             wall, used = ([statistics.median(it[part] for it in result) * 1000 for result in results] for part in (0, 1))
             peak = [peak_of(program, call) for program in programs]
             same = "" if len({it[2:] for result in results for it in result}) == 1 else "  answers differ"
-            print(f"{title:36} {wall[0]:8.1f} /{used[0]:7.1f} {wall[1]:8.1f} /{used[1]:7.1f} {wall[0] / wall[1]:5.1f} / {used[0] / used[1]:5.1f}"
-                  f" {peak[0]:8} {peak[1]:8} {peak[0] / peak[1]:6.1f}{same}", flush=True)
+            print(f"{title:36} {wall[0]:8.1f} /{used[0]:7.1f} {wall[1]:8.1f} /{used[1]:7.1f}"
+                  f" {wall[0] / wall[1]:5.1f} / {used[0] / used[1]:5.1f} {peak[0]:8} {peak[1]:8} {peak[0] / peak[1]:6.1f}{same}", flush=True)
 
 
 if __name__ == "__main__":
