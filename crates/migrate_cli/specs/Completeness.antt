@@ -8,14 +8,14 @@ use Rattle.igp_theory.specs.Waves.{HasNoneSeamless}
 use Rattle.step_scripts.specs.WaveFiles.{NamesWaves}
 use Rattle.step_scripts.specs.declared.version.Version.{Version}
 use Rattle.store_edge.specs.Faults.{Rose}
+use Rattle.migration_report.specs.declared.status.Status.{Status}
+use Rattle.migration_report.specs.declared.status.Status.TheVariants.{Done, Negative, Memory}
 use Rattle.migrate_cli.specs.AnswerLaws.{IsFileTold}
 use Rattle.migrate_cli.specs.Answers.{AsksForFew}
 use Rattle.migrate_cli.specs.Calls.{Call, Outside}
 use Rattle.migrate_cli.specs.CommandFiles.{NeedsStart, config_texts, files_of, own_texts}
 use Rattle.migrate_cli.specs.Configurations.{GiveNetwork, IsAtStart}
 use Rattle.migrate_cli.specs.Reading.{AreRead, AreWithin, file_names}
-use Rattle.migrate_cli.specs.declared.status.Status.{Status}
-use Rattle.migrate_cli.specs.declared.status.Status.TheVariants.{Done, Negative, Memory}
 
 -- the words ask for this, what the files hold is told and within the limits, and the configurations make this network, which
 -- is at its start where that is needed

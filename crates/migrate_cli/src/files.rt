@@ -5,7 +5,10 @@ ghost use Rattle.migrate_cli.specs.steps.FilesRead.{file_of};
 
 use crate::OutOfMemory;
 use migrate_words::Command;
+use migration_report::Decision;
+use net_addr::Bytes;
 use std::alloc::Global;
+use step_scripts::OrderKind;
 
 /// How many bytes a file has at most that isn't a design, 16 MiB.
 pub(crate) const FILE_MOST: u64 = 16_777_216;
@@ -116,4 +119,24 @@ fn own_files<'a>(alloc: Global, command: &Command<'a>) -> Result<Vec<Wanted<'a>>
         Command::Sample { .. } => (),
     }
     Ok(files)
+}
+
+/// The bytes of a name.
+pub(crate) fn name_bytes(alloc: Global, name: &str) -> Result<Bytes, OutOfMemory>
+    ensures { IfOk result (λ bytes. bytes ≡ name.now) }
+{
+    Ok(Bytes::from_vec(Vec::from_slice(alloc, name.as_bytes())?))
+}
+
+/// What is decided where a line of an order file is faulty.
+pub(crate) fn bad_order(
+    alloc: Global,
+    name: &str,
+    line: u32,
+    kind: OrderKind,
+) -> Result<Decision, OutOfMemory>
+    ensures { IfOk result (λ decision. decision ≡ Decision.BadOrder name.now line kind) }
+{
+    let file = name_bytes(alloc, name)?;
+    Ok(Decision::BadOrder { file, line, kind })
 }

@@ -1,8 +1,7 @@
 use Rattle.std.proofs.Common.{◌≤◌, ℕ, List, [], ◌∷◌, IfOk, arith, length, subst, sym}
 use Rattle.std.proofs.lemmas.List.Elements.{All-cons}
 use Rattle.migrate_words.specs.Requests.{sample}
-use Rattle.migrate_cli.specs.Verdicts.{IsVerdict}
-use Rattle.migrate_cli.specs.declared.answer.Answer.{Answer}
+use Rattle.migrate_cli.specs.Outcomes.{IsOutcome}
 use Rattle.migrate_cli.proofs.SampleFacts.{sample_short}
 use Rattle.migrate_cli.proofs.judging.judge_made.Goals as goal
 use Rattle.migrate_cli.specs.CommandFiles.{given_texts}
@@ -15,5 +14,5 @@ judge_texts-requires-clause-short c =
 
 pub returns : goal.returns
 returns c =
-    subst (λ (text : List ℕ). IfOk c.judge_texts.result (λ (a : Answer). IsVerdict (sample c.args.routers) (given_texts [] (text ∷ [])) a.status a.text))
+    subst (λ (text : List ℕ). IfOk c.judge_texts.result (IsOutcome (sample c.args.routers) (given_texts [] (text ∷ []))))
     c.in_ok-text.ensures c.judge_texts.ensures

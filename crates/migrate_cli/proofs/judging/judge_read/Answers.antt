@@ -4,7 +4,7 @@ use Rattle.std.proofs.lemmas.List.{length-map}
 use Rattle.std.proofs.lemmas.Result.{IfOk-weaker}
 use Rattle.migrate_words.specs.Requests.{request_of}
 use Rattle.migrate_cli.specs.CommandFiles.{config_texts, own_texts, text_names, given_texts}
-use Rattle.migrate_cli.specs.Verdicts.{IsVerdict}
+use Rattle.migrate_cli.specs.Outcomes.{IsOutcome}
 use Rattle.migrate_cli.proofs.FileFacts.{split_count, split_texts}
 use Rattle.migrate_cli.proofs.judging.judge_read.Goals as goal
 
@@ -41,9 +41,8 @@ returns c =
     let place : (length texts - length names) + length (text_names request) ≡ length texts = omega (arith, all, count) in
     let split = split_texts request texts c.split_at.result.0.now c.split_at.result.1.now (length texts - length names)
     c.requires.reads c.requires.short place c.split_at.ensures.front c.split_at.ensures.back in
-    IfOk-weaker c.judge_texts.result
-    (λ a. IsVerdict request (given_texts c.split_at.result.0.now c.split_at.result.1.now) a.status a.text)
-    (λ a. IsVerdict request (given_texts (own_texts request texts) (config_texts request texts)) a.status a.text)
-    (λ a verdict. subst (λ own. IsVerdict request (given_texts own (config_texts request texts)) a.status a.text) split.own_are
-    (subst (λ some. IsVerdict request (given_texts c.split_at.result.0.now some) a.status a.text) split.configs_are verdict))
+    IfOk-weaker c.judge_texts.result (IsOutcome request (given_texts c.split_at.result.0.now c.split_at.result.1.now))
+    (IsOutcome request (given_texts (own_texts request texts) (config_texts request texts)))
+    (λ outcome is. subst (λ own. IsOutcome request (given_texts own (config_texts request texts)) outcome) split.own_are
+    (subst (λ some. IsOutcome request (given_texts c.split_at.result.0.now some) outcome) split.configs_are is))
     c.judge_texts.ensures

@@ -1,0 +1,96 @@
+use Rattle.std.proofs.Common.{◌≡◌, ◌<◌, ◌≤◌, ◌∙◌, ℕ, List, [], All, Err, IfOk, Ok, ap, arith, length, map, subst, sym}
+use Rattle.std.specs.Borrow.{Bor}
+use Rattle.std.proofs.lemmas.List.{length-map}
+use Rattle.std.proofs.lemmas.Result.{IfOk-weaker}
+use Rattle.migrate_words.specs.Requests.{request_of}
+use Rattle.migration_report.specs.Outcomes.{status_of}
+use Rattle.migration_report.specs.declared.outcome.Outcome.TheVariants.{Refused}
+use Rattle.migration_report.specs.declared.refusal.Refusal.TheVariants.{Files}
+use Rattle.migrate_cli.specs.Answers.{AsksForFew, FaultsAgree, IsAnswer, MayAsk}
+use Rattle.migrate_cli.specs.Answers.IsAnswer.{judged, many_files}
+use Rattle.migrate_cli.specs.Calls.{Call, call_of}
+use Rattle.migrate_cli.specs.CommandFiles.{config_names, config_texts, files_of, own_texts, given_texts}
+use Rattle.migrate_cli.specs.steps.FilesRead.{file_of}
+use Rattle.migrate_cli.specs.Outcomes.{IsOutcome}
+use Rattle.migrate_cli.specs.Reading.{AreRead, AreWithin, File, file_names, to_read}
+use Rattle.migrate_cli.specs.steps.Stops.{HasRead}
+use Rattle.migrate_cli.proofs.AnswerFacts.{answered, answered_at_once, faults_agree, may_ask_all, outcome_no_fault, stop_answer}
+use Rattle.migrate_cli.proofs.FileFacts.{All-mapped, small_files}
+use Rattle.migrate_cli.proofs.run_call.decide_command.Goals as goal
+
+pub returns-then-number-gt-FILES_MOST-clause-answer : goal.returns-then-number-gt-FILES_MOST-clause-answer
+returns-then-number-gt-FILES_MOST-clause-answer g c = λ words asks.
+    let request = request_of c.args.command.now in
+    let call : Call = call_of words (g.F.Files.content c.args.files.now) in
+    let names = c.config_names-number.result.now in
+    let bytes : Bor (List ℕ) → List ℕ = λ name. name.now in
+    let count : length names ≡ length (config_names request) = sym (length-map names bytes) ∙ ap length c.config_names-number.ensures in
+    let many : 200 < length (config_names request) = grind (arith, count) in
+    answered_at_once call (g.F.Files.asked c.args.files.now) (Ok _)
+    (subst (λ n. IsAnswer call [] (Refused (Files n))) (sym count) (many_files request asks many))
+
+pub returns-in_default-clause-answer : goal.returns-in_default-clause-answer
+returns-in_default-clause-answer g c = λ words asks.
+    answered_at_once (call_of words (g.F.Files.content c.args.files.now)) (g.F.Files.asked c.args.files.now) (Err _) tt
+
+pub read_texts-requires : goal.read_texts-requires
+read_texts-requires g c =
+    let request = request_of c.args.command.now in
+    let files : map file_of c.as_slice.result.now ≡ files_of request = ap (map file_of) c.as_slice.ensures.value ∙ c.in-Ok.ensures in
+    All-mapped (λ (file : File). file.most ≤ 16777216) file_of c.as_slice.result.now
+    (subst (All (λ (file : File). file.most ≤ 16777216)) (sym files) (small_files request))
+
+pub returns-in-Ok-read_texts-clause-answer : goal.returns-in-Ok-read_texts-clause-answer
+returns-in-Ok-read_texts-clause-answer g c = λ words asks.
+    let request = request_of c.args.command.now in
+    let content = g.F.Files.content c.args.files.now in
+    let call : Call = call_of words content in
+    let before = g.F.Files.asked c.args.files.now in
+    let after = g.F.Files.asked c.read_texts.new.files in
+    let names = c.config_names-number.result.now in
+    let bytes : Bor (List ℕ) → List ℕ = λ name. name.now in
+    let count : length names ≡ length (config_names request) = sym (length-map names bytes) ∙ ap length c.config_names-number.ensures in
+    let few : length (config_names request) ≤ 200 = grind (arith, count) in
+    let ask : AsksForFew words request = record { asked = asks; few = few } in
+    let files : map file_of c.as_slice.result.now ≡ files_of request = ap (map file_of) c.as_slice.ensures.value ∙ c.in-Ok.ensures in
+    let has : HasRead (to_read content (files_of request)) before after (Ok c.in-Ok-read_texts.texts) =
+    subst (λ some. HasRead (to_read content some) before after (Ok c.in-Ok-read_texts.texts)) files c.in-Ok-read_texts.ensures.read in
+    let texts = c.as_slice-in-Ok-read_texts.result.now in
+    let same : texts ≡ c.in-Ok-read_texts.texts.all = c.as_slice-in-Ok-read_texts.ensures in
+    let read : AreRead content (files_of request) texts = subst (AreRead content (files_of request)) (sym same) has.reads.1 in
+    let within : AreWithin (files_of request) texts = subst (AreWithin (files_of request)) (sym same) has.reads.2 in
+    let r = c.judge.result in
+    answered call before after has.asked r has.asked_is
+    (subst (λ asked. IfOk r (IsAnswer call asked)) (sym has.reads.0)
+    (IfOk-weaker r (IsOutcome request (given_texts (own_texts request texts) (config_texts request texts))) (IsAnswer call (file_names (files_of request)))
+    (λ outcome is. judged request texts outcome ask read within is) c.judge.ensures))
+    (subst (MayAsk call) (sym has.reads.0) (may_ask_all call request texts ask read within))
+
+pub returns-in-Ok-read_texts-clause-faults : goal.returns-in-Ok-read_texts-clause-faults
+returns-in-Ok-read_texts-clause-faults g c =
+    let request = request_of c.args.command.now in
+    let texts = c.as_slice-in-Ok-read_texts.result.now in
+    let before = g.F.Files.faults c.args.files.now in
+    let after = g.F.Files.faults c.read_texts.new.files in
+    IfOk-weaker c.judge.result (IsOutcome request (given_texts (own_texts request texts) (config_texts request texts)))
+    (λ outcome. FaultsAgree (status_of outcome) before after)
+    (λ outcome is. faults_agree (status_of outcome) before after (outcome_no_fault is).0 c.in-Ok-read_texts.ensures.faults)
+    c.judge.ensures
+
+pub returns-clause-answer : goal.returns-clause-answer
+returns-clause-answer g c = λ words asks.
+    let request = request_of c.args.command.now in
+    let content = g.F.Files.content c.args.files.now in
+    let call : Call = call_of words content in
+    let before = g.F.Files.asked c.args.files.now in
+    let after = g.F.Files.asked c.read_texts.new.files in
+    let names = c.config_names-number.result.now in
+    let bytes : Bor (List ℕ) → List ℕ = λ name. name.now in
+    let count : length names ≡ length (config_names request) = sym (length-map names bytes) ∙ ap length c.config_names-number.ensures in
+    let few : length (config_names request) ≤ 200 = grind (arith, count) in
+    let ask : AsksForFew words request = record { asked = asks; few = few } in
+    let files : map file_of c.as_slice.result.now ≡ files_of request = ap (map file_of) c.as_slice.ensures.value ∙ c.in-Ok.ensures in
+    let stop = c.in-Err.stop in
+    let has : HasRead (to_read content (files_of request)) before after (Err stop) =
+    subst (λ some. HasRead (to_read content some) before after (Err stop)) files c.in-Err.ensures.read in
+    stop_answer call before after request ask stop c.refuse_stop.result has c.refuse_stop.ensures
