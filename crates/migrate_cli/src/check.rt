@@ -1,17 +1,22 @@
 ghost use Rattle.std.specs.Prelude.{◌≡◌, ◌<◌, ◌≤◌, IfOk, length};
 ghost use Rattle.igp_theory.specs.Migrations.{ospf_to_isis};
+ghost use Rattle.net_model.specs.Network.{Network};
 ghost use Rattle.order_core.specs.Orders.{IsOrder};
 ghost use Rattle.migrate_cli.specs.CheckDecision.{IsCheckDecision, IsOrderDecision, IsWavesDecision};
 ghost use Rattle.migrate_cli.specs.Reading.{named_text};
+ghost use Rattle.migrate_cli.specs.steps.Tables.{MixesTables};
 
 use crate::OutOfMemory;
 use crate::files::{FILE_MOST, bad_order};
 use crate::tables::Tables;
+use isis_routes::IsisRoutes;
 use loop_finder::Finder;
 use migration_report::Decision;
 use net_addr::Bytes;
 use net_model::Net;
 use order_core::Waves;
+use ospf_routes::OspfRoutes;
+use rib_mix::Mixed;
 use std::alloc::{AllocError, Global};
 use step_scripts::{OrderRefusal, Version, read_waves};
 use wave_oracle::whole_fault;
@@ -49,7 +54,20 @@ fn judge_order(
     ensures { IfOk result (IsOrderDecision (ospf_to_isis tables.now) order.now) }
 {
     let mixed = tables.mix(alloc)?;
-    let mut finder = Finder::new(alloc, &mixed)?;
+    let decision = judge_mixed_order(alloc, &mixed, order)?;
+    Ok(decision)
+}
+
+/// What is decided of an order, by mixed forwarding.
+fn judge_mixed_order(
+    alloc: Global,
+    mixed: &Mixed<'_, OspfRoutes, IsisRoutes>,
+    order: &[u32],
+) -> Result<Decision, OutOfMemory>
+    requires { IsOrder (length mixed.now.net) order.now }
+    ensures { (net : Network) → MixesTables net mixed.now → IfOk result (IsOrderDecision (ospf_to_isis net) order.now) }
+{
+    let mut finder = Finder::new(alloc, mixed)?;
     match finder.order_fault(order) {
         None => Ok(Decision::Safe),
         Some((state, fault)) => {
@@ -69,7 +87,20 @@ fn judge_waves(
     ensures { IfOk result (IsWavesDecision (ospf_to_isis tables.now) waves.now) }
 {
     let mixed = tables.mix(alloc)?;
-    let mut finder = Finder::new(alloc, &mixed)?;
+    let decision = judge_mixed_waves(alloc, &mixed, waves)?;
+    Ok(decision)
+}
+
+/// What is decided of a wave list, by mixed forwarding.
+fn judge_mixed_waves(
+    alloc: Global,
+    mixed: &Mixed<'_, OspfRoutes, IsisRoutes>,
+    waves: &Waves,
+) -> Result<Decision, OutOfMemory>
+    requires { length waves.now ≡ length mixed.now.net }
+    ensures { (net : Network) → MixesTables net mixed.now → IfOk result (IsWavesDecision (ospf_to_isis net) waves.now) }
+{
+    let mut finder = Finder::new(alloc, mixed)?;
     match finder.waves_fault(waves.ranks()) {
         None => Ok(Decision::SafeWaves {
             waves: waves.count(),

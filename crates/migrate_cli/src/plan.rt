@@ -33,5 +33,6 @@ pub(crate) fn plan_network(alloc: Global, budget: u32, net: &Net) -> Result<Plan
     prove!(routers > 0);
     let tables = Tables::of(alloc, net)?;
     let mixed = tables.mix(alloc)?;
-    plan_waves(alloc, &mixed, budget)
+    let planned = plan_waves(alloc, &mixed, budget)?;
+    Ok(planned)
 }

@@ -1,4 +1,4 @@
-use Rattle.std.proofs.Common.{Ok, ap, sym, subst}
+use Rattle.std.proofs.Common.{◌∙◌, ap, sym, subst}
 use Rattle.net_model.specs.Configuration.{Configuration}
 use Rattle.migrate_words.specs.Requests.{request_of}
 use Rattle.migration_report.specs.declared.outcome.Outcome.TheVariants.{Refused}
