@@ -11,23 +11,24 @@ use Rattle.migration_report.specs.Outcomes.{HasText, network_status, status_of}
 use Rattle.migration_report.specs.declared.outcome.Outcome.{Outcome}
 use Rattle.migration_report.specs.declared.outcome.Outcome.TheVariants.{Refused}
 use Rattle.migration_report.specs.declared.refusal.Refusal.TheVariants.{Read, Length}
-use Rattle.migration_report.specs.declared.status.Status.{Status}
 use Rattle.migration_report.specs.declared.status.Status.TheVariants.{ReadFault, WriteFault}
-use Rattle.migrate_cli.specs.Answers.{AsksForFew, IsAnswer, MayAsk, FaultsAgree}
+use Rattle.store_edge.specs.Files.{ReadsSoFar}
+use Rattle.migrate_cli.specs.Answers.{AsksForFew, IsAnswer, MayAsk, MayFail, ReadsAgree}
 use Rattle.migrate_cli.specs.Answers.IsAnswer.{refused_words, many_files, read_fault, long_file, long_files, judged}
 use Rattle.migrate_cli.specs.Answers.MayAsk.{asks_none, asks_some}
+use Rattle.migrate_cli.specs.Answers.MayFail.{last_failed, none_failed}
 use Rattle.migrate_cli.specs.Calls.{Call}
 use Rattle.migrate_cli.specs.CallWords.AreRefused.{not_taken, number_off}
 use Rattle.migrate_cli.specs.CommandFiles.{GivenTexts, config_texts, files_of, given_texts, own_texts, text_names}
 use Rattle.migrate_cli.specs.Outcomes.{IsOutcome}
 use Rattle.migrate_cli.specs.Outcomes.IsOutcome.{faulty_configuration, no_network, off_start, decided}
-use Rattle.migrate_cli.specs.Reading.{AreRead, AreWithin, file_names, to_read}
+use Rattle.migrate_cli.specs.Reading.{AreRead, AreWithin, NoneFailed, file_names, to_read}
 use Rattle.migrate_cli.specs.declared.configurations.Unread.{Unread}
 use Rattle.migrate_cli.specs.declared.configurations.Unread.TheVariants.{Bad, OutOfMemory as NoMemoryToRead}
 use Rattle.migrate_cli.specs.declared.reading.Stop.{Stop}
 use Rattle.migrate_cli.specs.declared.reading.Stop.TheVariants.{Fault, Long, Total, OutOfMemory}
-use Rattle.migrate_cli.specs.steps.Answering.{HasAnswer, RefusesSo, StopsSo}
-use Rattle.migrate_cli.specs.steps.Stops.{MayRead, HasRead}
+use Rattle.migrate_cli.specs.steps.Answering.{HasAnswer, ReadsEnd, RefusesSo, StopsSo}
+use Rattle.migrate_cli.specs.steps.Stops.{MayRead, HasRead, StopReads}
 use Rattle.migrate_cli.specs.steps.Stops.MayRead.{none_yet, so_far}
 use Rattle.migrate_cli.specs.steps.Unread.{IsUnread, RefusesUnread}
 use Rattle.migrate_cli.proofs.OutcomeLaws.{outcome_has_text}
@@ -153,9 +154,48 @@ answer_has_text (read_fault _ _ _ _ _ _) = tt
 answer_has_text (long_file _ _ _ _ _ _ _) = tt
 answer_has_text (long_files _ _ _ _ _ _ _ _) = tt
 
--- where the count of faults stands it agrees with an answer that is no read fault
-pub faults_agree : (status : Status) (before after : ℕ) → status ≢ ReadFault → after ≡ before → FaultsAgree status before after
-faults_agree status before after no_fault stands = record { read_fault = λ e. absurd (no_fault e); unless_read_fault = λ _. stands }
+-- where no read failed the reads agree with an outcome of texts
+pub reads_end : {request : Request} {texts : GivenTexts} (r : Result Outcome AllocError) (before after : ReadsSoFar) → NoneFailed before after →
+    IfOk r (IsOutcome request texts) → ReadsEnd r before after
+reads_end (Ok outcome) before after none is =
+    record { read_fault = λ e. absurd ((outcome_no_fault is).0 e); unless_read_fault = λ _. none }
+reads_end (Err e) before after none is = none_failed none
+
+-- and with why reading stopped
+reads_stop : (stop : Stop) (outcome : Outcome) (before after : ReadsSoFar) → StopReads stop before after → StopsSo stop outcome →
+    ReadsAgree (status_of outcome) before after
+reads_stop (Fault name) outcome before after failed so =
+    subst (λ (o : Outcome). ReadsAgree (status_of o) before after) (sym so)
+    (record { read_fault = λ _. failed; unless_read_fault = λ not. absurd (not refl) })
+reads_stop (Long name) outcome before after none so =
+    subst (λ (o : Outcome). ReadsAgree (status_of o) before after) (sym so)
+    (record { read_fault = λ e. absurd (Prim.cc e); unless_read_fault = λ _. none })
+reads_stop (Total number) outcome before after none so =
+    subst (λ (o : Outcome). ReadsAgree (status_of o) before after) (sym so)
+    (record { read_fault = λ e. absurd (Prim.cc e); unless_read_fault = λ _. none })
+reads_stop OutOfMemory outcome before after none so = absurd so
+
+may_fail : (stop : Stop) (before after : ReadsSoFar) → StopReads stop before after → MayFail before after
+may_fail (Fault name) before after failed = last_failed failed
+may_fail (Long name) before after none = none_failed none
+may_fail (Total number) before after none = none_failed none
+may_fail OutOfMemory before after none = none_failed none
+
+pub stop_reads_end : (stop : Stop) (r : Result Outcome AllocError) (before after : ReadsSoFar) → StopReads stop before after → IfOk r (StopsSo stop) →
+    ReadsEnd r before after
+stop_reads_end stop (Ok outcome) before after reads so = reads_stop stop outcome before after reads so
+stop_reads_end stop (Err e) before after reads so = may_fail stop before after reads
+
+-- an outcome or no memory, where no read was tried
+pub no_reads_end : (r : Result Outcome AllocError) (reads : ReadsSoFar) → IfOk r (λ outcome. status_of outcome ≢ ReadFault) → ReadsEnd r reads reads
+no_reads_end (Ok outcome) reads no_fault =
+    record { read_fault = λ e. absurd (no_fault e); unless_read_fault = λ _. record { none = refl; none_since = refl } }
+no_reads_end (Err e) reads no_fault = none_failed (record { none = refl; none_since = refl })
+
+-- where there is no memory for the text of an answer
+pub agree_may_fail : {call : Call} {asked : List (List ℕ)} {outcome : Outcome} {before after : ReadsSoFar} → IsAnswer call asked outcome →
+    ReadsAgree (status_of outcome) before after → MayFail before after
+agree_may_fail is agree = elim (reads_or_not is) [ | inl fault ↦ last_failed (agree.read_fault fault) | inr none ↦ none_failed (agree.unless_read_fault none) ]
 
 -- why configurations aren't read is the outcome
 pub unread_outcome : (request : Request) (texts : GivenTexts) (unread : Unread) (r : Result Outcome AllocError) →

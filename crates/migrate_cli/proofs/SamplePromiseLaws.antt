@@ -109,10 +109,10 @@ is_as_planned routers (decided net decision gives start is) = by_decision decisi
 -- ---- so a call promises it ----
 
 module _ (call : Call) (before after : Outside) (routers : ℕ) (asks : Asks call.words (sample routers)) where
-  none_more : {asked : List (List ℕ)} → after.asked ≡ before.asked ++ asked → asked ≡ [] → after.asked ≡ before.asked
-  none_more is none = is ∙ ap (λ (some : List (List ℕ)). before.asked ++ some) none ∙ append-nil before.asked
+  none_more : {asked : List (List ℕ)} → after.reads.asked ≡ before.reads.asked ++ asked → asked ≡ [] → after.reads.asked ≡ before.reads.asked
+  none_more is none = is ∙ ap (λ (some : List (List ℕ)). before.reads.asked ++ some) none ∙ append-nil before.reads.asked
 
-  has_sampled : {asked : List (List ℕ)} {status : Status} → after.asked ≡ before.asked ++ asked → Ends call asked (course before after) status →
+  has_sampled : {asked : List (List ℕ)} {status : Status} → after.reads.asked ≡ before.reads.asked ++ asked → Ends call asked (course before after) status →
       HasSampled routers before after status
   has_sampled is (whole outcome answer faults adds) =
       let of = sampled call routers asks answer in
@@ -120,7 +120,7 @@ module _ (call : Call) (before after : Outside) (routers : ℕ) (asks : Asks cal
   has_sampled is (cut outcome answer faults adds) =
       let of = sampled call routers asks answer in
       record { asked = none_more is of.none; ends = cut_outcome outcome of.is (is_as_planned routers of.is) adds }
-  has_sampled is (no_memory may nothing) =
+  has_sampled is (no_memory may _ nothing) =
       record { asked = none_more is (asked_none call routers asks may); ends = none_written nothing }
 
 pub sample_means : (call : Call) (before after : Outside) (status : Status) → Answers call before after status → (routers : ℕ) →

@@ -1,6 +1,6 @@
 -- What a call comes to, and how it ends.
 use Rattle.std.specs.Prelude.{◌≡◌, ◌≢◌, ℕ, ◌<◌, ◌≤◌, List, [], ◌++◌, length}
-use Rattle.store_edge.specs.Faults.{Rose}
+use Rattle.store_edge.specs.Files.{ReadsSoFar}
 use Rattle.store_edge.specs.Sink.{AddsBytes, AddsFront}
 use Rattle.migrate_words.specs.Asked.{Asks}
 use Rattle.migrate_words.specs.Requests.{Request}
@@ -14,7 +14,7 @@ use Rattle.migrate_cli.specs.Calls.{Call, Outside, course, Course}
 use Rattle.migrate_cli.specs.CallWords.{AreRefused}
 use Rattle.migrate_cli.specs.CommandFiles.{config_names, config_texts, files_of, own_texts, given_texts}
 use Rattle.migrate_cli.specs.Outcomes.{IsOutcome}
-use Rattle.migrate_cli.specs.Reading.{File, AreRead, AreWithin, IsTooLong, PassesTotal, ReadUpTo, file_names, total_of, to_read}
+use Rattle.migrate_cli.specs.Reading.{File, AreRead, AreWithin, IsTooLong, LastFailed, NoneFailed, PassesTotal, ReadUpTo, file_names, total_of, to_read}
 use Rattle.migrate_cli.specs.declared.run_call.TheConstants.{FILES_MOST}
 
 -- the words ask for this, and the configurations are no more files than there may be
@@ -46,24 +46,30 @@ pub data MayAsk (call : Call) : List (List ℕ) → Type 0 where
   asks_some : (request : Request) (asked texts : List (List ℕ)) (file : File) → AsksForFew call.words request →
       ReadUpTo (to_read call.content (files_of request)) asked texts file → MayAsk call asked
 
--- the count of the files' faults agrees with a status: it rose where that is a read fault, and else it stands
-pub record FaultsAgree (status : Status) (before after : ℕ) : Type 0 where
-  pub read_fault : status ≡ ReadFault → Rose before after
-  pub unless_read_fault : status ≢ ReadFault → after ≡ before
+-- the reads agree with a status: the last one failed, and none before it, where that is a read fault, and else none did
+pub record ReadsAgree (status : Status) (before after : ReadsSoFar) : Type 0 where
+  pub read_fault : status ≡ ReadFault → LastFailed before after
+  pub unless_read_fault : status ≢ ReadFault → NoneFailed before after
+
+-- the reads where memory ran out: none failed; or the last one did, and there was no memory to tell it
+pub data MayFail (before after : ReadsSoFar) : Type 0 where
+  none_failed : NoneFailed before after → MayFail before after
+  last_failed : LastFailed before after → MayFail before after
 
 -- how a call ends that asked for these names: the text of its outcome is written whole, or its front, or there was no memory
 -- and nothing is written
 pub data Ends (call : Call) (asked : List (List ℕ)) (outside : Course) : Status → Type 0 where
   whole : (outcome : Outcome) → IsAnswer call asked outcome →
-      FaultsAgree (status_of outcome) outside.before.file_faults outside.after.file_faults →
+      ReadsAgree (status_of outcome) outside.before.reads outside.after.reads →
       AddsBytes outside.before.written outside.after.written (text_of outcome) → Ends call asked outside (status_of outcome)
   cut : (outcome : Outcome) → IsAnswer call asked outcome →
-      FaultsAgree (status_of outcome) outside.before.file_faults outside.after.file_faults →
+      ReadsAgree (status_of outcome) outside.before.reads outside.after.reads →
       AddsFront outside.before.written outside.after.written (text_of outcome) → Ends call asked outside WriteFault
-  no_memory : MayAsk call asked → outside.after.written ≡ outside.before.written → Ends call asked outside Memory
+  no_memory : MayAsk call asked → MayFail outside.before.reads outside.after.reads → outside.after.written ≡ outside.before.written →
+      Ends call asked outside Memory
 
 -- a call asked for some names besides those before, and ended with what its words and its files come to
 pub record Answers (call : Call) (before after : Outside) (status : Status) : Type 0 where
   pub asked : List (List ℕ)
-  pub asked_is : after.asked ≡ before.asked ++ asked
+  pub asked_is : after.reads.asked ≡ before.reads.asked ++ asked
   pub ends : Ends call asked (course before after) status

@@ -10,6 +10,7 @@ use Rattle.migrate_cli.specs.Calls.{Call, Outside}
 use Rattle.migrate_cli.specs.Completeness.{CheckDecides, RefuteDecides, ReplayDecides, ScriptsWrites}
 use Rattle.migrate_cli.specs.PlanPromise.{PlanPromise}
 use Rattle.migrate_cli.specs.PreparePromise.{PreparePromise}
+use Rattle.migrate_cli.specs.Reading.{LastFailed}
 use Rattle.migrate_cli.specs.SamplePromise.{SamplePromise}
 
 pub record Claim (call : Call) (before after : Outside) (status : Status) : Type 0 where
@@ -17,8 +18,8 @@ pub record Claim (call : Call) (before after : Outside) (status : Status) : Type
   pub answers : Answers call before after status
   -- it ends by the one answer that there is to its words and files, but for faults and for want of memory
   pub exact : EndsByAnswer call status
-  -- 3: a read failed
-  pub read_fault : status ≡ ReadFault → Rose before.file_faults after.file_faults
+  -- 3: a read failed, that of the last file asked for, which is named, and none before it
+  pub read_fault : status ≡ ReadFault → LastFailed before.reads after.reads
   -- 4: a write failed
   pub write_fault : status ≡ WriteFault → Rose before.sink_faults after.sink_faults
   -- and only then

@@ -27,9 +27,9 @@ pub record IsAccepted (call : Call) (request : Request) (texts : List (List ℕ)
   pub gives : GiveNetwork (config_texts request texts) net
   pub start : NeedsStart request → IsAtStart net
 
--- no fault rises in a call
+-- no read fails in a call, and no fault of the sink rises
 pub record NoFaultRose (before after : Outside) : Type 0 where
-  pub files : Rose before.file_faults after.file_faults → ⊥
+  pub files : after.reads.faults ≡ before.reads.faults
   pub sink : Rose before.sink_faults after.sink_faults → ⊥
 
 -- `check` of these files, whose order file names a wave list of the routers, in either version

@@ -44,7 +44,7 @@ pub data EndsSample (routers : ℕ) (before after : Outside) : Status → Type 0
 
 -- no file was asked for, and the call ended so
 pub record HasSampled (routers : ℕ) (before after : Outside) (status : Status) : Type 0 where
-  pub asked : after.asked ≡ before.asked
+  pub asked : after.reads.asked ≡ before.reads.asked
   pub ends : EndsSample routers before after status
 
 -- `sample` of so many routers, whose text gives this network, which is at its start

@@ -1,14 +1,19 @@
 ghost use Rattle.std.specs.Prelude.{◌<◌, ◌≤◌, IfOk, length};
 ghost use Rattle.net_model.specs.Refusals.{IsNetwork};
 ghost use Rattle.igp_theory.specs.Migrations.{ospf_to_isis};
+ghost use Rattle.ospf_routes.specs.RouteTables.{table_at};
 ghost use Rattle.plan_theory.specs.Plans.{IsPlanned};
+ghost use Rattle.rib_mix.specs.Mixture.{migration_of};
 ghost use Rattle.migrate_cli.specs.PlanDecision.{IsPlanDecision};
 
 use crate::OutOfMemory;
 use crate::tables::Tables;
+use isis_routes::IsisRoutes;
 use migration_report::Decision;
 use net_model::Net;
+use ospf_routes::OspfRoutes;
 use plan_theory::Planned;
+use rib_mix::Mixed;
 use std::alloc::Global;
 use wave_oracle::plan_waves;
 
@@ -33,6 +38,20 @@ pub(crate) fn plan_network(alloc: Global, budget: u32, net: &Net) -> Result<Plan
     prove!(routers > 0);
     let tables = Tables::of(alloc, net)?;
     let mixed = tables.mix(alloc)?;
-    let planned = plan_waves(alloc, &mixed, budget)?;
+    let planned = plan_mixed(alloc, budget, &mixed)?;
     Ok(planned)
+}
+
+/// What is planned of the network of mixed forwarding.
+fn plan_mixed(
+    alloc: Global,
+    budget: u32,
+    mixed: &Mixed<'_, OspfRoutes, IsisRoutes>,
+) -> Result<Planned, OutOfMemory>
+    requires budget { 1 ≤ budget }
+    requires some { 0 < length mixed.now.net }
+    requires few { length mixed.now.net ≤ 1000 }
+    ensures { IfOk result (IsPlanned (migration_of table_at table_at mixed.now) budget) }
+{
+    plan_waves(alloc, mixed, budget)
 }

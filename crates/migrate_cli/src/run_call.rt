@@ -1,11 +1,9 @@
-ghost use Rattle.std.specs.Prelude.{◌≡◌, ℕ, List, [], IfOk, map, string_bytes};
+ghost use Rattle.std.specs.Prelude.{ℕ, List, IfOk, map, string_bytes};
 ghost use Rattle.migrate_words.specs.Asked.{Asks};
 ghost use Rattle.migrate_words.specs.Requests.{IsInRange, request_of};
-ghost use Rattle.migration_report.specs.Outcomes.{status_of};
-ghost use Rattle.migrate_cli.specs.Answers.{FaultsAgree};
-ghost use Rattle.migrate_cli.specs.Calls.{call_of, outside};
+ghost use Rattle.migrate_cli.specs.Calls.{call_of, outside, reads_so_far};
 ghost use Rattle.migrate_cli.specs.Claim.{Claim};
-ghost use Rattle.migrate_cli.specs.steps.Answering.{HasAnswer, RefusesSo, StopsSo};
+ghost use Rattle.migrate_cli.specs.steps.Answering.{HasAnswer, ReadsEnd, RefusesSo, StopsSo};
 
 use crate::OutOfMemory;
 use crate::files::{config_names, files_of, name_bytes};
@@ -27,8 +25,8 @@ const FILES_MOST: usize = 200;
 /// text is built whole, and then its first byte is written.
 pub fn run<F: Files, S: Sink>(alloc: Global, words: &[String], files: &mut F, out: &mut S) -> Status
     ensures { Claim (call_of (map string_bytes words.now) (F.content files.old))
-        (outside (F.asked files.old) (F.faults files.old) (S.written out.old) (S.faults out.old))
-        (outside (F.asked files.new) (F.faults files.new) (S.written out.new) (S.faults out.new)) result }
+        (outside (reads_so_far (F.asked files.old) (F.faults files.old) (F.failed_at files.old)) (S.written out.old) (S.faults out.old))
+        (outside (reads_so_far (F.asked files.new) (F.faults files.new) (F.failed_at files.new)) (S.written out.new) (S.faults out.new)) result }
 {
     let Ok(outcome) = decide(alloc, words, files) else {
         return Status::Memory;
@@ -50,7 +48,8 @@ fn decide<F: Files>(
     files: &mut F,
 ) -> Result<Outcome, OutOfMemory>
     ensures answer { HasAnswer (call_of (map string_bytes words.now) (F.content files.old)) (F.asked files.old) (F.asked files.new) result }
-    ensures faults { IfOk result (λ outcome. FaultsAgree (status_of outcome) (F.faults files.old) (F.faults files.new)) }
+    ensures reads { ReadsEnd result (reads_so_far (F.asked files.old) (F.faults files.old) (F.failed_at files.old))
+        (reads_so_far (F.asked files.new) (F.faults files.new) (F.failed_at files.new)) }
 {
     match read_command(alloc, words) {
         Ok(command) => decide_command(alloc, &command, files),
@@ -86,7 +85,8 @@ fn decide_command<F: Files>(
     requires { IsInRange (request_of command.now) }
     ensures answer { (words : List (List ℕ)) → Asks words (request_of command.now) → HasAnswer (call_of words (F.content files.old))
         (F.asked files.old) (F.asked files.new) result }
-    ensures faults { IfOk result (λ outcome. FaultsAgree (status_of outcome) (F.faults files.old) (F.faults files.new)) }
+    ensures reads { ReadsEnd result (reads_so_far (F.asked files.old) (F.faults files.old) (F.failed_at files.old))
+        (reads_so_far (F.asked files.new) (F.faults files.new) (F.failed_at files.new)) }
 {
     let number = config_names(command).len();
     if number > FILES_MOST {

@@ -1,16 +1,18 @@
 -- What a step of a call gave.
 use Rattle.std.specs.Prelude.{◌≡◌, ℕ, List, [], ◌++◌, Result, Ok, Err, string_bytes}
 use Rattle.std.specs.declared.alloc.AllocError.{AllocError}
+use Rattle.store_edge.specs.Files.{ReadsSoFar}
 use Rattle.design_file.specs.declared.refusal.DesignRefusal.{DesignRefusal}
 use Rattle.design_file.specs.declared.refusal.DesignRefusal.TheVariants.{Bad, OutOfMemory as NoMemoryForDesign}
 use Rattle.migrate_words.specs.declared.refusal.WordsRefused.{WordsRefused}
 use Rattle.migrate_words.specs.declared.refusal.WordsRefused.TheVariants.{Words as NotTaken, Number, OutOfMemory as NoMemoryForWords}
+use Rattle.migration_report.specs.Outcomes.{status_of}
 use Rattle.migration_report.specs.declared.decision.Decision.{Decision}
 use Rattle.migration_report.specs.declared.decision.Decision.TheVariants.{BadDesign}
 use Rattle.migration_report.specs.declared.outcome.Outcome.{Outcome}
 use Rattle.migration_report.specs.declared.outcome.Outcome.TheVariants.{Refused}
 use Rattle.migration_report.specs.declared.refusal.Refusal.TheVariants as refusal
-use Rattle.migrate_cli.specs.Answers.{IsAnswer, MayAsk}
+use Rattle.migrate_cli.specs.Answers.{IsAnswer, MayAsk, MayFail, ReadsAgree}
 use Rattle.migrate_cli.specs.Calls.{Call}
 use Rattle.migrate_cli.specs.declared.reading.Stop.{Stop}
 use Rattle.migrate_cli.specs.declared.reading.Stop.TheVariants.{Fault, Long, Total, OutOfMemory}
@@ -31,6 +33,11 @@ StopsSo OutOfMemory outcome = ⊥
 abbrev pub AnswersWith : Call → List (List ℕ) → Result Outcome AllocError → Type 0
 AnswersWith call asked (Ok outcome) = IsAnswer call asked outcome
 AnswersWith call asked (Err _) = MayAsk call asked
+
+-- the reads agree with what a call comes to, or with want of memory
+abbrev pub ReadsEnd : Result Outcome AllocError → ReadsSoFar → ReadsSoFar → Type 0
+ReadsEnd (Ok outcome) before after = ReadsAgree (status_of outcome) before after
+ReadsEnd (Err _) before after = MayFail before after
 
 -- some names were asked for besides those before, and this is the answer
 pub record HasAnswer (call : Call) (asked_before asked_after : List (List ℕ)) (answer : Result Outcome AllocError) : Type 0 where

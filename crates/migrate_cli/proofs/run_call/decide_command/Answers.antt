@@ -3,10 +3,9 @@ use Rattle.std.specs.Borrow.{Bor}
 use Rattle.std.proofs.lemmas.List.{length-map}
 use Rattle.std.proofs.lemmas.Result.{IfOk-weaker}
 use Rattle.migrate_words.specs.Requests.{request_of}
-use Rattle.migration_report.specs.Outcomes.{status_of}
 use Rattle.migration_report.specs.declared.outcome.Outcome.TheVariants.{Refused}
 use Rattle.migration_report.specs.declared.refusal.Refusal.TheVariants.{Files}
-use Rattle.migrate_cli.specs.Answers.{AsksForFew, FaultsAgree, IsAnswer, MayAsk}
+use Rattle.migrate_cli.specs.Answers.{AsksForFew, IsAnswer, MayAsk}
 use Rattle.migrate_cli.specs.Answers.IsAnswer.{judged, many_files}
 use Rattle.migrate_cli.specs.Calls.{Call, call_of}
 use Rattle.migrate_cli.specs.CommandFiles.{config_names, config_texts, files_of, own_texts, given_texts}
@@ -14,7 +13,7 @@ use Rattle.migrate_cli.specs.steps.FilesRead.{file_of}
 use Rattle.migrate_cli.specs.Outcomes.{IsOutcome}
 use Rattle.migrate_cli.specs.Reading.{AreRead, AreWithin, File, file_names, to_read}
 use Rattle.migrate_cli.specs.steps.Stops.{HasRead}
-use Rattle.migrate_cli.proofs.AnswerFacts.{answered, answered_at_once, faults_agree, may_ask_all, outcome_no_fault, stop_answer}
+use Rattle.migrate_cli.proofs.AnswerFacts.{answered, answered_at_once, may_ask_all, reads_end, stop_answer, stop_reads_end}
 use Rattle.migrate_cli.proofs.FileFacts.{All-mapped, small_files}
 use Rattle.migrate_cli.proofs.run_call.decide_command.Goals as goal
 
@@ -66,16 +65,8 @@ returns-in-Ok-read_texts-clause-answer g c = λ words asks.
     (λ outcome is. judged request texts outcome ask read within is) c.judge.ensures))
     (subst (MayAsk call) (sym has.reads.0) (may_ask_all call request texts ask read within))
 
-pub returns-in-Ok-read_texts-clause-faults : goal.returns-in-Ok-read_texts-clause-faults
-returns-in-Ok-read_texts-clause-faults g c =
-    let request = request_of c.args.command.now in
-    let texts = c.as_slice-in-Ok-read_texts.result.now in
-    let before = g.F.Files.faults c.args.files.now in
-    let after = g.F.Files.faults c.read_texts.new.files in
-    IfOk-weaker c.judge.result (IsOutcome request (given_texts (own_texts request texts) (config_texts request texts)))
-    (λ outcome. FaultsAgree (status_of outcome) before after)
-    (λ outcome is. faults_agree (status_of outcome) before after (outcome_no_fault is).0 c.in-Ok-read_texts.ensures.faults)
-    c.judge.ensures
+pub returns-in-Ok-read_texts-clause-reads : goal.returns-in-Ok-read_texts-clause-reads
+returns-in-Ok-read_texts-clause-reads g c = reads_end c.judge.result _ _ c.in-Ok-read_texts.ensures.failed c.judge.ensures
 
 pub returns-clause-answer : goal.returns-clause-answer
 returns-clause-answer g c = λ words asks.
@@ -94,3 +85,6 @@ returns-clause-answer g c = λ words asks.
     let has : HasRead (to_read content (files_of request)) before after (Err stop) =
     subst (λ some. HasRead (to_read content some) before after (Err stop)) files c.in-Err.ensures.read in
     stop_answer call before after request ask stop c.refuse_stop.result has c.refuse_stop.ensures
+
+pub returns-clause-reads : goal.returns-clause-reads
+returns-clause-reads g c = stop_reads_end c.in-Err.stop c.refuse_stop.result _ _ c.in-Err.ensures.failed c.refuse_stop.ensures

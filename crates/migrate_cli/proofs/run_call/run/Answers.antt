@@ -9,7 +9,7 @@ use Rattle.migrate_cli.proofs.run_call.run.Goals as goal
 pub returns-in_default : goal.returns-in_default
 returns-in_default g c =
     let h = c.in_default.ensures.answer in
-    claim _ _ _ _ (record { asked = h.asked; asked_is = h.asked_is; ends = no_memory h.answers refl }) (λ e. absurd (Prim.cc e)) (λ _. refl)
+    claim _ _ _ _ (record { asked = h.asked; asked_is = h.asked_is; ends = no_memory h.answers c.in_default.ensures.reads refl }) (λ e. absurd (Prim.cc e)) (λ _. refl)
 
 pub text-requires : goal.text-requires
 text-requires g c = answer_has_text c.in-Ok.ensures.answer.answers
