@@ -4,7 +4,7 @@ use Rattle.std.specs.declared.alloc.AllocError.{AllocError}
 use Rattle.net_model.specs.declared.refusal.NetRefusal.{NetRefusal}
 use Rattle.net_model.specs.declared.refusal.NetRefusal.TheVariants.{Limit as NetLimit}
 use Rattle.migrate_words.specs.Refusals.{IsRefusal}
-use Rattle.migrate_words.specs.Requests.{Request}
+use Rattle.migrate_words.specs.declared.command.Command.{Command}
 use Rattle.migrate_words.specs.declared.refusal.WordsRefused.{WordsRefused}
 use Rattle.migrate_words.specs.declared.refusal.WordsRefused.TheVariants.{Words as NotTaken, Number, OutOfMemory as NoMemoryForWords}
 use Rattle.migration_report.specs.Outcomes.{HasText, network_status, status_of}
@@ -64,52 +64,52 @@ refusal_answer call before refused (Ok outcome) is so = answered_at_once call be
 refusal_answer call before refused (Err e) is so = answered_at_once call before (Err e) tt
 
 -- where memory may run out in reading, the call may have asked for those names
-may_ask : {call : Call} {asked : List (List ℕ)} (request : Request) → AsksForFew call.words request → MayRead call.content (files_of request) asked →
+may_ask : {call : Call} {asked : List (List ℕ)} (command : Command) → AsksForFew call.words command → MayRead call.content (files_of command) asked →
     MayAsk call asked
-may_ask request ask none_yet = asks_none
-may_ask request ask (so_far asked texts file up) = asks_some request asked texts file ask up
+may_ask command ask none_yet = asks_none
+may_ask command ask (so_far asked texts file up) = asks_some command asked texts file ask up
 
 -- and for all names where all were read
-pub may_ask_all : (call : Call) (request : Request) (texts : List (List ℕ)) → AsksForFew call.words request
-    → AreRead call.content (files_of request) texts → AreWithin (files_of request) texts → MayAsk call (file_names (files_of request))
-may_ask_all call request texts ask read within =
-    may_ask request ask (read_so_far call.content (files_of request) (files_of request) [] texts (sym (append-nil (files_of request))) read within)
+pub may_ask_all : (call : Call) (command : Command) (texts : List (List ℕ)) → AsksForFew call.words command
+    → AreRead call.content (files_of command) texts → AreWithin (files_of command) texts → MayAsk call (file_names (files_of command))
+may_ask_all call command texts ask read within =
+    may_ask command ask (read_so_far call.content (files_of command) (files_of command) [] texts (sym (append-nil (files_of command))) read within)
 
 -- so it may have that has an answer, where there is no memory to write it
 pub may_have_asked : {call : Call} {asked : List (List ℕ)} {outcome : Outcome} → IsAnswer call asked outcome → MayAsk call asked
 may_have_asked (refused_words _ _) = asks_none
 may_have_asked (many_files _ _ _) = asks_none
-may_have_asked (read_fault request asked texts file ask up) = asks_some request asked texts file ask up
-may_have_asked (long_file request asked texts file ask up _) = asks_some request asked texts file ask up
-may_have_asked (long_files request asked texts file _ ask up _) = asks_some request asked texts file ask up
-may_have_asked {call} (judged request texts _ ask read within _) = may_ask_all call request texts ask read within
+may_have_asked (read_fault command asked texts file ask up) = asks_some command asked texts file ask up
+may_have_asked (long_file command asked texts file ask up _) = asks_some command asked texts file ask up
+may_have_asked (long_files command asked texts file _ ask up _) = asks_some command asked texts file ask up
+may_have_asked {call} (judged command texts _ ask read within _) = may_ask_all call command texts ask read within
 
 -- why reading stopped is the answer
-module _ (call : Call) (before after : List (List ℕ)) (request : Request) (ask : AsksForFew call.words request) where
-  stopped_so : (stop : Stop) (outcome : Outcome) (read : HasRead (to_read call.content (files_of request)) before after (Err stop)) →
+module _ (call : Call) (before after : List (List ℕ)) (command : Command) (ask : AsksForFew call.words command) where
+  stopped_so : (stop : Stop) (outcome : Outcome) (read : HasRead (to_read call.content (files_of command)) before after (Err stop)) →
       StopsSo stop outcome → IsAnswer call read.asked outcome
   stopped_so (Fault name) outcome read so =
       let stops = read.reads.stops in
       subst (IsAnswer call read.asked) (sym so)
       (subst (λ n. IsAnswer call read.asked (Refused (Read n))) (sym stops)
-      (read_fault request read.asked read.reads.texts read.reads.file ask read.reads.up_to))
+      (read_fault command read.asked read.reads.texts read.reads.file ask read.reads.up_to))
   stopped_so (Long name) outcome read so =
       let stops = read.reads.stops in
       subst (IsAnswer call read.asked) (sym so)
       (subst (λ n. IsAnswer call read.asked (Refused (Length n))) (sym stops.0)
-      (long_file request read.asked read.reads.texts read.reads.file ask read.reads.up_to stops.1))
+      (long_file command read.asked read.reads.texts read.reads.file ask read.reads.up_to stops.1))
   stopped_so (Total number) outcome read so =
       subst (IsAnswer call read.asked) (sym so)
-      (long_files request read.asked read.reads.texts read.reads.file number ask read.reads.up_to read.reads.stops)
+      (long_files command read.asked read.reads.texts read.reads.file number ask read.reads.up_to read.reads.stops)
   stopped_so OutOfMemory outcome read so = absurd so
 
-  may_stop : (stop : Stop) (read : HasRead (to_read call.content (files_of request)) before after (Err stop)) → MayAsk call read.asked
-  may_stop (Fault name) read = asks_some request read.asked read.reads.texts read.reads.file ask read.reads.up_to
-  may_stop (Long name) read = asks_some request read.asked read.reads.texts read.reads.file ask read.reads.up_to
-  may_stop (Total number) read = asks_some request read.asked read.reads.texts read.reads.file ask read.reads.up_to
-  may_stop OutOfMemory read = may_ask request ask read.reads
+  may_stop : (stop : Stop) (read : HasRead (to_read call.content (files_of command)) before after (Err stop)) → MayAsk call read.asked
+  may_stop (Fault name) read = asks_some command read.asked read.reads.texts read.reads.file ask read.reads.up_to
+  may_stop (Long name) read = asks_some command read.asked read.reads.texts read.reads.file ask read.reads.up_to
+  may_stop (Total number) read = asks_some command read.asked read.reads.texts read.reads.file ask read.reads.up_to
+  may_stop OutOfMemory read = may_ask command ask read.reads
 
-  pub stop_answer : (stop : Stop) (r : Result Outcome AllocError) → HasRead (to_read call.content (files_of request)) before after (Err stop) →
+  pub stop_answer : (stop : Stop) (r : Result Outcome AllocError) → HasRead (to_read call.content (files_of command)) before after (Err stop) →
       IfOk r (StopsSo stop) → HasAnswer call before after r
   stop_answer stop (Ok outcome) read so = answered call before after read.asked (Ok outcome) read.asked_is (stopped_so stop outcome read so) (may_stop stop read)
   stop_answer stop (Err e) read so = answered call before after read.asked (Err e) read.asked_is tt (may_stop stop read)
@@ -120,7 +120,7 @@ network_no_fault : (refusal : NetRefusal) → NoFault (network_status refusal)
 network_no_fault (NetLimit _ _) = limit_no_fault
 network_no_fault _ = refused_no_fault
 
-pub outcome_no_fault : {request : Request} {texts : GivenTexts} {outcome : Outcome} → IsOutcome request texts outcome → NoFault (status_of outcome)
+pub outcome_no_fault : {command : Command} {texts : GivenTexts} {outcome : Outcome} → IsOutcome command texts outcome → NoFault (status_of outcome)
 outcome_no_fault (faulty_configuration _ _ _ _) = refused_no_fault
 outcome_no_fault (no_network _ refusal _ _ _) = network_no_fault refusal
 outcome_no_fault (off_start _ _ _ _ _ _ _) = refused_no_fault
@@ -147,7 +147,7 @@ reads_or_not (long_files _ _ _ _ _ _ _ _) = inr (λ e. Prim.cc e)
 
 -- an answer has a text
 pub answer_has_text : {call : Call} {asked : List (List ℕ)} {outcome : Outcome} → IsAnswer call asked outcome → HasText outcome
-answer_has_text (judged request texts _ _ _ _ is) = outcome_has_text request (given_texts (own_texts request texts) (config_texts request texts)) is
+answer_has_text (judged command texts _ _ _ _ is) = outcome_has_text command (given_texts (own_texts command texts) (config_texts command texts)) is
 answer_has_text (refused_words _ _) = tt
 answer_has_text (many_files _ _ _) = tt
 answer_has_text (read_fault _ _ _ _ _ _) = tt
@@ -155,8 +155,8 @@ answer_has_text (long_file _ _ _ _ _ _ _) = tt
 answer_has_text (long_files _ _ _ _ _ _ _ _) = tt
 
 -- where no read failed the reads agree with an outcome of texts
-pub reads_end : {request : Request} {texts : GivenTexts} (r : Result Outcome AllocError) (before after : ReadsSoFar) → NoneFailed before after →
-    IfOk r (IsOutcome request texts) → ReadsEnd r before after
+pub reads_end : {command : Command} {texts : GivenTexts} (r : Result Outcome AllocError) (before after : ReadsSoFar) → NoneFailed before after →
+    IfOk r (IsOutcome command texts) → ReadsEnd r before after
 reads_end (Ok outcome) before after none is =
     record { read_fault = λ e. absurd ((outcome_no_fault is).0 e); unless_read_fault = λ _. none }
 reads_end (Err e) before after none is = none_failed none
@@ -198,9 +198,9 @@ pub agree_may_fail : {call : Call} {asked : List (List ℕ)} {outcome : Outcome}
 agree_may_fail is agree = elim (reads_or_not is) [ | inl fault ↦ last_failed (agree.read_fault fault) | inr none ↦ none_failed (agree.unless_read_fault none) ]
 
 -- why configurations aren't read is the outcome
-pub unread_outcome : (request : Request) (texts : GivenTexts) (unread : Unread) (r : Result Outcome AllocError) →
-    IsUnread (text_names request) texts.configs unread → IfOk r (RefusesUnread unread) → IfOk r (IsOutcome request texts)
-unread_outcome request texts (Bad file line kind) (Ok outcome) is so =
-    subst (IsOutcome request texts) (sym so) (faulty_configuration file.now line kind is)
-unread_outcome request texts NoMemoryToRead (Ok outcome) is so = absurd so
-unread_outcome request texts unread (Err e) is so = tt
+pub unread_outcome : (command : Command) (texts : GivenTexts) (unread : Unread) (r : Result Outcome AllocError) →
+    IsUnread (text_names command) texts.configs unread → IfOk r (RefusesUnread unread) → IfOk r (IsOutcome command texts)
+unread_outcome command texts (Bad file line kind) (Ok outcome) is so =
+    subst (IsOutcome command texts) (sym so) (faulty_configuration file.now line kind is)
+unread_outcome command texts NoMemoryToRead (Ok outcome) is so = absurd so
+unread_outcome command texts unread (Err e) is so = tt

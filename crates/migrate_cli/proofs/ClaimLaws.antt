@@ -1,8 +1,8 @@
 -- A call that ended so keeps its promises.
-use Rattle.std.proofs.Common.{◌≡◌, ◌≢◌, ◌+◌, ℕ, List, arith, refl}
+use Rattle.std.proofs.Common.{◌≡◌, ◌≢◌, ◌+◌, ◌∷◌, [], ℕ, List, arith, refl}
 use Rattle.store_edge.specs.Faults.{Rose}
 use Rattle.migrate_words.specs.Asked.{Asks}
-use Rattle.migrate_words.specs.Requests.{plan, prepare}
+use Rattle.migrate_words.specs.declared.command.CommandKind.TheVariants.{Plan, Prepare}
 use Rattle.migration_report.specs.Outcomes.{status_of}
 use Rattle.migration_report.specs.declared.outcome.Outcome.{Outcome}
 use Rattle.migration_report.specs.declared.status.Status.{Status}
@@ -13,6 +13,7 @@ use Rattle.migrate_cli.specs.Answers.{Answers, Ends, IsAnswer, ReadsAgree}
 use Rattle.migrate_cli.specs.Answers.Ends.{whole, cut, no_memory}
 use Rattle.migrate_cli.specs.Calls.{Call, Outside, course}
 use Rattle.migrate_cli.specs.Claim.{Claim}
+use Rattle.migrate_cli.specs.CommandFiles.{command_of}
 use Rattle.migrate_cli.specs.Completeness.{Decides, DecidesTree, NoFaultRose, Writes}
 use Rattle.migrate_cli.specs.Completeness.Decides.{memory}
 use Rattle.migrate_cli.specs.Completeness.DecidesTree.{no_memory as none_for_tree}
@@ -67,14 +68,14 @@ module _ (call : Call) (before after : Outside) where
   sample_so it (no_memory _ _ _) fails calm = none_planned
 
   -- it has planned where its status says so
-  plan_so : {asked : List (List ℕ)} {status : Status} (budget : ℕ) (configs : List (List ℕ)) → Asks call.words (plan budget configs) →
+  plan_so : {asked : List (List ℕ)} {status : Status} (budget : ℕ) (configs : List (List ℕ)) → Asks call.words (command_of Plan [] configs budget) →
       Ends call asked (course before after) status → IsOfPlan status → HasPlanned call budget configs (course before after) status
   plan_so budget configs asks (whole outcome is _ adds) of = answer_means call budget configs (course before after) asks is adds of
   plan_so budget configs asks (cut _ _ _ _) of = absurd of
   plan_so budget configs asks (no_memory _ _ _) of = absurd of
 
   -- and prepared
-  prepare_so : {asked : List (List ℕ)} {status : Status} (file : List ℕ) (configs : List (List ℕ)) → Asks call.words (prepare file configs) →
+  prepare_so : {asked : List (List ℕ)} {status : Status} (file : List ℕ) (configs : List (List ℕ)) → Asks call.words (command_of Prepare (file ∷ []) configs 0) →
       Ends call asked (course before after) status → status ≡ Done → HasPrepared call file configs (course before after)
   prepare_so file configs asks (whole outcome is _ adds) done = reads_back call file configs (course before after) asks is adds done
   prepare_so file configs asks (cut _ _ _ _) done = absurd (Prim.cc done)

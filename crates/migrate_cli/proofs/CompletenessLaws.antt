@@ -4,8 +4,9 @@ use Rattle.net_model.specs.Network.{Network}
 use Rattle.net_model.specs.Refusals.{NamesAscend}
 use Rattle.design_file.specs.Answers.{SaysDesign}
 use Rattle.igp_theory.specs.Migrations.{Migration, ospf_to_isis}
-use Rattle.migrate_words.proofs.OneRequest.{one_request}
-use Rattle.migrate_words.specs.Requests.{Request, check, prepare, refute, scripts, replay}
+use Rattle.migrate_words.proofs.OneCommand.{one_command}
+use Rattle.migrate_words.specs.declared.command.Command.{Command}
+use Rattle.migrate_words.specs.declared.command.CommandKind.TheVariants.{Check, Prepare, Refute, Scripts, Replay}
 use Rattle.step_scripts.specs.WaveFiles.{NamesWaves}
 use Rattle.step_scripts.specs.declared.version.Version.{Version}
 use Rattle.step_scripts.proofs.WaveFileLaws.{no_fault}
@@ -21,16 +22,16 @@ use Rattle.migrate_cli.specs.CheckDecision.{IsCheckOver, IsOrderDecision, IsWave
 use Rattle.migrate_cli.specs.CheckDecision.IsCheckOver.{faulty_order, of_order, of_waves}
 use Rattle.migrate_cli.specs.CheckDecision.IsOrderDecision.{safe, unsafe}
 use Rattle.migrate_cli.specs.CheckDecision.IsWavesDecision.{safe_waves, unsafe_wave}
-use Rattle.migrate_cli.specs.CommandFiles.{NeedsStart, config_texts, files_of, own_texts, given_texts}
+use Rattle.migrate_cli.specs.CommandFiles.{NeedsStart, command_of, config_texts, files_of, own_texts, given_texts}
 use Rattle.migrate_cli.specs.Completeness.{AcceptsCheck, AcceptsRefute, AcceptsReplay, AcceptsScripts, Decides, DecidesTree, IsAccepted, Writes}
 use Rattle.migrate_cli.specs.Completeness.Decides.{yes, no}
 use Rattle.migrate_cli.specs.Completeness.Writes.{written}
 use Rattle.migrate_cli.specs.Configurations.{GiveNetwork, IsAtStart}
-use Rattle.migrate_cli.specs.Decisions.{Input, IsDecision}
+use Rattle.migrate_cli.specs.Decisions.{Input, IsDecision, input_of}
 use Rattle.migrate_cli.specs.Outcomes.{IsOutcome}
 use Rattle.migrate_cli.specs.Outcomes.IsOutcome.{faulty_configuration, no_network, off_start, decided}
 use Rattle.migrate_cli.specs.PreparePromise.{AcceptsPrepare}
-use Rattle.migrate_cli.specs.Reading.{NamedText, named_text}
+use Rattle.migrate_cli.specs.Reading.{NamedText, named_text, named_texts}
 use Rattle.migrate_cli.specs.RefuteDecision.{IsTreeDecision}
 use Rattle.migrate_cli.specs.ReplayDecision.{IsJournalDecision, IsReplayDecision, Journal, journal_of}
 use Rattle.migrate_cli.specs.ReplayDecision.IsJournalDecision.{reached, departs}
@@ -49,58 +50,58 @@ use Rattle.migrate_cli.proofs.TextLaws.{none_refused}
 -- ---- what is decided, is decided of the network ----
 
 -- the command has decided of its input
-pub record IsDecided (request : Request) (input : Input) (outcome : Outcome) : Type 0 where
+pub record IsDecided (command : Command) (input : Input) (outcome : Outcome) : Type 0 where
   pub decision : Decision
   pub outcome_is : outcome ≡ Decided input.net decision
-  pub is : IsDecision request input decision
+  pub is : IsDecision command.kind input decision
 
 -- where nothing of some texts is refused, the command decides
-pub judged_alone : (request : Request) (own texts : List (List ℕ)) (net : Network) {outcome : Outcome} → GiveNetwork texts net →
-    (NeedsStart request → IsAtStart net) → IsOutcome request (given_texts own texts) outcome →
-    IsDecided request (record { own = own; configs = texts; net = net }) outcome
-judged_alone request own texts net gives start (faulty_configuration _ _ _ first) = absurd (none_refused first gives.configs gives.read)
-judged_alone request own texts net gives start (no_network all refusal read refuses told) =
+pub judged_alone : (command : Command) (own texts : List (List ℕ)) (net : Network) {outcome : Outcome} → GiveNetwork texts net →
+    (NeedsStart command.kind → IsAtStart net) → IsOutcome command (given_texts own texts) outcome →
+    IsDecided command (input_of command (given_texts own texts) net) outcome
+judged_alone command own texts net gives start (faulty_configuration _ _ _ first) = absurd (none_refused first gives.configs gives.read)
+judged_alone command own texts net gives start (no_network all refusal read refuses told) =
     absurd (refused_or_given texts net all refusal gives read refuses told)
-judged_alone request own texts net gives start (off_start other router _ given needs lowest _) =
+judged_alone command own texts net gives start (off_start other router _ given needs lowest _) =
     let at_start : IsAtStart other = subst IsAtStart (one_network texts net other gives given) (start needs) in
     absurd (at_start router lowest.holds)
-judged_alone request own texts net gives start (decided other decision given _ is) =
+judged_alone command own texts net gives start (decided other decision given _ is) =
     let same : other ≡ net = one_network texts other net given gives in
     record {
       decision = decision;
       outcome_is = ap (λ (n : Network). Decided n decision) same;
-      is = subst (λ (n : Network). IsDecision request (record { own = own; configs = texts; net = n }) decision) same is;
+      is = subst (λ (n : Network). IsDecision command.kind (input_of command (given_texts own texts) n) decision) same is;
     }
 
-module _ (call : Call) (request : Request) (texts : List (List ℕ)) (net : Network) (accepted : IsAccepted call request texts net) where
+module _ (call : Call) (command : Command) (texts : List (List ℕ)) (net : Network) (accepted : IsAccepted call command texts net) where
   abbrev pub input : Input
-  input = record { own = own_texts request texts; configs = config_texts request texts; net = net }
+  input = input_of command (given_texts (own_texts command texts) (config_texts command texts)) net
 
-  files_judged : {asked : List (List ℕ)} {outcome : Outcome} → OfFiles (question call.content request) asked outcome →
-      IsDecided request input outcome
-  files_judged (above many) = absurd (few_or_many call.content request many accepted.asked.few)
+  files_judged : {asked : List (List ℕ)} {outcome : Outcome} → OfFiles (question call.content command) asked outcome →
+      IsDecided command input outcome
+  files_judged (above many) = absurd (few_or_many call.content command many accepted.asked.few)
   files_judged (stopped before file read text _ _ stop _) =
-      let tell = told_files call.content (files_of request) accepted.told in
-      absurd (stop_or_all call.content request before file read text texts
+      let tell = told_files call.content (files_of command) accepted.told in
+      absurd (stop_or_all call.content command before file read text texts
       (told_with call.content before file stop.after (subst (All (IsToldOf call.content)) stop.files_are tell)) stop accepted.read accepted.within)
   files_judged {outcome = outcome} (all_read some _ read _ is) =
-      let same = one_list call.content (files_of request) some texts (told_files call.content (files_of request) accepted.told) read accepted.read in
-      judged_alone request (own_texts request texts) (config_texts request texts) net accepted.gives accepted.start
-      (subst (λ list. IsOutcome request (given_texts (own_texts request list) (config_texts request list)) outcome) same is)
+      let same = one_list call.content (files_of command) some texts (told_files call.content (files_of command) accepted.told) read accepted.read in
+      judged_alone command (own_texts command texts) (config_texts command texts) net accepted.gives accepted.start
+      (subst (λ list. IsOutcome command (given_texts (own_texts command list) (config_texts command list)) outcome) same is)
 
-  words_judged : {asked : List (List ℕ)} {outcome : Outcome} → OfWords call asked outcome → IsDecided request input outcome
-  words_judged (refused detail are) = absurd (refused_or_asks call.words detail request are accepted.asked.asked)
+  words_judged : {asked : List (List ℕ)} {outcome : Outcome} → OfWords call asked outcome → IsDecided command input outcome
+  words_judged (refused detail are) = absurd (refused_or_asks call.words detail command are accepted.asked.asked)
   words_judged {asked} {outcome} (asks some ask files) =
-      let same = one_request call.words some request ask accepted.asked.asked in
+      let same = one_command call.words some command ask accepted.asked.asked in
       files_judged (subst (λ other. OfFiles (question call.content other) asked outcome) same files)
 
   -- an answer that is no fault of reading is what the command decides
   pub accepted_decision : (asked : List (List ℕ)) (outcome : Outcome) → status_of outcome ≢ ReadFault → IsAnswer call asked outcome →
-      IsDecided request input outcome
+      IsDecided command input outcome
   accepted_decision asked outcome no_fault is = words_judged (steps_of no_fault is)
 
   -- so the call ends as what it decides
-  pub ends_decided : (D : Status → Type 0) → ((decision : Decision) → IsDecision request input decision → D (decision_status decision)) →
+  pub ends_decided : (D : Status → Type 0) → ((decision : Decision) → IsDecision command.kind input decision → D (decision_status decision)) →
       (asked : List (List ℕ)) (outcome : Outcome) → status_of outcome ≢ ReadFault → IsAnswer call asked outcome → D (status_of outcome)
   ends_decided D holds asked outcome no_fault is =
       let it = accepted_decision asked outcome no_fault is in
@@ -110,12 +111,13 @@ module _ (call : Call) (request : Request) (texts : List (List ℕ)) (net : Netw
 names_ascend : {texts : List (List ℕ)} {net : Network} → GiveNetwork texts net → NamesAscend net
 names_ascend gives = gives.make.network.ascending
 
--- what is said of the one own text
-pub said_of : {own : List (List ℕ)} {one other : List ℕ} (P : List ℕ → Type 0) → own ≡ one ∷ [] → own ≡ other ∷ [] → P one → P other
-said_of {one = one} {other = other} P first second holds =
-    let lists : one ∷ [] ≡ other ∷ [] = sym first ∙ second in
-    let same : one ≡ other = cc lists in
-    subst P same holds
+-- what is said of the one own text is said of the file that is decided on
+said_of : {own : List (List ℕ)} {name one : List ℕ} {other : NamedText} (P : List ℕ → Type 0) → own ≡ one ∷ [] →
+    named_texts (name ∷ []) own ≡ other ∷ [] → P one → P other.text
+said_of {own} {name} {one} {other} P first second holds =
+    let lists : named_text name one ∷ [] ≡ other ∷ [] = ap (named_texts (name ∷ [])) (sym first) ∙ second in
+    let same : named_text name one ≡ other = cc lists in
+    subst (λ (file : NamedText). P file.text) same holds
 
 -- ---- `check` ----
 
@@ -138,7 +140,7 @@ check_of_waves ascending names (of_waves _ _ _ is) = waves_decide is
 pub check_decides : (call : Call) → AcceptsCheck call → (asked : List (List ℕ)) (outcome : Outcome) → status_of outcome ≢ ReadFault →
     IsAnswer call asked outcome → Decides (status_of outcome)
 check_decides call it =
-    ends_decided call (check it.file it.configs) it.texts it.net it.accepted Decides
+    ends_decided call (command_of Check (it.file ∷ []) it.configs 0) it.texts it.net it.accepted Decides
     (λ decision is. check_of_waves (names_ascend it.accepted.gives) (said_of (λ t. NamesWaves it.net t it.version it.ranks) it.text_is is.1 it.names) is.2)
 
 -- ---- `scripts` ----
@@ -152,7 +154,7 @@ scripts_of_waves ascending names (script_of _ _ _) = written
 pub scripts_write : (call : Call) → AcceptsScripts call → (asked : List (List ℕ)) (outcome : Outcome) → status_of outcome ≢ ReadFault →
     IsAnswer call asked outcome → Writes (status_of outcome)
 scripts_write call it =
-    ends_decided call (scripts it.file it.configs) it.texts it.net it.accepted Writes
+    ends_decided call (command_of Scripts (it.file ∷ []) it.configs 0) it.texts it.net it.accepted Writes
     (λ decision is. scripts_of_waves (names_ascend it.accepted.gives) (said_of (λ t. NamesWaves it.net t it.version it.ranks) it.text_is is.1 it.names) is.2)
 
 -- ---- `replay` ----
@@ -171,23 +173,25 @@ replay_of_waves ascending names (replay_of _ _ _ _ is) = journal_decides is
 pub replay_decides : (call : Call) → AcceptsReplay call → (asked : List (List ℕ)) (outcome : Outcome) → status_of outcome ≢ ReadFault →
     IsAnswer call asked outcome → Decides (status_of outcome)
 replay_decides call it =
-    ends_decided call (replay it.file it.journal_file it.configs) it.texts it.net it.accepted Decides
-    (λ decision is. let lists : it.text ∷ it.journal ∷ [] ≡ is.0 ∷ is.1 ∷ [] = sym it.texts_are ∙ is.2 in
-    let same : it.text ≡ is.0 = cc lists in
-    replay_of_waves {order = named_text it.file is.0} {journal = journal_of is.1 it.net} (names_ascend it.accepted.gives)
-    (subst (λ t. NamesWaves it.net t it.version it.ranks) same it.names) is.3)
+    ends_decided call (command_of Replay (it.file ∷ it.journal_file ∷ []) it.configs 0) it.texts it.net it.accepted Decides
+    (λ decision is. let both : List (List ℕ) → List NamedText = named_texts (it.file ∷ it.journal_file ∷ []) in
+    let lists : named_text it.file it.text ∷ named_text it.journal_file it.journal ∷ [] ≡ is.0 ∷ is.1 ∷ [] = ap both (sym it.texts_are) ∙ is.2 in
+    let same : named_text it.file it.text ≡ is.0 = cc lists in
+    replay_of_waves {order = is.0} {journal = journal_of is.1.text it.net} (names_ascend it.accepted.gives)
+    (subst (λ (file : NamedText). NamesWaves it.net file.text it.version it.ranks) same it.names) is.3)
 
 -- ---- `refute` and `prepare` ----
 
 pub refute_decides : (call : Call) → (it : AcceptsRefute call) → (asked : List (List ℕ)) (outcome : Outcome) → status_of outcome ≢ ReadFault
     → IsAnswer call asked outcome → DecidesTree it.net it.tree (status_of outcome)
 refute_decides call it =
-    ends_decided call (refute it.file it.configs) it.texts it.net it.accepted (DecidesTree it.net it.tree)
-    (λ decision is. tree_decides it.tree it.net
-    (said_of (λ t. IsTreeDecision (ospf_to_isis it.net) t decision) is.1 it.tree_is is.2))
+    ends_decided call (command_of Refute (it.file ∷ []) it.configs 0) it.texts it.net it.accepted (DecidesTree it.net it.tree)
+    (λ decision is. let lists : named_text it.file it.tree ∷ [] ≡ is.0 ∷ [] = ap (named_texts (it.file ∷ [])) (sym it.tree_is) ∙ is.1 in
+    let same : named_text it.file it.tree ≡ is.0 = cc lists in
+    tree_decides it.tree it.net (subst (λ (file : NamedText). IsTreeDecision (ospf_to_isis it.net) file.text decision) (sym same) is.2))
 
 pub prepare_writes : (call : Call) → AcceptsPrepare call → (asked : List (List ℕ)) (outcome : Outcome) → status_of outcome ≢ ReadFault →
     IsAnswer call asked outcome → Writes (status_of outcome)
 prepare_writes call it =
-    ends_decided call (prepare it.file it.configs) it.texts it.net it.accepted Writes
+    ends_decided call (command_of Prepare (it.file ∷ []) it.configs 0) it.texts it.net it.accepted Writes
     (λ decision is. settled_writes it.design it.settled (said_of (λ t. SaysDesign t it.design) it.text_is is.1 it.says) it.settles is.2)

@@ -10,7 +10,7 @@ use Rattle.net_model.specs.Refusals.{MakeNetwork, Refuses}
 use Rattle.net_model.specs.declared.refusal.NetRefusal.{NetRefusal}
 use Rattle.net_model.specs.declared.refusal.NetRefusal.TheVariants.{OutOfMemory}
 use Rattle.net_model.proofs.RefusalLaws.{IsNetworkOf-unique, MakeNetwork-refused, Refuses-unique}
-use Rattle.migrate_words.specs.Requests.{Request}
+use Rattle.migrate_words.specs.declared.command.Command.{Command}
 use Rattle.migration_report.specs.Outcomes.{HasText}
 use Rattle.migration_report.specs.declared.outcome.Outcome.{Outcome}
 use Rattle.migration_report.specs.declared.outcome.Outcome.TheVariants.{Refused, Decided}
@@ -37,7 +37,7 @@ refused_or_given texts net all refusal gives read refuses told =
     let same = one_reading texts gives.configs all gives.read read in
     told (MakeNetwork-refused all net refusal (subst (λ some. MakeNetwork some net) same gives.make) refuses)
 
-module _ (request : Request) (texts : GivenTexts) where
+module _ (command : Command) (texts : GivenTexts) where
   one_start : (net other : Network) (u v : ℕ) (c d : Configuration) → net ≡ other → IsLowestOffStart net u → HasConfiguration net u c →
       IsLowestOffStart other v → HasConfiguration other v d → c ≡ d
   one_start net other u v c d same lowest has least its =
@@ -47,7 +47,7 @@ module _ (request : Request) (texts : GivenTexts) where
       same_Some c d (sym has ∙ subst (λ n. HasConfiguration net n d) (sym router) at)
 
   -- texts come to one outcome
-  pub one_outcome : {one other : Outcome} → IsOutcome request texts one → IsOutcome request texts other → one ≡ other
+  pub one_outcome : {one other : Outcome} → IsOutcome command texts one → IsOutcome command texts other → one ≡ other
   one_outcome (faulty_configuration _ _ _ one) (faulty_configuration _ _ _ other) =
       let same = one_refused one other in λ i. Refused (Config (same.0 i) (same.1 i) (same.2 i))
   one_outcome (faulty_configuration _ _ _ one) (no_network all _ read _ _) = absurd (none_refused one all read)
@@ -77,18 +77,18 @@ module _ (request : Request) (texts : GivenTexts) where
       absurd (start needs u (subst (λ (n : Network). IsLowestOffStart n u) (one_network texts.configs net other gives give) lowest).holds)
   one_outcome (decided net one gives _ is) (decided other again give _ its) =
       let same : net ≡ other = one_network texts.configs net other gives give in
-      let decision : one ≡ again = one_decision request (input_of texts net) gives.make.network.ascending is
-      (subst (λ (n : Network). IsDecision request (input_of texts n) again) (sym same) its) in
+      let decision : one ≡ again = one_decision command.kind (input_of command texts net) gives.make.network.ascending is
+      (subst (λ (n : Network). IsDecision command.kind (input_of command texts n) again) (sym same) its) in
       λ i. Decided (same i) (decision i)
 
   -- which has a text
-  pub outcome_has_text : {outcome : Outcome} → IsOutcome request texts outcome → HasText outcome
+  pub outcome_has_text : {outcome : Outcome} → IsOutcome command texts outcome → HasText outcome
   outcome_has_text (faulty_configuration _ _ _ _) = tt
   outcome_has_text (no_network _ _ _ _ told) = told
   outcome_has_text (off_start _ _ _ _ _ _ _) = tt
-  outcome_has_text (decided net decision _ _ is) = decision_tellable request (input_of texts net) is
+  outcome_has_text (decided net decision _ _ is) = decision_tellable command.kind (input_of command texts net) is
 
 -- the texts of a command come to one outcome
-pub one_outcome_law : (request : Request) (own configs : List (List ℕ)) (one other : Outcome) → IsOutcome request (given_texts own configs) one →
-    IsOutcome request (given_texts own configs) other → one ≡ other
-one_outcome_law request own configs one other is its = one_outcome request (given_texts own configs) is its
+pub one_outcome_law : (command : Command) (own configs : List (List ℕ)) (one other : Outcome) → IsOutcome command (given_texts own configs) one →
+    IsOutcome command (given_texts own configs) other → one ≡ other
+one_outcome_law command own configs one other is its = one_outcome command (given_texts own configs) is its

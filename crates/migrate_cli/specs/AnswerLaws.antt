@@ -1,6 +1,6 @@
 -- The laws of answers: a call has one, and ends with it.
 use Rattle.std.specs.Prelude.{◌≡◌, ◌≢◌, ℕ, List, IsSome, All}
-use Rattle.migrate_words.specs.Requests.{Request}
+use Rattle.migrate_words.specs.declared.command.Command.{Command}
 use Rattle.migration_report.specs.Outcomes.{status_of}
 use Rattle.migration_report.specs.declared.outcome.Outcome.{Outcome}
 use Rattle.migration_report.specs.declared.outcome.Outcome.TheVariants.{Refused}
@@ -16,8 +16,8 @@ use Rattle.migrate_cli.specs.Reading.{Contents}
 -- the texts that a command reads come to one outcome, so to one status and one text
 abbrev pub OneOutcomeLaw : Type 0
 OneOutcomeLaw =
-    (request : Request) (own configs : List (List ℕ)) (one other : Outcome) →
-    IsOutcome request (given_texts own configs) one → IsOutcome request (given_texts own configs) other → one ≡ other
+    (command : Command) (own configs : List (List ℕ)) (one other : Outcome) →
+    IsOutcome command (given_texts own configs) one → IsOutcome command (given_texts own configs) other → one ≡ other
 
 -- what a name's file holds is told
 abbrev pub IsFileTold : Contents → List ℕ → Type 0

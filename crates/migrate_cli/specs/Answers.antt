@@ -3,7 +3,7 @@ use Rattle.std.specs.Prelude.{◌≡◌, ◌≢◌, ℕ, ◌<◌, ◌≤◌, Lis
 use Rattle.store_edge.specs.Files.{ReadsSoFar}
 use Rattle.store_edge.specs.Sink.{AddsBytes, AddsFront}
 use Rattle.migrate_words.specs.Asked.{Asks}
-use Rattle.migrate_words.specs.Requests.{Request}
+use Rattle.migrate_words.specs.declared.command.Command.{Command}
 use Rattle.migration_report.specs.Outcomes.{status_of, text_of}
 use Rattle.migration_report.specs.declared.outcome.Outcome.{Outcome}
 use Rattle.migration_report.specs.declared.outcome.Outcome.TheVariants.{Refused}
@@ -12,39 +12,39 @@ use Rattle.migration_report.specs.declared.status.Status.{Status}
 use Rattle.migration_report.specs.declared.status.Status.TheVariants.{ReadFault, WriteFault, Memory}
 use Rattle.migrate_cli.specs.Calls.{Call, Outside, course, Course}
 use Rattle.migrate_cli.specs.CallWords.{AreRefused}
-use Rattle.migrate_cli.specs.CommandFiles.{config_names, config_texts, files_of, own_texts, given_texts}
+use Rattle.migrate_cli.specs.CommandFiles.{config_texts, files_of, own_texts, given_texts}
 use Rattle.migrate_cli.specs.Outcomes.{IsOutcome}
 use Rattle.migrate_cli.specs.Reading.{File, AreRead, AreWithin, IsTooLong, LastFailed, NoneFailed, PassesTotal, ReadUpTo, file_names, total_of, to_read}
 use Rattle.migrate_cli.specs.declared.run_call.TheConstants.{FILES_MOST}
 
 -- the words ask for this, and the configurations are no more files than there may be
-pub record AsksForFew (words : List (List ℕ)) (request : Request) : Type 0 where
-  pub asked : Asks words request
-  pub few : length (config_names request) ≤ FILES_MOST
+pub record AsksForFew (words : List (List ℕ)) (command : Command) : Type 0 where
+  pub asked : Asks words command
+  pub few : length command.configs ≤ FILES_MOST
 
 -- each case, with the names that are asked for, and what the call comes to
 pub data IsAnswer (call : Call) : List (List ℕ) → Outcome → Type 0 where
   refused_words : (detail : List ℕ) → AreRefused call.words detail → IsAnswer call [] (Refused (Words detail))
-  many_files : (request : Request) → Asks call.words request → FILES_MOST < length (config_names request) →
-      IsAnswer call [] (Refused (Files (length (config_names request))))
-  read_fault : (request : Request) (asked texts : List (List ℕ)) (file : File) → AsksForFew call.words request →
-      ReadUpTo (to_read call.content (files_of request)) asked texts file → IsAnswer call asked (Refused (Read file.name))
-  long_file : (request : Request) (asked texts : List (List ℕ)) (file : File) → AsksForFew call.words request →
-      ReadUpTo (to_read call.content (files_of request)) asked texts file → IsTooLong call.content file →
+  many_files : (command : Command) → Asks call.words command → FILES_MOST < length command.configs →
+      IsAnswer call [] (Refused (Files (length command.configs)))
+  read_fault : (command : Command) (asked texts : List (List ℕ)) (file : File) → AsksForFew call.words command →
+      ReadUpTo (to_read call.content (files_of command)) asked texts file → IsAnswer call asked (Refused (Read file.name))
+  long_file : (command : Command) (asked texts : List (List ℕ)) (file : File) → AsksForFew call.words command →
+      ReadUpTo (to_read call.content (files_of command)) asked texts file → IsTooLong call.content file →
       IsAnswer call asked (Refused (Length file.name))
-  long_files : (request : Request) (asked texts : List (List ℕ)) (file : File) (number : ℕ) → AsksForFew call.words request →
-      (up : ReadUpTo (to_read call.content (files_of request)) asked texts file) →
+  long_files : (command : Command) (asked texts : List (List ℕ)) (file : File) (number : ℕ) → AsksForFew call.words command →
+      (up : ReadUpTo (to_read call.content (files_of command)) asked texts file) →
       PassesTotal call.content file (total_of up.before texts) number → IsAnswer call asked (Refused (Total number))
-  judged : (request : Request) (texts : List (List ℕ)) (outcome : Outcome) → AsksForFew call.words request →
-      AreRead call.content (files_of request) texts → AreWithin (files_of request) texts →
-      IsOutcome request (given_texts (own_texts request texts) (config_texts request texts)) outcome →
-      IsAnswer call (file_names (files_of request)) outcome
+  judged : (command : Command) (texts : List (List ℕ)) (outcome : Outcome) → AsksForFew call.words command →
+      AreRead call.content (files_of command) texts → AreWithin (files_of command) texts →
+      IsOutcome command (given_texts (own_texts command texts) (config_texts command texts)) outcome →
+      IsAnswer call (file_names (files_of command)) outcome
 
 -- the names that were asked for when memory ran out: none, or those up to a file before which all were read within the limits
 pub data MayAsk (call : Call) : List (List ℕ) → Type 0 where
   asks_none : MayAsk call []
-  asks_some : (request : Request) (asked texts : List (List ℕ)) (file : File) → AsksForFew call.words request →
-      ReadUpTo (to_read call.content (files_of request)) asked texts file → MayAsk call asked
+  asks_some : (command : Command) (asked texts : List (List ℕ)) (file : File) → AsksForFew call.words command →
+      ReadUpTo (to_read call.content (files_of command)) asked texts file → MayAsk call asked
 
 -- the reads agree with a status: the last one failed, and none before it, where that is a read fault, and else none did
 pub record ReadsAgree (status : Status) (before after : ReadsSoFar) : Type 0 where

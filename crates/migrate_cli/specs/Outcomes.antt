@@ -8,7 +8,7 @@ use Rattle.net_model.specs.OffStarts.{IsLowestOffStart}
 use Rattle.net_model.specs.Refusals.{Refuses}
 use Rattle.net_model.specs.declared.refusal.NetRefusal.{NetRefusal}
 use Rattle.net_model.specs.declared.refusal.NetRefusal.TheVariants.{OutOfMemory}
-use Rattle.migrate_words.specs.Requests.{Request}
+use Rattle.migrate_words.specs.declared.command.Command.{Command}
 use Rattle.migration_report.specs.declared.decision.Decision.{Decision}
 use Rattle.migration_report.specs.declared.outcome.Outcome.{Outcome}
 use Rattle.migration_report.specs.declared.outcome.Outcome.TheVariants.{Refused, Decided}
@@ -19,13 +19,13 @@ use Rattle.migrate_cli.specs.Decisions.{IsDecision, input_of}
 
 -- each case, by the texts of a command's own files and of the configurations: a configuration has a faulty line, or they make no
 -- network, or a router isn't where a migration starts, or the command decides
-pub data IsOutcome (request : Request) (texts : GivenTexts) : Outcome → Type 0 where
+pub data IsOutcome (command : Command) (texts : GivenTexts) : Outcome → Type 0 where
   faulty_configuration : (file : List ℕ) (number : ℕ) (kind : ReadKind) →
-      IsFirstRefused (line_fault number kind) (text_names request) texts.configs file →
-      IsOutcome request texts (Refused (Config file number kind))
+      IsFirstRefused (line_fault number kind) (text_names command) texts.configs file →
+      IsOutcome command texts (Refused (Config file number kind))
   no_network : (all : List Configuration) (refusal : NetRefusal) → ReadsTexts texts.configs all → Refuses refusal all →
-      refusal ≢ OutOfMemory → IsOutcome request texts (Refused (NoNetwork refusal))
-  off_start : (net : Network) (router : ℕ) (config : Configuration) → GiveNetwork texts.configs net → NeedsStart request →
-      IsLowestOffStart net router → HasConfiguration net router config → IsOutcome request texts (Refused (OffStart config.name))
-  decided : (net : Network) (decision : Decision) → GiveNetwork texts.configs net → (NeedsStart request → IsAtStart net) →
-      IsDecision request (input_of texts net) decision → IsOutcome request texts (Decided net decision)
+      refusal ≢ OutOfMemory → IsOutcome command texts (Refused (NoNetwork refusal))
+  off_start : (net : Network) (router : ℕ) (config : Configuration) → GiveNetwork texts.configs net → NeedsStart command.kind →
+      IsLowestOffStart net router → HasConfiguration net router config → IsOutcome command texts (Refused (OffStart config.name))
+  decided : (net : Network) (decision : Decision) → GiveNetwork texts.configs net → (NeedsStart command.kind → IsAtStart net) →
+      IsDecision command.kind (input_of command texts net) decision → IsOutcome command texts (Decided net decision)

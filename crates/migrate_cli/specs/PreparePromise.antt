@@ -9,11 +9,11 @@ use Rattle.design_file.specs.declared.design.Design.{Design}
 use Rattle.design_file.specs.declared.settled.SettledRouter.{SettledRouter}
 use Rattle.isis_writer.specs.PreparedConfigurations.{prepared}
 use Rattle.migrate_words.specs.Asked.{Asks}
-use Rattle.migrate_words.specs.Requests.{prepare}
+use Rattle.migrate_words.specs.declared.command.CommandKind.TheVariants.{Prepare}
 use Rattle.migration_report.specs.declared.status.Status.{Status}
 use Rattle.migration_report.specs.declared.status.Status.TheVariants.{Done}
 use Rattle.migrate_cli.specs.Calls.{Call, Outside, course, Course}
-use Rattle.migrate_cli.specs.CommandFiles.{config_texts, files_of, own_texts}
+use Rattle.migrate_cli.specs.CommandFiles.{command_of, config_texts, files_of, own_texts}
 use Rattle.migrate_cli.specs.Completeness.{IsAccepted, NoFaultRose, Writes}
 use Rattle.migrate_cli.specs.Configurations.{GiveNetwork}
 use Rattle.migrate_cli.specs.Reading.{AreRead, AreWithin}
@@ -23,12 +23,12 @@ use Rattle.migrate_cli.specs.Reading.{AreRead, AreWithin}
 -- their order, each with what is settled for its router and all else as it was
 pub record HasPrepared (call : Call) (file : List ℕ) (configs : List (List ℕ)) (outside : Course) : Type 0 where
   pub texts : List (List ℕ)
-  pub read : AreRead call.content (files_of (prepare file configs)) texts
-  pub within : AreWithin (files_of (prepare file configs)) texts
+  pub read : AreRead call.content (files_of (command_of Prepare (file ∷ []) configs 0)) texts
+  pub within : AreWithin (files_of (command_of Prepare (file ∷ []) configs 0)) texts
   pub net : Network
-  pub gives : GiveNetwork (config_texts (prepare file configs) texts) net
+  pub gives : GiveNetwork (config_texts (command_of Prepare (file ∷ []) configs 0) texts) net
   pub text : List ℕ
-  pub text_is : own_texts (prepare file configs) texts ≡ text ∷ []
+  pub text_is : own_texts (command_of Prepare (file ∷ []) configs 0) texts ≡ text ∷ []
   pub design : Design
   pub says : SaysDesign text design
   pub settled : List SettledRouter
@@ -43,9 +43,9 @@ pub record AcceptsPrepare (call : Call) : Type 0 where
   pub configs : List (List ℕ)
   pub texts : List (List ℕ)
   pub net : Network
-  pub accepted : IsAccepted call (prepare file configs) texts net
+  pub accepted : IsAccepted call (command_of Prepare (file ∷ []) configs 0) texts net
   pub text : List ℕ
-  pub text_is : own_texts (prepare file configs) texts ≡ text ∷ []
+  pub text_is : own_texts (command_of Prepare (file ∷ []) configs 0) texts ≡ text ∷ []
   pub design : Design
   pub says : SaysDesign text design
   pub settled : List SettledRouter
@@ -54,6 +54,6 @@ pub record AcceptsPrepare (call : Call) : Type 0 where
 -- where a call asks for `prepare` and ends with `Done`, it has done so; and where nothing of its input is refused and no fault
 -- rises, it writes
 pub record PreparePromise (call : Call) (before after : Outside) (status : Status) : Type 0 where
-  pub reads_back : (file : List ℕ) (configs : List (List ℕ)) → Asks call.words (prepare file configs) → status ≡ Done →
+  pub reads_back : (file : List ℕ) (configs : List (List ℕ)) → Asks call.words (command_of Prepare (file ∷ []) configs 0) → status ≡ Done →
       HasPrepared call file configs (course before after)
   pub writes : AcceptsPrepare call → NoFaultRose before after → Writes status

@@ -21,6 +21,12 @@ pub record NamedText : Type 0 where
 abbrev pub named_text : List ℕ → List ℕ → NamedText
 named_text file text = record { file = file; text = text }
 
+-- files that were read, in their order: their names and their texts
+abbrev pub named_texts : List (List ℕ) → List (List ℕ) → List NamedText
+named_texts [] texts = []
+named_texts (file ∷ files) [] = []
+named_texts (file ∷ files) (text ∷ texts) = named_text file text ∷ named_texts files texts
+
 -- files that are to be read, and what is told of them
 pub record ToRead : Type 0 where
   pub content : Contents

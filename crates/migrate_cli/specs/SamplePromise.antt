@@ -5,25 +5,25 @@ use Rattle.store_edge.specs.Sink.{AddsBytes, AddsFront}
 use Rattle.net_model.specs.Network.{Network}
 use Rattle.sample_network.specs.SampleTexts.{sample_text}
 use Rattle.migrate_words.specs.Asked.{Asks}
-use Rattle.migrate_words.specs.Requests.{plan, sample}
+use Rattle.migrate_words.specs.declared.command.CommandKind.TheVariants.{Plan, Sample}
 use Rattle.migrate_words.specs.declared.command.TheConstants.{USUAL_BUDGET}
 use Rattle.migration_report.specs.Outcomes.{status_of, text_of}
 use Rattle.migration_report.specs.declared.outcome.Outcome.{Outcome}
 use Rattle.migration_report.specs.declared.status.Status.{Status}
 use Rattle.migration_report.specs.declared.status.Status.TheVariants.{Done, WriteFault, Memory}
 use Rattle.migrate_cli.specs.Calls.{Call, Outside}
-use Rattle.migrate_cli.specs.CommandFiles.{given_texts}
+use Rattle.migrate_cli.specs.CommandFiles.{command_of, given_texts}
 use Rattle.migrate_cli.specs.Configurations.{GiveNetwork, IsAtStart}
 use Rattle.migrate_cli.specs.Outcomes.{IsOutcome}
 use Rattle.migrate_cli.specs.PlanPromise.{PlansOrNot}
 
 -- what the text of the sample network of so many routers comes to
 abbrev pub IsOutcomeOfSample : ℕ → Outcome → Type 0
-IsOutcomeOfSample routers = IsOutcome (sample routers) (given_texts [] (sample_text routers ∷ []))
+IsOutcomeOfSample routers = IsOutcome (command_of Sample [] [] routers) (given_texts [] (sample_text routers ∷ []))
 
 -- what `plan`, with the usual budget, comes to on one file of this name and text
 abbrev pub IsOutcomeOfPlan : List ℕ → List ℕ → Outcome → Type 0
-IsOutcomeOfPlan name text = IsOutcome (plan USUAL_BUDGET (name ∷ [])) (given_texts [] (text ∷ []))
+IsOutcomeOfPlan name text = IsOutcome (command_of Plan [] (name ∷ []) USUAL_BUDGET) (given_texts [] (text ∷ []))
 
 -- `plan` comes to an outcome of the same status on the same text, as a file that is named `sample`; where the status isn't that
 -- waves were found, it is the same outcome
@@ -50,7 +50,7 @@ pub record HasSampled (routers : ℕ) (before after : Outside) (status : Status)
 -- `sample` of so many routers, whose text gives this network, which is at its start
 pub record AcceptsSample (call : Call) : Type 0 where
   pub routers : ℕ
-  pub asks : Asks call.words (sample routers)
+  pub asks : Asks call.words (command_of Sample [] [] routers)
   pub net : Network
   pub gives : GiveNetwork (sample_text routers ∷ []) net
   pub start : IsAtStart net
@@ -58,5 +58,5 @@ pub record AcceptsSample (call : Call) : Type 0 where
 -- where the words ask for a `sample`, the call has done so; and where nothing of its text is refused and no fault of the sink
 -- rises, it is planned
 pub record SamplePromise (call : Call) (before after : Outside) (status : Status) : Type 0 where
-  pub means : (routers : ℕ) → Asks call.words (sample routers) → HasSampled routers before after status
+  pub means : (routers : ℕ) → Asks call.words (command_of Sample [] [] routers) → HasSampled routers before after status
   pub decides : (accepts : AcceptsSample call) → (Rose before.sink_faults after.sink_faults → ⊥) → PlansOrNot accepts.net status

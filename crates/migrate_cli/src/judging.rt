@@ -1,7 +1,7 @@
 ghost use Rattle.std.specs.Prelude.{◌≡◌, ◌<◌, ◌≤◌, ◌∷◌, [], All, IfOk, MatchOption, length};
 ghost use Rattle.net_model.specs.OffStarts.{IsLowestOffStart};
 ghost use Rattle.sample_network.specs.SampleTexts.{sample_text};
-ghost use Rattle.migrate_words.specs.Requests.{IsInRange, request_of, sample};
+ghost use Rattle.migrate_words.specs.Asked.{IsInRange};
 ghost use Rattle.migrate_cli.specs.CommandFiles.{NeedsStart, config_texts, files_of, own_files, own_texts, text_names, given_texts};
 ghost use Rattle.migrate_cli.specs.steps.FilesRead.{ReadsFiles};
 ghost use Rattle.migrate_cli.specs.Configurations.{GiveNetwork, IsAtStart};
@@ -13,7 +13,7 @@ use crate::OutOfMemory;
 use crate::commands::{judge_command, needs_start};
 use crate::configurations::{Unread, read_all};
 use crate::files::{FILE_MOST, name_bytes, text_names};
-use migrate_words::Command;
+use migrate_words::{Command, CommandKind};
 use migration_report::{Outcome, Refusal};
 use net_addr::{Bytes, Name};
 use net_model::{Net, NetRefusal};
@@ -26,33 +26,32 @@ pub(crate) fn judge(
     command: &Command<'_>,
     texts: &[Bytes],
 ) -> Result<Outcome, OutOfMemory>
-    requires range { IsInRange (request_of command.now) }
-    requires short { AreShort (files_of (request_of command.now)) texts.now }
-    ensures { IfOk result (let request = request_of command.now in
-        IsOutcome request (given_texts (own_texts request texts.now) (config_texts request texts.now))) }
+    requires range { IsInRange command.now }
+    requires short { AreShort (files_of command.now) texts.now }
+    ensures { IfOk result (IsOutcome command.now (given_texts (own_texts command.now texts.now) (config_texts command.now texts.now))) }
 {
-    match command {
-        Command::Sample { routers } => judge_made(alloc, *routers),
+    match command.kind {
+        CommandKind::Sample => judge_made(alloc, command),
         _ => judge_read(alloc, command, texts),
     }
 }
 
 /// What `sample` comes to on the text that is made of so many routers.
-fn judge_made(alloc: Global, routers: u32) -> Result<Outcome, OutOfMemory>
-    requires { IsInRange (sample routers) }
-    ensures { IfOk result (IsOutcome (sample routers) (given_texts [] (sample_text routers ∷ []))) }
+fn judge_made(alloc: Global, command: &Command<'_>) -> Result<Outcome, OutOfMemory>
+    requires kind { command.now.kind ≡ CommandKind.Sample }
+    requires range { IsInRange command.now }
+    ensures { IfOk result (IsOutcome command.now (given_texts [] (sample_text command.now.number ∷ []))) }
 {
-    let text = sample_text(alloc, routers)?;
-    judge_texts(alloc, &Command::Sample { routers }, &[], &[text])
+    let text = sample_text(alloc, command.number)?;
+    judge_texts(alloc, command, &[], &[text])
 }
 
 /// What a command that reads files comes to on their texts.
 fn judge_read(alloc: Global, command: &Command<'_>, texts: &[Bytes]) -> Result<Outcome, OutOfMemory>
-    requires reads { ReadsFiles (request_of command.now) }
-    requires range { IsInRange (request_of command.now) }
-    requires short { AreShort (files_of (request_of command.now)) texts.now }
-    ensures { IfOk result (let request = request_of command.now in
-        IsOutcome request (given_texts (own_texts request texts.now) (config_texts request texts.now))) }
+    requires reads { ReadsFiles command.now.kind }
+    requires range { IsInRange command.now }
+    requires short { AreShort (files_of command.now) texts.now }
+    ensures { IfOk result (IsOutcome command.now (given_texts (own_texts command.now texts.now) (config_texts command.now texts.now))) }
 {
     let number = text_names(command).len();
     let (own, configs) = texts.split_at(texts.len() - number);
@@ -66,11 +65,11 @@ fn judge_texts(
     own: &[Bytes],
     texts: &[Bytes],
 ) -> Result<Outcome, OutOfMemory>
-    requires range { IsInRange (request_of command.now) }
-    requires own { AreShort (own_files (request_of command.now)) own.now }
-    requires each { length (text_names (request_of command.now)) ≡ length texts.now }
+    requires range { IsInRange command.now }
+    requires own { AreShort (own_files command.now) own.now }
+    requires each { length (text_names command.now) ≡ length texts.now }
     requires short { All (λ text. length text ≤ FILE_MOST) texts.now }
-    ensures { IfOk result (IsOutcome (request_of command.now) (given_texts own.now texts.now)) }
+    ensures { IfOk result (IsOutcome command.now (given_texts own.now texts.now)) }
 {
     let configs = match read_all(alloc, text_names(command), texts) {
         Ok(configs) => configs,
@@ -108,12 +107,12 @@ fn judge_network(
     configs: &[Bytes],
     net: Net,
 ) -> Result<Outcome, OutOfMemory>
-    requires range { IsInRange (request_of command.now) }
+    requires range { IsInRange command.now }
     requires some { 0 < length net }
-    requires own { AreShort (own_files (request_of command.now)) own.now }
+    requires own { AreShort (own_files command.now) own.now }
     requires configs { All (λ text. length text ≤ FILE_MOST) configs.now }
     ensures { IfOk result (λ outcome. GiveNetwork configs.now net →
-        IsOutcome (request_of command.now) (given_texts own.now configs.now) outcome) }
+        IsOutcome command.now (given_texts own.now configs.now) outcome) }
 {
     if let Some(router) = off_start(command, &net) {
         let name = copied_name(alloc, &net.config(router).name)?;
@@ -134,10 +133,10 @@ fn copied_name(alloc: Global, name: &Name) -> Result<Name, OutOfMemory>
 /// The lowest router that isn't where a migration starts, where the command asks for it.
 fn off_start(command: &Command<'_>, net: &Net) -> Option<u32>
     ensures { MatchOption result
-        (NeedsStart (request_of command.now) → IsAtStart net.now)
-        (λ router. NeedsStart (request_of command.now) × IsLowestOffStart net.now router) }
+        (NeedsStart command.now.kind → IsAtStart net.now)
+        (λ router. NeedsStart command.now.kind × IsLowestOffStart net.now router) }
 {
-    if needs_start(command) {
+    if needs_start(command.kind) {
         net.off_start()
     } else {
         None

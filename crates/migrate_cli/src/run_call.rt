@@ -1,12 +1,11 @@
 ghost use Rattle.std.specs.Prelude.{ℕ, List, IfOk, map, string_bytes};
-ghost use Rattle.migrate_words.specs.Asked.{Asks};
-ghost use Rattle.migrate_words.specs.Requests.{IsInRange, request_of};
+ghost use Rattle.migrate_words.specs.Asked.{Asks, IsInRange};
 ghost use Rattle.migrate_cli.specs.Calls.{call_of, outside, reads_so_far};
 ghost use Rattle.migrate_cli.specs.Claim.{Claim};
 ghost use Rattle.migrate_cli.specs.steps.Answering.{HasAnswer, ReadsEnd, RefusesSo, StopsSo};
 
 use crate::OutOfMemory;
-use crate::files::{config_names, files_of, name_bytes};
+use crate::files::{files_of, name_bytes};
 use crate::judging::judge;
 use crate::reading::{Stop, read_texts};
 use crate::sending::send;
@@ -82,13 +81,13 @@ fn decide_command<F: Files>(
     command: &Command<'_>,
     files: &mut F,
 ) -> Result<Outcome, OutOfMemory>
-    requires { IsInRange (request_of command.now) }
-    ensures answer { (words : List (List ℕ)) → Asks words (request_of command.now) → HasAnswer (call_of words (F.content files.old))
+    requires { IsInRange command.now }
+    ensures answer { (words : List (List ℕ)) → Asks words command.now → HasAnswer (call_of words (F.content files.old))
         (F.asked files.old) (F.asked files.new) result }
     ensures reads { ReadsEnd result (reads_so_far (F.asked files.old) (F.faults files.old) (F.failed_at files.old))
         (reads_so_far (F.asked files.new) (F.faults files.new) (F.failed_at files.new)) }
 {
-    let number = config_names(command).len();
+    let number = command.configs.as_slice().len();
     if number > FILES_MOST {
         let number = number as u64;
         let refusal = Refusal::Files { number };

@@ -1,6 +1,5 @@
 use Rattle.std.proofs.Common.{◌∙◌, ap, sym, subst}
 use Rattle.net_model.specs.Configuration.{Configuration}
-use Rattle.migrate_words.specs.Requests.{request_of}
 use Rattle.migration_report.specs.declared.outcome.Outcome.TheVariants.{Refused}
 use Rattle.migration_report.specs.declared.refusal.Refusal.TheVariants.{OffStart}
 use Rattle.migrate_cli.specs.CommandFiles.{given_texts}

@@ -2,7 +2,6 @@ use Rattle.std.proofs.Common.{◌∙◌, ap, sym, subst, ℕ, List, length}
 use Rattle.std.specs.Borrow.{Bor}
 use Rattle.std.proofs.lemmas.List.{length-map}
 use Rattle.std.proofs.lemmas.Result.{IfOk-weaker}
-use Rattle.migrate_words.specs.Requests.{request_of}
 use Rattle.migrate_cli.specs.CommandFiles.{given_texts}
 use Rattle.migrate_cli.specs.Configurations.{GiveNetwork}
 use Rattle.migrate_cli.specs.steps.Unread.{IsUnread}
@@ -19,22 +18,22 @@ read_all-requires-clause-lengths c =
 
 pub returns-in-Err : goal.returns-in-Err
 returns-in-Err c =
-    let request = request_of c.args.command.now in
+    let command = c.args.command.now in
     let texts = c.args.texts.now in
-    unread_outcome request (given_texts c.args.own.now texts) c.in-Err.unread c.refuse_unread.result
+    unread_outcome command (given_texts c.args.own.now texts) c.in-Err.unread c.refuse_unread.result
     (subst (λ names. IsUnread names texts c.in-Err.unread) c.text_names.ensures c.in-Err.ensures.err) c.refuse_unread.ensures
 
 pub judge_network-requires-clause-some : goal.judge_network-requires-clause-some
 judge_network-requires-clause-some c =
-    net_has_router (request_of c.args.command.now) c.args.texts.now c.in-Ok.configs c.in-Ok-build.net c.requires.range c.requires.each
+    net_has_router c.args.command.now c.args.texts.now c.in-Ok.configs c.in-Ok-build.net c.requires.range c.requires.each
     c.in-Ok.ensures.ok c.in-Ok-build.ensures.ok
 
 pub returns-in-Ok-build : goal.returns-in-Ok-build
 returns-in-Ok-build c =
-    let request = request_of c.args.command.now in
+    let command = c.args.command.now in
     let own = c.args.own.now in
     let texts = c.args.texts.now in
     let net = c.in-Ok-build.net in
     let gives : GiveNetwork texts net = record { configs = c.in-Ok.configs; read = c.in-Ok.ensures.ok; make = c.in-Ok-build.ensures.ok } in
-    IfOk-weaker c.judge_network.result (λ outcome. GiveNetwork texts net → IsOutcome request (given_texts own texts) outcome)
-    (IsOutcome request (given_texts own texts)) (λ outcome is. is gives) c.judge_network.ensures
+    IfOk-weaker c.judge_network.result (λ outcome. GiveNetwork texts net → IsOutcome command (given_texts own texts) outcome)
+    (IsOutcome command (given_texts own texts)) (λ outcome is. is gives) c.judge_network.ensures
