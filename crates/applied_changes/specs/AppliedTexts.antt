@@ -1,5 +1,5 @@
 -- What the lines of changes make of a router's configuration.
-use Rattle.std.specs.Prelude.{ℕ, List, [], ◌++◌, map, if◌then◌else◌, is_some}
+use Rattle.std.specs.Prelude.{◌≡◌, ℕ, List, [], ◌++◌, map, if◌then◌else◌, is_some}
 use Rattle.net_model.specs.Configuration.{Configuration}
 use Rattle.net_model.specs.declared.bounds.TheConstants.{ISIS_DISTANCE, MOST_DISTANCE}
 use Rattle.igp_theory.specs.declared.phase.Phase.{Phase}
@@ -7,7 +7,7 @@ use Rattle.igp_theory.specs.declared.phase.Phase.TheVariants.{Old, Middle, New}
 use Rattle.ios_sections.specs.declared.section.Section.{Section}
 use Rattle.ios_reader.specs.Configurations.{configuration_of}
 use Rattle.ios_reader.specs.Places.{raw_lines}
-use Rattle.ios_reader.specs.PutBlocks.{put_blocks}
+use Rattle.ios_reader.specs.PutBlocks.{Piece, IsCutAtEnds, put_blocks, with_blocks}
 use Rattle.ios_reader.specs.Texts.{ReadsText}
 use Rattle.printed_lines.specs.Texts.{text_of}
 use Rattle.step_scripts.specs.Scripts.{isis_change_lines, ospf_change_lines}
@@ -55,3 +55,15 @@ abbrev pub AppliedTextLaw : Type 0
 AppliedTextLaw =
     (phases : List ℕ → Phase) (text : List ℕ) (configurations : List Configuration) → ReadsText text configurations →
     ReadsText (applied_text phases text) (map (λ (c : Configuration). in_phase (phases c.name) c) configurations)
+
+-- the pieces of a text up to each of its `end` lines, each with the lines of its configuration put in before this line, and a
+-- rest: so the text with the lines put in is written
+pub record IsAppliedByPieces (phases : List ℕ → Phase) (text : List ℕ) : Type 0 where
+  pub pieces : List Piece
+  pub rest : List ℕ
+  pub cut : IsCutAtEnds (block_in phases) text pieces rest
+  pub written : applied_text phases text ≡ with_blocks pieces ++ rest
+
+-- every byte of a text stays, and besides the lines before its `end` lines none is new
+abbrev pub AppliedBytesLaw : Type 0
+AppliedBytesLaw = (phases : List ℕ → Phase) (text : List ℕ) → IsAppliedByPieces phases text

@@ -7,4 +7,5 @@ pub mod SoundLaws
 pub mod AreaLaws
 pub mod FitLaws
 pub mod AnswerLaws
+pub mod IsisInterfaces
 pub mod NameOrder

@@ -69,12 +69,18 @@ word_back : (word : Word) (o : Option ℕ) (len : ℕ) → address_of word ≡ o
 word_back word None len written e = absurd cc
 word_back word (Some a) len written e = record { address = a; written = address_back word a written; mask = mask_back a len e }
 
+pub mask_back_word : (word : Word) (len : ℕ) → mask_of word ≡ Some len → IsMaskWord word len
+unfolding mask_of
+mask_back_word word len e = word_back word (address_of word) len refl e
+
+pub mask_word-some : (word : Word) (len : ℕ) → IsMaskWord word len → mask_of word ≡ Some len
+unfolding mask_of
+mask_word-some word len stands = ap mask_length (address-some word stands.address stands.written) ∙ mask-some stands.address len stands.mask
+
 -- the reader of masks is the function of the word
 pub mask_read : (word : Word) (r : Option ℕ) → Reads r (IsMaskWord word) → r ≡ mask_of word
-unfolding mask_of
-mask_read word None none = sym (none_of (mask_of word) (λ len e. none len (word_back word (address_of word) len refl e)))
-mask_read word (Some len) stands =
-    sym (ap mask_length (address-some word stands.address stands.written) ∙ mask-some stands.address len stands.mask)
+mask_read word None none = sym (none_of (mask_of word) (λ len e. none len (mask_back_word word len e)))
+mask_read word (Some len) stands = sym (mask_word-some word len stands)
 
 -- a mask has at most 32 ones
 pub mask_within : (word : Word) → IfSome (mask_of word) (λ len. len ≤ 32)

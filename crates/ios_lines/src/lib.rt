@@ -9,7 +9,7 @@
 //! | `interface_line` | what a line of an interface says |
 //! | `ospf_line` | what a line of `router ospf` says |
 //! | `isis_line`, `title` | what a line of `router isis` says; the title of its `net` line (ISO 10589, section 7.1) |
-//! | `laws` | which lines at indent 0 say something, as a table; which words are titles, in the words of the standard |
+//! | `laws` | which lines at indent 0 say something, as a table; which words are titles, numbers, addresses and masks |
 //! | `kind`, `fault` | why a line is faulty, and which of two faults is told: the earlier line, then the lesser kind |
 //!
 //! What a line says is defined in `specs/Heads.antt`, `InterfaceLines`, `OspfLines` and `IsisLines`. A line of no form there is
@@ -37,5 +37,5 @@ mod laws;
 
 pub use bounds::{DEFAULT_METRIC, DEFAULT_REFERENCE};
 pub use kind::ReadKind;
-pub use laws::{head_law, title_law};
+pub use laws::{head_law, number_laws, title_law};
 pub use std::alloc::AllocError as OutOfMemory;

@@ -18,5 +18,6 @@ pub mod LinePlaces
 pub mod LookedUp
 pub mod GrownSections
 pub mod PutBlocks
+pub mod BlockPieces
 pub mod PartSteps
 pub mod AreaFacts

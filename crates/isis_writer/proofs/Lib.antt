@@ -13,3 +13,4 @@ pub mod PreparedGrows
 pub mod PreparedLines
 pub mod PreparedPlaces
 pub mod PreparedReads
+pub mod PreparedBytes

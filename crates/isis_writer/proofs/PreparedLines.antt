@@ -22,6 +22,7 @@ use Rattle.ios_reader.specs.Configurations.{configuration_of}
 use Rattle.ios_reader.specs.InsertedLines.{IsOutsideBanners, IsClosed}
 use Rattle.ios_reader.specs.PutBlocks.{ends_here, put_block, put_blocks, ends_last}
 use Rattle.ios_reader.specs.Texts.{ReadsText}
+use Rattle.ios_reader.proofs.BlockPieces.{ends_among, put_to_last, put_none}
 use Rattle.ios_reader.proofs.InsertedFacts.{closed_text}
 use Rattle.ios_reader.proofs.PutBlocks.{EndsWithEnd, put_reads}
 use Rattle.ios_reader.proofs.RawLines.{IsWholeBefore, AreRaw, joined_raw, HasOneLine, one_line, parts_stay, open_lines, part_with, parts_at_end}
@@ -35,22 +36,9 @@ use Rattle.isis_writer.proofs.PreparedGrows.{prepared_grows}
 
 -- ---- `end` lines that count ----
 
--- one of some lines behind a text is an `end` line outside banners
-abbrev pub ends_among : List ℕ → List (List ℕ) → Bool
-ends_among before [] = false
-ends_among before (raw ∷ raws) = ends_here before raw || ends_among (before ++ raw) raws
-
 -- what stands behind a text up to the last `end` line, with the new lines before each `end` line
 abbrev pub put_lines : Network → List SettledRouter → List ℕ → List (List ℕ) → List ℕ
-put_lines net settled before [] = []
-put_lines net settled before (raw ∷ raws) =
-    cond (ends_among before (raw ∷ raws)) (put_block (new_block net settled) before raw ++ raw ++ put_lines net settled (before ++ raw) raws) []
-
-pub put_none : (net : Network) (settled : List SettledRouter) (before : List ℕ) (raws : List (List ℕ)) → ends_among before raws ≡ false →
-    put_lines net settled before raws ≡ []
-put_none net settled before [] none = refl
-put_none net settled before (raw ∷ raws) none =
-    ap (λ (b : Bool). cond b (put_block (new_block net settled) before raw ++ raw ++ put_lines net settled (before ++ raw) raws) []) none
+put_lines net settled before raws = put_to_last (new_block net settled) before raws
 
 -- lines without one end no part
 pub none_ends : (raws : List (List ℕ)) (before : List ℕ) → IsWholeBefore before raws → AreRaw raws → ends_among before raws ≡ false →
@@ -173,7 +161,7 @@ module _ (net : Network) (settled : List SettledRouter) where
           record {
             lines = raw ∷ [];
             raw = (are.0, (tt, tt));
-            put = some_put ∙ ap (λ t. here ++ t) (put_none net settled (before ++ raw) raws more);
+            put = some_put ∙ ap (λ t. here ++ t) (put_none (new_block net settled) (before ++ raw) raws more);
             last = ends;
             reads =
                 subst (λ t. ReadsText (before ++ t) configurations) (sym (append-nil raw))

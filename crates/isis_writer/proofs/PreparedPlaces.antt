@@ -16,7 +16,8 @@ use Rattle.ios_reader.proofs.RawLines.{IsWholeBefore, AreRaw, joined_raw, HasOne
 use Rattle.ios_reader.proofs.LinePlaces.{next_begins, up_to}
 use Rattle.isis_writer.specs.Prepared.{new_block, prepared_parts}
 use Rattle.ios_reader.specs.PutBlocks.{ends_here}
-use Rattle.isis_writer.proofs.PreparedLines.{ends_among, put_lines, put_none}
+use Rattle.ios_reader.proofs.BlockPieces.{ends_among, put_none}
+use Rattle.isis_writer.proofs.PreparedLines.{put_lines}
 
 module _ (net : Network) (settled : List SettledRouter) (text : List ℕ) where
   abbrev block : List ℕ → List ℕ
@@ -107,7 +108,7 @@ module _ (net : Network) (settled : List SettledRouter) (text : List ℕ) where
       by_more true more = rest.some more (length (before ++ raw)) (omega arith)
           ∙ ap (λ (l : List ℕ). l ++ put (before ++ raw) raws) (drop_all (length (before ++ raw)) (before ++ raw) (omega arith))
       by_more false more = ap (parts_from (length (before ++ raw))) (rest.none more)
-          ∙ sym (put_none net settled (before ++ raw) raws more)
+          ∙ sym (put_none (new_block net settled) (before ++ raw) raws more)
 
   all_behind : (raws : List (List ℕ)) (before : List ℕ) → IsWholeBefore before raws → AreRaw raws →
       before ++ joined_raw raws ≡ text → Behind before raws

@@ -32,7 +32,8 @@ use Rattle.isis_writer.specs.Prepared.{prepared_text}
 use Rattle.isis_writer.specs.PreparedConfigurations.{prepared, IsToPrepare, PreparedTextLaw, with_last_feed, IsReadBefore, PreparedBeforeLaw, AreToPrepare}
 use Rattle.isis_writer.specs.PreparedConfigurations.{prepared_texts, PreparedTextsLaw}
 use Rattle.ios_reader.proofs.PutBlocks.{EndsWithEnd}
-use Rattle.isis_writer.proofs.PreparedLines.{ends_among, put_lines, none_ends, ReadsPrepared, put_all}
+use Rattle.ios_reader.proofs.BlockPieces.{ends_among}
+use Rattle.isis_writer.proofs.PreparedLines.{put_lines, none_ends, ReadsPrepared, put_all}
 use Rattle.isis_writer.proofs.PreparedPlaces.{prepared_by_parts}
 
 -- ---- the text ----

@@ -1,5 +1,5 @@
 -- Prepared texts: the lines of each router stand before its `end` line, and what stood behind the last one is left out.
-use Rattle.std.specs.Prelude.{ℕ, ◌+◌, List, [], ◌∷◌, ◌++◌, Option, Some, None, bytes_eq, if◌then◌else◌, slice_get, unwrap_or}
+use Rattle.std.specs.Prelude.{◌≡◌, ℕ, ◌+◌, List, [], ◌∷◌, ◌++◌, Option, Some, None, bytes_eq, if◌then◌else◌, slice_get, unwrap_or}
 use Rattle.net_model.specs.Network.{Network}
 use Rattle.printed_lines.specs.Texts.{text_of}
 use Rattle.ios_lines.specs.Words.{Word}
@@ -10,6 +10,7 @@ use Rattle.ios_sections.specs.Processes.{as_hostname, interfaces_in}
 use Rattle.ios_sections.specs.declared.section.InterfaceSection.{InterfaceSection}
 use Rattle.ios_sections.specs.declared.section.Section.{Section}
 use Rattle.ios_reader.specs.Places.{between, start_of}
+use Rattle.ios_reader.specs.PutBlocks.{Piece, IsCutAtEnds, with_blocks}
 use Rattle.design_file.specs.declared.settled.SettledRouter.{SettledRouter}
 use Rattle.isis_writer.specs.RouterLines.{router_lines}
 
@@ -55,3 +56,17 @@ prepared_parts block text from (part ∷ more) =
 -- the prepared text
 abbrev pub prepared_text : List ℕ → Network → List SettledRouter → List ℕ
 prepared_text text net settled = prepared_parts (new_block net settled) text 0 (parts_of (lines_in text))
+
+-- ---- its bytes ----
+
+-- the pieces of a text up to each of its `end` lines, each with the lines of its router put in before this line: so the prepared
+-- text is written, and what stands behind the last of them is left out
+pub record IsPreparedByPieces (text : List ℕ) (net : Network) (settled : List SettledRouter) : Type 0 where
+  pub pieces : List Piece
+  pub rest : List ℕ
+  pub cut : IsCutAtEnds (new_block net settled) text pieces rest
+  pub written : prepared_text text net settled ≡ with_blocks pieces
+
+-- up to its last `end` line every byte of a text stays, and besides the lines before its `end` lines none is new
+abbrev pub PreparedBytesLaw : Type 0
+PreparedBytesLaw = (text : List ℕ) (net : Network) (settled : List SettledRouter) → IsPreparedByPieces text net settled

@@ -11,4 +11,5 @@ pub mod WaveFileLaws
 pub mod Reading
 pub mod Endings
 pub mod ScriptFacts
+pub mod ScriptComments
 pub mod TextFacts

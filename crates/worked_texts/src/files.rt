@@ -83,7 +83,15 @@ fn real_files_give_more_than_16_mib(rt: HostRuntime) -> Result<(), Fail> {
     text.push(b'y')?;
     fs::write(&rt, name, text.as_slice())?;
     let mut files = RealFiles::new(&rt, alloc);
-    assert!(rt; gives(&mut files, alloc, name, 16_777_217, Some(&text[..16_777_217]))?);
+    assert!(rt;
+        gives(
+            &mut files,
+            alloc,
+            name,
+            16_777_217,
+            Some(&text[..16_777_217])
+        )?
+    );
     assert!(rt; gives(&mut files, alloc, name, 16_777_219, Some(text.as_slice()))?);
     fs::remove_file(&rt, name)?;
     Ok(())
