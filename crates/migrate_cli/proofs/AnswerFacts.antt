@@ -1,8 +1,11 @@
 -- Which answer each step of a call gives.
-use Rattle.std.proofs.Common.{◌≡◌, ◌≢◌, ◌⊎◌, inl, inr, ℕ, List, [], ◌++◌, Result, Ok, Err, IfOk, refl, sym, subst, append-nil}
+use Rattle.std.proofs.Common.{◌≡◌, ◌≢◌, ◌⊎◌, inl, inr, ℕ, List, [], ◌++◌, Result, Ok, Err, IfOk, OnOk, refl, sym, subst, append-nil}
 use Rattle.std.specs.declared.alloc.AllocError.{AllocError}
 use Rattle.net_model.specs.declared.refusal.NetRefusal.{NetRefusal}
-use Rattle.net_model.specs.declared.refusal.NetRefusal.TheVariants.{Limit as NetLimit}
+use Rattle.net_model.specs.declared.refusal.NetRefusal.TheVariants.{Limit as NetLimit, OutOfMemory as NoNetMemory}
+use Rattle.isis_writer.specs.ReadTexts.{ReadsTexts}
+use Rattle.net_model.specs.Configuration.{Configuration}
+use Rattle.net_model.specs.Refusals.{Refuses}
 use Rattle.migrate_words.specs.Refusals.{IsRefusal}
 use Rattle.migrate_words.specs.declared.command.Command.{Command}
 use Rattle.migrate_words.specs.declared.refusal.WordsRefused.{WordsRefused}
@@ -10,7 +13,7 @@ use Rattle.migrate_words.specs.declared.refusal.WordsRefused.TheVariants.{Words 
 use Rattle.migration_report.specs.Outcomes.{HasText, network_status, status_of}
 use Rattle.migration_report.specs.declared.outcome.Outcome.{Outcome}
 use Rattle.migration_report.specs.declared.outcome.Outcome.TheVariants.{Refused}
-use Rattle.migration_report.specs.declared.refusal.Refusal.TheVariants.{Read, Length}
+use Rattle.migration_report.specs.declared.refusal.Refusal.TheVariants.{Read, Length, Network as NoNetwork}
 use Rattle.migration_report.specs.declared.status.Status.TheVariants.{ReadFault, WriteFault}
 use Rattle.store_edge.specs.Files.{ReadsSoFar}
 use Rattle.migrate_cli.specs.Answers.{AsksForFew, IsAnswer, MayAsk, MayFail, ReadsAgree}
@@ -155,11 +158,11 @@ answer_has_text (long_file _ _ _ _ _ _ _) = tt
 answer_has_text (long_files _ _ _ _ _ _ _ _) = tt
 
 -- where no read failed the reads agree with an outcome of texts
-pub reads_end : {command : Command} {texts : GivenTexts} (r : Result Outcome AllocError) (before after : ReadsSoFar) → NoneFailed before after →
+pub reads_end : (command : Command) (texts : GivenTexts) (r : Result Outcome AllocError) (before after : ReadsSoFar) → NoneFailed before after →
     IfOk r (IsOutcome command texts) → ReadsEnd r before after
-reads_end (Ok outcome) before after none is =
+reads_end command texts (Ok outcome) before after none is =
     record { read_fault = λ e. absurd ((outcome_no_fault is).0 e); unless_read_fault = λ _. none }
-reads_end (Err e) before after none is = none_failed none
+reads_end command texts (Err e) before after none is = none_failed none
 
 -- and with why reading stopped
 reads_stop : (stop : Stop) (outcome : Outcome) (before after : ReadsSoFar) → StopReads stop before after → StopsSo stop outcome →
@@ -204,3 +207,11 @@ unread_outcome command texts (Bad file line kind) (Ok outcome) is so =
     subst (IsOutcome command texts) (sym so) (faulty_configuration file.now line kind is)
 unread_outcome command texts NoMemoryToRead (Ok outcome) is so = absurd so
 unread_outcome command texts unread (Err e) is so = tt
+
+-- that configurations make no network is the outcome
+pub refused_network : (command : Command) (texts : GivenTexts) (all : List Configuration) (refusal : NetRefusal) (r : Result Outcome AllocError) →
+    ReadsTexts texts.configs all → Refuses refusal all → OnOk r (refusal ≢ NoNetMemory) → IfOk r (λ outcome. outcome ≡ Refused (NoNetwork refusal)) →
+    IfOk r (IsOutcome command texts)
+refused_network command texts all refusal (Ok outcome) read refuses told so =
+    subst (IsOutcome command texts) (sym so) (no_network all refusal read refuses told)
+refused_network command texts all refusal (Err e) read refuses told so = tt

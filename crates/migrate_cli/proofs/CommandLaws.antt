@@ -48,11 +48,11 @@ one_decision Replay input {e = e} ascending one other =
     (subst (λ (file : NamedText). IsReplayDecision other.0 (journal_of file.text input.net) e) (sym journal) other.3))
 one_decision Sample input ascending one other = one_sample_decision one other
 
-pub decision_tellable : (kind : CommandKind) (input : Input) {d : Decision} → IsDecision kind input d → IsTellable input.net d
-decision_tellable Check input is = check_tellable is.2
-decision_tellable Prepare input is = prepare_tellable is.2
-decision_tellable Plan input is = plan_decision_tellable is
-decision_tellable Refute input is = tree_tellable is.2
-decision_tellable Scripts input is = scripts_tellable is.0 input.net is.2
-decision_tellable Replay input is = replay_tellable is.3
-decision_tellable Sample input is = sample_tellable is
+pub decision_tellable : (kind : CommandKind) (input : Input) (d : Decision) → IsDecision kind input d → IsTellable input.net d
+decision_tellable Check input d is = check_tellable is.2
+decision_tellable Prepare input d is = prepare_tellable is.2
+decision_tellable Plan input d is = plan_decision_tellable is
+decision_tellable Refute input d is = tree_tellable is.2
+decision_tellable Scripts input d is = scripts_tellable is.0 input.net is.2
+decision_tellable Replay input d is = replay_tellable is.3
+decision_tellable Sample input d is = sample_tellable is

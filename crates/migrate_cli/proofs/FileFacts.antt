@@ -1,12 +1,16 @@
 -- The files of a command, and their texts.
-use Rattle.std.proofs.Common.{◌≡◌, ◌∙◌, ℕ, ◌+◌, ◌<◌, ◌≤◌, List, [], ◌∷◌, ◌++◌, length, map, take, drop, All, lit≤, refl, sym, ap, subst, arith}
+use Rattle.std.proofs.Common.{◌≡◌, ◌∙◌, ℕ, ◌+◌, ◌<◌, ◌≤◌, List, [], ◌∷◌, ◌++◌, length, map, take, drop, All, codes, lit≤, refl, sym, ap, subst, arith}
 use Rattle.std.proofs.lemmas.List.{length-map, get_or-map}
 use Rattle.std.proofs.lemmas.List.Elements.{All-cons, All-append}
+use Rattle.sample_network.specs.SampleTexts.{sample_text}
+use Rattle.migrate_words.specs.Asked.{IsInRange, IsNumberInRange}
+use Rattle.migrate_words.specs.Usages.{usage_of}
+use Rattle.migrate_words.specs.declared.command.TheConstants.{LEAST_SAMPLE, MOST_SAMPLE}
 use Rattle.migrate_words.specs.declared.command.Command.{Command}
 use Rattle.migrate_words.specs.declared.command.CommandKind.{CommandKind}
 use Rattle.migrate_words.specs.declared.command.CommandKind.TheVariants.{Prepare, Sample}
 use Rattle.migrate_cli.specs.Reading.{File, AreShort}
-use Rattle.migrate_cli.specs.CommandFiles.{config_file, config_texts, files_of, made_texts, names_for, own_file, own_files, own_most, own_texts, text_names}
+use Rattle.migrate_cli.specs.CommandFiles.{config_file, config_texts, files_of, given_texts, made_texts, names_for, own_file, own_files, own_most, own_texts, text_names}
 use Rattle.migrate_cli.specs.steps.FilesRead.{ReadsFiles}
 
 -- the file is none that may be longer than 16 MiB
@@ -20,7 +24,7 @@ small_configs : (names : List (List ℕ)) → All IsSmall (map config_file names
 small_configs [] = no_files
 small_configs (n ∷ names) = All-cons IsSmall (config_file n) (map config_file names) (lit≤ tt) (small_configs names)
 
-most_small : (kind : CommandKind) → own_most kind ≤ 16777216
+pub most_small : (kind : CommandKind) → own_most kind ≤ 16777216
 most_small Prepare = lit≤ tt
 most_small _ = lit≤ tt
 
@@ -124,3 +128,27 @@ module _ (command : Command) (texts : List (List ℕ)) (reads : ReadsFiles comma
         configs_short =
             subst (All (λ (text : List ℕ). length text ≤ 16777216)) (sym configs_are) (short_configs names (config_texts command texts) behind);
       }
+
+-- ---- `sample` names no file ----
+
+none_of : (names : List (List ℕ)) → length names ≡ 0 → names ≡ []
+none_of [] none = refl
+none_of (n ∷ names) none = absurd (omega (arith, none))
+
+module _ (command : Command) (is : command.kind ≡ Sample) (range : IsInRange command) where
+  pub sample_number : (LEAST_SAMPLE ≤ command.number) × (command.number ≤ MOST_SAMPLE)
+  sample_number = subst (λ (kind : CommandKind). IsNumberInRange (usage_of kind).number command.number) is range.number
+
+  pub sample_own : command.own ≡ []
+  sample_own = none_of command.own (subst (λ (kind : CommandKind). length command.own ≡ length (usage_of kind).own) is range.own)
+
+  pub sample_names : text_names command ≡ codes "sample" ∷ []
+  sample_names = ap (λ (kind : CommandKind). names_for kind command.configs) is
+
+  pub sample_texts : (texts : List (List ℕ)) →
+      given_texts [] (sample_text command.number ∷ []) ≡ given_texts (own_texts command texts) (config_texts command texts)
+  sample_texts texts =
+      let own : [] ≡ own_texts command texts = ap (λ (names : List (List ℕ)). take (length names) texts) (sym sample_own) in
+      let made : sample_text command.number ∷ [] ≡ config_texts command texts =
+      ap (λ (kind : CommandKind). made_texts kind command.number (drop (length command.own) texts)) (sym is) in
+      λ i. given_texts (own i) (made i)

@@ -17,6 +17,7 @@ mod SampleFacts
 mod RefuteLaws
 mod ReplayLaws
 mod ScriptsLaws
+mod CommandFacts
 mod CommandLaws
 mod TextLaws
 mod OutcomeLaws

@@ -10,19 +10,14 @@ use Rattle.migrate_words.specs.Asked.{AreConfigsInRange, IsInRange}
 use Rattle.migrate_words.specs.Usages.{usage_of}
 use Rattle.migrate_words.specs.declared.command.Command.{Command}
 use Rattle.migrate_words.specs.declared.command.CommandKind.{CommandKind}
-use Rattle.migrate_words.specs.declared.command.CommandKind.TheVariants.{Check, Prepare, Plan, Refute, Scripts, Replay, Sample}
+use Rattle.migrate_words.specs.declared.command.CommandKind.TheVariants.{Sample}
 use Rattle.migrate_cli.specs.CommandFiles.{names_for, text_names}
 use Rattle.isis_writer.specs.ReadTexts.{ReadsTexts}
 
 -- a command has a text of configurations
 names_some : (kind : CommandKind) (configs : List (List ℕ)) → AreConfigsInRange (usage_of kind).configs configs → 0 < length (names_for kind configs)
-names_some Check configs range = range
-names_some Prepare configs range = range
-names_some Plan configs range = range
-names_some Refute configs range = range
-names_some Scripts configs range = range
-names_some Replay configs range = range
 names_some Sample configs range = omega arith
+names_some _ configs range = range
 
 -- which has a configuration
 configs_some : (texts : List (List ℕ)) (configs : List Configuration) → 0 < length texts → ReadsTexts texts configs → 0 < length configs

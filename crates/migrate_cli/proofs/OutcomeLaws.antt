@@ -86,7 +86,7 @@ module _ (command : Command) (texts : GivenTexts) where
   outcome_has_text (faulty_configuration _ _ _ _) = tt
   outcome_has_text (no_network _ _ _ _ told) = told
   outcome_has_text (off_start _ _ _ _ _ _ _) = tt
-  outcome_has_text (decided net decision _ _ is) = decision_tellable command.kind (input_of command texts net) is
+  outcome_has_text (decided net decision _ _ is) = decision_tellable command.kind (input_of command texts net) decision is
 
 -- the texts of a command come to one outcome
 pub one_outcome_law : (command : Command) (own configs : List (List ℕ)) (one other : Outcome) → IsOutcome command (given_texts own configs) one →

@@ -202,9 +202,9 @@ asked_more files file old now new now_is asks =
     ∙ ap (λ more. old ++ (file_names files ++ more)) asks.asks_for ∙ ap (λ more. old ++ more) (sym (file_names-more files file))
 
 -- what holds of the reads since a moment holds since an earlier one after which none failed
-pub stop_reads : (stop : Stop) (first then' last : ReadsSoFar) → then'.faults ≡ first.faults → then'.failed_at ≡ first.failed_at →
-    StopReads stop then' last → StopReads stop first last
-stop_reads (Fault name) first then' last same since failed = record { one = failed.one ∙ ap (λ n. n + 1) same; last = failed.last }
-stop_reads (Long name) first then' last same since none = record { none = none.none ∙ same; none_since = none.none_since ∙ since }
-stop_reads (Total number) first then' last same since none = record { none = none.none ∙ same; none_since = none.none_since ∙ since }
-stop_reads OutOfMemory first then' last same since none = record { none = none.none ∙ same; none_since = none.none_since ∙ since }
+pub stop_reads : (stop : Stop) (first then' latest : ReadsSoFar) → then'.faults ≡ first.faults → then'.failed_at ≡ first.failed_at →
+    StopReads stop then' latest → StopReads stop first latest
+stop_reads (Fault name) first then' latest same since failed = record { one = failed.one ∙ ap (λ n. n + 1) same; last = failed.last }
+stop_reads (Long name) first then' latest same since none = record { none = none.none ∙ same; none_since = none.none_since ∙ since }
+stop_reads (Total number) first then' latest same since none = record { none = none.none ∙ same; none_since = none.none_since ∙ since }
+stop_reads OutOfMemory first then' latest same since none = record { none = none.none ∙ same; none_since = none.none_since ∙ since }

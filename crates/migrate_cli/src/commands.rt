@@ -1,8 +1,8 @@
-ghost use Rattle.std.specs.Prelude.{◌≡◌, ◌≤◌, ◌<◌, ◌↔◌, ◌∷◌, [], All, IfOk, IsTrue, length};
+ghost use Rattle.std.specs.Prelude.{◌≡◌, ◌≤◌, ◌<◌, ◌↔◌, [], All, IfOk, IsTrue, length, slice_index_or};
 ghost use Rattle.migrate_words.specs.Asked.{IsInRange};
 ghost use Rattle.migrate_cli.specs.CommandFiles.{NeedsStart, given_texts, own_files};
 ghost use Rattle.migrate_cli.specs.Decisions.{IsDecision, input_of};
-ghost use Rattle.migrate_cli.specs.Reading.{AreShort, named_text, named_texts};
+ghost use Rattle.migrate_cli.specs.Reading.{AreShort};
 
 use crate::OutOfMemory;
 use crate::check::judge_check;
@@ -40,14 +40,36 @@ pub(crate) fn judge_command(
     requires configs { All (λ text. length text ≤ FILE_MOST) configs.now }
     ensures { IfOk result (IsDecision command.now.kind (input_of command.now (given_texts own.now configs.now) net.now)) }
 {
-    let names = command.own.as_slice();
     match command.kind {
-        CommandKind::Check => judge_check(alloc, names[0], &own[0], net),
-        CommandKind::Prepare => judge_prepare(alloc, names[0], &own[0], configs, net),
+        CommandKind::Check => {
+            let (file, order) = first_own(command, own);
+            judge_check(alloc, file, order, net)
+        }
+        CommandKind::Prepare => {
+            let (file, design) = first_own(command, own);
+            judge_prepare(alloc, file, design, configs, net)
+        }
         CommandKind::Plan => judge_plan(alloc, command.number, net),
         CommandKind::Refute => judge_refute(alloc, &own[0], net),
-        CommandKind::Scripts => judge_scripts(alloc, names[0], &own[0], net),
-        CommandKind::Replay => judge_replay(alloc, names[0], &own[0], &own[1], net),
+        CommandKind::Scripts => {
+            let (file, order) = first_own(command, own);
+            judge_scripts(alloc, file, order, net)
+        }
+        CommandKind::Replay => {
+            let journal = &own[1];
+            let (file, order) = first_own(command, own);
+            judge_replay(alloc, file, order, journal, net)
+        }
         CommandKind::Sample => judge_sample(alloc, command.number, net),
     }
+}
+
+/// The first file of a command's own: its name and its text.
+fn first_own<'a, 'b>(command: &Command<'a>, own: &'b [Bytes]) -> (&'a str, &'b Bytes)
+    requires some { 0 < length command.now.own }
+    requires texts { 0 < length own.now }
+    ensures name { result.0.now ≡ slice_index_or command.now.own 0 [] }
+    ensures text { result.1.now ≡ slice_index_or own.now 0 [] }
+{
+    (command.own.as_slice()[0], &own[0])
 }

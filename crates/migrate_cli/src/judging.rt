@@ -1,4 +1,4 @@
-ghost use Rattle.std.specs.Prelude.{◌≡◌, ◌<◌, ◌≤◌, ◌∷◌, [], All, IfOk, MatchOption, length};
+ghost use Rattle.std.specs.Prelude.{◌≡◌, ◌≢◌, ◌<◌, ◌≤◌, ◌∷◌, [], All, IfOk, MatchOption, OnOk, length};
 ghost use Rattle.net_model.specs.OffStarts.{IsLowestOffStart};
 ghost use Rattle.sample_network.specs.SampleTexts.{sample_text};
 ghost use Rattle.migrate_words.specs.Asked.{IsInRange};
@@ -77,8 +77,18 @@ fn judge_texts(
     };
     match Net::build(alloc, configs) {
         Ok(net) => judge_network(alloc, command, own, texts, net),
-        Err(NetRefusal::OutOfMemory) => Err(AllocError),
-        Err(refusal) => {
+        Err(refusal) => refuse_network(refusal),
+    }
+}
+
+/// What a call comes to whose configurations make no network.
+fn refuse_network(refusal: NetRefusal) -> Result<Outcome, OutOfMemory>
+    ensures told { OnOk result (refusal ≢ NetRefusal.OutOfMemory) }
+    ensures outcome { IfOk result (λ outcome. outcome ≡ Outcome.Refused (Refusal.Network refusal)) }
+{
+    match refusal {
+        NetRefusal::OutOfMemory => Err(AllocError),
+        refusal => {
             let refusal = Refusal::Network { refusal };
             Ok(Outcome::Refused { refusal })
         }

@@ -38,11 +38,41 @@ fn sum_up(
     requires planned { IsPlanned (ospf_to_isis net.now) USUAL_BUDGET planned }
     ensures { IfOk result (IsSampleDecision routers net.now) }
 {
-    let (waves, trail) = match planned {
-        Planned::Searched {
-            found: Found::Waves { waves, trail, .. },
-        } => (waves, trail),
-        planned => return Ok(Decision::Plan { planned }),
+    match planned {
+        Planned::Searched { found } => sum_up_found(alloc, routers, net, found),
+        Planned::UnsoundOld { fault } => Ok(Decision::Plan {
+            planned: Planned::UnsoundOld { fault },
+        }),
+        Planned::UnsoundNew { fault } => Ok(Decision::Plan {
+            planned: Planned::UnsoundNew { fault },
+        }),
+    }
+}
+
+/// What is decided where this was found between sound ends.
+fn sum_up_found(
+    alloc: Global,
+    routers: u32,
+    net: &Net,
+    found: Found,
+) -> Result<Decision, OutOfMemory>
+    requires some { 0 < length net.now }
+    requires network { IsNetwork net.now }
+    requires planned { IsPlanned (ospf_to_isis net.now) USUAL_BUDGET (Planned.Searched found) }
+    ensures { IfOk result (IsSampleDecision routers net.now) }
+{
+    let (waves, trail) = match found {
+        Found::Waves { waves, trail, .. } => (waves, trail),
+        Found::Refuted { tree } => {
+            let found = Found::Refuted { tree };
+            let planned = Planned::Searched { found };
+            return Ok(Decision::Plan { planned });
+        }
+        Found::Spent { tree } => {
+            let found = Found::Spent { tree };
+            let planned = Planned::Searched { found };
+            return Ok(Decision::Plan { planned });
+        }
     };
     let prefixes = count_originated(alloc, net)?;
     let branches = count_branches(&trail);

@@ -22,7 +22,7 @@ returns c = λ net mixes.
     let state = c.in-Some.state in
     let told = told_fault c.in-Some.fault c.order_fault.new.self.ring in
     let first = subst (λ m. IsFirstFault (migration_of table_at table_at m) order state told) c.in_ok-finder.ensures.mixture c.in-Some.ensures.fault in
-    let whole = c.in_ok-fault.fault in
+    let whole = c.in_ok-fault-in-Some.fault in
     let fault = subst (IsFirstFault (ospf_to_isis net) order state)
-    (sym (c.in_ok-fault.ensures ∙ ap (told_fault c.in-Some.fault) c.ring.ensures)) (first_fault net c.args.mixed.now mixes order state told first) in
+    (sym (c.in_ok-fault-in-Some.ensures ∙ ap (told_fault c.in-Some.fault) c.ring.ensures)) (first_fault net c.args.mixed.now mixes order state told first) in
     unsafe state whole (λ seamless. faulty_not_seamless fault seamless) fault

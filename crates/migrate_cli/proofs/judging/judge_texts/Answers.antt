@@ -6,8 +6,7 @@ use Rattle.migrate_cli.specs.CommandFiles.{given_texts}
 use Rattle.migrate_cli.specs.Configurations.{GiveNetwork}
 use Rattle.migrate_cli.specs.steps.Unread.{IsUnread}
 use Rattle.migrate_cli.specs.Outcomes.{IsOutcome}
-use Rattle.migrate_cli.specs.Outcomes.IsOutcome.{no_network}
-use Rattle.migrate_cli.proofs.AnswerFacts.{unread_outcome}
+use Rattle.migrate_cli.proofs.AnswerFacts.{refused_network, unread_outcome}
 use Rattle.migrate_cli.proofs.NetworkFacts.{net_has_router}
 use Rattle.migrate_cli.proofs.judging.judge_texts.Goals as goal
 
@@ -37,3 +36,8 @@ returns-in-Ok-build c =
     let gives : GiveNetwork texts net = record { configs = c.in-Ok.configs; read = c.in-Ok.ensures.ok; make = c.in-Ok-build.ensures.ok } in
     IfOk-weaker c.judge_network.result (λ outcome. GiveNetwork texts net → IsOutcome command (given_texts own texts) outcome)
     (IsOutcome command (given_texts own texts)) (λ outcome is. is gives) c.judge_network.ensures
+
+pub returns-in-Err-build : goal.returns-in-Err-build
+returns-in-Err-build c =
+    refused_network c.args.command.now (given_texts c.args.own.now c.args.texts.now) c.in-Ok.configs c.in-Err-build.refusal c.refuse_network.result
+    c.in-Ok.ensures.ok c.in-Err-build.ensures.err c.refuse_network.ensures.told c.refuse_network.ensures.outcome

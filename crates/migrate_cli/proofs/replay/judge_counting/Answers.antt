@@ -5,8 +5,8 @@ use Rattle.migrate_cli.specs.ReplayDecision.{AreNext}
 use Rattle.migrate_cli.specs.ReplayDecision.IsJournalDecision.{reached, departs}
 use Rattle.migrate_cli.proofs.replay.judge_counting.Goals as goal
 
-pub returns-in-Reached : goal.returns-in-Reached
-returns-in-Reached c =
+pub returns-in_ok-nexts-in-Reached : goal.returns-in_ok-nexts-in-Reached
+returns-in_ok-nexts-in-Reached c =
     let net = c.args.net.now in
     let ranks = c.args.ranks.now in
     let done = c.replay.new.done in

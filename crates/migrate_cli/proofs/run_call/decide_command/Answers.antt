@@ -65,7 +65,7 @@ returns-in-Ok-read_texts-clause-answer g c = λ words asks.
     (subst (MayAsk call) (sym has.reads.0) (may_ask_all call command texts ask read within))
 
 pub returns-in-Ok-read_texts-clause-reads : goal.returns-in-Ok-read_texts-clause-reads
-returns-in-Ok-read_texts-clause-reads g c = reads_end c.judge.result _ _ c.in-Ok-read_texts.ensures.failed c.judge.ensures
+returns-in-Ok-read_texts-clause-reads g c = reads_end _ _ c.judge.result _ _ c.in-Ok-read_texts.ensures.failed c.judge.ensures
 
 pub returns-clause-answer : goal.returns-clause-answer
 returns-clause-answer g c = λ words asks.
