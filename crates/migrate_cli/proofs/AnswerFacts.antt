@@ -1,159 +1,217 @@
 -- Which answer each step of a call gives.
-use Rattle.std.proofs.Common.{◌≡◌, ◌≢◌, ◌⊎◌, inl, inr, ℕ, List, [], ◌++◌, Result, Ok, Err, IfOk, Some, refl, sym, subst, append-nil}
-use Rattle.std.proofs.lemmas.Option.{same_Some}
+use Rattle.std.proofs.Common.{◌≡◌, ◌≢◌, ◌⊎◌, inl, inr, ℕ, List, [], ◌++◌, Result, Ok, Err, IfOk, OnOk, refl, sym, subst, append-nil}
 use Rattle.std.specs.declared.alloc.AllocError.{AllocError}
 use Rattle.net_model.specs.declared.refusal.NetRefusal.{NetRefusal}
-use Rattle.net_model.specs.declared.refusal.NetRefusal.TheVariants.{Limit as NetLimit, OutOfMemory as NoMemory}
+use Rattle.net_model.specs.declared.refusal.NetRefusal.TheVariants.{Limit as NetLimit, OutOfMemory as NoNetMemory}
+use Rattle.isis_writer.specs.ReadTexts.{ReadsTexts}
+use Rattle.net_model.specs.Configuration.{Configuration}
+use Rattle.net_model.specs.Refusals.{Refuses}
 use Rattle.migrate_words.specs.Refusals.{IsRefusal}
-use Rattle.migrate_words.specs.Requests.{Request}
+use Rattle.migrate_words.specs.declared.command.Command.{Command}
 use Rattle.migrate_words.specs.declared.refusal.WordsRefused.{WordsRefused}
 use Rattle.migrate_words.specs.declared.refusal.WordsRefused.TheVariants.{Words as NotTaken, Number, OutOfMemory as NoMemoryForWords}
-use Rattle.migration_report.specs.Texts.{long_file_text, read_fault_text}
-use Rattle.migrate_cli.specs.RefusalStatus.{refusal_status}
-use Rattle.migrate_cli.specs.Answers.{AsksForFew, IsAnswer, MayAsk, FaultsAgree}
-use Rattle.migrate_cli.specs.steps.Answering.{RefusalAnswer, StopAnswer, HasAnswer}
-use Rattle.migrate_cli.specs.Answers.IsAnswer.{refused_words, read_fault, long_file, long_files, judged}
+use Rattle.migration_report.specs.Outcomes.{HasText, network_status, status_of}
+use Rattle.migration_report.specs.declared.outcome.Outcome.{Outcome}
+use Rattle.migration_report.specs.declared.outcome.Outcome.TheVariants.{Refused}
+use Rattle.migration_report.specs.declared.refusal.Refusal.TheVariants.{Read, Length, Network as NoNetwork}
+use Rattle.migration_report.specs.declared.status.Status.TheVariants.{ReadFault, WriteFault}
+use Rattle.store_edge.specs.Files.{ReadsSoFar}
+use Rattle.migrate_cli.specs.Answers.{AsksForFew, IsAnswer, MayAsk, MayFail, ReadsAgree}
+use Rattle.migrate_cli.specs.Answers.IsAnswer.{refused_words, many_files, read_fault, long_file, long_files, judged}
 use Rattle.migrate_cli.specs.Answers.MayAsk.{asks_none, asks_some}
+use Rattle.migrate_cli.specs.Answers.MayFail.{last_failed, none_failed}
 use Rattle.migrate_cli.specs.Calls.{Call}
 use Rattle.migrate_cli.specs.CallWords.AreRefused.{not_taken, number_off}
-use Rattle.migrate_cli.specs.CommandFiles.{files_of, text_names, given_texts}
-use Rattle.migrate_cli.specs.Reading.{AreRead, AreWithin, file_names, to_read}
-use Rattle.migrate_cli.specs.steps.Stops.{MayRead, HasRead}
-use Rattle.migrate_cli.specs.steps.Stops.MayRead.{none_yet, so_far}
-use Rattle.migrate_cli.specs.steps.Unread.{IsUnread, UnreadAnswer}
-use Rattle.migrate_cli.specs.Verdicts.{IsVerdict}
+use Rattle.migrate_cli.specs.CommandFiles.{GivenTexts, config_texts, files_of, given_texts, own_texts, text_names}
+use Rattle.migrate_cli.specs.Outcomes.{IsOutcome}
+use Rattle.migrate_cli.specs.Outcomes.IsOutcome.{faulty_configuration, no_network, off_start, decided}
+use Rattle.migrate_cli.specs.Reading.{AreRead, AreWithin, NoneFailed, file_names, to_read}
 use Rattle.migrate_cli.specs.declared.configurations.Unread.{Unread}
 use Rattle.migrate_cli.specs.declared.configurations.Unread.TheVariants.{Bad, OutOfMemory as NoMemoryToRead}
-use Rattle.migrate_cli.specs.Verdicts.IsVerdict.{faulty_configuration, no_network, off_start, of_command}
-use Rattle.migrate_cli.specs.declared.answer.Answer.{Answer}
 use Rattle.migrate_cli.specs.declared.reading.Stop.{Stop}
 use Rattle.migrate_cli.specs.declared.reading.Stop.TheVariants.{Fault, Long, Total, OutOfMemory}
-use Rattle.migrate_cli.specs.declared.status.Status.{Status}
-use Rattle.migrate_cli.specs.declared.status.Status.TheVariants.{Words, ReadFault, WriteFault, Limit, Refused}
-use Rattle.migrate_cli.proofs.CommandLaws.{command_no_fault}
-use Rattle.migrate_cli.proofs.SameAnswers.{NoFault}
+use Rattle.migrate_cli.specs.steps.Answering.{HasAnswer, ReadsEnd, RefusesSo, StopsSo}
+use Rattle.migrate_cli.specs.steps.Stops.{MayRead, HasRead, StopReads}
+use Rattle.migrate_cli.specs.steps.Stops.MayRead.{none_yet, so_far}
+use Rattle.migrate_cli.specs.steps.Unread.{IsUnread, RefusesUnread}
+use Rattle.migrate_cli.proofs.OutcomeLaws.{outcome_has_text}
+use Rattle.migrate_cli.proofs.StatusFacts.{NoFault, decision_no_fault, limit_no_fault, refused_no_fault}
 use Rattle.migrate_cli.proofs.StopFacts.{read_so_far}
 
--- what is said of a status and a text holds of the answer that has them
-pub from_refusal : {E : Type 0} (r : Result Answer E) (status : Status) (text : List ℕ) (Q : Status → List ℕ → Type 0)
-    → IfOk r (λ (a : Answer). a.status ≡ status) → IfOk r (λ (a : Answer). a.text ≡ text) → Q status text → IfOk r (λ (a : Answer). Q a.status a.text)
-from_refusal (Ok a) status text Q same_status same_text holds = subst (λ s. Q s a.text) (sym same_status) (subst (Q status) (sym same_text) holds)
-from_refusal (Err e) status text Q same_status same_text holds = tt
+-- what holds of a value holds of a result that has it
+pub from_equal : {T E : Type 0} (r : Result T E) (value : T) (P : T → Type 0) → IfOk r (λ t. t ≡ value) → P value → IfOk r P
+from_equal (Ok t) value P same holds = subst P (sym same) holds
+from_equal (Err e) value P same holds = tt
 
 -- an answer after these names were asked for
-pub answered : (call : Call) (before after asked : List (List ℕ)) (r : Result Answer AllocError) → after ≡ before ++ asked
-    → IfOk r (λ (a : Answer). IsAnswer call asked a.status a.text) → MayAsk call asked → HasAnswer call before after r
-answered call before after asked (Ok a) asked_is answer may_ask = record { asked = asked; asked_is = asked_is; answers = answer }
+pub answered : (call : Call) (before after asked : List (List ℕ)) (r : Result Outcome AllocError) → after ≡ before ++ asked
+    → IfOk r (IsAnswer call asked) → MayAsk call asked → HasAnswer call before after r
+answered call before after asked (Ok outcome) asked_is answer may_ask = record { asked = asked; asked_is = asked_is; answers = answer }
 answered call before after asked (Err e) asked_is answer may_ask = record { asked = asked; asked_is = asked_is; answers = may_ask }
 
 -- an answer for which no name was asked for
-pub answered_at_once : (call : Call) (before : List (List ℕ)) (r : Result Answer AllocError) → IfOk r (λ (a : Answer). IsAnswer call [] a.status a.text)
+pub answered_at_once : (call : Call) (before : List (List ℕ)) (r : Result Outcome AllocError) → IfOk r (IsAnswer call [])
     → HasAnswer call before before r
 answered_at_once call before r answer = answered call before before [] r (sym (append-nil before)) answer asks_none
 
--- the answer to words that are refused
-words_refused_so : (call : Call) (refused : WordsRefused) (status : Status) (text : List ℕ) → IsRefusal call.words refused → RefusalAnswer refused status text
-    → IsAnswer call [] status text
-words_refused_so call (NotTaken detail) status text is answer =
-    subst (λ s. IsAnswer call [] s text) (sym answer.0) (refused_words text (not_taken text is answer.1))
-words_refused_so call Number status text is answer =
-    subst (λ s. IsAnswer call [] s text) (sym answer.0) (subst (IsAnswer call [] Words) (sym answer.1) (refused_words _ (number_off is.1)))
-words_refused_so call NoMemoryForWords status text is answer = absurd answer
+-- what words come to that are refused
+words_refused_so : (call : Call) (refused : WordsRefused) (outcome : Outcome) → IsRefusal call.words refused → RefusesSo refused outcome
+    → IsAnswer call [] outcome
+words_refused_so call (NotTaken detail) outcome is so = subst (IsAnswer call []) (sym so) (refused_words _ (not_taken _ is))
+words_refused_so call Number outcome is so = subst (IsAnswer call []) (sym so) (refused_words [] (number_off is.1))
+words_refused_so call NoMemoryForWords outcome is so = absurd so
 
-pub refusal_answer : (call : Call) (before : List (List ℕ)) (refused : WordsRefused) (r : Result Answer AllocError) → IsRefusal call.words refused
-    → IfOk r (λ (a : Answer). RefusalAnswer refused a.status a.text) → HasAnswer call before before r
-refusal_answer call before refused (Ok a) is answer = answered_at_once call before (Ok a) (words_refused_so call refused a.status a.text is answer)
-refusal_answer call before refused (Err e) is answer = answered_at_once call before (Err e) tt
+pub refusal_answer : (call : Call) (before : List (List ℕ)) (refused : WordsRefused) (r : Result Outcome AllocError) → IsRefusal call.words refused
+    → IfOk r (RefusesSo refused) → HasAnswer call before before r
+refusal_answer call before refused (Ok outcome) is so = answered_at_once call before (Ok outcome) (words_refused_so call refused outcome is so)
+refusal_answer call before refused (Err e) is so = answered_at_once call before (Err e) tt
 
 -- where memory may run out in reading, the call may have asked for those names
-may_ask : {call : Call} {asked : List (List ℕ)} (request : Request) → AsksForFew call.words request → MayRead call.content (files_of request) asked →
+may_ask : {call : Call} {asked : List (List ℕ)} (command : Command) → AsksForFew call.words command → MayRead call.content (files_of command) asked →
     MayAsk call asked
-may_ask request ask none_yet = asks_none
-may_ask request ask (so_far asked texts file up) = asks_some request asked texts file ask up
+may_ask command ask none_yet = asks_none
+may_ask command ask (so_far asked texts file up) = asks_some command asked texts file ask up
 
 -- and for all names where all were read
-pub may_ask_all : (call : Call) (request : Request) (texts : List (List ℕ)) → AsksForFew call.words request
-    → AreRead call.content (files_of request) texts → AreWithin (files_of request) texts → MayAsk call (file_names (files_of request))
-may_ask_all call request texts ask read within =
-    may_ask request ask (read_so_far call.content (files_of request) (files_of request) [] texts (sym (append-nil (files_of request))) read within)
+pub may_ask_all : (call : Call) (command : Command) (texts : List (List ℕ)) → AsksForFew call.words command
+    → AreRead call.content (files_of command) texts → AreWithin (files_of command) texts → MayAsk call (file_names (files_of command))
+may_ask_all call command texts ask read within =
+    may_ask command ask (read_so_far call.content (files_of command) (files_of command) [] texts (sym (append-nil (files_of command))) read within)
+
+-- so it may have that has an answer, where there is no memory to write it
+pub may_have_asked : {call : Call} {asked : List (List ℕ)} {outcome : Outcome} → IsAnswer call asked outcome → MayAsk call asked
+may_have_asked (refused_words _ _) = asks_none
+may_have_asked (many_files _ _ _) = asks_none
+may_have_asked (read_fault command asked texts file ask up) = asks_some command asked texts file ask up
+may_have_asked (long_file command asked texts file ask up _) = asks_some command asked texts file ask up
+may_have_asked (long_files command asked texts file _ ask up _) = asks_some command asked texts file ask up
+may_have_asked {call} (judged command texts _ ask read within _) = may_ask_all call command texts ask read within
 
 -- why reading stopped is the answer
-pub stop_answer : (call : Call) (before after : List (List ℕ)) (request : Request) (stop : Stop) (r : Result Answer AllocError)
-    → AsksForFew call.words request → HasRead (to_read call.content (files_of request)) before after (Err stop)
-    → IfOk r (λ (a : Answer). StopAnswer stop a.status a.text) → HasAnswer call before after r
-stop_answer call before after request (Fault name) (Ok a) ask read answer =
-    let Q : Status → List ℕ → Type 0 = λ s t. IsAnswer call read.asked s t in
-    record {
-      asked = read.asked;
-      asked_is = read.asked_is;
-      answers =
-          subst (λ s. Q s a.text) (sym answer.0) (subst (Q ReadFault) (sym answer.1)
-          (subst (λ n. Q ReadFault (read_fault_text n)) (sym read.reads.stops)
-          (read_fault request read.asked read.reads.texts read.reads.file ask read.reads.up_to)));
-    }
-stop_answer call before after request (Long name) (Ok a) ask read answer =
-    let Q : Status → List ℕ → Type 0 = λ s t. IsAnswer call read.asked s t in
-    record {
-      asked = read.asked;
-      asked_is = read.asked_is;
-      answers =
-          subst (λ s. Q s a.text) (sym answer.0) (subst (Q Limit) (sym answer.1)
-          (subst (λ n. Q Limit (long_file_text n)) (sym read.reads.stops.0)
-          (long_file request read.asked read.reads.texts read.reads.file ask read.reads.up_to read.reads.stops.1)));
-    }
-stop_answer call before after request (Total number) (Ok a) ask read answer =
-    let Q : Status → List ℕ → Type 0 = λ s t. IsAnswer call read.asked s t in
-    record {
-      asked = read.asked;
-      asked_is = read.asked_is;
-      answers =
-          subst (λ s. Q s a.text) (sym answer.0) (subst (Q Limit) (sym answer.1)
-          (long_files request read.asked read.reads.texts read.reads.file number ask read.reads.up_to read.reads.stops));
-    }
-stop_answer call before after request OutOfMemory (Ok a) ask read answer = absurd answer
-stop_answer call before after request OutOfMemory (Err e) ask read answer =
-    record { asked = read.asked; asked_is = read.asked_is; answers = may_ask request ask read.reads }
-stop_answer call before after request stop (Err e) ask read answer = record {
-  asked = read.asked;
-  asked_is = read.asked_is;
-  answers = asks_some request read.asked read.reads.texts read.reads.file ask read.reads.up_to;
-}
+module _ (call : Call) (before after : List (List ℕ)) (command : Command) (ask : AsksForFew call.words command) where
+  stopped_so : (stop : Stop) (outcome : Outcome) (read : HasRead (to_read call.content (files_of command)) before after (Err stop)) →
+      StopsSo stop outcome → IsAnswer call read.asked outcome
+  stopped_so (Fault name) outcome read so =
+      let stops = read.reads.stops in
+      subst (IsAnswer call read.asked) (sym so)
+      (subst (λ n. IsAnswer call read.asked (Refused (Read n))) (sym stops)
+      (read_fault command read.asked read.reads.texts read.reads.file ask read.reads.up_to))
+  stopped_so (Long name) outcome read so =
+      let stops = read.reads.stops in
+      subst (IsAnswer call read.asked) (sym so)
+      (subst (λ n. IsAnswer call read.asked (Refused (Length n))) (sym stops.0)
+      (long_file command read.asked read.reads.texts read.reads.file ask read.reads.up_to stops.1))
+  stopped_so (Total number) outcome read so =
+      subst (IsAnswer call read.asked) (sym so)
+      (long_files command read.asked read.reads.texts read.reads.file number ask read.reads.up_to read.reads.stops)
+  stopped_so OutOfMemory outcome read so = absurd so
 
-refusal_no_fault : (refusal : NetRefusal) (status : Status) → refusal_status refusal ≡ Some status → NoFault status
-refusal_no_fault (NetLimit _ _) status e = subst NoFault (same_Some Limit status e) ((λ f. Prim.cc f), (λ f. Prim.cc f))
-refusal_no_fault NoMemory status e = absurd (Prim.cc e)
-refusal_no_fault _ status e = subst NoFault (same_Some Refused status e) ((λ f. Prim.cc f), (λ f. Prim.cc f))
+  may_stop : (stop : Stop) (read : HasRead (to_read call.content (files_of command)) before after (Err stop)) → MayAsk call read.asked
+  may_stop (Fault name) read = asks_some command read.asked read.reads.texts read.reads.file ask read.reads.up_to
+  may_stop (Long name) read = asks_some command read.asked read.reads.texts read.reads.file ask read.reads.up_to
+  may_stop (Total number) read = asks_some command read.asked read.reads.texts read.reads.file ask read.reads.up_to
+  may_stop OutOfMemory read = may_ask command ask read.reads
 
-pub verdict_no_fault : {request : Request} {own texts : List (List ℕ)} {status : Status} {text : List ℕ}
-    → IsVerdict request (given_texts own texts) status text → NoFault status
-verdict_no_fault (faulty_configuration _ _ _ _) = (λ e. Prim.cc e, λ e. Prim.cc e)
-verdict_no_fault (no_network _ refusal status _ _ given) = refusal_no_fault refusal status given
-verdict_no_fault (off_start _ _ _ _ _ _ _) = (λ e. Prim.cc e, λ e. Prim.cc e)
-verdict_no_fault {request} {own} {texts} (of_command net status text _ _ verdict) =
-    command_no_fault request (record { own = own; configs = texts; net = net }) status text verdict
+  pub stop_answer : (stop : Stop) (r : Result Outcome AllocError) → HasRead (to_read call.content (files_of command)) before after (Err stop) →
+      IfOk r (StopsSo stop) → HasAnswer call before after r
+  stop_answer stop (Ok outcome) read so = answered call before after read.asked (Ok outcome) read.asked_is (stopped_so stop outcome read so) (may_stop stop read)
+  stop_answer stop (Err e) read so = answered call before after read.asked (Err e) read.asked_is tt (may_stop stop read)
+
+-- ---- no outcome of texts is a fault ----
+
+network_no_fault : (refusal : NetRefusal) → NoFault (network_status refusal)
+network_no_fault (NetLimit _ _) = limit_no_fault
+network_no_fault _ = refused_no_fault
+
+pub outcome_no_fault : {command : Command} {texts : GivenTexts} {outcome : Outcome} → IsOutcome command texts outcome → NoFault (status_of outcome)
+outcome_no_fault (faulty_configuration _ _ _ _) = refused_no_fault
+outcome_no_fault (no_network _ refusal _ _ _) = network_no_fault refusal
+outcome_no_fault (off_start _ _ _ _ _ _ _) = refused_no_fault
+outcome_no_fault (decided _ decision _ _ _) = decision_no_fault decision
 
 -- that a write failed is no answer
-pub answer_writes : {call : Call} {asked : List (List ℕ)} {status : Status} {text : List ℕ} → IsAnswer call asked status text → status ≢ WriteFault
-answer_writes (judged _ _ _ _ _ _ _ verdict) = (verdict_no_fault verdict).1
-answer_writes _ = λ e. Prim.cc e
+pub answer_writes : {call : Call} {asked : List (List ℕ)} {outcome : Outcome} → IsAnswer call asked outcome → status_of outcome ≢ WriteFault
+answer_writes (judged _ _ _ _ _ _ is) = (outcome_no_fault is).1
+answer_writes (refused_words _ _) = λ e. Prim.cc e
+answer_writes (many_files _ _ _) = λ e. Prim.cc e
+answer_writes (read_fault _ _ _ _ _ _) = λ e. Prim.cc e
+answer_writes (long_file _ _ _ _ _ _ _) = λ e. Prim.cc e
+answer_writes (long_files _ _ _ _ _ _ _ _) = λ e. Prim.cc e
 
 -- an answer is a read fault, or it isn't
-pub reads_or_not : {call : Call} {asked : List (List ℕ)} {status : Status} {text : List ℕ} → IsAnswer call asked status text
-    → (status ≡ ReadFault) ⊎ (status ≢ ReadFault)
+pub reads_or_not : {call : Call} {asked : List (List ℕ)} {outcome : Outcome} → IsAnswer call asked outcome
+    → (status_of outcome ≡ ReadFault) ⊎ (status_of outcome ≢ ReadFault)
 reads_or_not (read_fault _ _ _ _ _ _) = inl refl
-reads_or_not (judged _ _ _ _ _ _ _ verdict) = inr (verdict_no_fault verdict).0
-reads_or_not _ = inr (λ e. Prim.cc e)
+reads_or_not (judged _ _ _ _ _ _ is) = inr (outcome_no_fault is).0
+reads_or_not (refused_words _ _) = inr (λ e. Prim.cc e)
+reads_or_not (many_files _ _ _) = inr (λ e. Prim.cc e)
+reads_or_not (long_file _ _ _ _ _ _ _) = inr (λ e. Prim.cc e)
+reads_or_not (long_files _ _ _ _ _ _ _ _) = inr (λ e. Prim.cc e)
 
--- where the count of faults stands it agrees with an answer that is no read fault
-pub faults_agree : (status : Status) (before after : ℕ) → status ≢ ReadFault → after ≡ before → FaultsAgree status before after
-faults_agree status before after no_fault stands = record { read_fault = λ e. absurd (no_fault e); unless_read_fault = λ _. stands }
+-- an answer has a text
+pub answer_has_text : {call : Call} {asked : List (List ℕ)} {outcome : Outcome} → IsAnswer call asked outcome → HasText outcome
+answer_has_text (judged command texts _ _ _ _ is) = outcome_has_text command (given_texts (own_texts command texts) (config_texts command texts)) is
+answer_has_text (refused_words _ _) = tt
+answer_has_text (many_files _ _ _) = tt
+answer_has_text (read_fault _ _ _ _ _ _) = tt
+answer_has_text (long_file _ _ _ _ _ _ _) = tt
+answer_has_text (long_files _ _ _ _ _ _ _ _) = tt
 
--- why configurations aren't read is the verdict
-pub unread_verdict : (request : Request) (own texts : List (List ℕ)) (unread : Unread) (r : Result Answer AllocError) →
-    IsUnread (text_names request) texts unread
-    → IfOk r (λ (a : Answer). UnreadAnswer unread a.status a.text) → IfOk r (λ (a : Answer). IsVerdict request (given_texts own texts) a.status a.text)
-unread_verdict request own texts (Bad file line kind) (Ok a) is answer =
-    subst (λ s. IsVerdict request (given_texts own texts) s a.text) (sym answer.0)
-    (subst (IsVerdict request (given_texts own texts) Refused) (sym answer.1) (faulty_configuration file.now line kind is))
-unread_verdict request own texts NoMemoryToRead (Ok a) is answer = absurd answer
-unread_verdict request own texts unread (Err e) is answer = tt
+-- where no read failed the reads agree with an outcome of texts
+pub reads_end : (command : Command) (texts : GivenTexts) (r : Result Outcome AllocError) (before after : ReadsSoFar) → NoneFailed before after →
+    IfOk r (IsOutcome command texts) → ReadsEnd r before after
+reads_end command texts (Ok outcome) before after none is =
+    record { read_fault = λ e. absurd ((outcome_no_fault is).0 e); unless_read_fault = λ _. none }
+reads_end command texts (Err e) before after none is = none_failed none
+
+-- and with why reading stopped
+reads_stop : (stop : Stop) (outcome : Outcome) (before after : ReadsSoFar) → StopReads stop before after → StopsSo stop outcome →
+    ReadsAgree (status_of outcome) before after
+reads_stop (Fault name) outcome before after failed so =
+    subst (λ (o : Outcome). ReadsAgree (status_of o) before after) (sym so)
+    (record { read_fault = λ _. failed; unless_read_fault = λ not. absurd (not refl) })
+reads_stop (Long name) outcome before after none so =
+    subst (λ (o : Outcome). ReadsAgree (status_of o) before after) (sym so)
+    (record { read_fault = λ e. absurd (Prim.cc e); unless_read_fault = λ _. none })
+reads_stop (Total number) outcome before after none so =
+    subst (λ (o : Outcome). ReadsAgree (status_of o) before after) (sym so)
+    (record { read_fault = λ e. absurd (Prim.cc e); unless_read_fault = λ _. none })
+reads_stop OutOfMemory outcome before after none so = absurd so
+
+may_fail : (stop : Stop) (before after : ReadsSoFar) → StopReads stop before after → MayFail before after
+may_fail (Fault name) before after failed = last_failed failed
+may_fail (Long name) before after none = none_failed none
+may_fail (Total number) before after none = none_failed none
+may_fail OutOfMemory before after none = none_failed none
+
+pub stop_reads_end : (stop : Stop) (r : Result Outcome AllocError) (before after : ReadsSoFar) → StopReads stop before after → IfOk r (StopsSo stop) →
+    ReadsEnd r before after
+stop_reads_end stop (Ok outcome) before after reads so = reads_stop stop outcome before after reads so
+stop_reads_end stop (Err e) before after reads so = may_fail stop before after reads
+
+-- an outcome or no memory, where no read was tried
+pub no_reads_end : (r : Result Outcome AllocError) (reads : ReadsSoFar) → IfOk r (λ outcome. status_of outcome ≢ ReadFault) → ReadsEnd r reads reads
+no_reads_end (Ok outcome) reads no_fault =
+    record { read_fault = λ e. absurd (no_fault e); unless_read_fault = λ _. record { none = refl; none_since = refl } }
+no_reads_end (Err e) reads no_fault = none_failed (record { none = refl; none_since = refl })
+
+-- where there is no memory for the text of an answer
+pub agree_may_fail : {call : Call} {asked : List (List ℕ)} {outcome : Outcome} {before after : ReadsSoFar} → IsAnswer call asked outcome →
+    ReadsAgree (status_of outcome) before after → MayFail before after
+agree_may_fail is agree = elim (reads_or_not is) [ | inl fault ↦ last_failed (agree.read_fault fault) | inr none ↦ none_failed (agree.unless_read_fault none) ]
+
+-- why configurations aren't read is the outcome
+pub unread_outcome : (command : Command) (texts : GivenTexts) (unread : Unread) (r : Result Outcome AllocError) →
+    IsUnread (text_names command) texts.configs unread → IfOk r (RefusesUnread unread) → IfOk r (IsOutcome command texts)
+unread_outcome command texts (Bad file line kind) (Ok outcome) is so =
+    subst (IsOutcome command texts) (sym so) (faulty_configuration file.now line kind is)
+unread_outcome command texts NoMemoryToRead (Ok outcome) is so = absurd so
+unread_outcome command texts unread (Err e) is so = tt
+
+-- that configurations make no network is the outcome
+pub refused_network : (command : Command) (texts : GivenTexts) (all : List Configuration) (refusal : NetRefusal) (r : Result Outcome AllocError) →
+    ReadsTexts texts.configs all → Refuses refusal all → OnOk r (refusal ≢ NoNetMemory) → IfOk r (λ outcome. outcome ≡ Refused (NoNetwork refusal)) →
+    IfOk r (IsOutcome command texts)
+refused_network command texts all refusal (Ok outcome) read refuses told so =
+    subst (IsOutcome command texts) (sym so) (no_network all refusal read refuses told)
+refused_network command texts all refusal (Err e) read refuses told so = tt

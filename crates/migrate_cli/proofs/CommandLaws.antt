@@ -1,59 +1,58 @@
--- What a command decides on has one verdict of it.
+-- A command decides one thing of its input, and what it decides has a text.
 use Rattle.std.proofs.Common.{◌≡◌, ◌∙◌, ◌∷◌, [], ℕ, List, sym, subst}
+use Rattle.igp_theory.specs.Migrations.{ospf_to_isis}
 use Rattle.net_model.specs.Refusals.{NamesAscend}
-use Rattle.migrate_words.specs.Requests.{Request, check, prepare, plan, refute, scripts, replay, sample}
-use Rattle.migrate_cli.specs.CheckVerdict.{IsCheckVerdict}
-use Rattle.migrate_cli.specs.PrepareVerdict.{IsPrepareVerdict, configured}
-use Rattle.migrate_cli.specs.RefuteVerdict.{IsRefuteVerdict}
-use Rattle.migrate_cli.specs.ReplayVerdict.{IsReplayVerdict, journal_of}
-use Rattle.migrate_cli.specs.ScriptsVerdict.{IsScriptsVerdict}
-use Rattle.migrate_cli.specs.CommandVerdicts.{Input, IsCommandVerdict}
-use Rattle.migrate_cli.specs.declared.status.Status.{Status}
-use Rattle.migrate_cli.proofs.CheckLaws.{check_no_fault, one_check_verdict}
-use Rattle.migrate_cli.proofs.PrepareLaws.{one_prepare_verdict, prepare_no_fault}
-use Rattle.migrate_cli.proofs.PlanLaws.{one_plan_verdict, plan_no_fault}
-use Rattle.migrate_cli.proofs.RefuteLaws.{one_refute_verdict, refute_no_fault}
-use Rattle.migrate_cli.proofs.ReplayLaws.{one_replay_verdict, replay_no_fault}
-use Rattle.migrate_cli.proofs.SampleLaws.{one_sample_verdict, sample_no_fault}
-use Rattle.migrate_cli.proofs.ScriptsLaws.{one_scripts_verdict, scripts_no_fault}
-use Rattle.migrate_cli.proofs.SameAnswers.{AreSame, NoFault}
-use Rattle.migrate_cli.specs.Reading.{named_text}
+use Rattle.migrate_words.specs.declared.command.CommandKind.{CommandKind}
+use Rattle.migrate_words.specs.declared.command.CommandKind.TheVariants.{Check, Prepare, Plan, Refute, Scripts, Replay, Sample}
+use Rattle.migration_report.specs.Outcomes.{IsTellable}
+use Rattle.migration_report.specs.declared.decision.Decision.{Decision}
+use Rattle.migrate_cli.specs.CheckDecision.{IsCheckDecision}
+use Rattle.migrate_cli.specs.Decisions.{Input, IsDecision}
+use Rattle.migrate_cli.specs.PrepareDecision.{IsPrepareDecision, configured}
+use Rattle.migrate_cli.specs.Reading.{NamedText}
+use Rattle.migrate_cli.specs.RefuteDecision.{IsTreeDecision}
+use Rattle.migrate_cli.specs.ReplayDecision.{IsReplayDecision, journal_of}
+use Rattle.migrate_cli.specs.ScriptsDecision.{IsScriptsDecision}
+use Rattle.migrate_cli.proofs.CheckLaws.{check_tellable, one_check_decision}
+use Rattle.migrate_cli.proofs.PlanLaws.{one_plan_decision, one_sample_decision, plan_decision_tellable, sample_tellable}
+use Rattle.migrate_cli.proofs.PrepareLaws.{one_prepare_decision, prepare_tellable}
+use Rattle.migrate_cli.proofs.RefuteLaws.{one_tree_decision, tree_tellable}
+use Rattle.migrate_cli.proofs.ReplayLaws.{one_replay_decision, replay_tellable}
+use Rattle.migrate_cli.proofs.ScriptsLaws.{one_scripts_decision, scripts_tellable}
 
-pub one_command_verdict : (request : Request) (input : Input) {s z : Status} {t w : List ℕ} → NamesAscend input.net → IsCommandVerdict request input s t
-    → IsCommandVerdict request input z w → AreSame s t z w
-one_command_verdict (check file _) input {z = z} {w = w} ascending one other =
-    let lists : one.0 ∷ [] ≡ other.0 ∷ [] = sym one.1 ∙ other.1 in
-    let same : one.0 ≡ other.0 = cc lists in
-    one_check_verdict file one.0 input.net ascending one.2 (subst (λ text. IsCheckVerdict (named_text file text) input.net z w) (sym same) other.2)
-one_command_verdict (prepare file _) input {z = z} {w = w} ascending one other =
-    let lists : one.0 ∷ [] ≡ other.0 ∷ [] = sym one.1 ∙ other.1 in
-    let same : one.0 ≡ other.0 = cc lists in
-    one_prepare_verdict file one.0 input.configs input.net one.2
-    (subst (λ text. IsPrepareVerdict (named_text file text) (configured input.configs input.net) z w) (sym same) other.2)
-one_command_verdict (plan budget _) input ascending one other = one_plan_verdict budget input.net one.1 other.1
-one_command_verdict (refute _ _) input {z = z} {w = w} ascending one other =
-    let lists : one.0 ∷ [] ≡ other.0 ∷ [] = sym one.1 ∙ other.1 in
-    let same : one.0 ≡ other.0 = cc lists in
-    one_refute_verdict one.0 input.net one.2 (subst (λ text. IsRefuteVerdict text input.net z w) (sym same) other.2)
-one_command_verdict (scripts file _) input {z = z} {w = w} ascending one other =
-    let lists : one.0 ∷ [] ≡ other.0 ∷ [] = sym one.1 ∙ other.1 in
-    let same : one.0 ≡ other.0 = cc lists in
-    one_scripts_verdict file one.0 input.net ascending one.2 (subst (λ text. IsScriptsVerdict (named_text file text) input.net z w) (sym same) other.2)
-one_command_verdict (replay file _ _) input {z = z} {w = w} ascending one other =
+-- what is decided of one own file is decided of the other one, where they are the same list
+moved : {own : List NamedText} {one other : NamedText} (P : NamedText → Type 0) → own ≡ one ∷ [] → own ≡ other ∷ [] → P other → P one
+moved {one = one} {other = other} P first second holds =
+    let lists : one ∷ [] ≡ other ∷ [] = sym first ∙ second in
+    let same : one ≡ other = cc lists in
+    subst P (sym same) holds
+
+pub one_decision : (kind : CommandKind) (input : Input) {d e : Decision} → NamesAscend input.net → IsDecision kind input d →
+    IsDecision kind input e → d ≡ e
+one_decision Check input {e = e} ascending one other =
+    one_check_decision (ospf_to_isis input.net) one.0 ascending one.2 (moved (λ file. IsCheckDecision file input.net e) one.1 other.1 other.2)
+one_decision Prepare input {e = e} ascending one other =
+    one_prepare_decision one.0.file one.0.text input.configs input.net one.2
+    (moved (λ file. IsPrepareDecision file (configured input.configs input.net) e) one.1 other.1 other.2)
+one_decision Plan input ascending one other = one_plan_decision one other
+one_decision Refute input {e = e} ascending one other =
+    one_tree_decision one.2 (moved (λ file. IsTreeDecision (ospf_to_isis input.net) file.text e) one.1 other.1 other.2)
+one_decision Scripts input {e = e} ascending one other =
+    one_scripts_decision one.0 input.net ascending one.2 (moved (λ file. IsScriptsDecision file input.net e) one.1 other.1 other.2)
+one_decision Replay input {e = e} ascending one other =
     let lists : one.0 ∷ one.1 ∷ [] ≡ other.0 ∷ other.1 ∷ [] = sym one.2 ∙ other.2 in
     let order : one.0 ≡ other.0 = cc lists in
     let journal : one.1 ≡ other.1 = cc lists in
-    one_replay_verdict (named_text file one.0) (journal_of one.1 input.net) ascending one.3
-    (subst (λ text. IsReplayVerdict (named_text file text) (journal_of one.1 input.net) z w) (sym order)
-    (subst (λ text. IsReplayVerdict (named_text file other.0) (journal_of text input.net) z w) (sym journal) other.3))
-one_command_verdict (sample routers) input ascending one other = one_sample_verdict routers input.net one.1 other.1
+    one_replay_decision one.0 (journal_of one.1.text input.net) ascending one.3
+    (subst (λ (file : NamedText). IsReplayDecision file (journal_of one.1.text input.net) e) (sym order)
+    (subst (λ (file : NamedText). IsReplayDecision other.0 (journal_of file.text input.net) e) (sym journal) other.3))
+one_decision Sample input ascending one other = one_sample_decision one other
 
--- and it is no fault of reading or of writing
-pub command_no_fault : (request : Request) (input : Input) (status : Status) (text : List ℕ) → IsCommandVerdict request input status text → NoFault status
-command_no_fault (check _ _) input status text verdict = check_no_fault verdict.2
-command_no_fault (prepare _ _) input status text verdict = prepare_no_fault verdict.2
-command_no_fault (plan _ _) input status text verdict = plan_no_fault verdict.1
-command_no_fault (refute _ _) input status text verdict = refute_no_fault verdict.2
-command_no_fault (scripts _ _) input status text verdict = scripts_no_fault verdict.2
-command_no_fault (replay _ _ _) input status text verdict = replay_no_fault verdict.3
-command_no_fault (sample _) input status text verdict = sample_no_fault verdict.1
+pub decision_tellable : (kind : CommandKind) (input : Input) (d : Decision) → IsDecision kind input d → IsTellable input.net d
+decision_tellable Check input d is = check_tellable is.2
+decision_tellable Prepare input d is = prepare_tellable is.2
+decision_tellable Plan input d is = plan_decision_tellable is
+decision_tellable Refute input d is = tree_tellable is.2
+decision_tellable Scripts input d is = scripts_tellable is.0 input.net is.2
+decision_tellable Replay input d is = replay_tellable is.3
+decision_tellable Sample input d is = sample_tellable is

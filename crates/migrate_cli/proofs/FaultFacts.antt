@@ -1,18 +1,18 @@
--- The routers that a fault names.
-use Rattle.std.proofs.Common.{◌≡◌, ℕ, zero, suc, ◌<◌, List, [], ◌∷◌, length, All, Some, arith, sym, ◌∙◌, subst}
+-- The routers that a fault names are those of the network.
+use Rattle.std.proofs.Common.{ℕ, zero, suc, ◌<◌, List, [], ◌∷◌, length, All, arith}
 use Rattle.igp_theory.specs.Loops.{IsTagOf, IsTag, EachToNext, AroundRing, IsFault, missing_step, loop_arises}
 use Rattle.igp_theory.specs.Migrations.{Migration}
 use Rattle.igp_theory.specs.WaveFaults.{IsFaultOver, missing_in_one, loop_over_all}
 use Rattle.igp_theory.specs.Forwarding.{Steps}
 use Rattle.igp_theory.specs.declared.phase.Phase.TheVariants as phase
 use Rattle.igp_theory.specs.States.{State}
-use Rattle.loop_finder.specs.Faults.{told_fault, KeepsRing}
-use Rattle.loop_finder.specs.declared.fault.Fault.{Fault}
-use Rattle.loop_finder.specs.declared.fault.Fault.TheVariants.{Loop, Missing}
 use Rattle.order_core.specs.declared.turn.Tag.{Tag}
 use Rattle.order_core.specs.declared.turn.Tag.TheVariants.{Old, New, Both}
 use Rattle.order_core.specs.declared.turn.Turn.{Turn}
-use Rattle.migrate_cli.specs.steps.Faults.{NamesRouters}
+use Rattle.plan_theory.specs.Plans.{fault_told}
+use Rattle.plan_theory.specs.declared.planned.EndFault.{EndFault}
+use Rattle.plan_theory.specs.declared.planned.EndFault.TheVariants.{Loop, Missing}
+use Rattle.migration_report.specs.EndTexts.{EndFaultBelow}
 
 -- a list of one element more
 All-cons : {X : Type 0} (P : X → Type 0) (x : X) (xs : List X) → P x → All P xs → All P (x ∷ xs)
@@ -44,39 +44,32 @@ module _ (move : Migration) (a : ℕ) where
   around_within (turn ∷ turns) tags = each_within turn (turn ∷ turns) tags
 
 -- the routers that a fault of a state names are those of the network
-pub loop_within : (move : Migration) (state : State) (a : ℕ) (turns : List Turn) → IsFault move state (told_fault (Loop a) turns)
+loop_within : (move : Migration) (state : State) (a : ℕ) (turns : List Turn) → IsFault move state (fault_told (Loop a turns))
     → All (λ (turn : Turn). turn.router < length move.net) turns
 loop_within move state a turns (loop_arises _ _ _ _ tags) = around_within move a turns tags
 
-pub missing_within : (move : Migration) (state : State) (a u : ℕ) (turns : List Turn) →
-    IsFault move state (told_fault (Missing a u) turns)
+missing_within : (move : Migration) (state : State) (a u : ℕ) →
+    IsFault move state (fault_told (Missing a u))
     → u < length move.net
-missing_within move state a u turns (missing_step _ _ must _ _) = must.router
+missing_within move state a u (missing_step _ _ must _ _) = must.router
 
--- so are all routers that an answer tells, where no ring was told before
-pub names_routers : (move : Migration) (state : State) (fault : Fault) (before turns : List Turn) →
-    IsFault move state (told_fault fault turns)
-    → KeepsRing (Some fault) before turns → before ≡ [] → NamesRouters (length move.net) fault turns
-names_routers move state (Loop a) before turns fault kept none = record { named = tt; turned = loop_within move state a turns fault }
-names_routers move state (Missing a u) before turns fault kept none = record {
-  named = missing_within move state a u turns fault;
-  turned = subst (All (λ (turn : Turn). turn.router < length move.net)) (sym (kept ∙ none)) (λ k d within. absurd (omega arith));
-}
+-- so what a fault tells is of the network's routers
+pub fault_below : (move : Migration) (state : State) (fault : EndFault) → IsFault move state (fault_told fault) →
+    EndFaultBelow (length move.net) fault
+fault_below move state (Loop a turns) is = loop_within move state a turns is
+fault_below move state (Missing a u) is = missing_within move state a u is
 
 -- the same of the fault of a set of states, as that of a wave
-pub loop_within_over : (move : Migration) (states : State → Type 0) (a : ℕ) (turns : List Turn) →
-    IsFaultOver move states (told_fault (Loop a) turns)
+loop_within_over : (move : Migration) (states : State → Type 0) (a : ℕ) (turns : List Turn) →
+    IsFaultOver move states (fault_told (Loop a turns))
     → All (λ (turn : Turn). turn.router < length move.net) turns
 loop_within_over move states a turns (loop_over_all _ _ _ tags) = around_within move a turns tags
 
-pub missing_within_over : (move : Migration) (states : State → Type 0) (a u : ℕ) (turns : List Turn)
-    → IsFaultOver move states (told_fault (Missing a u) turns) → u < length move.net
-missing_within_over move states a u turns (missing_in_one _ lacks _) = lacks.must.router
+missing_within_over : (move : Migration) (states : State → Type 0) (a u : ℕ)
+    → IsFaultOver move states (fault_told (Missing a u)) → u < length move.net
+missing_within_over move states a u (missing_in_one _ lacks _) = lacks.must.router
 
-pub names_routers_over : (move : Migration) (states : State → Type 0) (fault : Fault) (before turns : List Turn)
-    → IsFaultOver move states (told_fault fault turns) → KeepsRing (Some fault) before turns → before ≡ [] → NamesRouters (length move.net) fault turns
-names_routers_over move states (Loop a) before turns fault kept none = record { named = tt; turned = loop_within_over move states a turns fault }
-names_routers_over move states (Missing a u) before turns fault kept none = record {
-  named = missing_within_over move states a u turns fault;
-  turned = subst (All (λ (turn : Turn). turn.router < length move.net)) (sym (kept ∙ none)) (λ k d within. absurd (omega arith));
-}
+pub fault_over_below : (move : Migration) (states : State → Type 0) (fault : EndFault) → IsFaultOver move states (fault_told fault) →
+    EndFaultBelow (length move.net) fault
+fault_over_below move states (Loop a turns) is = loop_within_over move states a turns is
+fault_over_below move states (Missing a u) is = missing_within_over move states a u is

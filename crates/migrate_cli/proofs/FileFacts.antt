@@ -1,10 +1,16 @@
 -- The files of a command, and their texts.
-use Rattle.std.proofs.Common.{◌≡◌, ◌∙◌, ℕ, ◌+◌, ◌<◌, ◌≤◌, List, [], ◌∷◌, ◌++◌, length, map, take, drop, All, lit≤, refl, sym, ap, subst, arith}
+use Rattle.std.proofs.Common.{◌≡◌, ◌∙◌, ℕ, ◌+◌, ◌<◌, ◌≤◌, List, [], ◌∷◌, ◌++◌, length, map, take, drop, All, codes, lit≤, refl, sym, ap, subst, arith}
 use Rattle.std.proofs.lemmas.List.{length-map, get_or-map}
 use Rattle.std.proofs.lemmas.List.Elements.{All-cons, All-append}
-use Rattle.migrate_words.specs.Requests.{Request, check, prepare, plan, refute, scripts, replay, sample}
+use Rattle.sample_network.specs.SampleTexts.{sample_text}
+use Rattle.migrate_words.specs.Asked.{IsInRange, IsNumberInRange}
+use Rattle.migrate_words.specs.Usages.{usage_of}
+use Rattle.migrate_words.specs.declared.command.TheConstants.{LEAST_SAMPLE, MOST_SAMPLE}
+use Rattle.migrate_words.specs.declared.command.Command.{Command}
+use Rattle.migrate_words.specs.declared.command.CommandKind.{CommandKind}
+use Rattle.migrate_words.specs.declared.command.CommandKind.TheVariants.{Prepare, Sample}
 use Rattle.migrate_cli.specs.Reading.{File, AreShort}
-use Rattle.migrate_cli.specs.CommandFiles.{config_file, config_names, config_texts, design_file, files_of, own_files, own_texts, text_file, text_names}
+use Rattle.migrate_cli.specs.CommandFiles.{config_file, config_texts, files_of, given_texts, made_texts, names_for, own_file, own_files, own_most, own_texts, text_names}
 use Rattle.migrate_cli.specs.steps.FilesRead.{ReadsFiles}
 
 -- the file is none that may be longer than 16 MiB
@@ -18,22 +24,18 @@ small_configs : (names : List (List ℕ)) → All IsSmall (map config_file names
 small_configs [] = no_files
 small_configs (n ∷ names) = All-cons IsSmall (config_file n) (map config_file names) (lit≤ tt) (small_configs names)
 
-one_small : (file : File) → IsSmall file → All IsSmall (file ∷ [])
-one_small file small = All-cons IsSmall file [] small no_files
+pub most_small : (kind : CommandKind) → own_most kind ≤ 16777216
+most_small Prepare = lit≤ tt
+most_small _ = lit≤ tt
 
-small_own : (request : Request) → All IsSmall (own_files request)
-small_own (check order configs) = one_small (text_file order) (lit≤ tt)
-small_own (prepare design configs) = one_small (design_file design) (lit≤ tt)
-small_own (plan budget configs) = no_files
-small_own (refute tree configs) = one_small (text_file tree) (lit≤ tt)
-small_own (scripts order configs) = one_small (text_file order) (lit≤ tt)
-small_own (replay order journal configs) = All-cons IsSmall (text_file order) (text_file journal ∷ []) (lit≤ tt) (one_small (text_file journal) (lit≤ tt))
-small_own (sample routers) = no_files
+small_own : (kind : CommandKind) (names : List (List ℕ)) → All IsSmall (map (own_file kind) names)
+small_own kind [] = no_files
+small_own kind (n ∷ names) = All-cons IsSmall (own_file kind n) (map (own_file kind) names) (most_small kind) (small_own kind names)
 
 -- no file of a command may be longer than 16 MiB
-pub small_files : (request : Request) → All (λ (file : File). file.most ≤ 16777216) (files_of request)
-small_files request =
-    All-append IsSmall (own_files request) (map config_file (config_names request)) (small_own request) (small_configs (config_names request))
+pub small_files : (command : Command) → All (λ (file : File). file.most ≤ 16777216) (files_of command)
+small_files command =
+    All-append IsSmall (own_files command) (map config_file command.configs) (small_own command.kind command.own) (small_configs command.configs)
 
 -- what holds of each image holds of each element that it comes from
 pub All-mapped : {X Y : Type 0} (P : Y → Type 0) (f : X → Y) (xs : List X) → All P (map f xs) → All (λ x. P (f x)) xs
@@ -72,66 +74,81 @@ pub files_length : (own : List File) (names : List (List ℕ)) → length (own +
 files_length [] names = let e = length-map names config_file in omega (arith, e)
 files_length (f ∷ own) names = let e = files_length own names in omega (arith, e)
 
--- the texts before those of the configurations are those of the own files
-pub own_count : (request : Request) (texts : List (List ℕ)) (n : ℕ) → n ≡ length (config_names request) → AreShort (files_of request) texts
-    → length texts ≡ length (own_files request) + n
-own_count request texts n is short =
-    let all = short_length (files_of request) texts short in
-    let parts = files_length (own_files request) (config_names request) in
-    omega (arith, is, all, parts)
-
 -- ---- a command that reads files has its own texts, and then those of its configurations ----
 
-names_read : (request : Request) → ReadsFiles request → text_names request ≡ config_names request
-names_read (check order configs) reads = refl
-names_read (prepare design configs) reads = refl
-names_read (plan budget configs) reads = refl
-names_read (refute tree configs) reads = refl
-names_read (scripts order configs) reads = refl
-names_read (replay order journal configs) reads = refl
-names_read (sample routers) reads = absurd reads
+names_read : (kind : CommandKind) (names : List (List ℕ)) → ReadsFiles kind → names_for kind names ≡ names
+names_read Sample names reads = absurd reads
+names_read _ names reads = refl
 
-texts_read : (request : Request) (texts : List (List ℕ)) → ReadsFiles request →
-    config_texts request texts ≡ drop (length (own_files request)) texts
-texts_read (check order configs) texts reads = refl
-texts_read (prepare design configs) texts reads = refl
-texts_read (plan budget configs) texts reads = refl
-texts_read (refute tree configs) texts reads = refl
-texts_read (scripts order configs) texts reads = refl
-texts_read (replay order journal configs) texts reads = refl
-texts_read (sample routers) texts reads = absurd reads
+texts_read : (kind : CommandKind) (number : ℕ) (texts : List (List ℕ)) → ReadsFiles kind → made_texts kind number texts ≡ texts
+texts_read Sample number texts reads = absurd reads
+texts_read _ number texts reads = refl
 
 -- the texts behind its own ones
-pub record AreSplit (request : Request) (texts own configs : List (List ℕ)) : Type 0 where
-  pub own_are : own ≡ own_texts request texts
-  pub configs_are : configs ≡ config_texts request texts
-  pub own_short : AreShort (own_files request) own
-  pub each : length (text_names request) ≡ length configs
+pub record AreSplit (command : Command) (texts own configs : List (List ℕ)) : Type 0 where
+  pub own_are : own ≡ own_texts command texts
+  pub configs_are : configs ≡ config_texts command texts
+  pub own_short : AreShort (own_files command) own
+  pub each : length (text_names command) ≡ length configs
   pub configs_short : All (λ (text : List ℕ). length text ≤ 16777216) configs
 
-pub split_count : (request : Request) (texts : List (List ℕ)) → ReadsFiles request → AreShort (files_of request) texts →
-    length texts ≡ length (own_files request) + length (text_names request)
-split_count request texts reads short = own_count request texts (length (text_names request)) (ap length (names_read request reads)) short
+module _ (command : Command) (texts : List (List ℕ)) (reads : ReadsFiles command.kind) (short : AreShort (files_of command) texts) where
+  pub split_count : length texts ≡ length command.own + length (text_names command)
+  split_count =
+      let all = short_length (files_of command) texts short in
+      let parts = files_length (own_files command) command.configs in
+      let own = length-map command.own (own_file command.kind) in
+      let same = ap length (names_read command.kind command.configs reads) in
+      omega (arith, all, parts, own, same)
 
-pub split_texts : (request : Request) (texts own configs : List (List ℕ)) (place : ℕ) → ReadsFiles request → AreShort (files_of request) texts →
-    place + length (text_names request) ≡ length texts → own ≡ take place texts → configs ≡ drop place texts →
-    AreSplit request texts own configs
-split_texts request texts own configs place reads short at front rest =
-    let count = split_count request texts reads short in
-    let there : place ≡ length (own_files request) = omega (arith, at, count) in
-    let names = config_names request in
-    let own_are : own ≡ own_texts request texts = front ∙ ap (λ n. take n texts) there in
-    let configs_are : configs ≡ config_texts request texts = rest ∙ ap (λ n. drop n texts) there ∙ sym (texts_read request texts reads) in
-    let behind : AreShort (map config_file names) (config_texts request texts) =
-    subst (AreShort (map config_file names)) (sym (texts_read request texts reads)) (short_rest (own_files request) (map config_file names) texts short) in
-    let many = short_length (map config_file names) (config_texts request texts) behind in
-    let mapped = length-map names config_file in
-    let same = ap length (names_read request reads) in
-    let told = ap length configs_are in
-    record {
-      own_are = own_are;
-      configs_are = configs_are;
-      own_short = subst (AreShort (own_files request)) (sym own_are) (short_front (own_files request) (map config_file names) texts short);
-      each = omega (arith, many, mapped, same, told);
-      configs_short = subst (All (λ (text : List ℕ). length text ≤ 16777216)) (sym configs_are) (short_configs names (config_texts request texts) behind);
-    }
+  pub split_texts : (own configs : List (List ℕ)) (place : ℕ) → place + length (text_names command) ≡ length texts → own ≡ take place texts →
+      configs ≡ drop place texts → AreSplit command texts own configs
+  split_texts own configs place at front rest =
+      let names = command.configs in
+      let count = split_count in
+      let there : place ≡ length command.own = omega (arith, at, count) in
+      let owns : length (own_files command) ≡ length command.own = length-map command.own (own_file command.kind) in
+      let own_are : own ≡ own_texts command texts = front ∙ ap (λ n. take n texts) there in
+      let made : drop (length command.own) texts ≡ config_texts command texts =
+      sym (texts_read command.kind command.number (drop (length command.own) texts) reads) in
+      let configs_are : configs ≡ config_texts command texts = rest ∙ ap (λ n. drop n texts) there ∙ made in
+      let behind : AreShort (map config_file names) (config_texts command texts) =
+      subst (AreShort (map config_file names)) (ap (λ n. drop n texts) owns ∙ made) (short_rest (own_files command) (map config_file names) texts short) in
+      let many = short_length (map config_file names) (config_texts command texts) behind in
+      let mapped = length-map names config_file in
+      let same = ap length (names_read command.kind command.configs reads) in
+      let told = ap length configs_are in
+      record {
+        own_are = own_are;
+        configs_are = configs_are;
+        own_short =
+            subst (AreShort (own_files command)) (ap (λ n. take n texts) owns ∙ sym own_are)
+            (short_front (own_files command) (map config_file names) texts short);
+        each = omega (arith, many, mapped, same, told);
+        configs_short =
+            subst (All (λ (text : List ℕ). length text ≤ 16777216)) (sym configs_are) (short_configs names (config_texts command texts) behind);
+      }
+
+-- ---- `sample` names no file ----
+
+none_of : (names : List (List ℕ)) → length names ≡ 0 → names ≡ []
+none_of [] none = refl
+none_of (n ∷ names) none = absurd (omega (arith, none))
+
+module _ (command : Command) (is : command.kind ≡ Sample) (range : IsInRange command) where
+  pub sample_number : (LEAST_SAMPLE ≤ command.number) × (command.number ≤ MOST_SAMPLE)
+  sample_number = subst (λ (kind : CommandKind). IsNumberInRange (usage_of kind).number command.number) is range.number
+
+  pub sample_own : command.own ≡ []
+  sample_own = none_of command.own (subst (λ (kind : CommandKind). length command.own ≡ length (usage_of kind).own) is range.own)
+
+  pub sample_names : text_names command ≡ codes "sample" ∷ []
+  sample_names = ap (λ (kind : CommandKind). names_for kind command.configs) is
+
+  pub sample_texts : (texts : List (List ℕ)) →
+      given_texts [] (sample_text command.number ∷ []) ≡ given_texts (own_texts command texts) (config_texts command texts)
+  sample_texts texts =
+      let own : [] ≡ own_texts command texts = ap (λ (names : List (List ℕ)). take (length names) texts) (sym sample_own) in
+      let made : sample_text command.number ∷ [] ≡ config_texts command texts =
+      ap (λ (kind : CommandKind). made_texts kind command.number (drop (length command.own) texts)) (sym is) in
+      λ i. given_texts (own i) (made i)

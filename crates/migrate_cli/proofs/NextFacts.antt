@@ -4,7 +4,7 @@ use Rattle.std.proofs.lemmas.Bool.{cases_lt}
 use Rattle.std.proofs.lemmas.List.{get_or_append_left, get_or_push}
 use Rattle.state_replay.specs.Journals.{IsNextOn}
 use Rattle.state_replay.specs.declared.half.Half.{Half}
-use Rattle.migrate_cli.specs.ReplayVerdict.{AreNext}
+use Rattle.migrate_cli.specs.ReplayDecision.{AreNext}
 
 -- with the change of the next router there is one router more
 pub next_more : (ranks done : List ℕ) (routers : ℕ) (nexts : List (Option Half)) (next : Option Half) → AreNext ranks done routers nexts

@@ -13,12 +13,10 @@ use Rattle.design_file.specs.declared.refusal.DesignRefusal.TheVariants.{Bad, Ou
 use Rattle.design_file.specs.declared.settled.SettledRouter.{SettledRouter}
 use Rattle.isis_writer.specs.Prepared.{prepared_text}
 use Rattle.isis_writer.specs.PreparedConfigurations.{prepared_texts, with_last_feed}
-use Rattle.migrate_cli.specs.PrepareVerdict.{IsPrepareVerdict, configured}
-use Rattle.migrate_cli.specs.steps.Answering.{DesignAnswer}
-use Rattle.migrate_cli.specs.PrepareVerdict.IsPrepareVerdict.{no_design, unsettled}
-use Rattle.migrate_cli.specs.declared.answer.Answer.{Answer}
-use Rattle.migrate_cli.specs.declared.status.Status.{Status}
-use Rattle.migrate_cli.specs.declared.status.Status.TheVariants.{Refused}
+use Rattle.migration_report.specs.declared.decision.Decision.{Decision}
+use Rattle.migrate_cli.specs.PrepareDecision.{IsPrepareDecision, configured}
+use Rattle.migrate_cli.specs.PrepareDecision.IsPrepareDecision.{no_design, unsettled}
+use Rattle.migrate_cli.specs.steps.Answering.{RefusesDesignSo}
 use Rattle.migrate_cli.specs.Reading.{named_text}
 
 -- whether a text whose last byte is this one is of whole lines
@@ -50,23 +48,19 @@ prepared_more net settled (t ∷ texts) (suc i) text within at =
     ∙ sym (append_assoc (with_last_feed (prepared_text t net settled)) (prepared_texts net settled (take i texts))
     (with_last_feed (prepared_text text net settled)))
 
--- ---- the answers to a design that is refused ----
+-- ---- what is decided where a design is refused ----
 
-pub text_refused : (file design : List ℕ) (configs : List (List ℕ)) (net : Network) (refusal : DesignRefusal) (r : Result Answer AllocError) →
-    RefusesText design refusal → IfOk r (λ (a : Answer). DesignAnswer file refusal a.status a.text) →
-    IfOk r (λ (a : Answer). IsPrepareVerdict (named_text file design) (configured configs net) a.status a.text)
-text_refused file design configs net (Bad kind path) (Ok a) refuses answer =
-    subst (λ (s : Status). IsPrepareVerdict (named_text file design) (configured configs net) s a.text) (sym answer.0)
-    (subst (IsPrepareVerdict (named_text file design) (configured configs net) Refused) (sym answer.1) (no_design kind path refuses))
-text_refused file design configs net OutOfMemory (Ok a) refuses answer = absurd answer
-text_refused file design configs net refusal (Err e) refuses answer = tt
+pub text_refused : (file design : List ℕ) (configs : List (List ℕ)) (net : Network) (refusal : DesignRefusal) (r : Result Decision AllocError) →
+    RefusesText design refusal → IfOk r (RefusesDesignSo file refusal) → IfOk r (IsPrepareDecision (named_text file design) (configured configs net))
+text_refused file design configs net (Bad kind path) (Ok d) refuses so =
+    subst (IsPrepareDecision (named_text file design) (configured configs net)) (sym so) (no_design kind path refuses)
+text_refused file design configs net OutOfMemory (Ok d) refuses so = absurd so
+text_refused file design configs net refusal (Err e) refuses so = tt
 
 pub design_refused : (file design : List ℕ) (configs : List (List ℕ)) (net : Network) (said : Design) (refusal : DesignRefusal)
-    (r : Result Answer AllocError) →
-    SaysDesign design said → RefusesDesign said net refusal → IfOk r (λ (a : Answer). DesignAnswer file refusal a.status a.text) →
-    IfOk r (λ (a : Answer). IsPrepareVerdict (named_text file design) (configured configs net) a.status a.text)
-design_refused file design configs net said (Bad kind path) (Ok a) says refuses answer =
-    subst (λ (s : Status). IsPrepareVerdict (named_text file design) (configured configs net) s a.text) (sym answer.0)
-    (subst (IsPrepareVerdict (named_text file design) (configured configs net) Refused) (sym answer.1) (unsettled said kind path says refuses))
-design_refused file design configs net said OutOfMemory (Ok a) says refuses answer = absurd answer
-design_refused file design configs net said refusal (Err e) says refuses answer = tt
+    (r : Result Decision AllocError) → SaysDesign design said → RefusesDesign said net refusal → IfOk r (RefusesDesignSo file refusal) →
+    IfOk r (IsPrepareDecision (named_text file design) (configured configs net))
+design_refused file design configs net said (Bad kind path) (Ok d) says refuses so =
+    subst (IsPrepareDecision (named_text file design) (configured configs net)) (sym so) (unsettled said kind path says refuses)
+design_refused file design configs net said OutOfMemory (Ok d) says refuses so = absurd so
+design_refused file design configs net said refusal (Err e) says refuses so = tt

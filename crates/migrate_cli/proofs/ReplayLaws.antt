@@ -1,24 +1,21 @@
--- An order file, a journal and a network have one verdict of `replay`.
+-- `replay` decides one thing of an order file, a journal and a network.
 use Rattle.std.proofs.Common.{◌≡◌, ℕ, ◌<◌, List, length, get_or, Option, Some, None, refl, sym, ap, subst, ◌∙◌}
 use Rattle.std.proofs.lemmas.List.{same_lists, get_or_default}
 use Rattle.igp_theory.specs.Waves.{Change}
 use Rattle.net_model.specs.Network.{Network}
 use Rattle.net_model.specs.Refusals.{NamesAscend}
-use Rattle.net_model.specs.RouterNames.{names_of}
 use Rattle.state_replay.specs.Journals.{AreChangeCounts, BeginRun, IsNextOn}
 use Rattle.state_replay.specs.declared.half.Half.{Half}
-use Rattle.state_replay.specs.declared.place.Place.TheVariants.{Reached, Departs}
+use Rattle.state_replay.specs.declared.place.Place.TheVariants as place
 use Rattle.state_replay.proofs.Places.{one_place}
 use Rattle.step_scripts.proofs.WaveFileLaws.{no_fault, one_faulty_line, one_wave_list}
-use Rattle.migration_report.specs.JournalTexts.{departs_text, reached_text}
-use Rattle.migration_report.specs.Kinds.{order_kind_name}
-use Rattle.migration_report.specs.Texts.{faulty_text}
-use Rattle.migrate_cli.specs.ReplayVerdict.{Journal, AreNext, IsJournalVerdict, IsReplayVerdict}
-use Rattle.migrate_cli.specs.ReplayVerdict.IsJournalVerdict.{reached, departs}
-use Rattle.migrate_cli.specs.ReplayVerdict.IsReplayVerdict.{faulty_waves, of_waves}
-use Rattle.migrate_cli.specs.declared.status.Status.{Status}
-use Rattle.migrate_cli.proofs.SameAnswers.{AreSame, NoFault}
+use Rattle.migration_report.specs.Outcomes.{IsTellable}
+use Rattle.migration_report.specs.declared.decision.Decision.{Decision}
+use Rattle.migration_report.specs.declared.decision.Decision.TheVariants.{Reached, Departs, BadOrder}
 use Rattle.migrate_cli.specs.Reading.{NamedText}
+use Rattle.migrate_cli.specs.ReplayDecision.{Journal, AreNext, IsJournalDecision, IsReplayDecision}
+use Rattle.migrate_cli.specs.ReplayDecision.IsJournalDecision.{reached, departs}
+use Rattle.migrate_cli.specs.ReplayDecision.IsReplayDecision.{faulty_waves, of_waves}
 
 -- after changes with these counts a router has one change that may come next
 same_next : (ranks done : List ℕ) (changes : List Change) → BeginRun (length ranks) ranks changes → AreChangeCounts (length ranks) changes done
@@ -39,48 +36,47 @@ same_nexts ranks done changes begin counts one other is its =
     ∙ same_next ranks done changes begin counts u (get_or one u None) (get_or other u None) (is.next u below) (its.next u below)
     ∙ sym (get_or_default other u d None there))
 
--- a journal has one verdict
-one_journal_verdict : (journal : Journal) (ranks : List ℕ) {s z : Status} {t w : List ℕ} → NamesAscend journal.net → length ranks ≡ length journal.net
-    → IsJournalVerdict journal ranks s t → IsJournalVerdict journal ranks z w → AreSame s t z w
-one_journal_verdict journal ranks ascending each (reached made done nexts place is) (reached many counts others its are) =
+-- one thing is decided of a journal
+one_journal_decision : (journal : Journal) (ranks : List ℕ) {d e : Decision} → NamesAscend journal.net → length ranks ≡ length journal.net
+    → IsJournalDecision journal ranks d → IsJournalDecision journal ranks e → d ≡ e
+one_journal_decision journal ranks ascending each (reached made done nexts at is) (reached many counts others its are) =
     let net : Network = journal.net in
-    let same = one_place net ranks journal.text ascending (Reached made) (Reached many) done counts place its in
+    let same = one_place net ranks journal.text ascending (place.Reached made) (place.Reached many) done counts at its in
     let made_same : made ≡ many = cc (same.0) in
-    let run : BeginRun (length ranks) ranks place.changes = subst (λ n. BeginRun n ranks place.changes) (sym each) place.replayed.begin in
-    let counted : AreChangeCounts (length ranks) place.changes done = subst (λ n. AreChangeCounts n place.changes done) (sym each) place.replayed.counts in
+    let run : BeginRun (length ranks) ranks at.changes = subst (λ n. BeginRun n ranks at.changes) (sym each) at.replayed.begin in
+    let counted : AreChangeCounts (length ranks) at.changes done = subst (λ n. AreChangeCounts n at.changes done) (sym each) at.replayed.counts in
     let these : AreNext ranks done (length ranks) nexts = subst (λ n. AreNext ranks done n nexts) (sym each) is in
     let those : AreNext ranks done (length ranks) others =
     subst (λ n. AreNext ranks done n others) (sym each) (subst (λ d. AreNext ranks d (length net) others) (sym same.1) are) in
-    let nexts_same : nexts ≡ others = same_nexts ranks done place.changes run counted nexts others these those in
-    (refl, λ i. reached_text (names_of net) (made_same i) (nexts_same i) (length net))
-one_journal_verdict journal ranks ascending each (reached made done nexts place is) (departs line counts its) =
-    absurd (let same = one_place journal.net ranks journal.text ascending (Reached made) (Departs line) done counts place its in Prim.cc same.0)
-one_journal_verdict journal ranks ascending each (departs line counts its) (reached made done nexts place is) =
-    absurd (let same = one_place journal.net ranks journal.text ascending (Departs line) (Reached made) counts done its place in Prim.cc same.0)
-one_journal_verdict journal ranks ascending each (departs line done place) (departs number counts its) =
-    let same = one_place journal.net ranks journal.text ascending (Departs line) (Departs number) done counts place its in
+    let nexts_same : nexts ≡ others = same_nexts ranks done at.changes run counted nexts others these those in
+    λ i. Reached (made_same i) (nexts_same i)
+one_journal_decision journal ranks ascending each (reached made done nexts at is) (departs line counts its) =
+    absurd (let same = one_place journal.net ranks journal.text ascending (place.Reached made) (place.Departs line) done counts at its in Prim.cc same.0)
+one_journal_decision journal ranks ascending each (departs line counts its) (reached made done nexts at is) =
+    absurd (let same = one_place journal.net ranks journal.text ascending (place.Departs line) (place.Reached made) counts done its at in Prim.cc same.0)
+one_journal_decision journal ranks ascending each (departs line done at) (departs number counts its) =
+    let same = one_place journal.net ranks journal.text ascending (place.Departs line) (place.Departs number) done counts at its in
     let line_same : line ≡ number = cc (same.0) in
-    (refl, λ i. departs_text (line_same i))
+    ap (λ n. Departs n) line_same
 
--- and so have an order file and a journal
-pub one_replay_verdict : (order : NamedText) (journal : Journal) {s z : Status} {t w : List ℕ} → NamesAscend journal.net
-    → IsReplayVerdict order journal s t → IsReplayVerdict order journal z w → AreSame s t z w
-one_replay_verdict order journal ascending (faulty_waves n k one) (faulty_waves m j other) =
-    let same = one_faulty_line journal.net order.text n m k j one other in (refl, λ i. faulty_text order.file (same.0 i) (order_kind_name (same.1 i)))
-one_replay_verdict order journal ascending (faulty_waves n k least) (of_waves version ranks _ _ names _) =
+-- and so of an order file and a journal
+pub one_replay_decision : (order : NamedText) (journal : Journal) {d e : Decision} → NamesAscend journal.net
+    → IsReplayDecision order journal d → IsReplayDecision order journal e → d ≡ e
+one_replay_decision order journal ascending (faulty_waves n k one) (faulty_waves m j other) =
+    let same = one_faulty_line journal.net order.text n m k j one other in λ i. BadOrder order.file (same.0 i) (same.1 i)
+one_replay_decision order journal ascending (faulty_waves n k least) (of_waves version ranks _ names _) =
     absurd (no_fault journal.net order.text version ranks n k ascending names least.faulty)
-one_replay_verdict order journal ascending (of_waves version ranks _ _ names _) (faulty_waves n k least) =
+one_replay_decision order journal ascending (of_waves version ranks _ names _) (faulty_waves n k least) =
     absurd (no_fault journal.net order.text version ranks n k ascending names least.faulty)
-one_replay_verdict order journal {z = z} {w = w} ascending (of_waves version one _ _ names verdict) (of_waves its other _ _ again judged) =
+one_replay_decision order journal {e = e} ascending (of_waves version one _ names is) (of_waves its other _ again are) =
     let same : one ≡ other = (one_wave_list journal.net order.text version its one other ascending names again).1 in
-    one_journal_verdict journal one ascending names.are.each verdict (subst (λ ranks. IsJournalVerdict journal ranks z w) (sym same) judged)
+    one_journal_decision journal one ascending names.are.each is (subst (λ ranks. IsJournalDecision journal ranks e) (sym same) are)
 
--- no verdict is a fault of reading or of writing
-journal_no_fault : {journal : Journal} {ranks : List ℕ} {status : Status} {text : List ℕ} → IsJournalVerdict journal ranks status text → NoFault status
-journal_no_fault (reached _ _ _ _ _) = (λ e. Prim.cc e, λ e. Prim.cc e)
-journal_no_fault (departs _ _ _) = (λ e. Prim.cc e, λ e. Prim.cc e)
+-- it is of the network's routers
+journal_tellable : {journal : Journal} {ranks : List ℕ} {d : Decision} → IsJournalDecision journal ranks d → IsTellable journal.net d
+journal_tellable (reached _ _ _ _ are) = are.each
+journal_tellable (departs _ _ _) = tt
 
-pub replay_no_fault : {order : NamedText} {journal : Journal} {status : Status} {text : List ℕ} → IsReplayVerdict order journal status text
-    → NoFault status
-replay_no_fault (faulty_waves _ _ _) = (λ e. Prim.cc e, λ e. Prim.cc e)
-replay_no_fault (of_waves _ _ _ _ _ verdict) = journal_no_fault verdict
+pub replay_tellable : {order : NamedText} {journal : Journal} {d : Decision} → IsReplayDecision order journal d → IsTellable journal.net d
+replay_tellable (faulty_waves _ _ _) = tt
+replay_tellable (of_waves _ _ _ _ is) = journal_tellable is

@@ -4,7 +4,8 @@ use Rattle.std.proofs.Common.{sym, subst, append-nil, append_assoc}
 use Rattle.std.proofs.lemmas.List.{take_more, map-append}
 use Rattle.migrate_cli.specs.Reading.{Contents, File, file_names, IsReadOf, AreRead, AreWithin, ReadUpTo, total_of, to_read}
 use Rattle.migrate_cli.proofs.ReadingFacts.{AreRead-more, AreWithin-more, total_of-more, within_front}
-use Rattle.migrate_cli.specs.steps.Stops.{KeptTexts, StopsAt, IsFrontOf, HasAsked, IsNextText, MayRead, HasRead}
+use Rattle.store_edge.specs.Files.{ReadsSoFar}
+use Rattle.migrate_cli.specs.steps.Stops.{KeptTexts, StopReads, StopsAt, IsFrontOf, HasAsked, IsNextText, MayRead, HasRead}
 use Rattle.migrate_cli.specs.steps.Stops.MayRead.{none_yet, so_far}
 use Rattle.migrate_cli.specs.declared.reading.Stop.{Stop}
 use Rattle.migrate_cli.specs.declared.reading.Stop.TheVariants.{Fault, Long, Total, OutOfMemory}
@@ -199,3 +200,11 @@ pub asked_more : (files : List File) (file : File) (old now new : List (List ℕ
 asked_more files file old now new now_is asks =
     asks.asked_is ∙ ap (λ some. some ++ asks.asked) now_is ∙ append_assoc old (file_names files) asks.asked
     ∙ ap (λ more. old ++ (file_names files ++ more)) asks.asks_for ∙ ap (λ more. old ++ more) (sym (file_names-more files file))
+
+-- what holds of the reads since a moment holds since an earlier one after which none failed
+pub stop_reads : (stop : Stop) (first then' latest : ReadsSoFar) → then'.faults ≡ first.faults → then'.failed_at ≡ first.failed_at →
+    StopReads stop then' latest → StopReads stop first latest
+stop_reads (Fault name) first then' latest same since failed = record { one = failed.one ∙ ap (λ n. n + 1) same; last = failed.last }
+stop_reads (Long name) first then' latest same since none = record { none = none.none ∙ same; none_since = none.none_since ∙ since }
+stop_reads (Total number) first then' latest same since none = record { none = none.none ∙ same; none_since = none.none_since ∙ since }
+stop_reads OutOfMemory first then' latest same since none = record { none = none.none ∙ same; none_since = none.none_since ∙ since }

@@ -4,15 +4,14 @@ use Rattle.std.proofs.Common.{append_assoc, arith}
 use Rattle.std.proofs.lemmas.List.{map-append}
 use Rattle.std.proofs.lemmas.List.Elements.{All-head, All-tail, All-cons, All-contains, Contains-append_right}
 use Rattle.net_model.proofs.Members.{Contains-first}
-use Rattle.migration_report.specs.Texts.{long_file_text, long_files_text}
+use Rattle.migration_report.specs.declared.outcome.Outcome.{Outcome}
+use Rattle.migration_report.specs.declared.outcome.Outcome.TheVariants.{Refused}
+use Rattle.migration_report.specs.declared.refusal.Refusal.TheVariants.{Length, Total}
 use Rattle.migrate_cli.specs.AnswerLaws.{IsFileTold}
 use Rattle.migrate_cli.specs.Reading.{Contents, File, file_names, IsReadOf, AreRead, counted, total_of, IsShort, AreShort, AreWithin}
 use Rattle.migrate_cli.specs.steps.Stops.{IsFrontOf}
-use Rattle.migrate_cli.specs.declared.status.Status.{Status}
-use Rattle.migrate_cli.specs.declared.status.Status.TheVariants.{Limit}
 use Rattle.migrate_cli.proofs.ReadingFacts.{AreRead-more, total_of-more, within_front}
 use Rattle.migrate_cli.proofs.FileFacts.{All-mapped}
-use Rattle.migrate_cli.proofs.SameAnswers.{AreSame}
 
 -- what holds of each element holds of each of the first ones
 All-front : {X : Type 0} (P : X → Type 0) (xs ys : List X) → All P (xs ++ ys) → All P xs
@@ -105,21 +104,20 @@ pub record StopsAfter (content : Contents) (files : List File) (at : Broken) : T
   pub within : AreWithin at.before at.texts
   pub broken : AreWithin (at.before ++ at.file ∷ []) (at.texts ++ at.text ∷ []) → ⊥
 
--- which limit that file breaks, and the answer
-pub data IsBrokenSo (at : Broken) : Status → List ℕ → Type 0 where
-  too_long : at.file.most < length at.text → IsBrokenSo at Limit (long_file_text at.file.name)
+-- which limit that file breaks, and what the call comes to
+pub data IsBrokenSo (at : Broken) : Outcome → Type 0 where
+  too_long : at.file.most < length at.text → IsBrokenSo at (Refused (Length at.file.name))
   too_many : (number : ℕ) → IsShort at.file at.text → number ≡ total_of at.before at.texts + counted at.file at.text →
-      IsBrokenSo at Limit (long_files_text number)
+      IsBrokenSo at (Refused (Total number))
 
 short_not_long : (file : File) (text : List ℕ) → file.most < length text → IsShort file text → ⊥
 short_not_long file text above short = let most : length text ≤ file.most = short in omega (arith, above, most)
 
-one_limit : (at : Broken) {s z : Status} {t w : List ℕ} → IsBrokenSo at s t → IsBrokenSo at z w → AreSame s t z w
-one_limit at (too_long _) (too_long _) = (refl, refl)
+one_limit : (at : Broken) {one other : Outcome} → IsBrokenSo at one → IsBrokenSo at other → one ≡ other
+one_limit at (too_long _) (too_long _) = refl
 one_limit at (too_long above) (too_many _ short _) = absurd (short_not_long at.file at.text above short)
 one_limit at (too_many _ short _) (too_long above) = absurd (short_not_long at.file at.text above short)
-one_limit at (too_many n _ is) (too_many m _ also) =
-    (refl, ap (λ number. long_files_text number) (is ∙ sym also))
+one_limit at (too_many n _ is) (too_many m _ also) = ap (λ number. Refused (Total number)) (is ∙ sym also)
 
 module _ (content : Contents) where
   -- one text is read of a file that is told
@@ -204,11 +202,10 @@ module _ (content : Contents) where
     same_next = one_text n t s told_there one.next (subst (λ some. IsReadOf content some s) (sym same_place.1) other.next)
 
     -- and for one reason
-    pub same_limit : {status z : Status} {answer w : List ℕ} → IsBrokenSo (broken_at b n ts t) status answer
-        → IsBrokenSo (broken_at c m ss s) z w → AreSame status answer z w
-    same_limit {z = z} {w = w} here there =
+    pub same_limit : {first second : Outcome} → IsBrokenSo (broken_at b n ts t) first → IsBrokenSo (broken_at c m ss s) second → first ≡ second
+    same_limit {second = second} here there =
         let place = same_place in
         let texts = same_texts in
         let next = same_next in
-        let one : broken_at b n ts t ≡ broken_at c m ss s = λ i. broken_at (place.0 i) (place.1 i) (texts i) (next i) in
-        one_limit (broken_at b n ts t) here (subst (λ (at : Broken). IsBrokenSo at z w) (sym one) there)
+        let at : broken_at b n ts t ≡ broken_at c m ss s = λ i. broken_at (place.0 i) (place.1 i) (texts i) (next i) in
+        one_limit (broken_at b n ts t) here (subst (λ (some : Broken). IsBrokenSo some second) (sym at) there)

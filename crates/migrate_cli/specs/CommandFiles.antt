@@ -1,6 +1,8 @@
 -- What each command reads, and the texts of its configurations.
 use Rattle.std.specs.Prelude.{ℕ, List, [], ◌∷◌, ◌++◌, codes, length, map, take, drop, true, false}
-use Rattle.migrate_words.specs.Requests.{Request, check, prepare, plan, refute, scripts, replay, sample}
+use Rattle.migrate_words.specs.declared.command.Command.{Command}
+use Rattle.migrate_words.specs.declared.command.CommandKind.{CommandKind}
+use Rattle.migrate_words.specs.declared.command.CommandKind.TheVariants.{Prepare, Sample}
 use Rattle.sample_network.specs.SampleTexts.{sample_text}
 use Rattle.migrate_cli.specs.Reading.{File}
 use Rattle.migrate_cli.specs.declared.files.TheConstants.{FILE_MOST, DESIGN_MOST}
@@ -13,57 +15,53 @@ pub record GivenTexts : Type 0 where
 abbrev pub given_texts : List (List ℕ) → List (List ℕ) → GivenTexts
 given_texts own configs = record { own = own; configs = configs }
 
--- an order, a tree or a journal
-abbrev pub text_file : List ℕ → File
-text_file name = record { name = name; most = FILE_MOST; counts = false }
+-- the command of these files and this number
+abbrev pub command_of : CommandKind → List (List ℕ) → List (List ℕ) → ℕ → Command
+command_of kind own configs number = record { kind = kind; own = own; configs = configs; number = number }
 
--- a design
-abbrev pub design_file : List ℕ → File
-design_file name = record { name = name; most = DESIGN_MOST; counts = false }
+-- how many bytes a file of a command's own has at most
+abbrev pub own_most : CommandKind → ℕ
+own_most Prepare = DESIGN_MOST
+own_most _ = FILE_MOST
+
+-- a file of a command's own: an order, a tree, a journal or a design
+abbrev pub own_file : CommandKind → List ℕ → File
+own_file kind name = record { name = name; most = own_most kind; counts = false }
 
 -- a file of configurations
 abbrev pub config_file : List ℕ → File
 config_file name = record { name = name; most = FILE_MOST; counts = true }
 
 -- the files of a command besides its configurations
-abbrev pub own_files : Request → List File
-own_files (check order configs) = text_file order ∷ []
-own_files (prepare design configs) = design_file design ∷ []
-own_files (plan budget configs) = []
-own_files (refute tree configs) = text_file tree ∷ []
-own_files (scripts order configs) = text_file order ∷ []
-own_files (replay order journal configs) = text_file order ∷ text_file journal ∷ []
-own_files (sample routers) = []
-
--- the names of the files of configurations
-abbrev pub config_names : Request → List (List ℕ)
-config_names (check order configs) = configs
-config_names (prepare design configs) = configs
-config_names (plan budget configs) = configs
-config_names (refute tree configs) = configs
-config_names (scripts order configs) = configs
-config_names (replay order journal configs) = configs
-config_names (sample routers) = []
+abbrev pub own_files : Command → List File
+own_files command = map (own_file command.kind) command.own
 
 -- what a command reads, in this order
-abbrev pub files_of : Request → List File
-files_of request = own_files request ++ map config_file (config_names request)
+abbrev pub files_of : Command → List File
+files_of command = own_files command ++ map config_file command.configs
 
 -- of the texts that a command reads, those of its own files
-abbrev pub own_texts : Request → List (List ℕ) → List (List ℕ)
-own_texts request texts = take (length (own_files request)) texts
+abbrev pub own_texts : Command → List (List ℕ) → List (List ℕ)
+own_texts command texts = take (length command.own) texts
 
--- the texts of the configurations of a command that reads these texts: those of its files, or the one that is made
-abbrev pub config_texts : Request → List (List ℕ) → List (List ℕ)
-config_texts (sample routers) texts = sample_text routers ∷ []
-config_texts request texts = drop (length (own_files request)) texts
+-- the texts of configurations of a command of this kind and number: those that are read, or the one that is made
+abbrev pub made_texts : CommandKind → ℕ → List (List ℕ) → List (List ℕ)
+made_texts Sample number texts = sample_text number ∷ []
+made_texts _ number texts = texts
 
--- and their names: those of the files, or `sample`
-abbrev pub text_names : Request → List (List ℕ)
-text_names (sample routers) = codes "sample" ∷ []
-text_names request = config_names request
+-- the texts of the configurations of a command that reads these texts
+abbrev pub config_texts : Command → List (List ℕ) → List (List ℕ)
+config_texts command texts = made_texts command.kind command.number (drop (length command.own) texts)
+
+-- the names of the texts of configurations, by the kind of the command: those of the files, or `sample`
+abbrev pub names_for : CommandKind → List (List ℕ) → List (List ℕ)
+names_for Sample configs = codes "sample" ∷ []
+names_for _ configs = configs
+
+abbrev pub text_names : Command → List (List ℕ)
+text_names command = names_for command.kind command.configs
 
 -- the commands that ask that every router is where a migration starts
-abbrev pub NeedsStart : Request → Type 0
-NeedsStart (prepare design configs) = ⊥
+abbrev pub NeedsStart : CommandKind → Type 0
+NeedsStart Prepare = ⊥
 NeedsStart _ = Unit {0}

@@ -1,35 +1,36 @@
 -- Where nothing of the input is refused, a command answers.
 use Rattle.std.specs.Prelude.{◌≡◌, ℕ, List, [], ◌∷◌, All}
 use Rattle.net_model.specs.Network.{Network}
-use Rattle.migrate_words.specs.Requests.{Request, check, refute, scripts, replay}
+use Rattle.migrate_words.specs.declared.command.Command.{Command}
+use Rattle.migrate_words.specs.declared.command.CommandKind.TheVariants.{Check, Refute, Scripts, Replay}
 use Rattle.refutation_check.specs.Verdicts.{IsClosedText}
 use Rattle.igp_theory.specs.Migrations.{ospf_to_isis}
 use Rattle.igp_theory.specs.Waves.{HasNoneSeamless}
 use Rattle.step_scripts.specs.WaveFiles.{NamesWaves}
 use Rattle.step_scripts.specs.declared.version.Version.{Version}
 use Rattle.store_edge.specs.Faults.{Rose}
+use Rattle.migration_report.specs.declared.status.Status.{Status}
+use Rattle.migration_report.specs.declared.status.Status.TheVariants.{Done, Negative, Memory}
 use Rattle.migrate_cli.specs.AnswerLaws.{IsFileTold}
 use Rattle.migrate_cli.specs.Answers.{AsksForFew}
 use Rattle.migrate_cli.specs.Calls.{Call, Outside}
-use Rattle.migrate_cli.specs.CommandFiles.{NeedsStart, config_texts, files_of, own_texts}
+use Rattle.migrate_cli.specs.CommandFiles.{NeedsStart, command_of, config_texts, files_of, own_texts}
 use Rattle.migrate_cli.specs.Configurations.{GiveNetwork, IsAtStart}
 use Rattle.migrate_cli.specs.Reading.{AreRead, AreWithin, file_names}
-use Rattle.migrate_cli.specs.declared.status.Status.{Status}
-use Rattle.migrate_cli.specs.declared.status.Status.TheVariants.{Done, Negative, Memory}
 
 -- the words ask for this, what the files hold is told and within the limits, and the configurations make this network, which
 -- is at its start where that is needed
-pub record IsAccepted (call : Call) (request : Request) (texts : List (List ℕ)) (net : Network) : Type 0 where
-  pub asked : AsksForFew call.words request
-  pub told : All (IsFileTold call.content) (file_names (files_of request))
-  pub read : AreRead call.content (files_of request) texts
-  pub within : AreWithin (files_of request) texts
-  pub gives : GiveNetwork (config_texts request texts) net
-  pub start : NeedsStart request → IsAtStart net
+pub record IsAccepted (call : Call) (command : Command) (texts : List (List ℕ)) (net : Network) : Type 0 where
+  pub asked : AsksForFew call.words command
+  pub told : All (IsFileTold call.content) (file_names (files_of command))
+  pub read : AreRead call.content (files_of command) texts
+  pub within : AreWithin (files_of command) texts
+  pub gives : GiveNetwork (config_texts command texts) net
+  pub start : NeedsStart command.kind → IsAtStart net
 
--- no fault rises in a call
+-- no read fails in a call, and no fault of the sink rises
 pub record NoFaultRose (before after : Outside) : Type 0 where
-  pub files : Rose before.file_faults after.file_faults → ⊥
+  pub files : after.reads.faults ≡ before.reads.faults
   pub sink : Rose before.sink_faults after.sink_faults → ⊥
 
 -- `check` of these files, whose order file names a wave list of the routers, in either version
@@ -38,9 +39,9 @@ pub record AcceptsCheck (call : Call) : Type 0 where
   pub configs : List (List ℕ)
   pub texts : List (List ℕ)
   pub net : Network
-  pub accepted : IsAccepted call (check file configs) texts net
+  pub accepted : IsAccepted call (command_of Check (file ∷ []) configs 0) texts net
   pub text : List ℕ
-  pub text_is : own_texts (check file configs) texts ≡ text ∷ []
+  pub text_is : own_texts (command_of Check (file ∷ []) configs 0) texts ≡ text ∷ []
   pub version : Version
   pub ranks : List ℕ
   pub names : NamesWaves net text version ranks
@@ -51,9 +52,9 @@ pub record AcceptsScripts (call : Call) : Type 0 where
   pub configs : List (List ℕ)
   pub texts : List (List ℕ)
   pub net : Network
-  pub accepted : IsAccepted call (scripts file configs) texts net
+  pub accepted : IsAccepted call (command_of Scripts (file ∷ []) configs 0) texts net
   pub text : List ℕ
-  pub text_is : own_texts (scripts file configs) texts ≡ text ∷ []
+  pub text_is : own_texts (command_of Scripts (file ∷ []) configs 0) texts ≡ text ∷ []
   pub version : Version
   pub ranks : List ℕ
   pub names : NamesWaves net text version ranks
@@ -65,10 +66,10 @@ pub record AcceptsReplay (call : Call) : Type 0 where
   pub configs : List (List ℕ)
   pub texts : List (List ℕ)
   pub net : Network
-  pub accepted : IsAccepted call (replay file journal_file configs) texts net
+  pub accepted : IsAccepted call (command_of Replay (file ∷ journal_file ∷ []) configs 0) texts net
   pub text : List ℕ
   pub journal : List ℕ
-  pub texts_are : own_texts (replay file journal_file configs) texts ≡ text ∷ journal ∷ []
+  pub texts_are : own_texts (command_of Replay (file ∷ journal_file ∷ []) configs 0) texts ≡ text ∷ journal ∷ []
   pub version : Version
   pub ranks : List ℕ
   pub names : NamesWaves net text version ranks
@@ -79,9 +80,9 @@ pub record AcceptsRefute (call : Call) : Type 0 where
   pub configs : List (List ℕ)
   pub texts : List (List ℕ)
   pub net : Network
-  pub accepted : IsAccepted call (refute file configs) texts net
+  pub accepted : IsAccepted call (command_of Refute (file ∷ []) configs 0) texts net
   pub tree : List ℕ
-  pub tree_is : own_texts (refute file configs) texts ≡ tree ∷ []
+  pub tree_is : own_texts (command_of Refute (file ∷ []) configs 0) texts ≡ tree ∷ []
 
 -- a command that decides ends with yes, with no, or for want of memory
 pub data Decides : Status → Type 0 where

@@ -1,5 +1,6 @@
 -- What is read of the files of a call, and where reading stops.
-use Rattle.std.specs.Prelude.{◌≡◌, ℕ, ◌+◌, ◌<◌, ◌≤◌, List, [], ◌∷◌, ◌++◌, Bool, Option, length, map, take, IfSome, if◌then◌else◌}
+use Rattle.std.specs.Prelude.{◌≡◌, ℕ, ◌+◌, ◌<◌, ◌≤◌, List, [], ◌∷◌, ◌++◌, Bool, Option, Some, length, map, take, IfSome, if◌then◌else◌}
+use Rattle.store_edge.specs.Files.{ReadsSoFar}
 use Rattle.migrate_cli.specs.declared.reading.TheConstants.{CONFIGS_MOST}
 
 -- what a name's file holds, where the files tell it
@@ -19,6 +20,12 @@ pub record NamedText : Type 0 where
 
 abbrev pub named_text : List ℕ → List ℕ → NamedText
 named_text file text = record { file = file; text = text }
+
+-- files that were read, in their order: their names and their texts
+abbrev pub named_texts : List (List ℕ) → List (List ℕ) → List NamedText
+named_texts [] texts = []
+named_texts (file ∷ files) [] = []
+named_texts (file ∷ files) (text ∷ texts) = named_text file text ∷ named_texts files texts
 
 -- files that are to be read, and what is told of them
 pub record ToRead : Type 0 where
@@ -92,3 +99,13 @@ pub record ReadUpTo (all : ToRead) (asked : List (List ℕ)) (texts : List (List
   pub asked_are : asked ≡ file_names before ++ file.name ∷ []
   pub read : AreRead all.content before texts
   pub within : AreWithin before texts
+
+-- no read failed in between
+pub record NoneFailed (before after : ReadsSoFar) : Type 0 where
+  pub none : after.faults ≡ before.faults
+  pub none_since : after.failed_at ≡ before.failed_at
+
+-- one read failed in between, and it was the last one: the last name asked for is that of the file that can't be read
+pub record LastFailed (before after : ReadsSoFar) : Type 0 where
+  pub one : after.faults ≡ before.faults + 1
+  pub last : after.failed_at ≡ Some (length after.asked)

@@ -1,7 +1,5 @@
 pub mod FilesRead
 pub mod Stops
 pub mod Unread
-pub mod PlannedAnswers
-pub mod SampleAnswers
-pub mod Faults
+pub mod Tables
 pub mod Answering

@@ -5,25 +5,24 @@
 //!
 //! | File | What it does |
 //! |---|---|
-//! | `run_call` | `run`: words, files, the answer, its delivery |
+//! | `run_call` | `run`: words, files, the outcome, the delivery of its text |
 //! | `files`, `reading` | which files a command names, with their limits, and reading one after another |
-//! | `configurations`, `judging` | configurations and the network, the start, and then the command's own verdict |
+//! | `configurations`, `judging` | configurations and the network, the start, and then the command's own decision |
 //! | `commands` | the commands, and whether one asks for the start of a migration |
-//! | `check`, `plan`, `refute`, `scripts`, `replay`, `prepare`, `sample` | the verdict of each command |
-//! | `answer`, `status`, `sending` | status and text, the exit code, and writing in pieces of 4,096 bytes |
+//! | `tables` | the tables of both protocols of a network, and mixed forwarding over them |
+//! | `check`, `plan`, `refute`, `scripts`, `replay`, `prepare`, `sample` | what each command decides |
+//! | `sending` | writing in pieces of 4,096 bytes |
 //! | `originated` | how many prefixes a network originates |
 //! | `laws` | that a call has one answer |
 //!
-//! `specs/Calls.antt` says what a call and its outside are, `specs/Answers.antt` what the answer is, `specs/PlanClaim.antt` the
-//! claim on plans. A call takes the time of its parts: bytes to read, both protocols' tables (routers times prefixes), classes
-//! times routers, and the states asked about.
+//! `specs/Claim.antt` is the claim, a field for each promise; `specs/Headline.antt` says what plans mean, in packets;
+//! `specs/Calls.antt` what a call and its outside are, `specs/Answers.antt` what it comes to. A call takes the time of its parts:
+//! bytes to read, both protocols' tables (routers times prefixes), classes times routers, and the states asked about.
 #![tactic(auto)]
 
 // the call
-mod answer;
 mod run_call;
 mod sending;
-mod status;
 
 // what every command shares
 mod commands;
@@ -31,8 +30,9 @@ mod configurations;
 mod files;
 mod judging;
 mod reading;
+mod tables;
 
-// the verdict of each command
+// what each command decides
 mod check;
 mod plan;
 mod prepare;
@@ -46,6 +46,6 @@ mod laws;
 mod originated;
 
 pub use laws::one_answer;
+pub use migration_report::Status;
 pub use run_call::run;
-pub use status::Status;
 pub use std::alloc::AllocError as OutOfMemory;

@@ -1,21 +1,20 @@
 ghost use Rattle.std.specs.Prelude.{◌≡◌, ◌≤◌, ◌++◌, All, IfOk, OnOk, length};
 ghost use Rattle.net_addr.specs.JoinedLines.{is_of_whole_lines};
 ghost use Rattle.isis_writer.specs.PreparedConfigurations.{prepared_texts, with_last_feed};
-ghost use Rattle.migrate_cli.specs.PrepareVerdict.{IsPrepareVerdict, configured};
-ghost use Rattle.migrate_cli.specs.steps.Answering.{DesignAnswer};
+ghost use Rattle.migrate_cli.specs.PrepareDecision.{IsPrepareDecision, configured};
+ghost use Rattle.migrate_cli.specs.steps.Answering.{RefusesDesignSo};
 ghost use Rattle.migrate_cli.specs.Reading.{named_text};
 
-use crate::answer::Answer;
-use crate::files::FILE_MOST;
-use crate::{OutOfMemory, Status};
+use crate::OutOfMemory;
+use crate::files::{FILE_MOST, name_bytes};
 use design_file::{DesignRefusal, Settled, read_design, settle};
 use isis_writer::prepared_text;
-use migration_report::refused_design_text;
+use migration_report::Decision;
 use net_addr::Bytes;
 use net_model::Net;
 use std::alloc::{AllocError, Global};
 
-/// The answer to the text of a design, the texts of configurations and the network that they make: the texts with the
+/// What is decided of the text of a design, the texts of configurations and the network that they make: the texts with the
 /// IS-IS lines of the design.
 pub(crate) fn judge_prepare(
     alloc: Global,
@@ -23,9 +22,9 @@ pub(crate) fn judge_prepare(
     design: &Bytes,
     configs: &[Bytes],
     net: &Net,
-) -> Result<Answer, OutOfMemory>
+) -> Result<Decision, OutOfMemory>
     requires { All (λ text. length text ≤ FILE_MOST) configs.now }
-    ensures { IfOk result (λ answer. IsPrepareVerdict (named_text file.now design.now) (configured configs.now net.now) answer.status answer.text) }
+    ensures { IfOk result (IsPrepareDecision (named_text file.now design.now) (configured configs.now net.now)) }
 {
     let design = match read_design(alloc, design.as_slice()) {
         Ok(design) => design,
@@ -36,23 +35,17 @@ pub(crate) fn judge_prepare(
         Err(refusal) => return refuse_design(alloc, file, refusal),
     };
     let text = prepared_texts(alloc, configs, net, &settled)?;
-    Ok(Answer {
-        status: Status::Done,
-        text,
-    })
+    Ok(Decision::Prepared { text })
 }
 
-/// The answer that a design is refused.
-fn refuse_design(alloc: Global, file: &str, refusal: DesignRefusal) -> Result<Answer, OutOfMemory>
-    ensures { IfOk result (λ answer. DesignAnswer file.now refusal answer.status answer.text) }
+/// What is decided where a design is refused.
+fn refuse_design(alloc: Global, file: &str, refusal: DesignRefusal) -> Result<Decision, OutOfMemory>
+    ensures { IfOk result (RefusesDesignSo file.now refusal) }
 {
     match refusal {
         DesignRefusal::Bad { kind, path } => {
-            let text = refused_design_text(alloc, file, path.as_slice(), kind)?;
-            Ok(Answer {
-                status: Status::Refused,
-                text,
-            })
+            let file = name_bytes(alloc, file)?;
+            Ok(Decision::BadDesign { file, path, kind })
         }
         DesignRefusal::OutOfMemory => Err(AllocError),
     }

@@ -1,7 +1,8 @@
 ghost use Rattle.std.specs.Prelude.{◌≡◌, ◌+◌, ◌≤◌, ℕ, All, List, [], map, IfOk, IfErr, OnOk};
+ghost use Rattle.migrate_cli.specs.Calls.{reads_so_far};
 ghost use Rattle.migrate_cli.specs.steps.FilesRead.{file_of};
 ghost use Rattle.migrate_cli.specs.Reading.{IsReadOf, IsShort, counted, to_read};
-ghost use Rattle.migrate_cli.specs.steps.Stops.{CountsFaults, HasAsked, HasRead, IsNextText, StopsAlone, StopsAt};
+ghost use Rattle.migrate_cli.specs.steps.Stops.{EndReads, HasAsked, HasRead, IsNextText, StopsAlone, StopsAt};
 
 use crate::files::{FILE_MOST, Wanted};
 use net_addr::Bytes;
@@ -70,7 +71,8 @@ impl Texts {
         ensures stop { IfErr result (StopsAt (F.content files.old) (file_of wanted.now) self.old.counted) }
         ensures asked { HasAsked wanted.now.name.now (F.asked files.old) (F.asked files.new) result }
         ensures contents_stay { (other : List ℕ) → F.content files.new other ≡ F.content files.old other }
-        ensures faults { CountsFaults result (F.faults files.old) (F.faults files.new) }
+        ensures failed { EndReads result (reads_so_far (F.asked files.old) (F.faults files.old) (F.failed_at files.old))
+            (reads_so_far (F.asked files.new) (F.faults files.new) (F.failed_at files.new)) }
     {
         let text = read_whole(alloc, files, wanted)?;
         let total = self.counted + counted_in(wanted, &text);
@@ -108,7 +110,8 @@ fn read_whole<'a, F: Files>(
     ensures stop { IfErr result (StopsAlone (F.content files.old) (file_of wanted.now)) }
     ensures asked { HasAsked wanted.now.name.now (F.asked files.old) (F.asked files.new) result }
     ensures contents_stay { (other : List ℕ) → F.content files.new other ≡ F.content files.old other }
-    ensures faults { CountsFaults result (F.faults files.old) (F.faults files.new) }
+    ensures failed { EndReads result (reads_so_far (F.asked files.old) (F.faults files.old) (F.failed_at files.old))
+        (reads_so_far (F.asked files.new) (F.faults files.new) (F.failed_at files.new)) }
 {
     let name = wanted.name;
     match files.read(alloc, name, wanted.most + 1) {
@@ -127,7 +130,8 @@ pub(crate) fn read_texts<'a, F: Files>(
 ) -> Result<Texts, Stop<'a>>
     requires { All (λ file. file.most ≤ FILE_MOST) wanted.now }
     ensures read { HasRead (to_read (F.content files.old) (map file_of wanted.now)) (F.asked files.old) (F.asked files.new) result }
-    ensures faults { CountsFaults result (F.faults files.old) (F.faults files.new) }
+    ensures failed { EndReads result (reads_so_far (F.asked files.old) (F.faults files.old) (F.failed_at files.old))
+        (reads_so_far (F.asked files.new) (F.faults files.new) (F.failed_at files.new)) }
 {
     let mut texts = Texts::new(alloc);
     for file in wanted {

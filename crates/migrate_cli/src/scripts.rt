@@ -1,38 +1,32 @@
 ghost use Rattle.std.specs.Prelude.{◌<◌, ◌≤◌, IfOk, length};
-ghost use Rattle.migrate_cli.specs.ScriptsVerdict.{IsScriptsVerdict};
+ghost use Rattle.migrate_cli.specs.ScriptsDecision.{IsScriptsDecision};
 ghost use Rattle.migrate_cli.specs.Reading.{named_text};
 
-use crate::answer::{Answer, refuse};
-use crate::files::FILE_MOST;
-use crate::{OutOfMemory, Status};
-use migration_report::Refusal;
+use crate::OutOfMemory;
+use crate::files::{FILE_MOST, bad_order};
+use migration_report::Decision;
 use net_addr::Bytes;
 use net_model::Net;
 use std::alloc::{AllocError, Global};
-use step_scripts::{OrderRefusal, read_waves, script_text};
+use step_scripts::{OrderRefusal, read_waves};
 
-/// The answer to the text of an order file and a network with a router: the script of its wave list.
+/// What is decided of the text of an order file and a network with a router: which waves' script is asked for.
 pub(crate) fn judge_scripts(
     alloc: Global,
     file: &str,
     order: &Bytes,
     net: &Net,
-) -> Result<Answer, OutOfMemory>
+) -> Result<Decision, OutOfMemory>
     requires short { length order.now ≤ FILE_MOST }
     requires some { 0 < length net.now }
-    ensures { IfOk result (λ answer. IsScriptsVerdict (named_text file.now order.now) net.now answer.status answer.text) }
+    ensures { IfOk result (IsScriptsDecision (named_text file.now order.now) net.now) }
 {
-    let read = match read_waves(alloc, net, order.as_slice()) {
-        Ok(read) => read,
-        Err(OrderRefusal::OutOfMemory) => return Err(AllocError),
-        Err(OrderRefusal::Bad { line, kind }) => {
-            let refusal = Refusal::Order { file, line, kind };
-            return refuse(alloc, Status::Refused, &refusal);
-        }
-    };
-    let text = script_text(alloc, net, &read.waves, read.version)?;
-    Ok(Answer {
-        status: Status::Done,
-        text,
-    })
+    match read_waves(alloc, net, order.as_slice()) {
+        Ok(read) => Ok(Decision::Script {
+            version: read.version,
+            waves: read.waves,
+        }),
+        Err(OrderRefusal::OutOfMemory) => Err(AllocError),
+        Err(OrderRefusal::Bad { line, kind }) => bad_order(alloc, file, line, kind),
+    }
 }

@@ -44,14 +44,14 @@ walk_fault_name s names name rest met other =
     (ap (λ (w : Walk). walk_fault s names w rest) (walked_name s.rules names name met) ∙ stopped_fault s names (walk_from nothing_held) (name, []) rest)
 
 -- the words name the subcommand `line`, and the command itself refuses nothing
-pub record Enters (a : App) (name : Text) (line : Shape) : Type 0 where
+pub record NamesLine (a : App) (name : Text) (line : Shape) : Type 0 where
   pub met : subcommand_met (names_of a) idle name ≡ Some name
   pub other : (bytes_eq name (codes "help") && not a.top.disable_help_subcommand) ≡ false
   pub found : find (λ s. answers_to name (label_of s)) a.subs ≡ Some line
   pub quiet : or_else (defaults_fault [] a.top.rules) (check_fault a.top (finished a.top.rules nothing_held) true) ≡ []
 
 -- what the subcommand takes, the command takes
-pub taken_by : (a : App) (name : Text) (line : Shape) (rest : List Text) → Enters a name line → level_fault line [] nothing_held rest false [] ≡ []
+pub taken_by : (a : App) (name : Text) (line : Shape) (rest : List Text) → NamesLine a name line → level_fault line [] nothing_held rest false [] ≡ []
     → built_fault a nothing_held (name ∷ rest) ≡ []
 taken_by a name line rest enters below =
     let names : Names = names_of a in
@@ -68,7 +68,7 @@ taken_by a name line rest enters below =
     ∙ enters.quiet))
 
 -- the subcommand is entered with the words after its name
-pub entered_by : (a : App) (name : Text) (line : Shape) (rest : List Text) → Enters a name line
+pub entered_by : (a : App) (name : Text) (line : Shape) (rest : List Text) → NamesLine a name line
     → entered a (walk a.top.rules (names_of a) nothing_held (name ∷ rest)).stopped ≡ Some (line.name, rows_after line.rules [] rest)
 entered_by a name line rest enters =
     ap (λ (w : Walk). entered a w.stopped) (walk_name a.top.rules (names_of a) name rest enters.met)

@@ -2,7 +2,7 @@
 use Rattle.std.proofs.Common.{◌≡◌, ℕ, zero, suc, Bool, cond, true, false, List, [], ◌∷◌, ◌++◌, Option, Some, None, length, refl, sym, ap, subst}
 use Rattle.std.proofs.Common.{arith, true≢false}
 use Rattle.std.specs.List.{find, fold}
-use Rattle.std.specs.Option.{is_some, option_map_or, unwrap_or}
+use Rattle.std.specs.Option.{is_some, option_map_or}
 use Rattle.std.specs.Prelude.{◌&&◌, drop, encode_utf8, slice_get}
 use Rattle.std.specs.Str.{bytes_eq, chars}
 use Rattle.clap.specs.Words.{Kinds, Row, Rule, Shape, Text}
@@ -23,6 +23,7 @@ use Rattle.clap.specs.declared.builder.value_parser.Reading.{Reading}
 use Rattle.clap.specs.declared.error.kind.ErrorKind.TheVariants as kind
 use Rattle.clap.specs.declared.parser.matches.ValueSource.{ValueSource}
 use Rattle.clap.specs.declared.parser.matches.ValueSource.TheVariants.{CommandLine, DefaultValue}
+use Rattle.migrate_words.proofs.RowFacts.{some_is}
 
 -- ---- lists and kinds of faults
 
@@ -36,9 +37,6 @@ some_after (x ∷ xs) y ys = tt
 
 pub cons_not_nil : {X : Type 0} (x : X) (xs : List X) → x ∷ xs ≡ [] → ⊥
 cons_not_nil x xs e = let none : length (x ∷ xs) ≡ 0 = ap length e in absurd (omega arith)
-
-pub some_is : {X : Type 0} (x y : X) → Some x ≡ Some y → x ≡ y
-some_is x y e = ap (λ o. unwrap_or o x) e
 
 -- no fault of two steps is no fault of either
 pub first_none : (first second : Kinds) → or_else first second ≡ [] → first ≡ []

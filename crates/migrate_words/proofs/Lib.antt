@@ -1,12 +1,15 @@
 mod RowFacts
 mod LineFacts
-mod PlainWalk
-mod Entering
-mod PlainLines
-mod PlainLaws
+mod Entries
+mod ReadingFacts
 mod FullRows
 mod TakenWalk
+mod BuiltLines
+mod PlainRows
+mod PlainWalk
+mod Entering
 pub mod TakenLaws
 pub mod Ranges
-pub mod OneRequest
+pub mod OneCommand
+pub mod PlainLaws
 mod AnswerFacts

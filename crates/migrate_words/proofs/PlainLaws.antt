@@ -1,64 +1,427 @@
 -- Plain words are taken, with just their values.
-use Rattle.std.proofs.Common.{◌≡◌, ◌∙◌, List, [], ◌∷◌, Some, refl, ap, codes}
-use Rattle.clap.specs.Words.{Row, Shape, Text, built}
-use Rattle.clap.specs.Walk.{rows_after}
-use Rattle.migrate_words.specs.CommandLine.{command_line}
-use Rattle.migrate_words.specs.Requests.{Request, name_of, check, prepare, plan, refute, scripts, replay, sample}
-use Rattle.migrate_words.specs.Asked.{Asks, Gives}
-use Rattle.migrate_words.specs.PlainWords.{ArePlainNames, plain_check, plain_prepare, plain_plan, plain_plan_within, plain_refute, plain_scripts}
-use Rattle.migrate_words.specs.PlainWords.{plain_replay, plain_sample}
+use Rattle.std.proofs.Common.{◌≡◌, ◌∙◌, ℕ, ◌+◌, ◌<◌, ◌≤◌, Bool, cond, true, false, nat_lt, List, [], ◌∷◌, ◌++◌, Option, Some}
+use Rattle.std.proofs.Common.{None, length, map, refl, sym, ap, ap₂}
+use Rattle.std.proofs.Common.{subst, append-nil, append_assoc, arith, codes}
+use Rattle.std.proofs.lemmas.Bool.{ltb-true, ne_eqb}
+use Rattle.std.proofs.lemmas.List.{map-append}
+use Rattle.std.proofs.lemmas.List.Elements.{All-head}
+use Rattle.std.proofs.lemmas.List.Folds.{find-append, list_any-append}
+use Rattle.std.proofs.lemmas.Slice.Eq.{bytes_eq-Decides}
+use Rattle.std.specs.Char.{IsAsciiDigit}
+use Rattle.std.specs.List.{All, find, fold, list_any}
+use Rattle.std.specs.Option.{option_map_or, option_or}
+use Rattle.std.specs.Prelude.{◌&&◌, ◌||◌, if◌then◌else◌, not, option_and_then, option_map, slice_get}
+use Rattle.clap.proofs.OnLiterals.{clap_on_literals}
+use Rattle.clap.proofs.WalkLemmas.{both}
+use Rattle.clap.specs.Facts.{explicit_source}
+use Rattle.clap.specs.Words.{Row, Rule, Shape, Text, built, first_of}
+use Rattle.clap.specs.Walk.{Held, Step, Walk, after_step, default_rows, has_row, is_empty, nothing_held, option, reading_by}
+use Rattle.clap.specs.Walk.{walked, with_default}
+use Rattle.clap.specs.Simple.{filled, filled_from, help_rule, with_index}
+use Rattle.clap.specs.Takes.{is_given}
+use Rattle.clap.specs.Kinds.{or_else}
+use Rattle.clap.specs.Faults.{check_fault, defaults_fault, given_default_fault, step_fault}
+use Rattle.clap.specs.declared.error.kind.ErrorKind.TheVariants as kind
+use Rattle.net_addr.specs.Numerals.{IsNumeral}
+use Rattle.migrate_words.specs.Asked.{Asks, HasConfigs, HaveTexts, IsGivenNumber}
+use Rattle.migrate_words.specs.CommandLine.{budget_option, command_line, config_rules, number_rules, one_text, rules_of}
 use Rattle.migrate_words.specs.Laws.{PlainWordsLaw}
-use Rattle.migrate_words.proofs.PlainWalk.{adds}
-use Rattle.migrate_words.proofs.Entering.{Enters, Takes, entered_by, taken_by, takes_rows, takes_words}
-use Rattle.migrate_words.proofs.PlainLines.{check_built, enters_check, enters_plan, enters_prepare, enters_refute, enters_replay, enters_sample}
-use Rattle.migrate_words.proofs.PlainLines.{enters_scripts, numeral_plain, plan_built, prepare_built, refute_built, replay_built, row, sample_built}
-use Rattle.migrate_words.proofs.PlainLines.{scripts_built, takes_budget, takes_check, takes_plan, takes_prepare, takes_refute, takes_replay}
-use Rattle.migrate_words.proofs.PlainLines.{takes_sample, takes_scripts}
+use Rattle.migrate_words.specs.PlainWords.{ArePlainConfigs, IsPlainName, WritesNumber, no_number, usual_budget, budget, routers}
+use Rattle.migrate_words.specs.Usages.{Usage, usage, usage_of}
+use Rattle.migrate_words.specs.declared.command.CommandKind.{CommandKind}
+use Rattle.migrate_words.specs.declared.command.CommandKind.TheVariants.{Check}
+use Rattle.migrate_words.specs.declared.subcommands.NumberTaken.{NumberTaken}
+use Rattle.migrate_words.specs.declared.subcommands.NumberTaken.TheVariants.{Budget, Routers}
+use Rattle.migrate_words.proofs.BuiltLines.{Each, OfArguments, built_line, built_of, each_of_line}
+use Rattle.migrate_words.proofs.Entering.{NamesLine, Takes, entered_by, taken_by, takes_rows, takes_words}
+use Rattle.migrate_words.proofs.PlainRows.{Behind, adds, are_new, are_new_append, config_ids, configs_stand, is_new, no_row}
+use Rattle.migrate_words.proofs.PlainRows.{place_after, row_ids}
+use Rattle.migrate_words.proofs.PlainRows.{takes_budget, takes_text, text_at, text_row, text_rows, texts_stand}
+use Rattle.migrate_words.proofs.PlainWalk.{Ends, Settles, before, configs_walk, ends_after, ends_after_word, held_text, no_fault}
+use Rattle.migrate_words.proofs.PlainWalk.{other_plain, text_settles}
+use Rattle.migrate_words.proofs.PlainWalk.{texts_walk}
+use Rattle.migrate_words.proofs.RowFacts.{find_none}
+use Rattle.migrate_words.proofs.TakenLaws.{lacks, lacks_filled, row_named}
 
--- what the subcommand takes is asked for
-asked : (line : Shape) (rest : List Text) (rows : List Row) (request : Request) → Enters (built command_line) (name_of request) line
-    → line.name ≡ name_of request
-    → Takes line rest rows → Gives rows request → Asks (name_of request ∷ rest) request
-unfolding command_line
-asked line rest rows request enters named takes given = record {
-  taken = taken_by (built command_line) (name_of request) line rest enters (takes_words line rest rows takes);
-  rows = rows;
-  entered = entered_by (built command_line) (name_of request) line rest enters
-      ∙ ap (λ (name : Text). Some (name, rows_after line.rules [] rest)) named
-      ∙ ap (λ (found : List Row). Some (name_of request, found)) (takes_rows line rest rows takes);
-  given = given;
+-- ---- the names of a line
+
+-- the names of the files of a line
+abbrev names_of : Usage → List Text
+names_of line = line.own ++ config_ids line.configs
+
+-- the arguments of a line have different names, and there are few
+abbrev are_apart : Usage → Bool
+are_apart line = nat_lt (length line.own) 900 &&
+    (are_new (codes "N" ∷ []) (names_of line) && (are_new [] (names_of line) && is_new (names_of line) (codes "N")))
+
+record AreApart (line : Usage) : Type 0 where
+  few : length line.own < 900
+  behind_number : are_new (codes "N" ∷ []) (names_of line) ≡ true
+  alone : are_new [] (names_of line) ≡ true
+  no_number : is_new (names_of line) (codes "N") ≡ true
+
+apart : (line : Usage) → are_apart line ≡ true → AreApart line
+apart line test =
+    let first = both (nat_lt (length line.own) 900) _ test in
+    let second = both (are_new (codes "N" ∷ []) (names_of line)) _ first.1 in
+    let third = both (are_new [] (names_of line)) _ second.1 in
+    record { few = ltb-true _ _ first.0; behind_number = second.0; alone = third.0; no_number = third.1 }
+
+-- so it is of each command
+each_apart : (kind : CommandKind) → are_apart (usage_of kind) ≡ true
+each_apart Check = refl
+each_apart kind = refl
+
+-- ---- no argument has a default
+
+no_defaults : OfArguments (λ a. a.defaults ≡ [])
+no_defaults = record { text = λ id i. refl; budget = λ i. refl; files = λ i. refl; help = λ i. refl }
+
+default_stays : (rows : List Row) (a : Rule) → a.defaults ≡ [] → with_default rows a ≡ rows
+default_stays rows a none =
+    ap (λ (values : List Text). if has_row a.id rows then rows else default_rows a.id (reading_by a) values rows) none
+    ∙ same (has_row a.id rows)
+  where
+    same : (b : Bool) → cond b rows rows ≡ rows
+    same true = refl
+    same false = refl
+
+defaults_stay : (rules : List Rule) (rows : List Row) → Each (λ a. a.defaults ≡ []) rules → fold with_default rows rules ≡ rows
+defaults_stay [] rows none = refl
+defaults_stay (a ∷ rest) rows none = ap (λ (after : List Row). fold with_default after rest) (default_stays rows a none.0)
+    ∙ defaults_stay rest rows none.1
+
+defaults_quiet : (rules : List Rule) (rows : List Row) → Each (λ a. a.defaults ≡ []) rules → defaults_fault rows rules ≡ []
+unfolding defaults_fault
+defaults_quiet [] rows none = refl
+defaults_quiet (a ∷ rest) rows none =
+    ap₂ or_else
+    (ap (λ (values : List Text). if has_row a.id rows || is_empty values then [] else given_default_fault a values) none.0
+    ∙ quiet (has_row a.id rows))
+    (ap (λ (after : List Row). defaults_fault after rest) (default_stays rows a none.0) ∙ defaults_quiet rest rows none.1)
+  where
+    quiet : (b : Bool) → (if b || true then [] else given_default_fault a []) ≡ []
+    quiet true = refl
+    quiet false = refl
+
+-- ---- what the rows give
+
+row_found : (final front after : List Row) (id : Text) (values : List Text) → final ≡ front ++ text_row id values ∷ after
+    → has_row id front ≡ false
+    → find (row_named id) final ≡ Some (text_row id values)
+row_found final front after id values are none =
+    ap (find (row_named id)) are ∙ find-append (row_named id) front (text_row id values ∷ after)
+    ∙ ap (λ (o : Option Row). option_or o (find (row_named id) (text_row id values ∷ after)))
+    (find_none (row_named id) front none)
+    ∙ ap (λ (b : Bool). cond b (Some (text_row id values)) (find (row_named id) after)) ((bytes_eq-Decides id id).1 refl)
+
+given_of : (id : Text) (final : List Row) (values : List Text) → find (row_named id) final ≡ Some (text_row id values)
+    → not (is_given id final) ≡ false
+given_of id final values found = ap (λ (o : Option Row). not (option_map_or (λ r. explicit_source r.source) o false)) found
+
+-- the texts of a line have their values
+texts_given : (final front : List Row) (ids texts : List Text) (after : List Row)
+    → final ≡ front ++ (text_rows ids texts ++ after)
+    → are_new (row_ids front) ids ≡ true → length texts ≡ length ids
+    → HaveTexts final ids texts × (list_any (lacks final) (map one_text ids) ≡ false)
+texts_given final front [] [] after are new long = (tt, refl)
+texts_given final front [] (text ∷ texts) after are new long = absurd (omega (arith, long))
+texts_given final front (id ∷ ids) [] after are new long = absurd (omega (arith, long))
+texts_given final front (id ∷ ids) (text ∷ texts) after are new long =
+    let row : Row = text_row id (text ∷ []) in
+    let news = both (is_new (row_ids front) id) (are_new (row_ids front ++ id ∷ []) ids) new in
+    let found = row_found final front (text_rows ids texts ++ after) id (text ∷ []) are (no_row id front news.0) in
+    let rest = texts_given final (front ++ row ∷ []) ids texts after
+    (are ∙ sym (append_assoc front (row ∷ []) (text_rows ids texts ++ after)))
+    (subst (λ (seen : List Text). are_new seen ids ≡ true) (sym (map-append (λ (r : Row). r.id) front (row ∷ []))) news.1)
+    (omega (arith, long)) in (
+      (ap (λ (o : Option Row). option_and_then (λ r. slice_get r.values 0) o) found, rest.0),
+      ap₂ (λ a b. a || b) (given_of id final (text ∷ []) found) rest.1,
+    )
+
+configs_given : (configs : Bool) (rows : List Row) (names : List Text) → are_new (row_ids rows) (config_ids configs) ≡ true
+    → ArePlainConfigs configs names
+    → HasConfigs configs (adds rows names) names × (list_any (lacks (adds rows names)) (config_rules configs) ≡ false)
+configs_given true rows [] new plain = absurd (plain.some refl)
+configs_given true rows (first ∷ others) new plain =
+    let names = first ∷ others in
+    let none = no_row (codes "CONFIG") rows (both (is_new (row_ids rows) (codes "CONFIG")) true new).0 in
+    let found = row_found (adds rows names) rows [] (codes "CONFIG") names refl none in (
+      ap (λ (o : Option Row). option_map (λ r. r.values) o) found,
+      ap (λ (b : Bool). b || false) (given_of (codes "CONFIG") (adds rows names) names found),
+    )
+configs_given false rows names new plain = (plain, refl)
+
+-- ---- the number
+
+-- the arguments behind the number
+abbrev others_of : Usage → List Rule
+others_of line = config_rules line.configs ++ help_rule ∷ []
+
+-- plain words for the number of a line: the line takes them, with these rows, and they give it
+record NumberWalk (line : Usage) (words : List Text) (n : ℕ) : Type 0 where
+  rows : List Row
+  new : are_new (row_ids rows) (names_of line) ≡ true
+  place : ℕ
+  small : place ≤ 2
+  seen : List Text
+  apart : are_new seen (names_of line) ≡ true
+  behind : Behind (built_line line).rules place seen (map one_text line.own ++ others_of line)
+  walk : (rest : List Text) (final : List Row)
+      → ((h : Held) → Settles (built_line line) h rows → Ends (built_line line) (before h false place) rest final)
+      → Ends (built_line line) (before nothing_held false 1) (words ++ rest) final
+  given : (more : List Row) → has_row (codes "N") more ≡ false → IsGivenNumber line.number (first_of (codes "N") (rows ++ more)) n
+      × (list_any (lacks (rows ++ more)) (number_rules line.number) ≡ false)
+
+-- the rules of a line, behind that for its number
+rules_behind : (own : List Text) (configs : Bool)
+    → (map one_text own ++ config_rules configs) ++ help_rule ∷ [] ≡ map one_text own ++ (config_rules configs ++ help_rule ∷ [])
+rules_behind own configs = append_assoc (map one_text own) (config_rules configs) (help_rule ∷ [])
+
+nothing_settles : (s : Shape) → Settles s nothing_held []
+nothing_settles s = record { fits = refl; held = refl }
+
+-- after `--budget`, which waits for its text
+abbrev after_budget : Walk
+after_budget = record {
+  held = record { rows = []; pending = Some (codes "N", []); skip = 0 };
+  waiting = option (codes "N");
+  position = 1;
+  is_trailing = false;
+  stopped = None;
 }
 
--- there is a first configuration file
-with_files : (P : List Text → Type 0) → ((first : Text) (others : List Text) → P (first ∷ others)) → (configs : List Text) → ArePlainNames configs → P configs
-with_files P each [] plain = absurd (plain.some refl)
-with_files P each (first ∷ others) plain = each first others
+module _ (word : Text) (own : List Text) (configs : Bool) where
+  with_budget : Shape
+  with_budget = built_line (usage word Budget own configs)
+
+  budget_first : (rest : List Text) (rows : List Row) → Ends with_budget after_budget rest rows
+      → Ends with_budget (before nothing_held false 1) (codes "--budget" ∷ rest) rows
+  unfolding clap_on_literals with_budget
+  budget_first rest rows ends = ends_after with_budget (before nothing_held false 1) after_budget
+      (codes "--budget") rest rows refl refl ends
+
+  number_next : (number : Text) (rest : List Text) (rows : List Row) → IsPlainName number
+      → Ends with_budget (before (held_text [] (codes "N") number) false 1) rest rows
+      → Ends with_budget after_budget (number ∷ rest) rows
+  unfolding walked with_budget
+  number_next [] rest rows plain ends = absurd plain
+  number_next (x ∷ xs) rest rows plain ends =
+      let waits = other_plain with_budget.rules after_budget.waiting 1 x xs after_budget.held (ne_eqb x 45 plain) in
+      ends_after with_budget after_budget (before (held_text [] (codes "N") (x ∷ xs)) false 1) (x ∷ xs) rest rows
+      (ap₂ or_else (no_fault with_budget x xs after_budget.held (ne_eqb x 45 plain))
+      (ap (λ (p : Held × Step). step_fault with_budget 1 p.0 p.1) waits))
+      (ap (λ (p : Held × Step). after_step with_budget.rules (x ∷ xs) after_budget p.0 p.1) waits) ends
+
+-- a numeral begins with a digit
+numeral_plain : (word : Text) (n : ℕ) → IsNumeral word n → IsPlainName word
+numeral_plain [] n numeral = absurd (omega (arith, numeral.some))
+numeral_plain (x ∷ xs) n numeral = λ hyphen. let digit = All-head IsAsciiDigit x xs numeral.digits in omega (arith, digit, hyphen)
+
+number_walk : (word : Text) (number : NumberTaken) (own : List Text) (configs : Bool) (words : List Text) (n : ℕ)
+    → WritesNumber number words n
+    → AreApart (usage word number own configs) → NumberWalk (usage word number own configs) words n
+unfolding with_budget
+number_walk word _ own configs _ _ no_number are = record {
+  rows = [];
+  new = are.alone;
+  place = 1;
+  small = omega arith;
+  seen = [];
+  apart = are.alone;
+  behind = record { front = []; rules_are = ap (filled_from 1) (rules_behind own configs); under = tt; names = refl };
+  walk = λ rest final follows. follows nothing_held (nothing_settles _);
+  given = λ more none. (refl, refl);
+}
+number_walk word _ own configs _ _ usual_budget are = record {
+  rows = [];
+  new = are.alone;
+  place = 1;
+  small = omega arith;
+  seen = codes "N" ∷ [];
+  apart = are.behind_number;
+  behind = record {
+    front = with_index 1 (filled budget_option) ∷ [];
+    rules_are = ap
+        (λ (rules : List Rule). filled_from 1 (budget_option ∷ rules)) (rules_behind own configs);
+    under = (tt, tt);
+    names = refl;
+  };
+  walk = λ rest final follows. follows nothing_held (nothing_settles _);
+  given = λ more none. (
+    subst (λ (given : Option Text). IsGivenNumber Budget given 10000)
+        (sym (ap (λ (o : Option Row). option_and_then (λ r. slice_get r.values 0) o)
+        (find_none (row_named (codes "N")) more none))) refl,
+    refl,
+  );
+}
+number_walk word _ own configs _ _ (budget text n is) are = record {
+  rows = text_row (codes "N") (text ∷ []) ∷ [];
+  new = are.behind_number;
+  place = 1;
+  small = omega arith;
+  seen = codes "N" ∷ [];
+  apart = are.behind_number;
+  behind = record {
+    front = with_index 1 (filled budget_option) ∷ [];
+    rules_are = ap
+        (λ (rules : List Rule). filled_from 1 (budget_option ∷ rules)) (rules_behind own configs);
+    under = (tt, tt);
+    names = refl;
+  };
+  walk = λ rest final follows. budget_first word own configs (text ∷ rest) final
+      (number_next word own configs text rest final (numeral_plain text n is.numeral.numeral)
+      (follows (held_text [] (codes "N") text)
+      (text_settles (with_budget word own configs) _ (codes "N") text [] refl refl (takes_budget 1) refl)));
+  given = λ more none. (is, refl);
+}
+number_walk word _ own configs _ _ (routers text n is) are = record {
+  rows = text_row (codes "N") (text ∷ []) ∷ [];
+  new = are.behind_number;
+  place = 2;
+  small = omega arith;
+  seen = codes "N" ∷ [];
+  apart = are.behind_number;
+  behind = record {
+    front = text_at 1 (codes "N") ∷ [];
+    rules_are = ap (λ (rules : List Rule). filled_from 1 (one_text (codes "N") ∷ rules)) (rules_behind own configs);
+    under = (omega arith, tt);
+    names = refl;
+  };
+  walk = λ rest final follows. routers_first text rest final (numeral_plain text n is.numeral.numeral) follows;
+  given = λ more none. (is, refl);
+}
+  where
+    line : Shape
+    line = built_line (usage word Routers own configs)
+
+    routers_first : (number : Text) (rest : List Text) (final : List Row) → IsPlainName number
+        → ((h : Held) → Settles line h (text_row (codes "N") (number ∷ []) ∷ []) → Ends line (before h false 2) rest final)
+        → Ends line (before nothing_held false 1) (number ∷ rest) final
+    routers_first [] rest final plain follows = absurd plain
+    routers_first (x ∷ xs) rest final plain follows =
+        ends_after_word line nothing_held [] false 1 (text_at 1 (codes "N")) x xs rest final (nothing_settles line)
+        (ne_eqb x 45 plain) refl refl refl
+        (follows (held_text [] (codes "N") (x ∷ xs))
+        (text_settles line (text_at 1 (codes "N")) (codes "N") (x ∷ xs) [] refl refl (takes_text 1 (codes "N")) refl))
+
+-- ---- a whole line
+
+-- the names of the rows of texts
+text_ids : (ids texts : List Text) → length texts ≡ length ids → row_ids (text_rows ids texts) ≡ ids
+text_ids [] [] long = refl
+text_ids [] (text ∷ texts) long = absurd (omega (arith, long))
+text_ids (id ∷ ids) [] long = absurd (omega (arith, long))
+text_ids (id ∷ ids) (text ∷ texts) long = ap (λ (names : List Text). id ∷ names) (text_ids ids texts (omega (arith, long)))
+
+-- the row of the configuration files, if there are any
+abbrev config_rows : List Text → List Row
+config_rows [] = []
+config_rows (first ∷ others) = text_row (codes "CONFIG") (first ∷ others) ∷ []
+
+adds_rows : (rows : List Row) (names : List Text) → adds rows names ≡ rows ++ config_rows names
+adds_rows rows [] = sym (append-nil rows)
+adds_rows rows (first ∷ others) = refl
+
+config_names : (configs : Bool) (names : List Text) → ArePlainConfigs configs names
+    → row_ids (config_rows names) ≡ config_ids configs
+config_names true [] plain = absurd (plain.some refl)
+config_names true (first ∷ others) plain = refl
+config_names false names plain = ap (λ (all : List Text). row_ids (config_rows all)) plain
+
+-- no required argument is missing
+none_missing : (line : Usage) (rows : List Row) → list_any (lacks rows) (number_rules line.number) ≡ false
+    → list_any (lacks rows) (map one_text line.own) ≡ false
+    → list_any (lacks rows) (config_rules line.configs) ≡ false → check_fault (built_line line) rows false ≡ []
+none_missing line rows number own configs =
+    let either = λ (a b : Bool). a || b in
+    let front = list_any-append (lacks rows) (number_rules line.number) (map one_text line.own) ∙ ap₂ either number own in
+    let given = list_any-append (lacks rows) (number_rules line.number ++ map one_text line.own) (config_rules line.configs)
+    ∙ ap₂ either front configs in
+    let all = list_any-append (lacks rows) (rules_of line) (help_rule ∷ []) ∙ ap₂ either given refl in
+    ap (λ (b : Bool). if b then kind.MissingRequiredArgument ∷ [] else [])
+    (lacks_filled rows 1 (rules_of line ++ help_rule ∷ []) ∙ all)
+
+-- the line takes plain words, with these rows, and they give the command
+record PlainLine (line : Usage) (words own configs : List Text) (n : ℕ) : Type 0 where
+  rows : List Row
+  takes : Takes (built_line line) words rows
+  number_is : IsGivenNumber line.number (first_of (codes "N") rows) n
+  own_are : HaveTexts rows line.own own
+  configs_are : HasConfigs line.configs rows configs
+
+plain_line : (line : Usage) (number_words own configs : List Text) (n : ℕ) → AreApart line → NumberWalk line number_words n
+    → length own ≡ length line.own
+    → All IsPlainName own → ArePlainConfigs line.configs configs → PlainLine line (number_words ++ (own ++ configs)) own configs n
+plain_line line number_words own configs n are number long plain plain_configs =
+    let s : Shape = built_line line in
+    let texts : List Row = text_rows line.own own in
+    let front : List Row = number.rows ++ texts in
+    let final : List Row = adds front configs in
+    let new = are_new_append (row_ids number.rows) line.own (config_ids line.configs) number.new in
+    let apart_names = are_new_append number.seen line.own (config_ids line.configs) number.apart in
+    let few : number.place + length line.own < 1000 = omega (arith, number.small, are.few) in
+    let stand = texts_stand s.rules line.own number.seen number.place (others_of line) number.behind apart_names.0 few in
+    let stand_configs = configs_stand s.rules (number.seen ++ line.own) (place_after number.place line.own) line.configs
+    (help_rule ∷ []) stand.1 apart_names.1 in
+    let ids = map-append (λ (r : Row). r.id) number.rows texts
+    ∙ ap (λ (names : List Text). row_ids number.rows ++ names) (text_ids line.own own long) in
+    let new_configs = subst (λ (names : List Text). are_new names (config_ids line.configs) ≡ true) (sym ids) new.1 in
+    let more : List Row = texts ++ config_rows configs in
+    let final_is = adds_rows front configs ∙ append_assoc number.rows texts (config_rows configs) in
+    let more_ids = map-append (λ (r : Row). r.id) texts (config_rows configs)
+    ∙ ap₂ (λ (a b : List Text). a ++ b) (text_ids line.own own long) (config_names line.configs configs plain_configs) in
+    let no_number = no_row (codes "N") more
+    (subst (λ (names : List Text). is_new names (codes "N") ≡ true) (sym more_ids) are.no_number) in
+    let given = subst
+    (λ (rows : List Row). IsGivenNumber line.number
+    (first_of (codes "N") rows) n × (list_any (lacks rows) (number_rules line.number) ≡ false))
+    (sym final_is) (number.given more no_number) in
+    let own_given = texts_given final number.rows line.own own (config_rows configs) final_is new.0 long in
+    let configs_are = configs_given line.configs front configs new_configs plain_configs in
+    let none = each_of_line (λ a. a.defaults ≡ []) no_defaults line in
+    record {
+      rows = final;
+      takes = record {
+        ends = number.walk (own ++ configs) final
+            (λ h settles. texts_walk s line.own own h number.rows number.place configs final refl settles stand.0 new.0 long plain
+            (λ after settled. configs_walk s line.configs configs after front
+            (place_after number.place line.own) settled stand_configs new_configs plain_configs));
+        quiet = ap₂ or_else (defaults_quiet s.rules final none)
+            (ap (λ (rows : List Row). check_fault s rows false) (defaults_stay s.rules final none)
+            ∙ none_missing line final given.1 own_given.1 configs_are.1);
+        full = defaults_stay s.rules final none;
+      };
+      number_is = given.0;
+      own_are = own_given.0;
+      configs_are = configs_are.0;
+    }
+
+-- ---- the words of a command
+
+-- the word of a command names its subcommand
+names_line : (kind : CommandKind) → NamesLine (built command_line) (usage_of kind).word (built_of kind)
+unfolding command_line defaults_fault
+names_line Check = record { met = refl; other = refl; found = refl; quiet = refl }
+names_line kind = record { met = refl; other = refl; found = refl; quiet = refl }
 
 pub plain_words : PlainWordsLaw
-plain_words _ _ (plain_check order configs is are) =
-    asked check_built (order ∷ configs) _ (check order configs) enters_check refl (takes_check order configs is are)
-    (with_files (λ all. Gives (adds (row (codes "ORDER") order ∷ []) all) (check order all)) (λ first others. (refl, refl)) configs are)
-plain_words _ _ (plain_prepare design configs is are) =
-    asked prepare_built (design ∷ configs) _ (prepare design configs) enters_prepare refl (takes_prepare design configs is are)
-    (with_files (λ all. Gives (adds (row (codes "DESIGN") design ∷ []) all) (prepare design all)) (λ first others. (refl, refl)) configs are)
-plain_words _ _ (plain_plan configs are) =
-    asked plan_built configs _ (plan 10000 configs) enters_plan refl (takes_plan configs are)
-    (with_files (λ all. Gives (adds [] all) (plan 10000 all)) (λ first others. (refl, refl)) configs are)
-plain_words _ _ (plain_plan_within number budget configs is are) =
-    asked plan_built (codes "--budget" ∷ number ∷ configs) _ (plan budget configs) enters_plan refl
-    (takes_budget number configs (numeral_plain number budget is.numeral.numeral) are)
-    (with_files (λ all. Gives (adds (row (codes "N") number ∷ []) all) (plan budget all)) (λ first others. (is, refl)) configs are)
-plain_words _ _ (plain_refute tree configs is are) =
-    asked refute_built (tree ∷ configs) _ (refute tree configs) enters_refute refl (takes_refute tree configs is are)
-    (with_files (λ all. Gives (adds (row (codes "TREE") tree ∷ []) all) (refute tree all)) (λ first others. (refl, refl)) configs are)
-plain_words _ _ (plain_scripts order configs is are) =
-    asked scripts_built (order ∷ configs) _ (scripts order configs) enters_scripts refl (takes_scripts order configs is are)
-    (with_files (λ all. Gives (adds (row (codes "ORDER") order ∷ []) all) (scripts order all)) (λ first others. (refl, refl)) configs are)
-plain_words _ _ (plain_replay order journal configs is_order is_journal are) =
-    asked replay_built (order ∷ journal ∷ configs) _ (replay order journal configs) enters_replay refl
-    (takes_replay order journal configs is_order is_journal are)
-    (with_files (λ all. Gives (adds (row (codes "ORDER") order ∷ row (codes "JOURNAL") journal ∷ []) all) (replay order journal all))
-    (λ first others. (refl, refl, refl)) configs are)
-plain_words _ _ (plain_sample number routers is) =
-    asked sample_built (number ∷ []) _ (sample routers) enters_sample refl (takes_sample number (numeral_plain number routers is.numeral.numeral))
-    (record { word = number; text = refl; number = is })
+unfolding command_line
+plain_words words command plain =
+    let line : Usage = usage_of command.kind in
+    let are = apart line (each_apart command.kind) in
+    let number = number_walk line.word line.number line.own line.configs plain.number_words command.number plain.number are in
+    let all = plain_line line plain.number_words command.own command.configs command.number are number plain.count plain.own
+    plain.configs in
+    let rest = plain.number_words ++ (command.own ++ command.configs) in
+    let words_are : words ≡ line.word ∷ rest = plain.words_are
+    ∙ append_assoc (line.word ∷ plain.number_words) command.own command.configs in
+    let names = names_line command.kind in
+    subst (λ (some : List Text). Asks some command) (sym words_are) (record {
+      taken = taken_by (built command_line) line.word (built_of command.kind) rest names
+          (takes_words (built_of command.kind) rest all.rows all.takes);
+      rows = all.rows;
+      entered = entered_by (built command_line) line.word (built_of command.kind) rest names
+          ∙ ap (λ (found : List Row). Some (line.word, found)) (takes_rows (built_of command.kind) rest all.rows all.takes);
+      given = record { number = all.number_is; own = all.own_are; configs = all.configs_are };
+    })

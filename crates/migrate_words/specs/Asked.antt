@@ -1,59 +1,86 @@
 -- Which words of a call, those after the program's name, ask for what.
-use Rattle.std.specs.Prelude.{◌≡◌, ◌≤◌, ℕ, List, [], Option, Some, None, codes}
+use Rattle.std.specs.Prelude.{◌≡◌, ◌<◌, ◌≤◌, ℕ, List, [], Bool, true, false, Option, Some, None, codes, length}
+use Rattle.std.specs.List.{AllZip}
 use Rattle.net_addr.specs.Numerals.{IsNumeralUpTo}
 use Rattle.clap.specs.Words.{Row, Text, all_of, fault_of, first_of, subcommand_of}
 use Rattle.migrate_words.specs.CommandLine.{command_line}
-use Rattle.migrate_words.specs.Requests.{Request, name_of, check, prepare, plan, refute, scripts, replay, sample}
+use Rattle.migrate_words.specs.Usages.{usage_of}
+use Rattle.migrate_words.specs.declared.command.Command.{Command}
+use Rattle.migrate_words.specs.declared.command.CommandKind.{CommandKind}
 use Rattle.migrate_words.specs.declared.command.TheConstants.{LEAST_BUDGET, MOST_BUDGET, USUAL_BUDGET, LEAST_SAMPLE, MOST_SAMPLE}
+use Rattle.migrate_words.specs.declared.subcommands.NumberTaken.{NumberTaken}
+use Rattle.migrate_words.specs.declared.subcommands.NumberTaken.TheVariants.{NoNumber, Budget, Routers}
 
 -- the word is a decimal numeral whose value n is in this range
 pub record IsNumberIn (least most : ℕ) (word : Text) (n : ℕ) : Type 0 where
   pub numeral : IsNumeralUpTo most word n
   pub above : least ≤ n
 
--- the budget that `plan` is given, or the usual one
-abbrev pub IsBudget : Option Text → ℕ → Type 0
-IsBudget None n = n ≡ USUAL_BUDGET
-IsBudget (Some word) n = IsNumberIn LEAST_BUDGET MOST_BUDGET word n
+-- the number that is given: 0 where none is taken, else that of the word, or the usual budget where there is no word
+abbrev pub IsGivenNumber : NumberTaken → Option Text → ℕ → Type 0
+IsGivenNumber NoNumber word n = n ≡ 0
+IsGivenNumber Budget None n = n ≡ USUAL_BUDGET
+IsGivenNumber Budget (Some word) n = IsNumberIn LEAST_BUDGET MOST_BUDGET word n
+IsGivenNumber Routers None n = ⊥
+IsGivenNumber Routers (Some word) n = IsNumberIn LEAST_SAMPLE MOST_SAMPLE word n
 
 -- the argument of this name has this text
 abbrev pub HasText : List Row → Text → Text → Type 0
 HasText rows argument text = first_of argument rows ≡ Some text
 
--- the configuration files are these
-abbrev pub HasConfigs : List Row → List Text → Type 0
-HasConfigs rows configs = all_of (codes "CONFIG") rows ≡ Some configs
+-- the arguments of these names have these texts, each one its own
+abbrev pub HaveTexts : List Row → List Text → List Text → Type 0
+HaveTexts rows arguments texts = AllZip (HasText rows) arguments texts
 
--- the number of routers is this
-pub record HasRouters (rows : List Row) (n : ℕ) : Type 0 where
-  pub word : Text
-  pub text : HasText rows (codes "N") word
-  pub number : IsNumberIn LEAST_SAMPLE MOST_SAMPLE word n
+-- the configuration files are these, and none where none are taken
+abbrev pub HasConfigs : Bool → List Row → List Text → Type 0
+HasConfigs true rows configs = all_of (codes "CONFIG") rows ≡ Some configs
+HasConfigs false rows configs = configs ≡ []
 
--- the arguments of the subcommand have the values of the request
-abbrev pub Gives : List Row → Request → Type 0
-Gives rows (check order configs) = HasText rows (codes "ORDER") order × HasConfigs rows configs
-Gives rows (prepare design configs) = HasText rows (codes "DESIGN") design × HasConfigs rows configs
-Gives rows (plan budget configs) = IsBudget (first_of (codes "N") rows) budget × HasConfigs rows configs
-Gives rows (refute tree configs) = HasText rows (codes "TREE") tree × HasConfigs rows configs
-Gives rows (scripts order configs) = HasText rows (codes "ORDER") order × HasConfigs rows configs
-Gives rows (replay order journal configs) = HasText rows (codes "ORDER") order × HasText rows (codes "JOURNAL") journal × HasConfigs rows configs
-Gives rows (sample n) = HasRouters rows n
+-- the arguments of the subcommand have the values of the command
+pub record Gives (rows : List Row) (command : Command) : Type 0 where
+  pub number : IsGivenNumber (usage_of command.kind).number (first_of (codes "N") rows) command.number
+  pub own : HaveTexts rows (usage_of command.kind).own command.own
+  pub configs : HasConfigs (usage_of command.kind).configs rows command.configs
 
 -- the command line takes the words
 abbrev pub AreTaken : List Text → Type 0
 AreTaken words = fault_of command_line words ≡ []
 
--- the words ask for the request: the command line takes them, they name its subcommand, and give its arguments these values
-pub record Asks (words : List Text) (request : Request) : Type 0 where
+-- the words enter the subcommand of this command, whose arguments come to these rows
+abbrev pub Enters : List Text → CommandKind → List Row → Type 0
+Enters words kind rows = subcommand_of command_line words ≡ Some ((usage_of kind).word, rows)
+
+-- the words ask for the command: the command line takes them, they name its subcommand, and give its arguments these values
+pub record Asks (words : List Text) (command : Command) : Type 0 where
   pub taken : AreTaken words
   pub rows : List Row
-  pub entered : subcommand_of command_line words ≡ Some (name_of request, rows)
-  pub given : Gives rows request
+  pub entered : Enters words command.kind rows
+  pub given : Gives rows command
 
 -- the number that the words give is no numeral or out of its range
-pub data HasNumberOff (words : List Text) : Type 0 where
-  budget_off : (rows : List Row) (word : Text) → subcommand_of command_line words ≡ Some (codes "plan", rows) → HasText rows (codes "N") word
-      → ((n : ℕ) → IsNumberIn LEAST_BUDGET MOST_BUDGET word n → ⊥) → HasNumberOff words
-  routers_off : (rows : List Row) (word : Text) → subcommand_of command_line words ≡ Some (codes "sample", rows) → HasText rows (codes "N") word
-      → ((n : ℕ) → IsNumberIn LEAST_SAMPLE MOST_SAMPLE word n → ⊥) → HasNumberOff words
+pub record HasNumberOff (words : List Text) : Type 0 where
+  pub kind : CommandKind
+  pub rows : List Row
+  pub entered : Enters words kind rows
+  pub word : Text
+  pub text : HasText rows (codes "N") word
+  pub off : (n : ℕ) → ¬ IsGivenNumber (usage_of kind).number (Some word) n
+
+-- a number is within the range of the command line
+abbrev pub IsNumberInRange : NumberTaken → ℕ → Type 0
+IsNumberInRange NoNumber n = n ≡ 0
+IsNumberInRange Budget n = (LEAST_BUDGET ≤ n) × (n ≤ MOST_BUDGET)
+IsNumberInRange Routers n = (LEAST_SAMPLE ≤ n) × (n ≤ MOST_SAMPLE)
+
+-- there is a configuration file, and none where none are taken
+abbrev pub AreConfigsInRange : Bool → List Text → Type 0
+AreConfigsInRange true configs = 0 < length configs
+AreConfigsInRange false configs = configs ≡ []
+
+-- a command is as its usage line has it: its number is in its range, it names as many files of its own as it takes, and at least
+-- one configuration where it takes any
+pub record IsInRange (command : Command) : Type 0 where
+  pub number : IsNumberInRange (usage_of command.kind).number command.number
+  pub own : length command.own ≡ length (usage_of command.kind).own
+  pub configs : AreConfigsInRange (usage_of command.kind).configs command.configs

@@ -1,8 +1,12 @@
--- The command line of `migrate` in the terms of `clap`: seven subcommands, of which one is required.
-use Rattle.std.specs.Prelude.{Some, true, false, [], ◌∷◌, codes, List}
+-- The command line of `migrate` in the terms of `clap`: a subcommand for each command, of which one is required.
+use Rattle.std.specs.Prelude.{Some, true, false, Bool, [], ◌∷◌, ◌++◌, codes, List, map}
 use Rattle.clap.specs.declared.builder.action.ArgAction.TheVariants.{Append}
 use Rattle.clap.specs.Words.{App, Rule, Shape, Text, new_rule}
 use Rattle.clap.specs.Simple.{new_shape}
+use Rattle.migrate_words.specs.Usages.{Usage, kinds, usage_of}
+use Rattle.migrate_words.specs.declared.command.CommandKind.{CommandKind}
+use Rattle.migrate_words.specs.declared.subcommands.NumberTaken.{NumberTaken}
+use Rattle.migrate_words.specs.declared.subcommands.NumberTaken.TheVariants.{NoNumber, Budget, Routers}
 
 -- a required positional of one text
 abbrev pub one_text : Text → Rule
@@ -16,37 +20,32 @@ config_files = record (new_rule (codes "CONFIG")) { required = true; action = So
 abbrev pub budget_option : Rule
 budget_option = record (new_rule (codes "N")) { long = Some (codes "budget") }
 
--- a subcommand of this name, with its arguments
-abbrev pub subcommand : Text → List Rule → Shape
-subcommand name arguments = record (new_shape name) { rules = arguments }
+-- the argument for a number
+abbrev pub number_rules : NumberTaken → List Rule
+number_rules NoNumber = []
+number_rules Budget = budget_option ∷ []
+number_rules Routers = one_text (codes "N") ∷ []
 
-abbrev pub check_line : Shape
-check_line = subcommand (codes "check") (one_text (codes "ORDER") ∷ config_files ∷ [])
+-- the argument for configuration files
+abbrev pub config_rules : Bool → List Rule
+config_rules true = config_files ∷ []
+config_rules false = []
 
-abbrev pub prepare_line : Shape
-prepare_line = subcommand (codes "prepare") (one_text (codes "DESIGN") ∷ config_files ∷ [])
+-- the arguments of a usage line, in their order
+abbrev pub rules_of : Usage → List Rule
+rules_of usage = number_rules usage.number ++ map one_text usage.own ++ config_rules usage.configs
 
-abbrev pub plan_line : Shape
-plan_line = subcommand (codes "plan") (budget_option ∷ config_files ∷ [])
+-- the subcommand of a usage line
+abbrev pub shape_of : Usage → Shape
+shape_of usage = record (new_shape usage.word) { rules = rules_of usage }
 
-abbrev pub refute_line : Shape
-refute_line = subcommand (codes "refute") (one_text (codes "TREE") ∷ config_files ∷ [])
+abbrev pub command_shape : CommandKind → Shape
+command_shape kind = shape_of (usage_of kind)
 
-abbrev pub scripts_line : Shape
-scripts_line = subcommand (codes "scripts") (one_text (codes "ORDER") ∷ config_files ∷ [])
-
-abbrev pub replay_line : Shape
-replay_line = subcommand (codes "replay") (one_text (codes "ORDER") ∷ one_text (codes "JOURNAL") ∷ config_files ∷ [])
-
-abbrev pub sample_line : Shape
-sample_line = subcommand (codes "sample") (one_text (codes "N") ∷ [])
-
--- `migrate`, whose words have no program's name: it has no argument of its own, and one subcommand is required
+-- `migrate`, whose words have no program's name: it has no argument of its own but a version, and one subcommand is required
 abbrev pub migrate_top : Shape
-migrate_top = record (new_shape (codes "migrate")) { is_leaf = false; no_binary_name = true; subcommand_required = true }
+migrate_top = record
+    (new_shape (codes "migrate")) { is_leaf = false; no_binary_name = true; has_version = true; subcommand_required = true }
 
 unfoldable pub command_line : App
-command_line = record {
-  top = migrate_top;
-  subs = check_line ∷ prepare_line ∷ plan_line ∷ refute_line ∷ scripts_line ∷ replay_line ∷ sample_line ∷ [];
-}
+command_line = record { top = migrate_top; subs = map command_shape kinds }

@@ -1,26 +1,26 @@
 -- The laws of the words of a call.
 use Rattle.std.specs.Prelude.{◌≡◌, List}
 use Rattle.clap.specs.Words.{Text}
-use Rattle.migrate_words.specs.Requests.{IsInRange, Request}
-use Rattle.migrate_words.specs.Asked.{AreTaken, Asks, HasNumberOff}
+use Rattle.migrate_words.specs.Asked.{AreTaken, Asks, HasNumberOff, IsInRange}
 use Rattle.migrate_words.specs.PlainWords.{AsksPlainly}
+use Rattle.migrate_words.specs.declared.command.Command.{Command}
 
--- words ask for one request
-abbrev pub OneRequestLaw : Type 0
-OneRequestLaw = (words : List Text) (request other : Request) → Asks words request → Asks words other → request ≡ other
+-- words ask for one command
+abbrev pub OneCommandLaw : Type 0
+OneCommandLaw = (words : List Text) (command other : Command) → Asks words command → Asks words other → command ≡ other
 
 -- what words ask for is within the ranges of the command line
 abbrev pub RangesLaw : Type 0
-RangesLaw = (words : List Text) (request : Request) → Asks words request → IsInRange request
+RangesLaw = (words : List Text) (command : Command) → Asks words command → IsInRange command
 
 -- plain words are taken, with just their values
 abbrev pub PlainWordsLaw : Type 0
-PlainWordsLaw = (words : List Text) (request : Request) → AsksPlainly words request → Asks words request
+PlainWordsLaw = (words : List Text) (command : Command) → AsksPlainly words command → Asks words command
 
 -- where the command line takes the words and they ask for nothing, their number is off its range; and such words ask for nothing
 pub record NumberLaw (words : List Text) : Type 0 where
-  pub off : AreTaken words → ((request : Request) → Asks words request → ⊥) → HasNumberOff words
-  pub none : HasNumberOff words → (request : Request) → Asks words request → ⊥
+  pub off : AreTaken words → ((command : Command) → ¬ Asks words command) → HasNumberOff words
+  pub none : HasNumberOff words → (command : Command) → ¬ Asks words command
 
 abbrev pub NumbersLaw : Type 0
 NumbersLaw = (words : List Text) → NumberLaw words

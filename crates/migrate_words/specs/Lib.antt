@@ -1,5 +1,5 @@
+pub mod Usages
 pub mod CommandLine
-pub mod Requests
 pub mod Asked
 pub mod Refusals
 pub mod PlainWords

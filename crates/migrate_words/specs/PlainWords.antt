@@ -1,9 +1,12 @@
 -- Plain words: those of the program's page, as they are written where no word begins with a hyphen but `--budget`.
-use Rattle.std.specs.Prelude.{◌≢◌, ℕ, List, [], ◌∷◌, All, codes}
+use Rattle.std.specs.Prelude.{◌≡◌, ◌≢◌, ℕ, List, [], ◌∷◌, ◌++◌, All, Bool, true, false, codes, length}
 use Rattle.clap.specs.Words.{Text}
-use Rattle.migrate_words.specs.Requests.{Request, check, prepare, plan, refute, scripts, replay, sample}
 use Rattle.migrate_words.specs.Asked.{IsNumberIn}
+use Rattle.migrate_words.specs.Usages.{usage_of}
+use Rattle.migrate_words.specs.declared.command.Command.{Command}
 use Rattle.migrate_words.specs.declared.command.TheConstants.{LEAST_BUDGET, MOST_BUDGET, USUAL_BUDGET, LEAST_SAMPLE, MOST_SAMPLE}
+use Rattle.migrate_words.specs.declared.subcommands.NumberTaken.{NumberTaken}
+use Rattle.migrate_words.specs.declared.subcommands.NumberTaken.TheVariants.{NoNumber, Budget, Routers}
 
 -- a plain name: it isn't empty, and it doesn't begin with `-`
 abbrev pub IsPlainName : Text → Type 0
@@ -15,21 +18,25 @@ pub record ArePlainNames (names : List Text) : Type 0 where
   pub some : names ≢ []
   pub plain : All IsPlainName names
 
--- the words are plain, and this is what they ask for
-pub data AsksPlainly : List Text → Request → Type 0 where
-  plain_check : (order : Text) (configs : List Text) → IsPlainName order → ArePlainNames configs
-      → AsksPlainly (codes "check" ∷ order ∷ configs) (check order configs)
-  plain_prepare : (design : Text) (configs : List Text) → IsPlainName design → ArePlainNames configs
-      → AsksPlainly (codes "prepare" ∷ design ∷ configs) (prepare design configs)
-  plain_plan : (configs : List Text) → ArePlainNames configs
-      → AsksPlainly (codes "plan" ∷ configs) (plan USUAL_BUDGET configs)
-  plain_plan_within : (number : Text) (budget : ℕ) (configs : List Text) → IsNumberIn LEAST_BUDGET MOST_BUDGET number budget → ArePlainNames configs
-      → AsksPlainly (codes "plan" ∷ codes "--budget" ∷ number ∷ configs) (plan budget configs)
-  plain_refute : (tree : Text) (configs : List Text) → IsPlainName tree → ArePlainNames configs
-      → AsksPlainly (codes "refute" ∷ tree ∷ configs) (refute tree configs)
-  plain_scripts : (order : Text) (configs : List Text) → IsPlainName order → ArePlainNames configs
-      → AsksPlainly (codes "scripts" ∷ order ∷ configs) (scripts order configs)
-  plain_replay : (order journal : Text) (configs : List Text) → IsPlainName order → IsPlainName journal → ArePlainNames configs
-      → AsksPlainly (codes "replay" ∷ order ∷ journal ∷ configs) (replay order journal configs)
-  plain_sample : (number : Text) (routers : ℕ) → IsNumberIn LEAST_SAMPLE MOST_SAMPLE number routers
-      → AsksPlainly (codes "sample" ∷ number ∷ []) (sample routers)
+-- the words for a number: none where none is taken or the usual budget is meant, `--budget N`, or N
+pub data WritesNumber : NumberTaken → List Text → ℕ → Type 0 where
+  no_number : WritesNumber NoNumber [] 0
+  usual_budget : WritesNumber Budget [] USUAL_BUDGET
+  budget : (word : Text) (n : ℕ) → IsNumberIn LEAST_BUDGET MOST_BUDGET word n
+      → WritesNumber Budget (codes "--budget" ∷ word ∷ []) n
+  routers : (word : Text) (n : ℕ) → IsNumberIn LEAST_SAMPLE MOST_SAMPLE word n → WritesNumber Routers (word ∷ []) n
+
+-- plain names of configurations, and none where none are taken
+abbrev pub ArePlainConfigs : Bool → List Text → Type 0
+ArePlainConfigs true configs = ArePlainNames configs
+ArePlainConfigs false configs = configs ≡ []
+
+-- the words are plain, and this is what they ask for: the word of the command, its number, the files of its own, as many as it
+-- takes, and its configurations
+pub record AsksPlainly (words : List Text) (command : Command) : Type 0 where
+  pub number_words : List Text
+  pub words_are : words ≡ (usage_of command.kind).word ∷ number_words ++ command.own ++ command.configs
+  pub number : WritesNumber (usage_of command.kind).number number_words command.number
+  pub count : length command.own ≡ length (usage_of command.kind).own
+  pub own : All IsPlainName command.own
+  pub configs : ArePlainConfigs (usage_of command.kind).configs command.configs

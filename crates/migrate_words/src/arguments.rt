@@ -1,16 +1,36 @@
 ghost use Rattle.std.specs.Prelude.{codes};
 ghost use Rattle.clap.specs.Words.{first_of, found_of, rows_of};
-ghost use Rattle.migrate_words.specs.Asked.{HasConfigs, HasRouters, HasText, IsBudget, IsNumberIn};
+ghost use Rattle.migrate_words.specs.Asked.{HasConfigs, HasText, HaveTexts, IsGivenNumber, IsNumberIn};
 ghost use Rattle.migrate_words.specs.steps.Reading.{ReadsAs};
+ghost use Rattle.migrate_words.specs.steps.Seen.{argument_names};
 
 use crate::command::{LEAST_BUDGET, LEAST_SAMPLE, MOST_BUDGET, MOST_SAMPLE, USUAL_BUDGET};
+use crate::subcommands::{NumberTaken, OwnFile};
 use crate::{FileNames, WordsRefused};
 use clap::ArgMatches;
 use net_addr::read_number;
 use std::alloc::Global;
 
+/// The files of a command's own, as they are named.
+pub(crate) fn own_of<'a>(
+    alloc: Global,
+    given: &ArgMatches<'a>,
+    own: &[OwnFile],
+) -> Result<FileNames<'a>, WordsRefused>
+    ensures { ReadsAs (λ names. names) (HaveTexts (rows_of (found_of given.now)) (argument_names own.now)) result }
+{
+    let mut all = Vec::new(alloc);
+    for file in own {
+        let name = text_of(given, file.name)?;
+        if all.push(name).is_err() {
+            return Err(WordsRefused::OutOfMemory);
+        }
+    }
+    Ok(FileNames::from_vec(all))
+}
+
 /// The text of a required argument.
-pub(crate) fn text_of<'a>(given: &ArgMatches<'a>, argument: &str) -> Result<&'a str, WordsRefused>
+fn text_of<'a>(given: &ArgMatches<'a>, argument: &str) -> Result<&'a str, WordsRefused>
     ensures { ReadsAs (λ text. text.now) (HasText (rows_of (found_of given.now)) argument.now) result }
 {
     match given.get_str(argument) {
@@ -19,40 +39,38 @@ pub(crate) fn text_of<'a>(given: &ArgMatches<'a>, argument: &str) -> Result<&'a 
     }
 }
 
-/// The configuration files.
+/// The configuration files, none where none are taken.
 pub(crate) fn configs_of<'a>(
     alloc: Global,
     given: &ArgMatches<'a>,
+    configs: bool,
 ) -> Result<FileNames<'a>, WordsRefused>
-    ensures { ReadsAs (λ names. names) (HasConfigs (rows_of (found_of given.now))) result }
+    ensures { ReadsAs (λ names. names) (HasConfigs configs (rows_of (found_of given.now))) result }
 {
+    let mut all = Vec::new(alloc);
+    if !configs {
+        return Ok(FileNames::from_vec(all));
+    }
     let Some(names) = given.get_strs("CONFIG") else {
         return Err(WordsRefused::Number);
     };
-    let mut all = Vec::new(alloc);
     match all.extend_from_slice(names) {
         Ok(()) => Ok(FileNames::from_vec(all)),
         Err(_) => Err(WordsRefused::OutOfMemory),
     }
 }
 
-/// The budget of branches of a `plan`.
-pub(crate) fn budget_of(given: &ArgMatches<'_>) -> Result<u32, WordsRefused>
-    ensures { ReadsAs (λ budget. budget) (IsBudget (first_of (codes "N") (rows_of (found_of given.now)))) result }
+/// The number that is given, 0 where none is taken.
+pub(crate) fn number_of(given: &ArgMatches<'_>, number: NumberTaken) -> Result<u32, WordsRefused>
+    ensures { ReadsAs (λ n. n) (IsGivenNumber number (first_of (codes "N") (rows_of (found_of given.now)))) result }
 {
-    match given.get_str("N") {
-        Some(word) => number_in(word, LEAST_BUDGET, MOST_BUDGET),
-        None => Ok(USUAL_BUDGET),
-    }
-}
-
-/// The number of routers of a `sample`.
-pub(crate) fn routers_of(given: &ArgMatches<'_>) -> Result<u32, WordsRefused>
-    ensures { ReadsAs (λ routers. routers) (HasRouters (rows_of (found_of given.now))) result }
-{
-    match text_of(given, "N") {
-        Ok(word) => number_in(word, LEAST_SAMPLE, MOST_SAMPLE),
-        Err(error) => Err(error),
+    let word = given.get_str("N");
+    match (number, word) {
+        (NumberTaken::NoNumber, _) => Ok(0),
+        (NumberTaken::Budget, None) => Ok(USUAL_BUDGET),
+        (NumberTaken::Budget, Some(word)) => number_in(word, LEAST_BUDGET, MOST_BUDGET),
+        (NumberTaken::Routers, None) => Err(WordsRefused::Number),
+        (NumberTaken::Routers, Some(word)) => number_in(word, LEAST_SAMPLE, MOST_SAMPLE),
     }
 }
 

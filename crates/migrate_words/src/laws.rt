@@ -1,9 +1,10 @@
-ghost use Rattle.migrate_words.specs.Laws.{NumbersLaw, OneRequestLaw, PlainWordsLaw, RangesLaw};
+ghost use Rattle.migrate_words.specs.Laws.{NumbersLaw, OneCommandLaw, PlainWordsLaw, RangesLaw};
 
-/// The laws of the words of a call: they ask for one request, which names a file at least and a number in its range; plain words are taken
-/// with just their values; and words that the command line takes ask for something unless their number is off its range.
+/// The laws of the words of a call: they ask for one command, which is as its usage line has it, with a number in its range;
+/// plain words are taken with just their values; and words that the command line takes ask for something unless their number is
+/// off its range.
 pub fn words_laws()
-    ensures one { OneRequestLaw }
+    ensures one { OneCommandLaw }
     ensures ranges { RangesLaw }
     ensures plain { PlainWordsLaw }
     ensures numbers { NumbersLaw }

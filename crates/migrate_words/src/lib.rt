@@ -1,22 +1,27 @@
 //! The words of a call of `migrate`, read by `clap` as one of its commands.
 //!
-//! `specs/CommandLine.antt` is the command in `clap`'s terms, `specs/Requests.antt` what a call can ask for, `specs/Asked.antt`
-//! which words ask for it, and `specs/PlainWords.antt` the words of the program's page. `read_command` is the one call.
+//! `specs/Usages.antt` is the table of the commands, with what each takes; `specs/CommandLine.antt` is the command line in
+//! `clap`'s terms, `specs/Asked.antt` says which words ask for what, and `specs/PlainWords.antt` has the words of the program's
+//! page. `read_command` is the one call. A command more is a variant of `CommandKind` with a line in that table and an entry in
+//! `subcommands`: no other definition and no proof names a command.
 //!
 //! | File | What it holds |
 //! |---|---|
 //! | `command` | the commands as data, and the ranges of their numbers |
-//! | `lines` | the command line that `clap` is given: a subcommand a command |
+//! | `subcommands` | the table: the word, the help and the arguments of each subcommand |
+//! | `lines` | the command line that `clap` is given: a subcommand an entry |
 //! | `reading`, `arguments` | the call, and what stands for each argument |
 //! | `file_names` | names of files in their order |
-//! | `refusal` | why words are refused, with what `clap` says |
-//! | `laws` | that words ask for one request |
+//! | `refusal`, `version` | why words are refused, with what `clap` says; the version that it tells |
+//! | `laws` | that words ask for one command |
 #![tactic(auto)]
 
 // commands as data
 mod command;
 mod file_names;
 mod refusal;
+mod subcommands;
+mod version;
 
 // words by `clap`
 mod arguments;
@@ -26,8 +31,11 @@ mod reading;
 // laws
 mod laws;
 
-pub use command::{Command, LEAST_BUDGET, LEAST_SAMPLE, MOST_BUDGET, MOST_SAMPLE, USUAL_BUDGET};
+pub use command::{
+    Command, CommandKind, LEAST_BUDGET, LEAST_SAMPLE, MOST_BUDGET, MOST_SAMPLE, USUAL_BUDGET,
+};
 pub use file_names::FileNames;
 pub use laws::words_laws;
 pub use reading::read_command;
 pub use refusal::WordsRefused;
+pub use version::VERSION;

@@ -1,12 +1,13 @@
-ghost use Rattle.std.specs.Prelude.{IfOk};
-ghost use Rattle.clap.specs.Words.{App, Shape};
+ghost use Rattle.std.specs.Prelude.{List, IfOk, ◌∷◌, [], map};
+ghost use Rattle.clap.specs.Words.{App, Rule, Shape, with_subcommand};
 ghost use Rattle.clap.specs.Simple.{new_shape};
-ghost use Rattle.migrate_words.specs.CommandLine.{budget_option, command_line, config_files, one_text};
-ghost use Rattle.migrate_words.specs.CommandLine.{check_line, plan_line, prepare_line, refute_line};
-ghost use Rattle.migrate_words.specs.CommandLine.{replay_line, sample_line, scripts_line};
-ghost use Rattle.migrate_words.specs.steps.LineSteps.{IsLine, IsRule, IsWhole, bare_line, with_argument};
-ghost use Rattle.clap.specs.Words.{Rule, with_subcommand};
+ghost use Rattle.migrate_words.specs.CommandLine.{budget_option, command_line, config_files, config_rules};
+ghost use Rattle.migrate_words.specs.CommandLine.{number_rules, one_text, shape_of};
+ghost use Rattle.migrate_words.specs.steps.LineSteps.{IsLine, IsRule, IsWhole, bare_line, with_arguments};
+ghost use Rattle.migrate_words.specs.steps.Seen.{argument_names, usage_seen};
 
+use crate::subcommands::{NumberTaken, OwnFile, Subcommand, subcommands};
+use crate::version::VERSION;
 use clap::{Arg, ArgAction, Command};
 use std::alloc::{AllocError, Global};
 
@@ -14,13 +15,11 @@ use std::alloc::{AllocError, Global};
 pub(crate) fn command_line<'a>(alloc: Global) -> Result<Command<'a>, AllocError>
     ensures { IfOk result (IsWhole command_line) }
 {
-    let line = with_line(Ok(top(alloc)), check_line(alloc));
-    let line = with_line(line, prepare_line(alloc));
-    let line = with_line(line, plan_line(alloc));
-    let line = with_line(line, refute_line(alloc));
-    let line = with_line(line, scripts_line(alloc));
-    let line = with_line(line, replay_line(alloc));
-    with_line(line, sample_line(alloc))
+    let mut line = top(alloc);
+    for entry in subcommands() {
+        line = with_subcommand(line, subcommand(alloc, entry)?)?;
+    }
+    Ok(line)
 }
 
 /// The command line with no subcommand yet.
@@ -29,22 +28,9 @@ fn top<'a>(alloc: Global) -> Command<'a>
 {
     Command::new(alloc, "migrate")
         .about("Plans the move of a network from OSPF to IS-IS, a router at a time.")
+        .version(VERSION)
         .no_binary_name(true)
         .subcommand_required(true)
-}
-
-/// The command line with one more subcommand, where there was memory for both.
-fn with_line<'a>(
-    line: Result<Command<'a>, AllocError>,
-    subcommand: Result<Command<'a>, AllocError>,
-) -> Result<Command<'a>, AllocError>
-    ensures { IfOk result (λ r. (whole : App) (sub : Shape) → IfOk line.entry (IsWhole whole) → IfOk subcommand.entry (IsLine sub)
-        → IsWhole (with_subcommand whole sub) r) }
-{
-    match (line, subcommand) {
-        (Ok(line), Ok(subcommand)) => with_subcommand(line, subcommand),
-        (Err(fault), _) | (_, Err(fault)) => Err(fault),
-    }
 }
 
 /// The command line with one more subcommand.
@@ -52,117 +38,84 @@ fn with_subcommand<'a>(
     line: Command<'a>,
     subcommand: Command<'a>,
 ) -> Result<Command<'a>, AllocError>
-    ensures { IfOk result (λ r. (whole : App) (sub : Shape) → IsWhole whole line.entry → IsLine sub subcommand.entry → IsWhole (with_subcommand whole sub) r) }
+    ensures { IfOk result (λ r. (whole : App) (sub : Shape) → IsWhole whole line.entry → IsLine sub subcommand.entry
+        → IsWhole (with_subcommand whole sub) r) }
 {
     line.subcommand(subcommand)
 }
 
-fn check_line<'a>(alloc: Global) -> Result<Command<'a>, AllocError>
-    ensures { IfOk result (IsLine check_line) }
+/// The subcommand of an entry, with its arguments.
+fn subcommand<'a>(alloc: Global, entry: &Subcommand) -> Result<Command<'a>, AllocError>
+    ensures { IfOk result (IsLine (shape_of (usage_seen entry.now))) }
 {
-    let line = subcommand(
-        alloc,
-        "check",
-        "Judges an order: is the network safe after each change?",
-    );
-    let order = one_text(
-        alloc,
-        "ORDER",
-        "The order file: the routers in the order in which they change",
-    );
-    with_argument(with_argument(line, order)?, config_files(alloc))
+    let line = with_number(alloc, bare(alloc, entry), entry.number)?;
+    with_configs(alloc, with_files(alloc, line, entry.own)?, entry.configs)
 }
 
-fn prepare_line<'a>(alloc: Global) -> Result<Command<'a>, AllocError>
-    ensures { IfOk result (IsLine prepare_line) }
+/// The subcommand of an entry, with no argument yet.
+fn bare<'a>(alloc: Global, entry: &Subcommand) -> Command<'a>
+    ensures { IsLine (new_shape entry.now.word.now) result }
 {
-    let line = subcommand(
-        alloc,
-        "prepare",
-        "Writes the configurations with the IS-IS lines of a design",
-    );
-    let design = one_text(alloc, "DESIGN", "The design file");
-    with_argument(with_argument(line, design)?, config_files(alloc))
+    Command::new(alloc, entry.word)
+        .about(entry.about)
+        .override_usage(entry.usage)
 }
 
-fn plan_line<'a>(alloc: Global) -> Result<Command<'a>, AllocError>
-    ensures { IfOk result (IsLine plan_line) }
+/// A subcommand with the argument for a number, where it takes one.
+fn with_number<'a>(
+    alloc: Global,
+    line: Command<'a>,
+    number: NumberTaken,
+) -> Result<Command<'a>, AllocError>
+    ensures { IfOk result (λ r. (shape : Shape) → IsLine shape line.entry
+        → IsLine (with_arguments shape (number_rules number)) r) }
 {
-    let line = subcommand(
-        alloc,
-        "plan",
-        "Finds an order that is safe after each change, or a tree that shows that there is none",
-    );
-    with_argument(
-        with_argument(line, budget_option(alloc))?,
-        config_files(alloc),
-    )
+    match number {
+        NumberTaken::NoNumber => Ok(line),
+        NumberTaken::Budget => with_argument(line, budget_option(alloc)),
+        NumberTaken::Routers => {
+            let routers = one_text(alloc, "N", "The number of routers, from 3 to 60");
+            with_argument(line, routers)
+        }
+    }
 }
 
-fn refute_line<'a>(alloc: Global) -> Result<Command<'a>, AllocError>
-    ensures { IfOk result (IsLine refute_line) }
+/// A subcommand with the arguments for these files.
+fn with_files<'a>(
+    alloc: Global,
+    line: Command<'a>,
+    files: &[OwnFile],
+) -> Result<Command<'a>, AllocError>
+    ensures { IfOk result (λ r. (shape : Shape) → IsLine shape line.entry
+        → IsLine (with_arguments shape (map one_text (argument_names files.now))) r) }
 {
-    let line = subcommand(
-        alloc,
-        "refute",
-        "Judges a tree: does it show that no order is safe?",
-    );
-    let tree = one_text(alloc, "TREE", "The tree file");
-    with_argument(with_argument(line, tree)?, config_files(alloc))
+    let mut line = line;
+    for file in files {
+        line = with_argument(line, one_text(alloc, file.name, file.help))?;
+    }
+    Ok(line)
 }
 
-fn scripts_line<'a>(alloc: Global) -> Result<Command<'a>, AllocError>
-    ensures { IfOk result (IsLine scripts_line) }
+/// A subcommand with the argument for configuration files, where it takes any.
+fn with_configs<'a>(
+    alloc: Global,
+    line: Command<'a>,
+    configs: bool,
+) -> Result<Command<'a>, AllocError>
+    ensures { IfOk result (λ r. (shape : Shape) → IsLine shape line.entry
+        → IsLine (with_arguments shape (config_rules configs)) r) }
 {
-    let line = subcommand(
-        alloc,
-        "scripts",
-        "Writes the lines to type for each change of an order",
-    );
-    let order = one_text(alloc, "ORDER", "The order file");
-    with_argument(with_argument(line, order)?, config_files(alloc))
-}
-
-fn replay_line<'a>(alloc: Global) -> Result<Command<'a>, AllocError>
-    ensures { IfOk result (IsLine replay_line) }
-{
-    let line = subcommand(
-        alloc,
-        "replay",
-        "Tells how far a journal of changes has come in an order, and the next change",
-    );
-    let order = one_text(alloc, "ORDER", "The order file");
-    let journal = one_text(
-        alloc,
-        "JOURNAL",
-        "The journal file: the changes that are done",
-    );
-    let line = with_argument(with_argument(line, order)?, journal)?;
-    with_argument(line, config_files(alloc))
-}
-
-fn sample_line<'a>(alloc: Global) -> Result<Command<'a>, AllocError>
-    ensures { IfOk result (IsLine sample_line) }
-{
-    let line = subcommand(
-        alloc,
-        "sample",
-        "Plans a made network, and tells what was found",
-    );
-    let routers = one_text(alloc, "N", "The number of routers, from 3 to 60");
-    with_argument(line, routers)
-}
-
-/// A subcommand with no argument yet.
-fn subcommand<'a>(alloc: Global, name: &'a str, about: &'a str) -> Command<'a>
-    ensures { IsLine (new_shape name.now) result }
-{
-    Command::new(alloc, name).about(about)
+    if configs {
+        with_argument(line, config_files(alloc))
+    } else {
+        Ok(line)
+    }
 }
 
 /// A subcommand with one more argument.
 fn with_argument<'a>(line: Command<'a>, argument: Arg<'a>) -> Result<Command<'a>, AllocError>
-    ensures { IfOk result (λ r. (shape : Shape) (rule : Rule) → IsLine shape line.entry → IsRule rule argument.entry → IsLine (with_argument shape rule) r) }
+    ensures { IfOk result (λ r. (shape : Shape) (rule : Rule) → IsLine shape line.entry → IsRule rule argument.entry
+        → IsLine (with_arguments shape (rule ∷ [])) r) }
 {
     line.arg(argument)
 }

@@ -1,12 +1,16 @@
-ghost use Rattle.std.specs.Prelude.{codes, map, string_bytes};
+ghost use Rattle.std.specs.Prelude.{◌≡◌, IfSome, find, map, option_map, string_bytes};
+ghost use Rattle.std.specs.Option.{option_copied};
+ghost use Rattle.std.specs.Str.{bytes_eq};
 ghost use Rattle.clap.specs.Words.{found_of, rows_of};
 ghost use Rattle.migrate_words.specs.Refusals.{AnswersWords};
-ghost use Rattle.migrate_words.specs.steps.Reading.{IsEntered, NamesRequest, ReadsAs};
-ghost use Rattle.migrate_words.specs.Requests.{request_of};
+ghost use Rattle.migrate_words.specs.Usages.{kinds, usage_of};
+ghost use Rattle.migrate_words.specs.steps.Reading.{IsEntered, IsOfKind, NamesCommand, ReadsAs};
+ghost use Rattle.migrate_words.specs.steps.Seen.{IsOfTable, kind_of_entry};
 
-use crate::arguments::{budget_of, configs_of, routers_of, text_of};
+use crate::arguments::{configs_of, number_of, own_of};
 use crate::lines::command_line;
 use crate::refusal::told;
+use crate::subcommands::{Subcommand, subcommands};
 use crate::{Command, WordsRefused};
 use clap::ArgMatches;
 use std::alloc::Global;
@@ -29,7 +33,7 @@ pub fn read_command<'a>(alloc: Global, words: &'a [String]) -> Result<Command<'a
 
 /// The command of the subcommand that was entered.
 fn entered<'a>(alloc: Global, matches: &ArgMatches<'a>) -> Result<Command<'a>, WordsRefused>
-    ensures { ReadsAs request_of (IsEntered matches.now) result }
+    ensures { ReadsAs (λ command. command) (IsEntered matches.now) result }
 {
     match matches.subcommand() {
         Some((name, given)) => named(alloc, name, given),
@@ -39,76 +43,50 @@ fn entered<'a>(alloc: Global, matches: &ArgMatches<'a>) -> Result<Command<'a>, W
 
 /// The command of the subcommand of a name, by the values of its arguments.
 fn named<'a>(alloc: Global, name: &str, given: &ArgMatches<'a>) -> Result<Command<'a>, WordsRefused>
-    ensures { ReadsAs request_of (NamesRequest name.now (rows_of (found_of given.now))) result }
+    ensures { ReadsAs (λ command. command) (NamesCommand name.now (rows_of (found_of given.now))) result }
 {
-    match name {
-        "check" => check(alloc, given),
-        "prepare" => prepare(alloc, given),
-        "plan" => plan(alloc, given),
-        "refute" => refute(alloc, given),
-        "scripts" => scripts(alloc, given),
-        "replay" => replay(alloc, given),
-        "sample" => sample(given),
-        _ => Err(WordsRefused::Number),
+    match entry_of(name) {
+        Some(entry) => command_of(alloc, entry, given),
+        None => Err(WordsRefused::Number),
     }
 }
 
-fn check<'a>(alloc: Global, given: &ArgMatches<'a>) -> Result<Command<'a>, WordsRefused>
-    ensures { ReadsAs request_of (NamesRequest (codes "check") (rows_of (found_of given.now))) result }
+/// The entry of the table with this word.
+fn entry_of(word: &str) -> Option<&'static Subcommand>
+    ensures kind { option_map kind_of_entry (option_copied result) ≡ find (λ kind. bytes_eq (usage_of kind).word word.now) kinds }
+    ensures usage { IfSome (option_copied result) IsOfTable }
 {
-    let order = text_of(given, "ORDER")?;
-    let configs = configs_of(alloc, given)?;
-    Ok(Command::Check { order, configs })
+    first_of(subcommands(), word)
 }
 
-fn prepare<'a>(alloc: Global, given: &ArgMatches<'a>) -> Result<Command<'a>, WordsRefused>
-    ensures { ReadsAs request_of (NamesRequest (codes "prepare") (rows_of (found_of given.now))) result }
+/// The first of these entries with this word.
+fn first_of<'a>(entries: &'a [Subcommand], word: &str) -> Option<&'a Subcommand>
+    ensures { option_copied result ≡ find (λ entry. bytes_eq entry.word.now word.now) entries.now }
 {
-    let design = text_of(given, "DESIGN")?;
-    let configs = configs_of(alloc, given)?;
-    Ok(Command::Prepare { design, configs })
+    for entry in entries {
+        if entry.word == word {
+            return Some(entry);
+        }
+    }
+    None
 }
 
-fn plan<'a>(alloc: Global, given: &ArgMatches<'a>) -> Result<Command<'a>, WordsRefused>
-    ensures { ReadsAs request_of (NamesRequest (codes "plan") (rows_of (found_of given.now))) result }
+/// The command of an entry of the table, by the values of its arguments.
+fn command_of<'a>(
+    alloc: Global,
+    entry: &Subcommand,
+    given: &ArgMatches<'a>,
+) -> Result<Command<'a>, WordsRefused>
+    requires { IsOfTable entry.now }
+    ensures { ReadsAs (λ command. command) (IsOfKind entry.now.kind (rows_of (found_of given.now))) result }
 {
-    let budget = budget_of(given)?;
-    let configs = configs_of(alloc, given)?;
-    Ok(Command::Plan { budget, configs })
-}
-
-fn refute<'a>(alloc: Global, given: &ArgMatches<'a>) -> Result<Command<'a>, WordsRefused>
-    ensures { ReadsAs request_of (NamesRequest (codes "refute") (rows_of (found_of given.now))) result }
-{
-    let tree = text_of(given, "TREE")?;
-    let configs = configs_of(alloc, given)?;
-    Ok(Command::Refute { tree, configs })
-}
-
-fn scripts<'a>(alloc: Global, given: &ArgMatches<'a>) -> Result<Command<'a>, WordsRefused>
-    ensures { ReadsAs request_of (NamesRequest (codes "scripts") (rows_of (found_of given.now))) result }
-{
-    let order = text_of(given, "ORDER")?;
-    let configs = configs_of(alloc, given)?;
-    Ok(Command::Scripts { order, configs })
-}
-
-fn replay<'a>(alloc: Global, given: &ArgMatches<'a>) -> Result<Command<'a>, WordsRefused>
-    ensures { ReadsAs request_of (NamesRequest (codes "replay") (rows_of (found_of given.now))) result }
-{
-    let order = text_of(given, "ORDER")?;
-    let journal = text_of(given, "JOURNAL")?;
-    let configs = configs_of(alloc, given)?;
-    Ok(Command::Replay {
-        order,
-        journal,
+    let number = number_of(given, entry.number)?;
+    let own = own_of(alloc, given, entry.own)?;
+    let configs = configs_of(alloc, given, entry.configs)?;
+    Ok(Command {
+        kind: entry.kind,
+        own,
         configs,
+        number,
     })
-}
-
-fn sample<'a>(given: &ArgMatches<'a>) -> Result<Command<'a>, WordsRefused>
-    ensures { ReadsAs request_of (NamesRequest (codes "sample") (rows_of (found_of given.now))) result }
-{
-    let routers = routers_of(given)?;
-    Ok(Command::Sample { routers })
 }

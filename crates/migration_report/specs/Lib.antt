@@ -5,3 +5,5 @@ pub mod TreeVerdictTexts
 pub mod DesignTexts
 pub mod EndTexts
 pub mod SummaryTexts
+pub mod Codes
+pub mod Outcomes

@@ -8,15 +8,15 @@ use std::alloc::{AllocError, Global};
 
 /// The line that a design is refused: its file, the path of keys to what is wrong, and the kind. The only error is want
 /// of memory.
-pub fn refused_design_text(
+pub(crate) fn refused_design_text(
     alloc: Global,
-    file: &str,
+    file: &[u8],
     path: &[u8],
     kind: DesignKind,
 ) -> Result<Bytes, AllocError>
     ensures { IfOk result (λ text. text ≡ refused_design_text file.now path.now kind) }
 {
-    let line = LineBuilder::start(alloc, b"refused")?.word(file.as_bytes())?;
+    let line = LineBuilder::start(alloc, b"refused")?.word(file)?;
     line.word(path)?.word(design_kind_name(kind))?.finish()
 }
 

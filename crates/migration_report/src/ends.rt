@@ -4,7 +4,6 @@ ghost use Rattle.plan_theory.specs.Plans.{fault_told};
 ghost use Rattle.migration_report.specs.EndTexts.{EndFaultBelow, end_word, unsound_text};
 
 use crate::report::fault_words;
-use loop_finder::Fault;
 use net_addr::Bytes;
 use net_model::Net;
 use plan_theory::EndFault;
@@ -21,7 +20,7 @@ pub enum End {
 }
 
 /// The line that tells what is wrong in an end that isn't sound. The only error is want of memory.
-pub fn unsound_text(
+pub(crate) fn unsound_text(
     alloc: Global,
     net: &Net,
     end: End,
@@ -31,19 +30,7 @@ pub fn unsound_text(
     ensures { IfOk result (λ text. text ≡ unsound_text end (names_of net.now) (fault_told fault.now)) }
 {
     let line = LineBuilder::start(alloc, b"unsound")?.word(end_word(end))?;
-    match fault {
-        EndFault::Loop { address, turns } => {
-            let fault = Fault::Loop { address: *address };
-            fault_words(line, net, fault, turns.as_slice())?.finish()
-        }
-        EndFault::Missing { address, router } => {
-            let fault = Fault::Missing {
-                address: *address,
-                router: *router,
-            };
-            fault_words(line, net, fault, &[])?.finish()
-        }
-    }
+    fault_words(line, net, fault)?.finish()
 }
 
 /// The word for an end.

@@ -9,9 +9,41 @@ use net_model::Net;
 use printed_lines::{LineBuilder, TextBuilder};
 use state_replay::Half;
 use std::alloc::{AllocError, Global};
+use std::marker::Model;
+
+/// Of each router the change that may come next.
+#[derive(Debug, Drop)]
+pub struct Nexts {
+    all: Vec<Option<Half>>,
+}
+
+impl Model for Nexts {
+    ghost use Rattle.std.specs.Prelude.{List, Option};
+    ghost use Rattle.state_replay.specs.declared.half.Half.{Half};
+
+    ghost Value = { List (Option Half) };
+
+    ghost view = { λ x. x.all.items };
+}
+
+impl Nexts {
+    /// These changes.
+    pub fn from_vec(all: Vec<Option<Half>>) -> Nexts
+        ensures { result ≡ all.items }
+    {
+        Nexts { all }
+    }
+
+    /// The changes, in the order of the routers.
+    pub fn as_slice(&self) -> &[Option<Half>]
+        ensures { result.now ≡ self.now }
+    {
+        self.all.as_slice()
+    }
+}
 
 /// The line that tells the first line of a journal that fits no run. The only error is want of memory.
-pub fn departs_text(alloc: Global, line: u32) -> Result<Bytes, AllocError>
+pub(crate) fn departs_text(alloc: Global, line: u32) -> Result<Bytes, AllocError>
     ensures { IfOk result (λ text. text ≡ departs_text line) }
 {
     LineBuilder::start(alloc, b"departs")?
@@ -21,7 +53,7 @@ pub fn departs_text(alloc: Global, line: u32) -> Result<Bytes, AllocError>
 
 /// The lines that tell how many changes of a migration are made, and which may come next: of each router the change in
 /// its place of `nexts`. The only error is want of memory.
-pub fn reached_text(
+pub(crate) fn reached_text(
     alloc: Global,
     net: &Net,
     made: u32,

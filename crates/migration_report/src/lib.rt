@@ -1,17 +1,25 @@
-//! The texts that the planner prints: what it found of an order, why an end of a migration isn't sound, where a journal
-//! stands, what is found of a tree, what sums up a plan, and why it refused its input.
+//! What a call of the planner may come to, as data, with the status and the text that tell it.
 //!
-//! | File | The lines that it prints |
+//! | File | What it has |
 //! |---|---|
-//! | `report`, `ends` | `safe ..`, `unsafe ..`, `unsound ..`: an order, a wave list, an end of the migration |
-//! | `journal` | `at ..`, `next ..`, `done`, `departs ..`: where a journal stands |
-//! | `tree` | `closed ..`, `open ..`, `wrong ..`: what is found of a tree file |
-//! | `summary` | what sums up a plan |
-//! | `refusal`, `network`, `design`, `kinds` | `refused ..`, `limit ..`, `read fault ..`, `words refused`, with the names of kinds |
+//! | `outcome` | `Outcome`: the input is refused, or a command has decided of a network; its status and its text |
+//! | `refusal`, `decision` | why input is refused, and what a command may decide |
+//! | `status` | how a call may end, with the exit codes |
+//! | `report`, `ends` | the lines `safe ..`, `unsafe ..`, `unsound ..`: an order, a wave list, an end of the migration |
+//! | `journal` | the lines `at ..`, `next ..`, `done`, `departs ..`: where a journal stands |
+//! | `tree` | the lines `closed ..`, `open ..`, `wrong ..`: what is found of a tree file |
+//! | `summary` | the lines that sum up a plan |
+//! | `network`, `design`, `kinds` | the lines `refused ..`, `limit ..`, with the names of kinds |
 //!
-//! What each line says is defined once, over plain data, in the file of `specs/` that bears its subject's name, and a call
-//! of the program cites it. A text takes time of its length.
+//! `Outcome::text` is the one call that prints. What each line says is defined once, over plain data, in the file of `specs/`
+//! that bears its subject's name; `specs/Outcomes.antt` says which line tells which outcome. A text takes time of its length.
 #![tactic(auto)]
+
+// what a call comes to
+mod decision;
+mod outcome;
+mod refusal;
+mod status;
 
 // what was found
 mod ends;
@@ -24,13 +32,12 @@ mod tree;
 mod design;
 mod kinds;
 mod network;
-mod refusal;
 
-pub use design::refused_design_text;
-pub use ends::{End, unsound_text};
-pub use journal::{departs_text, reached_text};
-pub use refusal::{Refusal, refusal_text};
-pub use report::{Report, report_text};
+pub use decision::Decision;
+pub use ends::End;
+pub use journal::Nexts;
+pub use outcome::Outcome;
+pub use refusal::Refusal;
+pub use status::Status;
 pub use std::alloc::AllocError as OutOfMemory;
-pub use summary::{PlanCounts, summary_text};
-pub use tree::verdict_text;
+pub use summary::PlanCounts;

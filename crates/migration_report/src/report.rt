@@ -1,97 +1,84 @@
 ghost use Rattle.std.specs.Prelude.{◌≡◌, ◌<◌, ◌++◌, All, IfOk, length};
-ghost use Rattle.printed_lines.specs.Words.{spaced, router_word};
-ghost use Rattle.loop_finder.specs.Faults.{told_fault};
+ghost use Rattle.printed_lines.specs.Words.{router_word, spaced};
 ghost use Rattle.net_model.specs.RouterNames.{names_of};
-ghost use Rattle.migration_report.specs.Texts.{FaultBelow, ReportBelow, fault_words, report_text, ring_words};
+ghost use Rattle.plan_theory.specs.Plans.{fault_told};
+ghost use Rattle.migration_report.specs.EndTexts.{EndFaultBelow};
+ghost use Rattle.migration_report.specs.Texts.{fault_words, ring_words, safe_text, unsafe_text, waves_safe_text, waves_unsafe_text};
 
-use loop_finder::Fault;
 use net_addr::Bytes;
 use net_model::Net;
 use order_core::Turn;
+use plan_theory::EndFault;
 use printed_lines::LineBuilder;
 use std::alloc::{AllocError, Global};
 
-/// What the planner found of an order or of a wave list.
-#[derive(Clone, Copy, Debug)]
-pub enum Report<'a> {
-    /// All states of the order are sound.
-    Safe {
-        /// The count of its changes.
-        changes: u32,
-    },
-    /// A state of the order is unsound.
-    Unsafe {
-        /// The number of the first such state.
-        state: u32,
-        /// What is wrong in it.
-        fault: Fault,
-        /// The ring of a loop.
-        ring: &'a [Turn],
-    },
-    /// All states of the wave list are sound.
-    WavesSafe {
-        /// The count of its changes.
-        changes: u32,
-        /// How many waves it has.
-        waves: u32,
-    },
-    /// A state of the wave list is unsound.
-    WavesUnsafe {
-        /// The number of the first wave with such a state, from 1.
-        wave: u32,
-        /// What is wrong in its states.
-        fault: Fault,
-        /// The ring of a loop.
-        ring: &'a [Turn],
-    },
+/// The line that an order is safe, with the count of its changes.
+pub(crate) fn safe_text(alloc: Global, changes: u32) -> Result<Bytes, AllocError>
+    ensures { IfOk result (λ text. text ≡ safe_text changes) }
+{
+    LineBuilder::start(alloc, b"safe")?
+        .number(u64::from(changes))?
+        .finish()
 }
 
-/// The line that tells what was found of an order or of a wave list. The only error is want of memory.
-pub fn report_text(alloc: Global, net: &Net, report: &Report<'_>) -> Result<Bytes, AllocError>
-    requires { ReportBelow (length net.now) report.now }
-    ensures { IfOk result (λ text. text ≡ report_text (names_of net.now) report.now) }
+/// The line that a wave list is safe, with the count of its changes and that of its waves.
+pub(crate) fn waves_safe_text(
+    alloc: Global,
+    changes: u32,
+    waves: u32,
+) -> Result<Bytes, AllocError>
+    ensures { IfOk result (λ text. text ≡ waves_safe_text changes waves) }
 {
-    match report {
-        Report::Safe { changes } => {
-            let line = LineBuilder::start(alloc, b"safe")?;
-            line.number(u64::from(*changes))?.finish()
-        }
-        Report::Unsafe { state, fault, ring } => {
-            let line = LineBuilder::start(alloc, b"unsafe")?;
-            let line = line.number(u64::from(*state))?;
-            fault_words(line, net, *fault, ring)?.finish()
-        }
-        Report::WavesSafe { changes, waves } => {
-            let line = LineBuilder::start(alloc, b"safe")?.number(u64::from(*changes))?;
-            line.word(b"waves")?.number(u64::from(*waves))?.finish()
-        }
-        Report::WavesUnsafe { wave, fault, ring } => {
-            let line = LineBuilder::start(alloc, b"unsafe")?.word(b"wave")?;
-            let line = line.number(u64::from(*wave))?;
-            fault_words(line, net, *fault, ring)?.finish()
-        }
-    }
+    let line = LineBuilder::start(alloc, b"safe")?.number(u64::from(changes))?;
+    line.word(b"waves")?.number(u64::from(waves))?.finish()
+}
+
+/// The line that a state of an order isn't sound: its number, and what is wrong in it.
+pub(crate) fn unsafe_text(
+    alloc: Global,
+    net: &Net,
+    state: u32,
+    fault: &EndFault,
+) -> Result<Bytes, AllocError>
+    requires { EndFaultBelow (length net.now) fault.now }
+    ensures { IfOk result (λ text. text ≡ unsafe_text (names_of net.now) state (fault_told fault.now)) }
+{
+    let line = LineBuilder::start(alloc, b"unsafe")?.number(u64::from(state))?;
+    fault_words(line, net, fault)?.finish()
+}
+
+/// The line that a wave has a state that isn't sound: its number, from 1, and what is wrong in its states.
+pub(crate) fn waves_unsafe_text(
+    alloc: Global,
+    net: &Net,
+    wave: u32,
+    fault: &EndFault,
+) -> Result<Bytes, AllocError>
+    requires { EndFaultBelow (length net.now) fault.now }
+    ensures { IfOk result (λ text. text ≡ waves_unsafe_text (names_of net.now) wave (fault_told fault.now)) }
+{
+    let line = LineBuilder::start(alloc, b"unsafe")?.word(b"wave")?;
+    let line = line.number(u64::from(wave))?;
+    fault_words(line, net, fault)?.finish()
 }
 
 /// The line with the words for a fault more.
 pub(crate) fn fault_words(
     line: LineBuilder,
     net: &Net,
-    fault: Fault,
-    ring: &[Turn],
+    fault: &EndFault,
 ) -> Result<LineBuilder, AllocError>
-    requires fault { FaultBelow (length net.now) fault }
-    requires ring { All (λ turn. turn.router < length net.now) ring.now }
-    ensures { IfOk result (λ longer. longer ≡ line ++ spaced (fault_words (names_of net.now) (told_fault fault ring.now))) }
+    requires { EndFaultBelow (length net.now) fault.now }
+    ensures { IfOk result (λ longer. longer ≡ line ++ spaced (fault_words (names_of net.now) (fault_told fault.now))) }
 {
     match fault {
-        Fault::Loop { address } => {
-            let line = line.address(address)?.word(b"loop")?;
-            ring_words(line, net, ring)
+        EndFault::Loop { address, turns } => {
+            let line = line.address(*address)?.word(b"loop")?;
+            ring_words(line, net, turns.as_slice())
         }
-        Fault::Missing { address, router } => {
-            let line = line.address(address)?.word(b"missing")?;
-            line.word(router_name(net, router))
+        EndFault::Missing { address, router } => {
+            let line = line.address(*address)?.word(b"missing")?;
+            line.word(router_name(net, *router))
         }
     }
 }

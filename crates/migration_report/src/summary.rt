@@ -25,7 +25,7 @@ pub struct PlanCounts {
 
 /// The lines that sum up planned waves of a network: what is counted of it, how many waves there are, and the lowest
 /// routers of the first one and of the last one. The only error is want of memory.
-pub fn summary_text(
+pub(crate) fn summary_text(
     alloc: Global,
     net: &Net,
     counts: PlanCounts,

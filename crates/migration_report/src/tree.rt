@@ -10,7 +10,7 @@ use refutation_check::{Verdict, WrongKind};
 use std::alloc::{AllocError, Global};
 
 /// The line that tells what is found of a tree file. The only error is want of memory.
-pub fn verdict_text(alloc: Global, verdict: Verdict) -> Result<Bytes, AllocError>
+pub(crate) fn verdict_text(alloc: Global, verdict: Verdict) -> Result<Bytes, AllocError>
     ensures { IfOk result (λ text. text ≡ verdict_text verdict) }
 {
     match verdict {

@@ -13,7 +13,7 @@ use Rattle.plan_theory.specs.declared.planned.Planned.TheVariants.{UnsoundOld, U
 use Rattle.plan_theory.proofs.Decided.{waves_pick_one}
 
 -- a fault is told in one way
-told_once : (fault other : EndFault) → fault_told fault ≡ fault_told other → fault ≡ other
+pub told_once : (fault other : EndFault) → fault_told fault ≡ fault_told other → fault ≡ other
 told_once (Loop a s) (Loop b t) same = cc
 told_once (Loop a s) (Missing b v) same = cc
 told_once (Missing a u) (Loop b t) same = cc

@@ -1,4 +1,4 @@
--- Counts of faults.
+-- Counts of the faults of a sink.
 use Rattle.std.specs.Prelude.{◌≡◌, ℕ, ◌+◌, ◌<◌, ◌⊎◌, min}
 
 -- a count of faults rose: it is greater afterwards, or it stands at its last value, 2^64 - 1

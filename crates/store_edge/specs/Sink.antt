@@ -1,5 +1,5 @@
 -- What a write does, and what the sinks in memory are.
-use Rattle.std.specs.Prelude.{◌≡◌, ℕ, ◌+◌, ◌<◌, List, ◌++◌, length, Contains, Option, Some, None, ◌⊎◌, nat_le, if◌then◌else◌}
+use Rattle.std.specs.Prelude.{◌≡◌, ℕ, ◌+◌, ◌<◌, List, ◌++◌, length, Bool, Contains, Option, Some, None, ◌⊎◌, nat_le, if◌then◌else◌}
 use Rattle.store_edge.specs.Faults.{next_count}
 
 -- these bytes came last, where the bytes written are still told afterwards
@@ -14,6 +14,16 @@ pub record AddsFront (before after : Option (List ℕ)) (piece : List ℕ) : Typ
   pub rest : List ℕ
   pub cut : front ++ rest ≡ piece
   pub adds : AddsBytes before after front
+
+-- a sink over a writer: the writer, whether its bytes are told, and the faults
+pub record RealSinkState (W : Type 0) : Type 0 where
+  pub writer : W
+  pub tells : Bool
+  pub faults : ℕ
+
+-- the bytes that it tells: those of the writer, by what is known of these
+abbrev pub told_of : {W : Type 0} → (W → Option (List ℕ)) → RealSinkState W → Option (List ℕ)
+told_of contents sink = if sink.tells then contents sink.writer else None
 
 -- a sink in memory: the bytes written, how many it takes in all, the numbers of the writes that fail, how many
 -- writes there were, and the faults

@@ -4,12 +4,13 @@
 //! |---|---|---|
 //! | what a read answers, tells and counts | `specs/Files.antt` | the trait `Files` (`files.rt`) |
 //! | what a write answers, tells and counts | `specs/Sink.antt` | the trait `Sink` (`sink.rt`) |
-//! | a count of faults that rose | `specs/Faults.antt` | in both traits |
+//! | the reads so far: names, faults, the last one that failed | `specs/Files.antt` | `reads.rt` |
+//! | a count of a sink's faults that rose | `specs/Faults.antt` | the trait `Sink` |
 //! | bytes moved between a reader or a writer and memory | `specs/Transfer.antt` | `transfer.rt` |
 //!
-//! The program runs on `RealFiles` and `RealSink`, whose bytes the operating system holds. `MemoryFiles` and `MemorySink` fail at
-//! the calls that they are told to; `SureFiles` and `SureSink` never fail, and show that what a caller owes can be met. All four
-//! are for the tests of this crate and of its callers, so that these need no disk.
+//! The program runs on `RealFiles` and `RealSink`, whose bytes the operating system holds; over a writer in memory a `RealSink`
+//! can tell them. `MemoryFiles` and `MemorySink` fail at the calls that they are told to; `SureFiles` and `SureSink` never fail,
+//! and show that what a caller owes can be met. All four are for the tests of this crate and of its callers, which need no disk.
 //!
 //! A read takes time of the bytes that it gives, a write of those that it takes; in memory a read looks besides for its name among
 //! those of the files.
@@ -31,6 +32,7 @@ mod kept;
 mod memory_files;
 mod memory_sink;
 mod names;
+mod reads;
 mod sure_files;
 mod sure_sink;
 

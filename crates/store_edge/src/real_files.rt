@@ -1,11 +1,11 @@
-ghost use Rattle.std.specs.Prelude.{◌≡◌, ◌≢◌, ◌≤◌, List, ℕ, Option, [], None, length, take, Err, IfOk, IfSome};
-ghost use Rattle.store_edge.specs.Faults.{Rose};
-ghost use Rattle.store_edge.specs.Files.{RealFilesState, asked_after, faults_after};
+ghost use Rattle.std.specs.Prelude.{◌≡◌, List, ℕ, Option, None, length, ◌≤◌, IfOk};
+ghost use Rattle.store_edge.specs.Files.{no_reads};
 
 use crate::files::{FileAnswer, Files};
 use crate::names::own_name;
+use crate::reads::Reads;
 use crate::transfer::read_front;
-use net_addr::{Bytes, Name};
+use net_addr::Bytes;
 use std::alloc::Global;
 use std::fs::File;
 use std::marker::Model;
@@ -15,27 +15,25 @@ use std::rt;
 #[derive(Drop)]
 pub struct RealFiles<R> {
     rt: R,
-    asked: Vec<Name>,
-    faults: u64,
+    reads: Reads,
 }
 
 impl<R> Model for RealFiles<R> {
-    ghost use Rattle.store_edge.specs.Files.{RealFilesState};
+    ghost use Rattle.store_edge.specs.Files.{ReadsSoFar};
 
-    ghost Value = { RealFilesState };
+    ghost Value = { ReadsSoFar };
 
-    ghost view = { λ x. record { asked = x.asked.items; faults = x.faults } };
+    ghost view = { λ x. x.reads };
 }
 
 impl<R: rt::Files + Drop> RealFiles<R> {
     /// The files that this runtime opens.
     pub fn new(rt: R, alloc: Global) -> RealFiles<R>
-        ensures { result ≡ record { asked = []; faults = 0 } }
+        ensures { result ≡ no_reads }
     {
         RealFiles {
             rt,
-            asked: Vec::new(alloc),
-            faults: 0,
+            reads: Reads::new(alloc),
         }
     }
 }
@@ -43,32 +41,16 @@ impl<R: rt::Files + Drop> RealFiles<R> {
 impl<R: rt::Files + Drop> Files for RealFiles<R> {
     ghost content = { λ _ _. None };
 
-    ghost faults = { λ files. files.faults };
+    ghost asked = { λ reads. reads.asked };
 
-    ghost asked = { λ files. files.asked };
+    ghost faults = { λ reads. reads.faults };
 
-    fn read(&mut self, alloc: Global, name: &str, most: u64) -> Result<Bytes, FileAnswer>
-        ensures told { IfOk result (λ bytes. IfSome None (λ text. bytes ≡ take most text)) }
-        ensures at_most { IfOk result (λ bytes. length bytes ≤ most) }
-        ensures contents_stay { (other : List ℕ) → let untold : Option (List ℕ) = None in untold ≡ untold }
-        ensures asked { self.new.asked ≡ asked_after result self.old.asked name.now }
+    ghost failed_at = { λ reads. reads.failed_at };
 
-        ensures failed { result ≡ Err FileAnswer.Failed → Rose self.old.faults self.new.faults }
-        ensures unless_failed { result ≢ Err FileAnswer.Failed → self.new.faults ≡ self.old.faults }
-        ensures never_falls { self.old.faults ≤ self.new.faults }
-
-        ensures counts { self.new.faults ≡ faults_after result self.old.faults }
-    {
+    fn read(&mut self, alloc: Global, name: &str, most: u64) -> Result<Bytes, FileAnswer> {
         let asked = own_name(alloc, name)?;
         let answer = read_file(&self.rt, alloc, name, most);
-        if let Err(FileAnswer::OutOfMemory) = answer {
-            return Err(FileAnswer::OutOfMemory);
-        }
-        self.asked.push(asked)?;
-        if answer.is_err() {
-            self.faults = self.faults.saturating_add(1);
-        }
-        answer
+        self.reads.keep(asked, answer)
     }
 }
 

@@ -1,4 +1,4 @@
-ghost use Rattle.std.specs.Prelude.{◌≡◌, [], Some, unwrap_or};
+ghost use Rattle.std.specs.Prelude.{◌≡◌, [], None, Some, unwrap_or};
 ghost use Rattle.store_edge.specs.Files.{file_bytes, SureFilesState};
 
 use crate::file_list::FileList;
@@ -38,9 +38,11 @@ impl SureFiles {
 impl Files for SureFiles {
     ghost content = { λ files name. Some (unwrap_or (file_bytes files.files name) []) };
 
+    ghost asked = { λ files. files.asked };
+
     ghost faults = { λ _. 0 };
 
-    ghost asked = { λ files. files.asked };
+    ghost failed_at = { λ _. None };
 
     fn read(&mut self, alloc: Global, name: &str, most: u64) -> Result<Bytes, FileAnswer> {
         let asked = own_name(alloc, name)?;

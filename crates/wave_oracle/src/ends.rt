@@ -40,8 +40,8 @@ fn phases_of(alloc: Global, routers: u32, phase: Phase) -> Result<Vec<Phase>, Ou
     Ok(phases)
 }
 
-/// The fault with the ring of its loop.
-fn whole_fault(alloc: Global, fault: Fault, ring: &[Turn]) -> Result<EndFault, OutOfMemory>
+/// The fault with the ring of its loop, which stands beside it in a finder. The only error is want of memory.
+pub fn whole_fault(alloc: Global, fault: Fault, ring: &[Turn]) -> Result<EndFault, OutOfMemory>
     ensures { IfOk result (λ whole. fault_told whole ≡ told_fault fault ring.now) }
 {
     match fault {

@@ -11,6 +11,7 @@ mod plan;
 // whom the search asks
 mod oracle;
 
+pub use ends::whole_fault;
 pub use oracle::WaveOracle;
 pub use plan::plan_waves;
 pub use rib_mix::OutOfMemory;

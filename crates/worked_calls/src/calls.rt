@@ -17,9 +17,11 @@ struct Recorded {
 impl Files for Recorded {
     ghost content = { λ recorded name. file_bytes recorded.files.files name };
 
-    ghost faults = { λ recorded. recorded.files.faults };
+    ghost asked = { λ recorded. recorded.files.reads.asked };
 
-    ghost asked = { λ recorded. recorded.files.asked };
+    ghost faults = { λ recorded. recorded.files.reads.faults };
+
+    ghost failed_at = { λ recorded. recorded.files.reads.failed_at };
 
     fn read(&mut self, alloc: Global, name: &str, most: u64) -> Result<Bytes, FileAnswer> {
         self.most.push(most)?;

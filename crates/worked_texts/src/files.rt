@@ -75,6 +75,28 @@ fn real_files_give_what_was_written(rt: HostRuntime) -> Result<(), Fail> {
     Ok(())
 }
 
+#[test]
+fn real_files_give_more_than_16_mib(rt: HostRuntime) -> Result<(), Fail> {
+    let alloc = rt.alloc();
+    let name = "store_edge_long_test.txt";
+    let mut text = vec![in alloc; b'x'; 16_777_217]?;
+    text.push(b'y')?;
+    fs::write(&rt, name, text.as_slice())?;
+    let mut files = RealFiles::new(&rt, alloc);
+    assert!(rt;
+        gives(
+            &mut files,
+            alloc,
+            name,
+            16_777_217,
+            Some(&text[..16_777_217])
+        )?
+    );
+    assert!(rt; gives(&mut files, alloc, name, 16_777_219, Some(text.as_slice()))?);
+    fs::remove_file(&rt, name)?;
+    Ok(())
+}
+
 /// Whether each write is done, in order.
 fn accepts<S: Sink>(sink: &mut S, pieces: &[&[u8]], done: &[bool]) -> bool {
     for (piece, wanted) in pieces.iter().zip(done) {
@@ -136,6 +158,14 @@ fn real_sinks_write_whole_pieces_until_the_writer_takes_nothing(
     assert!(rt; sink.write(b"").is_ok());
     assert_eq!(rt; sink.write(b"hijk"), Err(Failed));
     assert_eq!(rt; narrow.taken.as_slice(), b"abcdefghi".as_slice());
+    Ok(())
+}
+
+#[test]
+fn a_real_sink_over_a_vector_keeps_what_is_written(rt: HostRuntime) -> Result<(), Fail> {
+    let mut sink = RealSink::telling(Vec::from_slice(rt.alloc(), b"ab")?);
+    assert!(rt; sink.write(b"cd").is_ok());
+    assert_eq!(rt; sink.into_writer().as_slice(), b"abcd".as_slice());
     Ok(())
 }
 

@@ -1,154 +1,172 @@
-ghost use Rattle.std.specs.Prelude.{◌≢◌};
+ghost use Rattle.std.specs.Prelude.{◌≡◌, ◌≢◌, ◌<◌, ◌≤◌, ℕ, All, IfOk, length};
+ghost use Rattle.net_model.specs.Network.{Network};
+ghost use Rattle.migration_report.specs.Outcomes.{HasText, IsTellable};
 ghost use Rattle.migration_report.specs.Texts.{IsPrinted};
 
 use ios_lines::ReadKind;
-use loop_finder::Fault;
-use migration_report::{Refusal, Report, refusal_text, report_text};
-use net_addr::{Name, Prefix};
+use migration_report::{Decision, Outcome, Refusal};
+use net_addr::{Bytes, Name, Prefix};
 use net_model::{LimitWhat, Net, NetRefusal};
-use order_core::{Tag, Turn};
+use order_core::{Tag, Turn, Turns};
+use plan_theory::EndFault;
 use std::alloc::{AllocError, Global};
 use std::process::Abort;
 use std::test::Fail;
 use step_scripts::OrderKind;
 use test_networks::bare;
 
+/// The outcome is printed as this line.
+fn prints(
+    rt: &impl Abort,
+    alloc: Global,
+    outcome: Outcome,
+    expected: &[u8],
+) -> Result<(), AllocError>
+    requires { HasText outcome }
+{
+    let text = outcome.text(alloc)?;
+    assert_eq!(rt; text.as_slice(), expected);
+    Ok(())
+}
+
+/// The decision on a network of two routers is printed as this line.
+fn tells(
+    rt: &impl Abort,
+    alloc: Global,
+    decision: Decision,
+    expected: &[u8],
+) -> Result<(), Fail>
+    requires { (net : Network) → length net ≡ 2 → IsTellable net decision }
+{
+    let net = Net::build(alloc, bare(alloc, 2)?)?;
+    let routers = net.routers();
+    assert_eq!(rt; routers, 2);
+    prints(rt, alloc, Outcome::Decided { net, decision }, expected)?;
+    Ok(())
+}
+
+/// The ring of R1 and R2.
+fn ring(alloc: Global) -> Result<Turns, AllocError>
+    ensures { IfOk result (λ turns. (count : ℕ) → 2 ≤ count → All (λ turn. turn.router < count) turns) }
+{
+    let old = Turn {
+        router: 0,
+        tag: Tag::Old,
+    };
+    let new = Turn {
+        router: 1,
+        tag: Tag::New,
+    };
+    Ok(Turns::from_vec(vec![in alloc; old, new]?))
+}
+
 #[test]
 fn an_order_is_safe_or_unsafe(rt: HostRuntime) -> Result<(), Fail> {
-    let net = Net::build(rt.alloc(), bare(rt.alloc(), 2)?)?;
-    assert_eq!(rt; net.routers(), 2);
-    let ring = [
-        Turn {
-            router: 0,
-            tag: Tag::Old,
-        },
-        Turn {
-            router: 1,
-            tag: Tag::New,
-        },
-    ];
-    let looped = Report::Unsafe {
+    let alloc = rt.alloc();
+    let turns = ring(alloc)?;
+    let looped = Decision::Unsafe {
         state: 2,
-        fault: Fault::Loop {
+        fault: EndFault::Loop {
             address: 0x0a00_0003,
+            turns,
         },
-        ring: &ring,
     };
-    let missing = Report::Unsafe {
+    let missing = Decision::Unsafe {
         state: 0,
-        fault: Fault::Missing {
+        fault: EndFault::Missing {
             address: 0x0a01_0000,
             router: 1,
         },
-        ring: &[],
     };
-    let text = report_text(rt.alloc(), &net, &Report::Safe { changes: 6 })?;
-    assert_eq!(rt; text.as_slice(), b"safe 6\n".as_slice());
-    let text = report_text(rt.alloc(), &net, &looped)?;
-    assert_eq!(rt;
-        text.as_slice(),
-        b"unsafe 2 10.0.0.3 loop R1 R2\n".as_slice()
-    );
-    let text = report_text(rt.alloc(), &net, &missing)?;
-    assert_eq!(rt;
-        text.as_slice(),
-        b"unsafe 0 10.1.0.0 missing R2\n".as_slice()
-    );
+    tells(&rt, alloc, Decision::Safe, b"safe 4\n")?;
+    tells(&rt, alloc, looped, b"unsafe 2 10.0.0.3 loop R1 R2\n")?;
+    tells(&rt, alloc, missing, b"unsafe 0 10.1.0.0 missing R2\n")?;
     Ok(())
 }
 
 #[test]
 fn a_wave_list_is_safe_or_unsafe(rt: HostRuntime) -> Result<(), Fail> {
-    let net = Net::build(rt.alloc(), bare(rt.alloc(), 2)?)?;
-    assert_eq!(rt; net.routers(), 2);
-    let safe = Report::WavesSafe {
-        changes: 4,
-        waves: 1,
-    };
-    let missing = Report::WavesUnsafe {
+    let alloc = rt.alloc();
+    let missing = Decision::UnsafeWave {
         wave: 1,
-        fault: Fault::Missing {
+        fault: EndFault::Missing {
             address: 0x0a01_0000,
             router: 1,
         },
-        ring: &[],
     };
-    let text = report_text(rt.alloc(), &net, &safe)?;
-    assert_eq!(rt; text.as_slice(), b"safe 4 waves 1\n".as_slice());
-    let text = report_text(rt.alloc(), &net, &missing)?;
-    assert_eq!(rt;
-        text.as_slice(),
-        b"unsafe wave 1 10.1.0.0 missing R2\n".as_slice()
-    );
+    tells(
+        &rt,
+        alloc,
+        Decision::SafeWaves { waves: 1 },
+        b"safe 4 waves 1\n",
+    )?;
+    tells(&rt, alloc, missing, b"unsafe wave 1 10.1.0.0 missing R2\n")?;
     Ok(())
 }
 
+/// The file that is named in refusals.
+fn file(alloc: Global) -> Result<Bytes, AllocError> {
+    Ok(Bytes::from_vec(b"r1.cfg".to_vec(alloc)?))
+}
+
 /// The refusal is printed as this line.
-fn prints(
+fn refuses(
     rt: &impl Abort,
     alloc: Global,
-    refusal: Refusal<'_>,
+    refusal: Refusal,
     expected: &[u8],
 ) -> Result<(), AllocError>
     requires { IsPrinted refusal }
 {
-    let text = refusal_text(alloc, &refusal)?;
-    assert_eq!(rt; text.as_slice(), expected);
-    Ok(())
+    prints(rt, alloc, Outcome::Refused { refusal }, expected)
 }
 
 #[test]
 fn input_is_refused(rt: HostRuntime) -> Result<(), Fail> {
     let alloc = rt.alloc();
-    let file = "r1.cfg";
-    let name = Name::from_vec(b"R2".to_vec(alloc)?);
+    let none = Bytes::from_vec(Vec::new(alloc));
+    let more = Bytes::from_vec(b"error: ..\n".to_vec(alloc)?);
+    let read = Refusal::Read { file: file(alloc)? };
     let config = Refusal::Config {
-        file,
+        file: file(alloc)?,
         line: 6,
         kind: ReadKind::NoEnd,
     };
-    let order = Refusal::Order {
-        file,
-        line: 4,
-        kind: OrderKind::Twice,
+    let start = Refusal::OffStart {
+        name: name(alloc, b"R2")?,
     };
-    let start = Refusal::OffStart { name: &name };
-    prints(
+    let length = Refusal::Length { file: file(alloc)? };
+    let total = Refusal::Total { number: 67108865 };
+    refuses(&rt, alloc, Refusal::Words { detail: none }, b"words refused\n")?;
+    refuses(
         &rt,
         alloc,
-        Refusal::Words { detail: b"" },
-        b"words refused\n",
-    )?;
-    prints(
-        &rt,
-        alloc,
-        Refusal::Words {
-            detail: b"error: ..\n",
-        },
+        Refusal::Words { detail: more },
         b"words refused\nerror: ..\n",
     )?;
-    prints(&rt, alloc, Refusal::Read { file }, b"read fault r1.cfg\n")?;
-    prints(&rt, alloc, config, b"refused r1.cfg 6 NoEnd\n")?;
-    prints(&rt, alloc, order, b"refused r1.cfg 4 Twice\n")?;
-    prints(&rt, alloc, start, b"refused network NotAtStart R2\n")?;
-    prints(
+    refuses(&rt, alloc, read, b"read fault r1.cfg\n")?;
+    refuses(&rt, alloc, config, b"refused r1.cfg 6 NoEnd\n")?;
+    refuses(&rt, alloc, start, b"refused network NotAtStart R2\n")?;
+    refuses(
         &rt,
         alloc,
         Refusal::Files { number: 201 },
         b"limit files 201\n",
     )?;
-    prints(
-        &rt,
-        alloc,
-        Refusal::Length { file },
-        b"limit bytes r1.cfg\n",
-    )?;
-    prints(
-        &rt,
-        alloc,
-        Refusal::Total { number: 67108865 },
-        b"limit total 67108865\n",
-    )?;
+    refuses(&rt, alloc, length, b"limit bytes r1.cfg\n")?;
+    refuses(&rt, alloc, total, b"limit total 67108865\n")?;
+    Ok(())
+}
+
+#[test]
+fn an_order_is_refused(rt: HostRuntime) -> Result<(), Fail> {
+    let alloc = rt.alloc();
+    let order = Decision::BadOrder {
+        file: file(alloc)?,
+        line: 4,
+        kind: OrderKind::Twice,
+    };
+    tells(&rt, alloc, order, b"refused r1.cfg 4 Twice\n")?;
     Ok(())
 }
 
@@ -161,8 +179,7 @@ fn prints_network(
 ) -> Result<(), AllocError>
     requires { refusal ≢ NetRefusal.OutOfMemory }
 {
-    let refusal = Refusal::Network { refusal: &refusal };
-    prints(rt, alloc, refusal, expected)
+    refuses(rt, alloc, Refusal::Network { refusal }, expected)
 }
 
 /// The name with these bytes.

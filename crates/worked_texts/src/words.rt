@@ -1,4 +1,4 @@
-use migrate_words::{Command, FileNames, WordsRefused, read_command};
+use migrate_words::{Command, FileNames, VERSION, WordsRefused, read_command};
 use std::alloc::Global;
 use std::test::Fail;
 
@@ -20,22 +20,13 @@ fn with_names(line: &mut String, names: &FileNames<'_>) -> Result<(), Fail> {
     Ok(())
 }
 
-/// A command, told in one line: its name, its number, its files.
+/// A command, told in one line: its kind, its number, its own files, its configurations.
 fn told(alloc: Global, command: &Command<'_>) -> Result<String, Fail> {
-    let (mut line, configs) = match command {
-        Command::Check { order, configs } => (format!(in alloc; "check {order}:")?, configs),
-        Command::Prepare { design, configs } => (format!(in alloc; "prepare {design}:")?, configs),
-        Command::Plan { budget, configs } => (format!(in alloc; "plan {budget}:")?, configs),
-        Command::Refute { tree, configs } => (format!(in alloc; "refute {tree}:")?, configs),
-        Command::Scripts { order, configs } => (format!(in alloc; "scripts {order}:")?, configs),
-        Command::Replay {
-            order,
-            journal,
-            configs,
-        } => (format!(in alloc; "replay {order} {journal}:")?, configs),
-        Command::Sample { routers } => return Ok(format!(in alloc; "sample {routers}")?),
-    };
-    with_names(&mut line, configs)?;
+    let (kind, number) = (command.kind, command.number);
+    let mut line = format!(in alloc; "{kind:?} {number}")?;
+    with_names(&mut line, &command.own)?;
+    line.push(':')?;
+    with_names(&mut line, &command.configs)?;
     Ok(line)
 }
 
@@ -51,28 +42,28 @@ fn answer(alloc: Global, words: &[String]) -> Result<String, Fail> {
 
 /// Words, and what is made of them. Two blanks have an empty word between them.
 static CASES: [(&str, &str); 35] = [
-    ("check o.txt a.cfg", "check o.txt: a.cfg"),
-    ("check o.txt a.cfg b.cfg", "check o.txt: a.cfg b.cfg"),
-    ("prepare d.toml a.cfg", "prepare d.toml: a.cfg"),
-    ("plan a.cfg b.cfg", "plan 10000: a.cfg b.cfg"),
-    ("plan --budget 7 a.cfg", "plan 7: a.cfg"),
-    ("plan --budget 007 a.cfg", "plan 7: a.cfg"),
-    ("plan --budget 1 a.cfg", "plan 1: a.cfg"),
-    ("plan --budget 100000 a.cfg", "plan 100000: a.cfg"),
-    ("plan a.cfg --budget=5 b.cfg", "plan 5: a.cfg b.cfg"),
-    ("refute t.txt a.cfg", "refute t.txt: a.cfg"),
-    ("scripts o.txt a.cfg", "scripts o.txt: a.cfg"),
+    ("check o.txt a.cfg", "Check 0 o.txt: a.cfg"),
+    ("check o.txt a.cfg b.cfg", "Check 0 o.txt: a.cfg b.cfg"),
+    ("prepare d.toml a.cfg", "Prepare 0 d.toml: a.cfg"),
+    ("plan a.cfg b.cfg", "Plan 10000: a.cfg b.cfg"),
+    ("plan --budget 7 a.cfg", "Plan 7: a.cfg"),
+    ("plan --budget 007 a.cfg", "Plan 7: a.cfg"),
+    ("plan --budget 1 a.cfg", "Plan 1: a.cfg"),
+    ("plan --budget 100000 a.cfg", "Plan 100000: a.cfg"),
+    ("plan a.cfg --budget=5 b.cfg", "Plan 5: a.cfg b.cfg"),
+    ("refute t.txt a.cfg", "Refute 0 t.txt: a.cfg"),
+    ("scripts o.txt a.cfg", "Scripts 0 o.txt: a.cfg"),
     (
         "replay o.txt j.txt a.cfg b.cfg",
-        "replay o.txt j.txt: a.cfg b.cfg",
+        "Replay 0 o.txt j.txt: a.cfg b.cfg",
     ),
-    ("sample 3", "sample 3"),
-    ("sample 60", "sample 60"),
-    ("check -- o.txt a.cfg", "check o.txt: a.cfg"),
-    ("check o.txt -- --help", "check o.txt: --help"),
-    ("check help check", "check help: check"),
-    ("check - a.cfg", "check -: a.cfg"),
-    ("check  a.cfg", "check : a.cfg"),
+    ("sample 3", "Sample 3:"),
+    ("sample 60", "Sample 60:"),
+    ("check -- o.txt a.cfg", "Check 0 o.txt: a.cfg"),
+    ("check o.txt -- --help", "Check 0 o.txt: --help"),
+    ("check help check", "Check 0 help: check"),
+    ("check - a.cfg", "Check 0 -: a.cfg"),
+    ("check  a.cfg", "Check 0 : a.cfg"),
     ("plan --budget 0 a.cfg", "off its range"),
     ("plan --budget 100001 a.cfg", "off its range"),
     ("plan --budget  a.cfg", "off its range"),
@@ -107,14 +98,37 @@ static NAMES: [&str; 7] = [
     "check", "prepare", "plan", "refute", "scripts", "replay", "sample",
 ];
 
+/// What is said of the words of a line that are refused.
+fn refusal(alloc: Global, line: &str) -> Result<String, Fail> {
+    let words = words_of(alloc, line)?;
+    match read_command(alloc, words.as_slice()) {
+        Err(WordsRefused::Words(text)) => Ok(text),
+        Err(WordsRefused::OutOfMemory) => Err(Fail::from("out of memory")),
+        _ => Err(Fail::from("not refused")),
+    }
+}
+
+#[test]
+fn refusals_tell_usage_and_version(rt: HostRuntime) -> Result<(), Fail> {
+    let version = format!(in rt.alloc(); "migrate {VERSION}\n")?;
+    for (line, part) in [
+        ("--version", version.as_str()),
+        ("plan", "Usage: migrate plan [--budget N] CONFIG...\n"),
+        ("sample", "Usage: migrate sample N\n"),
+        (
+            "replay --help",
+            "Usage: migrate replay ORDER JOURNAL CONFIG...\n",
+        ),
+    ] {
+        let text = refusal(rt.alloc(), line)?;
+        assert!(rt; text.as_str().contains(part));
+    }
+    Ok(())
+}
+
 #[test]
 fn help_tells_the_commands(rt: HostRuntime) -> Result<(), Fail> {
-    let words = words_of(rt.alloc(), "--help")?;
-    let text = match read_command(rt.alloc(), words.as_slice()) {
-        Err(WordsRefused::Words(text)) => text,
-        Err(WordsRefused::OutOfMemory) => return Err(Fail::from("out of memory")),
-        _ => return Err(Fail::from("no help")),
-    };
+    let text = refusal(rt.alloc(), "--help")?;
     for name in &NAMES {
         assert!(rt; text.as_str().contains(name));
     }

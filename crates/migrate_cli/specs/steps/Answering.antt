@@ -1,54 +1,52 @@
--- Answers by what a step of a call gave.
-use Rattle.std.specs.Prelude.{◌≡◌, ℕ, List, ◌++◌, Result, Ok, Err}
+-- What a step of a call gave.
+use Rattle.std.specs.Prelude.{◌≡◌, ℕ, List, [], ◌++◌, Result, Ok, Err, string_bytes}
 use Rattle.std.specs.declared.alloc.AllocError.{AllocError}
+use Rattle.store_edge.specs.Files.{ReadsSoFar}
+use Rattle.design_file.specs.declared.refusal.DesignRefusal.{DesignRefusal}
+use Rattle.design_file.specs.declared.refusal.DesignRefusal.TheVariants.{Bad, OutOfMemory as NoMemoryForDesign}
 use Rattle.migrate_words.specs.declared.refusal.WordsRefused.{WordsRefused}
-use Rattle.migrate_words.specs.declared.refusal.WordsRefused.TheVariants.{Words as NotTaken, Number, OutOfMemory as NoMemory}
-use Rattle.migration_report.specs.Texts.{long_file_text, long_files_text, read_fault_text, words_refused_text}
+use Rattle.migrate_words.specs.declared.refusal.WordsRefused.TheVariants.{Words as NotTaken, Number, OutOfMemory as NoMemoryForWords}
+use Rattle.migration_report.specs.Outcomes.{status_of}
+use Rattle.migration_report.specs.declared.decision.Decision.{Decision}
+use Rattle.migration_report.specs.declared.decision.Decision.TheVariants.{BadDesign}
+use Rattle.migration_report.specs.declared.outcome.Outcome.{Outcome}
+use Rattle.migration_report.specs.declared.outcome.Outcome.TheVariants.{Refused}
+use Rattle.migration_report.specs.declared.refusal.Refusal.TheVariants as refusal
+use Rattle.migrate_cli.specs.Answers.{IsAnswer, MayAsk, MayFail, ReadsAgree}
 use Rattle.migrate_cli.specs.Calls.{Call}
-use Rattle.migrate_cli.specs.CallWords.{TellsWordsRefused}
-use Rattle.migrate_cli.specs.declared.answer.Answer.{Answer}
 use Rattle.migrate_cli.specs.declared.reading.Stop.{Stop}
 use Rattle.migrate_cli.specs.declared.reading.Stop.TheVariants.{Fault, Long, Total, OutOfMemory}
-use Rattle.migrate_cli.specs.declared.status.Status.{Status}
-use Rattle.migrate_cli.specs.declared.status.Status.TheVariants.{Words, ReadFault, Limit, Refused, Done, Negative}
-use Rattle.migrate_cli.specs.Answers.{IsAnswer, MayAsk}
-use Rattle.design_file.specs.declared.refusal.DesignRefusal.{DesignRefusal}
-use Rattle.design_file.specs.declared.refusal.DesignRefusal.TheVariants.{Bad, OutOfMemory}
-use Rattle.migration_report.specs.DesignTexts.{refused_design_text}
-use Rattle.refutation_check.specs.declared.verdict.Verdict.{Verdict}
-use Rattle.refutation_check.specs.declared.verdict.Verdict.TheVariants.{Closed, Unfinished, Wrong}
 
--- a closed tree is a yes, everything else a no
-abbrev pub verdict_status : Verdict → Status
-verdict_status (Closed branches leaves) = Done
-verdict_status (Unfinished unvisited) = Negative
-verdict_status (Wrong line kind) = Negative
+-- what is decided where a design is refused
+abbrev pub RefusesDesignSo : List ℕ → DesignRefusal → Decision → Type 0
+RefusesDesignSo file (Bad kind path) decision = decision ≡ BadDesign file path kind
+RefusesDesignSo file NoMemoryForDesign decision = ⊥
 
--- the answer that a design is refused
-abbrev pub DesignAnswer : List ℕ → DesignRefusal → Status → List ℕ → Type 0
-DesignAnswer file (Bad kind path) status text = (status ≡ Refused) × (text ≡ refused_design_text file path kind)
-DesignAnswer file OutOfMemory status text = ⊥
+-- what a call comes to where reading stopped
+abbrev pub StopsSo : Stop → Outcome → Type 0
+StopsSo (Fault file) outcome = outcome ≡ Refused (refusal.Read file.now)
+StopsSo (Long file) outcome = outcome ≡ Refused (refusal.Length file.now)
+StopsSo (Total number) outcome = outcome ≡ Refused (refusal.Total number)
+StopsSo OutOfMemory outcome = ⊥
 
--- the answer that reading stopped
-abbrev pub StopAnswer : Stop → Status → List ℕ → Type 0
-StopAnswer (Fault file) status text = (status ≡ ReadFault) × (text ≡ read_fault_text file.now)
-StopAnswer (Long file) status text = (status ≡ Limit) × (text ≡ long_file_text file.now)
-StopAnswer (Total number) status text = (status ≡ Limit) × (text ≡ long_files_text number)
-StopAnswer OutOfMemory status text = ⊥
-
--- an answer, or want of memory
-abbrev pub AnswersWith : Call → List (List ℕ) → Result Answer AllocError → Type 0
-AnswersWith call asked (Ok answer) = IsAnswer call asked answer.status answer.text
+-- what a call comes to, or want of memory
+abbrev pub AnswersWith : Call → List (List ℕ) → Result Outcome AllocError → Type 0
+AnswersWith call asked (Ok outcome) = IsAnswer call asked outcome
 AnswersWith call asked (Err _) = MayAsk call asked
 
+-- the reads agree with what a call comes to, or with want of memory
+abbrev pub ReadsEnd : Result Outcome AllocError → ReadsSoFar → ReadsSoFar → Type 0
+ReadsEnd (Ok outcome) before after = ReadsAgree (status_of outcome) before after
+ReadsEnd (Err _) before after = MayFail before after
+
 -- some names were asked for besides those before, and this is the answer
-pub record HasAnswer (call : Call) (asked_before asked_after : List (List ℕ)) (answer : Result Answer AllocError) : Type 0 where
+pub record HasAnswer (call : Call) (asked_before asked_after : List (List ℕ)) (answer : Result Outcome AllocError) : Type 0 where
   pub asked : List (List ℕ)
   pub asked_is : asked_after ≡ asked_before ++ asked
   pub answers : AnswersWith call asked answer
 
--- the answer that words are refused: the first line, and more after it only where the command line doesn't take them
-abbrev pub RefusalAnswer : WordsRefused → Status → List ℕ → Type 0
-RefusalAnswer (NotTaken detail) status text = (status ≡ Words) × TellsWordsRefused text
-RefusalAnswer Number status text = (status ≡ Words) × (text ≡ words_refused_text)
-RefusalAnswer NoMemory status text = ⊥
+-- what words come to that are refused: more is said of them only where the command line doesn't take them
+abbrev pub RefusesSo : WordsRefused → Outcome → Type 0
+RefusesSo (NotTaken detail) outcome = outcome ≡ Refused (refusal.Words (string_bytes detail))
+RefusesSo Number outcome = outcome ≡ Refused (refusal.Words [])
+RefusesSo NoMemoryForWords outcome = ⊥

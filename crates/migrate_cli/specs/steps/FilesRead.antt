@@ -1,11 +1,12 @@
 -- Files as the code hands them on.
 use Rattle.migrate_cli.specs.Reading.{File}
 use Rattle.migrate_cli.specs.declared.files.Wanted.{Wanted}
-use Rattle.migrate_words.specs.Requests.{Request, sample}
+use Rattle.migrate_words.specs.declared.command.CommandKind.{CommandKind}
+use Rattle.migrate_words.specs.declared.command.CommandKind.TheVariants.{Sample}
 
--- the commands that read files: all but `sample`, whose configurations are one text that is made
-abbrev pub ReadsFiles : Request → Type 0
-ReadsFiles (sample routers) = ⊥
+-- the commands that read configurations: all but `sample`, whose configurations are one text that is made
+abbrev pub ReadsFiles : CommandKind → Type 0
+ReadsFiles Sample = ⊥
 ReadsFiles _ = Unit {0}
 
 -- the file that is wanted

@@ -1,8 +1,8 @@
 -- What reading files answers.
 use Rattle.std.specs.Prelude.{◌≡◌, ℕ, ◌+◌, ◌≤◌, List, [], ◌∷◌, ◌++◌, Result, Ok, Err}
-use Rattle.store_edge.specs.Faults.{Rose}
+use Rattle.store_edge.specs.Files.{ReadsSoFar}
 use Rattle.migrate_cli.specs.Reading.{Contents, File, file_names, IsReadOf, AreRead, AreWithin, IsShort, IsTooLong, PassesTotal, ReadUpTo, counted, total_of}
-use Rattle.migrate_cli.specs.Reading.{to_read, ToRead}
+use Rattle.migrate_cli.specs.Reading.{LastFailed, NoneFailed, to_read, ToRead}
 use Rattle.migrate_cli.specs.declared.reading.Stop.{Stop}
 use Rattle.migrate_cli.specs.declared.reading.Stop.TheVariants.{Fault, Long, Total, OutOfMemory}
 use Rattle.migrate_cli.specs.declared.reading.TheConstants.{CONFIGS_MOST}
@@ -26,17 +26,17 @@ StopsAlone content file (Long name) = (name.now ≡ file.name) × IsTooLong cont
 StopsAlone content file (Total number) = ⊥
 StopsAlone content file OutOfMemory = Unit {0}
 
--- the count of faults where reading stops: it rose where a file could not be read, and else it stands
-abbrev pub StopFaults : Stop → ℕ → ℕ → Type 0
-StopFaults (Fault name) before after = Rose before after
-StopFaults (Long name) before after = after ≡ before
-StopFaults (Total number) before after = after ≡ before
-StopFaults OutOfMemory before after = after ≡ before
+-- the reads where reading stops: the last one failed where that is why, and else none did
+abbrev pub StopReads : Stop → ReadsSoFar → ReadsSoFar → Type 0
+StopReads (Fault name) before after = LastFailed before after
+StopReads (Long name) before after = NoneFailed before after
+StopReads (Total number) before after = NoneFailed before after
+StopReads OutOfMemory before after = NoneFailed before after
 
--- the count of faults after reading: it stands where all was read
-abbrev pub CountsFaults : {A : Type 0} → Result A Stop → ℕ → ℕ → Type 0
-CountsFaults (Ok _) before after = after ≡ before
-CountsFaults (Err stop) before after = StopFaults stop before after
+-- and none did where all was read
+abbrev pub EndReads : {A : Type 0} → Result A Stop → ReadsSoFar → ReadsSoFar → Type 0
+EndReads (Ok _) before after = NoneFailed before after
+EndReads (Err stop) before after = StopReads stop before after
 
 -- the first ones of a list are these
 pub record IsFrontOf {A : Type 0} (all front : List A) : Type 0 where

@@ -4,8 +4,10 @@ use Rattle.clap.specs.Words.{Row, Text, subcommand_rows_of}
 use Rattle.clap.specs.declared.parser.matches.ArgMatches.{ArgMatches}
 use Rattle.clap.specs.declared.error.kind.ErrorKind.{ErrorKind}
 use Rattle.clap.specs.declared.error.kind.ErrorKind.TheVariants as kind
-use Rattle.migrate_words.specs.Requests.{Request, name_of}
 use Rattle.migrate_words.specs.Asked.{Gives}
+use Rattle.migrate_words.specs.Usages.{usage_of}
+use Rattle.migrate_words.specs.declared.command.Command.{Command}
+use Rattle.migrate_words.specs.declared.command.CommandKind.{CommandKind}
 use Rattle.migrate_words.specs.declared.refusal.WordsRefused.{WordsRefused}
 use Rattle.migrate_words.specs.declared.refusal.WordsRefused.TheVariants.{Words, Number, OutOfMemory}
 
@@ -22,10 +24,15 @@ ReadsAs seen StandsFor (Err (Words detail)) = ⊥
 ReadsAs {T} {U} seen StandsFor (Err Number) = (u : U) → StandsFor u → ⊥
 ReadsAs seen StandsFor (Err OutOfMemory) = Unit {0}
 
--- the request is for the subcommand of this name, with these values of its arguments
-abbrev pub NamesRequest : Text → List Row → Request → Type 0
-NamesRequest name rows request = (name_of request ≡ name) × Gives rows request
+-- the command is of this kind, with these values of its arguments
+abbrev pub IsOfKind : CommandKind → List Row → Command → Type 0
+IsOfKind kind rows command = (command.kind ≡ kind) × Gives rows command
 
--- the request is for the subcommand that was entered, with the values of its arguments
-abbrev pub IsEntered : ArgMatches → Request → Type 0
-IsEntered matches request = (rows : List Row) × (subcommand_rows_of matches ≡ Some (name_of request, rows)) × Gives rows request
+-- the command is that of the subcommand of this name, with these values of its arguments
+abbrev pub NamesCommand : Text → List Row → Command → Type 0
+NamesCommand name rows command = ((usage_of command.kind).word ≡ name) × Gives rows command
+
+-- the command is that of the subcommand that was entered, with the values of its arguments
+abbrev pub IsEntered : ArgMatches → Command → Type 0
+IsEntered matches command =
+    (rows : List Row) × (subcommand_rows_of matches ≡ Some ((usage_of command.kind).word, rows)) × Gives rows command

@@ -1,38 +1,19 @@
-use Rattle.std.proofs.Common.{ap, sym, subst}
-use Rattle.std.proofs.lemmas.Result.{IfOk-weaker}
+use Rattle.std.proofs.Common.{◌∙◌, ap, sym, subst}
 use Rattle.net_model.specs.Configuration.{Configuration}
-use Rattle.migrate_words.specs.Requests.{request_of}
-use Rattle.migration_report.specs.Texts.{off_start_text}
-use Rattle.migrate_cli.specs.CommandVerdicts.{IsCommandVerdict}
-use Rattle.migrate_cli.specs.Configurations.{GiveNetwork}
-use Rattle.migrate_cli.specs.Verdicts.{IsVerdict}
-use Rattle.migrate_cli.specs.Verdicts.IsVerdict.{off_start, of_command}
-use Rattle.migrate_cli.specs.declared.status.Status.TheVariants.{Refused}
-use Rattle.migrate_cli.proofs.AnswerFacts.{from_refusal}
-use Rattle.migrate_cli.proofs.judging.judge_network.Goals as goal
+use Rattle.migration_report.specs.declared.outcome.Outcome.TheVariants.{Refused}
+use Rattle.migration_report.specs.declared.refusal.Refusal.TheVariants.{OffStart}
 use Rattle.migrate_cli.specs.CommandFiles.{given_texts}
+use Rattle.migrate_cli.specs.Outcomes.{IsOutcome}
+use Rattle.migrate_cli.specs.Outcomes.IsOutcome.{off_start, decided}
+use Rattle.migrate_cli.proofs.judging.judge_network.Goals as goal
 
 pub returns-in-Some : goal.returns-in-Some
-returns-in-Some c =
-    let net = c.args.net.now in
-    let request = request_of c.args.command.now in
-    let own = c.args.own.now in
-    let configs = c.args.configs.now in
-    let config = c.config.result.now in
-    let same = ap (λ (some : Configuration). some.name) c.behind-net.view_is in
-    from_refusal c.refuse.result Refused (off_start_text c.behind-net.inside.name)
-    (λ s t. GiveNetwork configs net → IsVerdict request (given_texts own configs) s t) c.refuse.ensures.status c.refuse.ensures.text
-    (λ gives. subst (λ name. IsVerdict request (given_texts own configs) Refused (off_start_text name)) (sym same)
-    (off_start net c.in-Some.router config gives c.in-Some.ensures.0 c.in-Some.ensures.1 c.config.ensures.router))
+returns-in-Some c = λ gives.
+    let net = c.args.net in
+    let texts = given_texts c.args.own.now c.args.configs.now in
+    let same = c.in_ok-name.ensures ∙ ap (λ (some : Configuration). some.name) c.behind-net.view_is in
+    subst (λ name. IsOutcome c.args.command.now texts (Refused (OffStart name))) (sym same)
+    (off_start net c.in-Some.router c.config.result.now gives c.in-Some.ensures.0 c.in-Some.ensures.1 c.config.ensures.router)
 
-pub returns-in-None : goal.returns-in-None
-returns-in-None c =
-    let net = c.args.net.now in
-    let request = request_of c.args.command.now in
-    let own = c.args.own.now in
-    let configs = c.args.configs.now in
-    IfOk-weaker c.judge_command.result
-    (λ a. IsCommandVerdict request (record { own = own; configs = configs; net = net }) a.status a.text)
-    (λ a. GiveNetwork configs net → IsVerdict request (given_texts own configs) a.status a.text)
-    (λ a verdict gives. of_command net a.status a.text gives c.in-None.ensures verdict)
-    c.judge_command.ensures
+pub returns : goal.returns
+returns c = λ gives. decided c.args.net c.in_ok-decision.decision gives c.in_default.ensures c.in_ok-decision.ensures

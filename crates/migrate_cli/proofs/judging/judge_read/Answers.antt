@@ -2,9 +2,8 @@ use Rattle.std.proofs.Common.{◌≡◌, ◌+◌, ◌-◌, ◌∙◌, ℕ, List,
 use Rattle.std.specs.Borrow.{Bor}
 use Rattle.std.proofs.lemmas.List.{length-map}
 use Rattle.std.proofs.lemmas.Result.{IfOk-weaker}
-use Rattle.migrate_words.specs.Requests.{request_of}
 use Rattle.migrate_cli.specs.CommandFiles.{config_texts, own_texts, text_names, given_texts}
-use Rattle.migrate_cli.specs.Verdicts.{IsVerdict}
+use Rattle.migrate_cli.specs.Outcomes.{IsOutcome}
 use Rattle.migrate_cli.proofs.FileFacts.{split_count, split_texts}
 use Rattle.migrate_cli.proofs.judging.judge_read.Goals as goal
 
@@ -12,38 +11,37 @@ pub overflow_sub-texts : goal.overflow_sub-texts
 overflow_sub-texts c =
     let names = c.text_names-number.result.now in
     let bytes : Bor (List ℕ) → List ℕ = λ name. name.now in
-    let count : length names ≡ length (text_names (request_of c.args.command.now)) =
+    let count : length names ≡ length (text_names c.args.command.now) =
     sym (length-map names bytes) ∙ ap length c.text_names-number.ensures in
-    let all = split_count (request_of c.args.command.now) c.args.texts.now c.requires.reads c.requires.short in
+    let all = split_count c.args.command.now c.args.texts.now c.requires.reads c.requires.short in
     omega (arith, all, count)
 
 pub judge_texts-requires : goal.judge_texts-requires
 judge_texts-requires c =
-    let request = request_of c.args.command.now in
+    let command = c.args.command.now in
     let texts = c.args.texts.now in
     let names = c.text_names-number.result.now in
     let bytes : Bor (List ℕ) → List ℕ = λ name. name.now in
-    let count : length names ≡ length (text_names request) = sym (length-map names bytes) ∙ ap length c.text_names-number.ensures in
-    let all = split_count request texts c.requires.reads c.requires.short in
-    let place : (length texts - length names) + length (text_names request) ≡ length texts = omega (arith, all, count) in
-    let split = split_texts request texts c.split_at.result.0.now c.split_at.result.1.now (length texts - length names)
-    c.requires.reads c.requires.short place c.split_at.ensures.front c.split_at.ensures.back in
+    let count : length names ≡ length (text_names command) = sym (length-map names bytes) ∙ ap length c.text_names-number.ensures in
+    let all = split_count command texts c.requires.reads c.requires.short in
+    let place : (length texts - length names) + length (text_names command) ≡ length texts = omega (arith, all, count) in
+    let split = split_texts command texts c.requires.reads c.requires.short c.split_at.result.0.now c.split_at.result.1.now (length texts - length names)
+    place c.split_at.ensures.front c.split_at.ensures.back in
     record { range = c.requires.range; own = split.own_short; each = split.each; short = split.configs_short }
 
 pub returns : goal.returns
 returns c =
-    let request = request_of c.args.command.now in
+    let command = c.args.command.now in
     let texts = c.args.texts.now in
     let names = c.text_names-number.result.now in
     let bytes : Bor (List ℕ) → List ℕ = λ name. name.now in
-    let count : length names ≡ length (text_names request) = sym (length-map names bytes) ∙ ap length c.text_names-number.ensures in
-    let all = split_count request texts c.requires.reads c.requires.short in
-    let place : (length texts - length names) + length (text_names request) ≡ length texts = omega (arith, all, count) in
-    let split = split_texts request texts c.split_at.result.0.now c.split_at.result.1.now (length texts - length names)
-    c.requires.reads c.requires.short place c.split_at.ensures.front c.split_at.ensures.back in
-    IfOk-weaker c.judge_texts.result
-    (λ a. IsVerdict request (given_texts c.split_at.result.0.now c.split_at.result.1.now) a.status a.text)
-    (λ a. IsVerdict request (given_texts (own_texts request texts) (config_texts request texts)) a.status a.text)
-    (λ a verdict. subst (λ own. IsVerdict request (given_texts own (config_texts request texts)) a.status a.text) split.own_are
-    (subst (λ some. IsVerdict request (given_texts c.split_at.result.0.now some) a.status a.text) split.configs_are verdict))
+    let count : length names ≡ length (text_names command) = sym (length-map names bytes) ∙ ap length c.text_names-number.ensures in
+    let all = split_count command texts c.requires.reads c.requires.short in
+    let place : (length texts - length names) + length (text_names command) ≡ length texts = omega (arith, all, count) in
+    let split = split_texts command texts c.requires.reads c.requires.short c.split_at.result.0.now c.split_at.result.1.now (length texts - length names)
+    place c.split_at.ensures.front c.split_at.ensures.back in
+    IfOk-weaker c.judge_texts.result (IsOutcome command (given_texts c.split_at.result.0.now c.split_at.result.1.now))
+    (IsOutcome command (given_texts (own_texts command texts) (config_texts command texts)))
+    (λ outcome is. subst (λ own. IsOutcome command (given_texts own (config_texts command texts)) outcome) split.own_are
+    (subst (λ some. IsOutcome command (given_texts c.split_at.result.0.now some) outcome) split.configs_are is))
     c.judge_texts.ensures

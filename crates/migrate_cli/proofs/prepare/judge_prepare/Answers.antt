@@ -1,11 +1,11 @@
 use Rattle.std.proofs.Common.{ℕ, List, subst, sym}
 use Rattle.design_file.specs.Answers.{RefusesText, SaysDesign}
-use Rattle.migrate_cli.specs.PrepareVerdict.{IsPrepareVerdict, configured}
-use Rattle.migrate_cli.specs.PrepareVerdict.IsPrepareVerdict.{prepared}
-use Rattle.migrate_cli.specs.declared.status.Status.TheVariants.{Done}
+use Rattle.migration_report.specs.declared.decision.Decision.TheVariants.{Prepared}
+use Rattle.migrate_cli.specs.PrepareDecision.{IsPrepareDecision, configured}
+use Rattle.migrate_cli.specs.PrepareDecision.IsPrepareDecision.{prepared}
+use Rattle.migrate_cli.specs.Reading.{named_text}
 use Rattle.migrate_cli.proofs.PrepareFacts.{design_refused, text_refused}
 use Rattle.migrate_cli.proofs.prepare.judge_prepare.Goals as goal
-use Rattle.migrate_cli.specs.Reading.{named_text}
 
 pub returns-in-Err : goal.returns-in-Err
 returns-in-Err c =
@@ -21,6 +21,7 @@ returns-in-Err-settle c =
 pub returns : goal.returns
 returns c =
     let said = c.in-Ok.design in
-    subst (IsPrepareVerdict (named_text c.args.file.now c.args.design.now) (configured c.args.configs.now c.args.net.now) Done) (sym c.in_ok-text.ensures)
+    subst (λ (text : List ℕ). IsPrepareDecision (named_text c.args.file.now c.args.design.now) (configured c.args.configs.now c.args.net.now) (Prepared text))
+    (sym c.in_ok-text.ensures)
     (prepared said c.in-Ok-settle.settled (subst (λ (text : List ℕ). SaysDesign text said) c.as_slice.ensures c.in-Ok.ensures.ok)
     c.in-Ok-settle.ensures.ok c.in-Ok-settle.ensures.fits)

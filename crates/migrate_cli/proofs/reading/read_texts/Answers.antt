@@ -2,8 +2,8 @@ use Rattle.std.proofs.Common.{◌≡◌, ◌+◌, ◌++◌, ◌∷◌, [], take,
 use Rattle.migrate_cli.specs.steps.FilesRead.{file_of}
 use Rattle.migrate_cli.specs.declared.files.Wanted.{Wanted}
 use Rattle.migrate_cli.specs.Reading.{AreRead, AreWithin, file_names, total_of}
-use Rattle.migrate_cli.specs.steps.Stops.{StopsAt, StopFaults}
-use Rattle.migrate_cli.proofs.StopFacts.{stops_among, StopsAt-same, read_more, within_more, counted_more, asked_more, element, map_around, map_take_more}
+use Rattle.migrate_cli.specs.steps.Stops.{StopsAt}
+use Rattle.migrate_cli.proofs.StopFacts.{stops_among, StopsAt-same, read_more, within_more, counted_more, asked_more, element, map_around, map_take_more, stop_reads}
 use Rattle.migrate_cli.proofs.reading.read_texts.Goals as goal
 
 pub returns-in-Err-clause-read : goal.returns-in-Err-clause-read
@@ -24,9 +24,10 @@ returns-in-Err-clause-read g c =
     held.read held.within held.asked
     (subst (λ n. StopsAt content file n c.in-Err.stop) held.counted stops) c.in-Err.ensures.asked
 
-pub returns-in-Err-clause-faults : goal.returns-in-Err-clause-faults
-returns-in-Err-clause-faults g c =
-    subst (λ count. StopFaults c.in-Err.stop count (g.F.Files.faults c.read_next.new.files)) c.loop-file.invariant.faults_stand c.in-Err.ensures.faults
+pub returns-in-Err-clause-failed : goal.returns-in-Err-clause-failed
+returns-in-Err-clause-failed g c =
+    let held = c.loop-file.invariant in
+    stop_reads c.in-Err.stop _ _ _ held.faults_stand held.last_stands c.in-Err.ensures.failed
 
 pub loop-file-preserved : goal.loop-file-preserved
 loop-file-preserved g c =
@@ -53,5 +54,6 @@ loop-file-preserved g c =
           c.in_default.ensures.asked
           ∙ ap (λ some. g.F.Files.asked c.args.files.now ++ file_names some) (sym files);
       contents_stay = λ name. c.in_default.ensures.contents_stay name ∙ held.contents_stay name;
-      faults_stand = c.in_default.ensures.faults ∙ held.faults_stand;
+      faults_stand = c.in_default.ensures.failed.none ∙ held.faults_stand;
+      last_stands = c.in_default.ensures.failed.none_since ∙ held.last_stands;
     }

@@ -14,4 +14,5 @@ invariant-loop-file g l =
       asked : g.F.Files.asked l.files ≡ g.F.Files.asked l.fn.files ++ file_names files;
       contents_stay : (other : List ℕ) → g.F.Files.content l.files other ≡ g.F.Files.content l.fn.files other;
       faults_stand : g.F.Files.faults l.files ≡ g.F.Files.faults l.fn.files;
+      last_stands : g.F.Files.failed_at l.files ≡ g.F.Files.failed_at l.fn.files;
     }

@@ -1,21 +1,23 @@
-use Rattle.std.proofs.lemmas.Result.{IfOk-weaker}
-use Rattle.igp_theory.specs.Isis.{IsisEntry}
-use Rattle.igp_theory.specs.Migrations.{listed_migration}
-use Rattle.igp_theory.specs.Ospf.{OspfEntry}
-use Rattle.isis_routes.specs.RouteTables as isis
-use Rattle.ospf_routes.specs.RouteTables as ospf
-use Rattle.migrate_cli.specs.RefuteVerdict.{IsRefuteVerdict, IsTreeVerdict}
-use Rattle.migrate_cli.proofs.RefuteLaws.{tree_verdict_over}
+use Rattle.std.proofs.Common.{◌∙◌, ℕ, List, subst}
+use Rattle.net_model.specs.Network.{Network}
+use Rattle.net_model.specs.Refusals.{IsNetwork}
+use Rattle.igp_theory.specs.Migrations.{ospf_to_isis}
+use Rattle.refutation_check.specs.Verdicts.{IsTextVerdict, RefutesWhereClosed}
+use Rattle.migrate_cli.specs.RefuteDecision.IsTreeDecision.{judged_tree}
+use Rattle.migrate_cli.proofs.TableFacts.{refutes_where_closed, text_verdict}
 use Rattle.migrate_cli.proofs.refute.judge_refute.Goals as goal
 
 pub returns : goal.returns
 returns c =
     let net = c.args.net.now in
-    let tree = c.args.tree.now in
-    IfOk-weaker c.judge_tree.result
-    (λ a. IsTreeVerdict (listed_migration net (ospf.table_at c.in_ok-old.old) (isis.table_at c.in_ok-new.new)) tree a.status a.text)
-    (λ a. IsRefuteVerdict tree net a.status a.text)
-    (λ a verdict. tree_verdict_over (listed_migration net (ospf.table_at c.in_ok-old.old) (isis.table_at c.in_ok-new.new))
-    (OspfEntry net) (IsisEntry net) tree
-    (record { same_old = c.in_ok-old.ensures.entries; same_new = c.in_ok-new.ensures.entries }) verdict)
-    c.judge_tree.ensures
+    let tables = c.in_ok-tables.tables in
+    let mixed = c.in_ok-mixed.mixed in
+    let mixes = c.in_ok-mixed.ensures in
+    let found = c.in_ok-verdict.verdict in
+    let text = c.as_slice.result.now in
+    let is = subst (λ (n : Network). IsTextVerdict (ospf_to_isis n) text found) c.in_ok-tables.ensures
+    (text_verdict tables mixed mixes text found c.in_ok-verdict.ensures.verdict) in
+    let means = subst (λ (n : Network). RefutesWhereClosed (ospf_to_isis n) found) c.in_ok-tables.ensures
+    (refutes_where_closed tables mixed mixes found c.in_ok-verdict.ensures.refutes) in
+    judged_tree found (subst IsNetwork (mixes.net_is ∙ c.in_ok-tables.ensures) c.verify.ensures.network)
+    (subst (λ (t : List ℕ). IsTextVerdict (ospf_to_isis net) t found) c.as_slice.ensures is) means

@@ -1,5 +1,5 @@
 use Rattle.std.proofs.Common.{◌+◌, sym, subst}
-use Rattle.migrate_cli.specs.ReplayVerdict.{AreNext}
+use Rattle.migrate_cli.specs.ReplayDecision.{AreNext}
 use Rattle.migrate_cli.proofs.NextFacts.{next_more}
 use Rattle.migrate_cli.proofs.replay.nexts_of.Goals as goal
 

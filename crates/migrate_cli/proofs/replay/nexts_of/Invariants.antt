@@ -1,4 +1,4 @@
-use Rattle.migrate_cli.specs.ReplayVerdict.{AreNext}
+use Rattle.migrate_cli.specs.ReplayDecision.{AreNext}
 use Rattle.migrate_cli.proofs.replay.nexts_of.Given as goal
 
 abbrev pub invariant-loop-router : goal.invariant-loop-router

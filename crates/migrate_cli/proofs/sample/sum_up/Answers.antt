@@ -1,14 +1,19 @@
-use Rattle.std.proofs.Common.{◌∙◌, ℕ, List, ap}
-use Rattle.net_model.specs.RouterNames.{names_of}
-use Rattle.migration_report.specs.SummaryTexts.{summary_text}
+use Rattle.std.proofs.Common.{subst}
+use Rattle.igp_theory.specs.Migrations.{ospf_to_isis}
+use Rattle.plan_theory.specs.Plans.{IsPlanned}
+use Rattle.migrate_words.specs.declared.command.TheConstants.{USUAL_BUDGET}
+use Rattle.migrate_cli.specs.SampleDecision.IsSampleDecision.{as_planned}
 use Rattle.migrate_cli.proofs.sample.sum_up.Goals as goal
 
-pub returns-clause-text : goal.returns-clause-text
-returns-clause-text c =
-    let summary : ℕ → List ℕ = λ branches. summary_text (names_of c.args.net.now)
-    (record { routers = c.args.routers; prefixes = c.in_ok-prefixes.prefixes; branches = branches }) c.args.waves.now in
-    record {
-      prefixes = c.in_ok-prefixes.prefixes;
-      counted = c.in_ok-prefixes.ensures;
-      text_is = c.in_ok-text.ensures ∙ ap summary c.count_branches-branches.ensures;
-    }
+pub sum_up_found-requires-clause-planned : goal.sum_up_found-requires-clause-planned
+sum_up_found-requires-clause-planned c = subst (IsPlanned (ospf_to_isis c.args.net.now) USUAL_BUDGET) c.in-Searched.is c.requires.planned
+
+pub returns-in-UnsoundOld : goal.returns-in-UnsoundOld
+returns-in-UnsoundOld c =
+    as_planned _ (λ e. Prim.cc e) c.requires.some c.requires.network
+    (subst (IsPlanned (ospf_to_isis c.args.net.now) USUAL_BUDGET) c.in-UnsoundOld.is c.requires.planned)
+
+pub returns-in-UnsoundNew : goal.returns-in-UnsoundNew
+returns-in-UnsoundNew c =
+    as_planned _ (λ e. Prim.cc e) c.requires.some c.requires.network
+    (subst (IsPlanned (ospf_to_isis c.args.net.now) USUAL_BUDGET) c.in-UnsoundNew.is c.requires.planned)

@@ -8,4 +8,5 @@ pub returns-in-Some : goal.returns-in-Some
 returns-in-Some c = sym (first_value-rows (found_of c.args.given.now) c.args.argument.now) ∙ sym c.in-Some.ensures
 
 pub returns-in-None : goal.returns-in-None
-returns-in-None c = λ u h. some_not_none u _ (sym (first_value-rows (found_of c.args.given.now) c.args.argument.now) ∙ sym c.in-None.ensures) h
+returns-in-None c = λ u h. some_not_none u _
+    (sym (first_value-rows (found_of c.args.given.now) c.args.argument.now) ∙ sym c.in-None.ensures) h

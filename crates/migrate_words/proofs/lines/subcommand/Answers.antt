@@ -1,8 +1,6 @@
-use Rattle.std.proofs.Common.{◌∙◌, ap}
-use Rattle.clap.specs.Simple.{app_of_fields}
-use Rattle.clap.specs.declared.builder.command.Command.{Command}
-use Rattle.clap.specs.declared.builder.command.Command.TheOpen.{Command-F}
+use Rattle.std.proofs.lemmas.Result.{IfOk-weaker}
 use Rattle.migrate_words.proofs.lines.subcommand.Goals as goal
 
 pub returns : goal.returns
-returns c = (ap app_of_fields c.about.ensures ∙ c.new.ensures.app, ap (λ (f : Command-F Command). f.has_globals) c.about.ensures ∙ c.new.ensures.local)
+returns c = IfOk-weaker c.with_configs.result _ _
+    (λ r more. more _ (c.in_ok-with_files.ensures _ (c.in_ok-line.ensures _ c.bare.ensures))) c.with_configs.ensures

@@ -19,4 +19,5 @@ returns-in-Err-try_get_matches_from c =
     let words = map string_bytes c.args.words.now in
     let error = c.in-Err-try_get_matches_from.error in
     let fails = c.in-Err-try_get_matches_from.ensures.kinds (ap is_simple_and_free line ∙ line_is_simple_and_free) in
-    refusal_of_error words (kind_of error) c.told.result (subst (λ (a : App). HasKind (fault_of a words) error) line fails) c.told.ensures
+    refusal_of_error words (kind_of error) c.told.result
+    (subst (λ (a : App). HasKind (fault_of a words) error) line fails) c.told.ensures

@@ -1,0 +1,112 @@
+-- A call that ended so keeps its promises.
+use Rattle.std.proofs.Common.{◌≡◌, ◌≢◌, ◌+◌, ◌∷◌, [], ℕ, List, arith, refl}
+use Rattle.store_edge.specs.Faults.{Rose}
+use Rattle.migrate_words.specs.Asked.{Asks}
+use Rattle.migrate_words.specs.declared.command.CommandKind.TheVariants.{Plan, Prepare}
+use Rattle.migration_report.specs.Outcomes.{status_of}
+use Rattle.migration_report.specs.declared.outcome.Outcome.{Outcome}
+use Rattle.migration_report.specs.declared.status.Status.{Status}
+use Rattle.migration_report.specs.declared.status.Status.TheVariants.{Done, ReadFault, WriteFault, Memory}
+use Rattle.migrate_cli.specs.AnswerLaws.{EndsByAnswer}
+use Rattle.migrate_cli.specs.AnswerLaws.MayEnd.{by_memory, by_write_fault}
+use Rattle.migrate_cli.specs.Answers.{Answers, Ends, IsAnswer, ReadsAgree}
+use Rattle.migrate_cli.specs.Answers.Ends.{whole, cut, no_memory}
+use Rattle.migrate_cli.specs.Calls.{Call, Outside, course}
+use Rattle.migrate_cli.specs.Claim.{Claim}
+use Rattle.migrate_cli.specs.CommandFiles.{command_of}
+use Rattle.migrate_cli.specs.Completeness.{Decides, DecidesTree, NoFaultRose, Writes}
+use Rattle.migrate_cli.specs.Completeness.Decides.{memory}
+use Rattle.migrate_cli.specs.Completeness.DecidesTree.{no_memory as none_for_tree}
+use Rattle.migrate_cli.specs.Completeness.Writes.{unwritten}
+use Rattle.migrate_cli.specs.PlanPromise.{HasPlanned, IsOfPlan, PlansOrNot}
+use Rattle.migrate_cli.specs.PlanPromise.PlansOrNot.{no_memory as none_planned}
+use Rattle.migrate_cli.specs.PreparePromise.{HasPrepared}
+use Rattle.migrate_cli.specs.Reading.{LastFailed}
+use Rattle.migrate_cli.specs.SamplePromise.{AcceptsSample}
+use Rattle.migrate_cli.proofs.AnswerFacts.{reads_or_not}
+use Rattle.migrate_cli.proofs.CallLaws.{ends_so}
+use Rattle.migrate_cli.proofs.CompletenessLaws.{check_decides, prepare_writes, refute_decides, replay_decides, scripts_write}
+use Rattle.migrate_cli.proofs.PlanPromiseLaws.{answer_means, plan_decides}
+use Rattle.migrate_cli.proofs.PreparePromiseLaws.{reads_back}
+use Rattle.migrate_cli.proofs.SamplePromiseLaws.{sample_decides, sample_means}
+
+module _ (call : Call) (before after : Outside) where
+  -- a write fault is one of the sink
+  abbrev pub Fails : Status → Type 0
+  Fails status = status ≡ WriteFault → Rose before.sink_faults after.sink_faults
+
+  -- it ends by its answer
+  exact_so : {asked : List (List ℕ)} {status : Status} → Ends call asked (course before after) status → EndsByAnswer call status
+  exact_so {asked} (whole outcome is _ _) = λ p one tell no_fault its. ends_so call p asked one outcome tell no_fault its is (reads_or_not is)
+  exact_so (cut _ _ _ _) = λ _ _ _ _ _. by_write_fault
+  exact_so (no_memory _ _ _) = λ _ _ _ _ _. by_memory
+
+  -- a read fault is one of the files
+  reads_so : {asked : List (List ℕ)} {status : Status} → Ends call asked (course before after) status → status ≡ ReadFault →
+      LastFailed before.reads after.reads
+  reads_so (whole outcome is agree _) fault = agree.read_fault fault
+  reads_so (cut _ _ _ _) fault = absurd (Prim.cc fault)
+  reads_so (no_memory _ _ _) fault = absurd (Prim.cc fault)
+
+  -- where no read failed, the outcome is no read fault
+  no_fault_of : {outcome : Outcome} → ReadsAgree (status_of outcome) before.reads after.reads → after.reads.faults ≡ before.reads.faults →
+      status_of outcome ≢ ReadFault
+  no_fault_of agree same fault = let one = (agree.read_fault fault).one in omega (arith, one, same)
+
+  -- where no fault rises, it ends as its answers do or for want of memory
+  calm_so : {asked : List (List ℕ)} {status : Status} (D : Status → Type 0) → D Memory →
+      ((outcome : Outcome) → status_of outcome ≢ ReadFault → IsAnswer call asked outcome → D (status_of outcome)) →
+      Ends call asked (course before after) status → Fails status → NoFaultRose before after → D status
+  calm_so D none holds (whole outcome is agree _) fails calm = holds outcome (no_fault_of agree calm.files) is
+  calm_so D none holds (cut _ _ _ _) fails calm = absurd (calm.sink (fails refl))
+  calm_so D none holds (no_memory _ _ _) fails calm = none
+
+  sample_so : {asked : List (List ℕ)} {status : Status} → (it : AcceptsSample call) → Ends call asked (course before after) status → Fails status →
+      (Rose before.sink_faults after.sink_faults → ⊥) → PlansOrNot it.net status
+  sample_so {asked} it (whole outcome is _ _) fails calm = sample_decides call it asked outcome is
+  sample_so it (cut _ _ _ _) fails calm = absurd (calm (fails refl))
+  sample_so it (no_memory _ _ _) fails calm = none_planned
+
+  -- it has planned where its status says so
+  plan_so : {asked : List (List ℕ)} {status : Status} (budget : ℕ) (configs : List (List ℕ)) → Asks call.words (command_of Plan [] configs budget) →
+      Ends call asked (course before after) status → IsOfPlan status → HasPlanned call budget configs (course before after) status
+  plan_so budget configs asks (whole outcome is _ adds) of = answer_means call budget configs (course before after) asks is adds of
+  plan_so budget configs asks (cut _ _ _ _) of = absurd of
+  plan_so budget configs asks (no_memory _ _ _) of = absurd of
+
+  -- and prepared
+  prepare_so : {asked : List (List ℕ)} {status : Status} (file : List ℕ) (configs : List (List ℕ)) → Asks call.words (command_of Prepare (file ∷ []) configs 0) →
+      Ends call asked (course before after) status → status ≡ Done → HasPrepared call file configs (course before after)
+  prepare_so file configs asks (whole outcome is _ adds) done = reads_back call file configs (course before after) asks is adds done
+  prepare_so file configs asks (cut _ _ _ _) done = absurd (Prim.cc done)
+  prepare_so file configs asks (no_memory _ _ _) done = absurd (Prim.cc done)
+
+  -- so it keeps all of its promises
+  pub claim : (status : Status) → Answers call before after status → Fails status →
+      (status ≢ WriteFault → after.sink_faults ≡ before.sink_faults) → Claim call before after status
+  claim status answers fails stands =
+      let asked = answers.asked in
+      let ends = answers.ends in
+      record {
+        answers = answers;
+        exact = exact_so ends;
+        read_fault = reads_so ends;
+        write_fault = fails;
+        unless_write_fault = stands;
+        plans = record {
+          means = λ budget configs asks of. plan_so budget configs asks ends of;
+          decides = λ it calm. calm_so (PlansOrNot it.net) none_planned (plan_decides call it asked) ends fails calm;
+        };
+        checks = λ it calm. calm_so Decides memory (check_decides call it asked) ends fails calm;
+        refutes = λ it calm. calm_so (DecidesTree it.net it.tree) none_for_tree (refute_decides call it asked) ends fails calm;
+        replays = λ it calm. calm_so Decides memory (replay_decides call it asked) ends fails calm;
+        scripts = λ it calm. calm_so Writes unwritten (scripts_write call it asked) ends fails calm;
+        prepares = record {
+          reads_back = λ file configs asks done. prepare_so file configs asks ends done;
+          writes = λ it calm. calm_so Writes unwritten (prepare_writes call it asked) ends fails calm;
+        };
+        samples = record {
+          means = sample_means call before after status answers;
+          decides = λ it calm. sample_so it ends fails calm;
+        };
+      }

@@ -1,0 +1,67 @@
+-- The files of a command's own, by their names and their texts.
+use Rattle.std.proofs.Common.{◌≡◌, ◌<◌, ◌≤◌, ◌∙◌, ℕ, zero, suc, List, [], ◌∷◌, ap, arith, get_or, length, map, refl, subst, sym}
+use Rattle.std.proofs.lemmas.List.{length-map}
+use Rattle.std.specs.Prelude.{slice_index_or}
+use Rattle.migrate_words.specs.Asked.{IsInRange}
+use Rattle.migrate_words.specs.Usages.{usage_of}
+use Rattle.migrate_words.specs.declared.command.Command.{Command}
+use Rattle.migrate_words.specs.declared.command.CommandKind.{CommandKind}
+use Rattle.migrate_cli.specs.CommandFiles.{own_file, own_files, own_most}
+use Rattle.migrate_cli.specs.Reading.{AreShort, NamedText, named_text, named_texts}
+use Rattle.migrate_cli.proofs.FileFacts.{most_small, short_length}
+
+-- one name and one text are one file
+one_named : (names texts : List (List ℕ)) → length names ≡ 1 → length texts ≡ 1 →
+    named_texts names texts ≡ named_text (slice_index_or names 0 []) (slice_index_or texts 0 []) ∷ []
+one_named [] texts one also = absurd (omega (arith, one))
+one_named (n ∷ names) [] one also = absurd (omega (arith, also))
+one_named (n ∷ []) (t ∷ texts) one also = refl
+one_named (n ∷ m ∷ names) (t ∷ texts) one also = absurd (omega (arith, one))
+
+-- two names and two texts are two files
+two_named : (names texts : List (List ℕ)) → length names ≡ 2 → length texts ≡ 2 →
+    named_texts names texts ≡ named_text (slice_index_or names 0 []) (slice_index_or texts 0 []) ∷
+    named_text (slice_index_or names 1 []) (slice_index_or texts 1 []) ∷ []
+two_named [] texts two also = absurd (omega (arith, two))
+two_named (n ∷ []) texts two also = absurd (omega (arith, two))
+two_named (n ∷ m ∷ names) [] two also = absurd (omega (arith, also))
+two_named (n ∷ m ∷ names) (t ∷ []) two also = absurd (omega (arith, also))
+two_named (n ∷ m ∷ []) (t ∷ u ∷ texts) two also = refl
+two_named (n ∷ m ∷ l ∷ names) (t ∷ u ∷ texts) two also = absurd (omega (arith, two))
+
+-- a text of files that are short enough is
+pub place_short : (command : Command) (own : List (List ℕ)) (i : ℕ) (text : List ℕ) → AreShort (own_files command) own → i < length own →
+    text ≡ get_or own i text → length text ≤ 16777216
+place_short command own i text short within at = by_files command.own own i short within at
+  where
+    by_files : (names texts : List (List ℕ)) (k : ℕ) → AreShort (map (own_file command.kind) names) texts → k < length texts →
+        text ≡ get_or texts k text → length text ≤ 16777216
+    by_files [] [] k s w e = absurd (omega (arith, w))
+    by_files [] (t ∷ texts) k s w e = absurd s
+    by_files (n ∷ names) [] k s w e = absurd s
+    by_files (n ∷ names) (t ∷ texts) zero s w e =
+        let first : length t ≤ own_most command.kind = s.0 in
+        let most = most_small command.kind in
+        let same = ap length e in
+        omega (arith, first, most, same)
+    by_files (n ∷ names) (t ∷ texts) (suc k) s w e = by_files names texts k s.1 (omega (arith, w)) e
+
+module _ (command : Command) (own : List (List ℕ)) (kind : CommandKind) (is : command.kind ≡ kind) (range : IsInRange command)
+    (short : AreShort (own_files command) own) where
+  -- a command has as many names and texts of its own as its usage line says
+  pub name_count : length command.own ≡ length (usage_of kind).own
+  name_count = subst (λ (k : CommandKind). length command.own ≡ length (usage_of k).own) is range.own
+
+  pub text_count : length own ≡ length (usage_of kind).own
+  text_count = short_length (own_files command) own short ∙ length-map command.own (own_file command.kind) ∙ name_count
+
+  pub one_own : (file text : List ℕ) → length (usage_of kind).own ≡ 1 → file ≡ slice_index_or command.own 0 [] → text ≡ slice_index_or own 0 [] →
+      named_texts command.own own ≡ named_text file text ∷ []
+  one_own file text one file_is text_is =
+      one_named command.own own (name_count ∙ one) (text_count ∙ one) ∙ (λ i. named_text (sym file_is i) (sym text_is i) ∷ [])
+
+  pub two_own : (file text more : List ℕ) → length (usage_of kind).own ≡ 2 → file ≡ slice_index_or command.own 0 [] → text ≡ slice_index_or own 0 [] →
+      more ≡ slice_index_or own 1 [] → named_texts command.own own ≡ named_text file text ∷ named_text (slice_index_or command.own 1 []) more ∷ []
+  two_own file text more two file_is text_is more_is =
+      two_named command.own own (name_count ∙ two) (text_count ∙ two)
+      ∙ (λ i. named_text (sym file_is i) (sym text_is i) ∷ named_text (slice_index_or command.own 1 []) (sym more_is i) ∷ [])

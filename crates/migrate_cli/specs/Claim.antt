@@ -1,0 +1,40 @@
+-- The claim: what a call of `run` promises, a field for each promise. The words, what the files hold, and what stands outside
+-- before the call and after it decide alone.
+use Rattle.std.specs.Prelude.{◌≡◌, ◌≢◌}
+use Rattle.store_edge.specs.Faults.{Rose}
+use Rattle.migration_report.specs.declared.status.Status.{Status}
+use Rattle.migration_report.specs.declared.status.Status.TheVariants.{ReadFault, WriteFault}
+use Rattle.migrate_cli.specs.AnswerLaws.{EndsByAnswer}
+use Rattle.migrate_cli.specs.Answers.{Answers}
+use Rattle.migrate_cli.specs.Calls.{Call, Outside}
+use Rattle.migrate_cli.specs.Completeness.{CheckDecides, RefuteDecides, ReplayDecides, ScriptsWrites}
+use Rattle.migrate_cli.specs.PlanPromise.{PlanPromise}
+use Rattle.migrate_cli.specs.PreparePromise.{PreparePromise}
+use Rattle.migrate_cli.specs.Reading.{LastFailed}
+use Rattle.migrate_cli.specs.SamplePromise.{SamplePromise}
+
+pub record Claim (call : Call) (before after : Outside) (status : Status) : Type 0 where
+  -- it asks for its command's files in their order, and what they come to is written whole or cut, or nothing for want of memory
+  pub answers : Answers call before after status
+  -- it ends by the one answer that there is to its words and files, but for faults and for want of memory
+  pub exact : EndsByAnswer call status
+  -- 3: a read failed, that of the last file asked for, which is named, and none before it
+  pub read_fault : status ≡ ReadFault → LastFailed before.reads after.reads
+  -- 4: a write failed
+  pub write_fault : status ≡ WriteFault → Rose before.sink_faults after.sink_faults
+  -- and only then
+  pub unless_write_fault : status ≢ WriteFault → after.sink_faults ≡ before.sink_faults
+  -- `plan` plans: 0, 1, 7 and 8 mean in packets what the headline says
+  pub plans : PlanPromise call before after status
+  -- `check` says yes exactly where each state of the order is sound
+  pub checks : CheckDecides call before after status
+  -- `refute` says yes exactly where the text is a closed tree, and then nothing is safe
+  pub refutes : RefuteDecides call before after status
+  -- `replay` says where a journal stands
+  pub replays : ReplayDecides call before after status
+  -- `scripts` writes the lines of each change
+  pub scripts : ScriptsWrites call before after status
+  -- `prepare` writes configurations that read as the same ones with the IS-IS of the design
+  pub prepares : PreparePromise call before after status
+  -- `sample` sums up the plan of a made network, and reads no file
+  pub samples : SamplePromise call before after status

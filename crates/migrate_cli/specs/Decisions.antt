@@ -1,0 +1,39 @@
+-- What each command decides, in a file of its own.
+use Rattle.std.specs.Prelude.{◌≡◌, ℕ, List, [], ◌∷◌}
+use Rattle.igp_theory.specs.Migrations.{ospf_to_isis}
+use Rattle.net_model.specs.Network.{Network}
+use Rattle.migrate_words.specs.declared.command.Command.{Command}
+use Rattle.migrate_words.specs.declared.command.CommandKind.{CommandKind}
+use Rattle.migrate_words.specs.declared.command.CommandKind.TheVariants.{Check, Prepare, Plan, Refute, Scripts, Replay, Sample}
+use Rattle.migration_report.specs.declared.decision.Decision.{Decision}
+use Rattle.migrate_cli.specs.CommandFiles.{GivenTexts}
+use Rattle.migrate_cli.specs.CheckDecision.{IsCheckDecision}
+use Rattle.migrate_cli.specs.PrepareDecision.{IsPrepareDecision, configured}
+use Rattle.migrate_cli.specs.PlanDecision.{IsPlanDecision}
+use Rattle.migrate_cli.specs.Reading.{NamedText, named_texts}
+use Rattle.migrate_cli.specs.RefuteDecision.{IsTreeDecision}
+use Rattle.migrate_cli.specs.ReplayDecision.{IsReplayDecision, journal_of}
+use Rattle.migrate_cli.specs.SampleDecision.{IsSampleDecision}
+use Rattle.migrate_cli.specs.ScriptsDecision.{IsScriptsDecision}
+
+-- what a command decides on: its own files, its number, the texts of the configurations, and the network that these make
+pub record Input : Type 0 where
+  pub own : List NamedText
+  pub number : ℕ
+  pub configs : List (List ℕ)
+  pub net : Network
+
+abbrev pub input_of : Command → GivenTexts → Network → Input
+input_of command texts net = record { own = named_texts command.own texts.own; number = command.number; configs = texts.configs; net = net }
+
+-- what a command decides
+abbrev pub IsDecision : CommandKind → Input → Decision → Type 0
+IsDecision Check input decision = (order : NamedText) × (input.own ≡ order ∷ []) × IsCheckDecision order input.net decision
+IsDecision Prepare input decision =
+    (design : NamedText) × (input.own ≡ design ∷ []) × IsPrepareDecision design (configured input.configs input.net) decision
+IsDecision Plan input decision = IsPlanDecision input.number input.net decision
+IsDecision Refute input decision = (tree : NamedText) × (input.own ≡ tree ∷ []) × IsTreeDecision (ospf_to_isis input.net) tree.text decision
+IsDecision Scripts input decision = (order : NamedText) × (input.own ≡ order ∷ []) × IsScriptsDecision order input.net decision
+IsDecision Replay input decision =
+    (order : NamedText) × (journal : NamedText) × (input.own ≡ order ∷ journal ∷ []) × IsReplayDecision order (journal_of journal.text input.net) decision
+IsDecision Sample input decision = IsSampleDecision input.number input.net decision

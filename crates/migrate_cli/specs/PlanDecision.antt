@@ -1,0 +1,16 @@
+-- What `plan` decides of a network that is at its start, with a budget of branches.
+use Rattle.std.specs.Prelude.{ℕ, ◌<◌, length}
+use Rattle.net_model.specs.Network.{Network}
+use Rattle.net_model.specs.Refusals.{IsNetwork}
+use Rattle.igp_theory.specs.Migrations.{ospf_to_isis}
+use Rattle.plan_theory.specs.Plans.{IsPlanned}
+use Rattle.plan_theory.specs.declared.planned.Planned.{Planned}
+use Rattle.migration_report.specs.declared.decision.Decision.{Decision}
+use Rattle.migration_report.specs.declared.decision.Decision.TheVariants.{Plan}
+
+-- what is planned, by the tables of OSPF and of IS-IS: the fault of the first end that isn't sound; or, between sound ends, a
+-- seamless wave list with the chain that shows the number of its waves, a closed tree, so that no wave list is seamless, or a
+-- tree where the budget of branches was spent. There is a router at least, and the network keeps what every network keeps
+pub data IsPlanDecision (budget : ℕ) (net : Network) : Decision → Type 0 where
+  plans : (planned : Planned) → 0 < length net → IsNetwork net → IsPlanned (ospf_to_isis net) budget planned →
+      IsPlanDecision budget net (Plan planned)

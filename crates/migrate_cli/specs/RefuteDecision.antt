@@ -1,0 +1,15 @@
+-- What `refute` decides of a tree file and a network that is at its start.
+use Rattle.std.specs.Prelude.{ℕ, List}
+use Rattle.net_model.specs.Refusals.{IsNetwork}
+use Rattle.igp_theory.specs.Migrations.{Migration}
+use Rattle.refutation_check.specs.Verdicts.{IsTextVerdict, RefutesWhereClosed}
+use Rattle.refutation_check.specs.declared.verdict.Verdict.{Verdict}
+use Rattle.migration_report.specs.declared.decision.Decision.{Decision}
+use Rattle.migration_report.specs.declared.decision.Decision.TheVariants.{Tree}
+
+-- what is decided of a tree file, by the tables of the two protocols: it is a closed tree, and then no wave list and no order
+-- of the network is seamless; or each of its lines is right, but it has unvisited places; or its first wrong line is told, with
+-- its lowest kind. The network keeps what every network keeps
+pub data IsTreeDecision (move : Migration) (tree : List ℕ) : Decision → Type 0 where
+  judged_tree : (verdict : Verdict) → IsNetwork move.net → IsTextVerdict move tree verdict → RefutesWhereClosed move verdict →
+      IsTreeDecision move tree (Tree verdict)

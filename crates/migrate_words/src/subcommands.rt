@@ -1,0 +1,124 @@
+ghost use Rattle.std.specs.Prelude.{◌≡◌, All, map};
+ghost use Rattle.migrate_words.specs.Usages.{kinds};
+ghost use Rattle.migrate_words.specs.steps.Seen.{IsOfTable, kind_of_entry};
+
+use crate::CommandKind;
+
+/// The number that a command takes.
+#[derive(Clone, Copy, Debug, PartialEq, Eq)]
+pub(crate) enum NumberTaken {
+    /// None.
+    NoNumber,
+    /// The option `--budget N`: the most branches of a search.
+    Budget,
+    /// `N`: the number of routers of a network.
+    Routers,
+}
+
+/// A file that a command takes: its name in the usage line, and what it is.
+pub(crate) struct OwnFile {
+    pub name: &'static str,
+    pub help: &'static str,
+}
+
+/// A subcommand: its command, its word, what it does, its usage line, and what it takes.
+pub(crate) struct Subcommand {
+    pub kind: CommandKind,
+    pub word: &'static str,
+    pub about: &'static str,
+    pub usage: &'static str,
+    pub number: NumberTaken,
+    pub own: &'static [OwnFile],
+    pub configs: bool,
+}
+
+const ORDER: OwnFile = OwnFile {
+    name: "ORDER",
+    help: "The order file: routers in the order of their changes, or waves of routers",
+};
+
+static SUBCOMMANDS: [Subcommand; 7] = [
+    Subcommand {
+        kind: CommandKind::Check,
+        word: "check",
+        about: "Judges an order or a list of waves: is the network safe in each state on the way?",
+        usage: "migrate check ORDER CONFIG...",
+        number: NumberTaken::NoNumber,
+        own: &[ORDER],
+        configs: true,
+    },
+    Subcommand {
+        kind: CommandKind::Prepare,
+        word: "prepare",
+        about: "Writes the configurations with the IS-IS lines of a design",
+        usage: "migrate prepare DESIGN CONFIG...",
+        number: NumberTaken::NoNumber,
+        own: &[OwnFile {
+            name: "DESIGN",
+            help: "The design file, in TOML",
+        }],
+        configs: true,
+    },
+    Subcommand {
+        kind: CommandKind::Plan,
+        word: "plan",
+        about: "Finds waves of routers that are safe in each state on the way, or a tree that shows that there are none",
+        usage: "migrate plan [--budget N] CONFIG...",
+        number: NumberTaken::Budget,
+        own: &[],
+        configs: true,
+    },
+    Subcommand {
+        kind: CommandKind::Refute,
+        word: "refute",
+        about: "Judges a tree: does it show that neither waves nor an order are safe?",
+        usage: "migrate refute TREE CONFIG...",
+        number: NumberTaken::NoNumber,
+        own: &[OwnFile {
+            name: "TREE",
+            help: "The tree file, as `plan` prints it",
+        }],
+        configs: true,
+    },
+    Subcommand {
+        kind: CommandKind::Scripts,
+        word: "scripts",
+        about: "Writes the lines to type for each change, wave by wave",
+        usage: "migrate scripts ORDER CONFIG...",
+        number: NumberTaken::NoNumber,
+        own: &[ORDER],
+        configs: true,
+    },
+    Subcommand {
+        kind: CommandKind::Replay,
+        word: "replay",
+        about: "Tells how far a journal of changes has come, and which changes may come next",
+        usage: "migrate replay ORDER JOURNAL CONFIG...",
+        number: NumberTaken::NoNumber,
+        own: &[
+            ORDER,
+            OwnFile {
+                name: "JOURNAL",
+                help: "The journal file: the changes that are done, one a line",
+            },
+        ],
+        configs: true,
+    },
+    Subcommand {
+        kind: CommandKind::Sample,
+        word: "sample",
+        about: "Plans a made network, and tells what was found",
+        usage: "migrate sample N",
+        number: NumberTaken::Routers,
+        own: &[],
+        configs: false,
+    },
+];
+
+/// The subcommands, in the order in which help tells them.
+pub(crate) fn subcommands() -> &'static [Subcommand]
+    ensures kinds { map kind_of_entry result.now ≡ kinds }
+    ensures usages { All IsOfTable result.now }
+{
+    &SUBCOMMANDS
+}
