@@ -1,7 +1,9 @@
 -- What a plan means, in packets.
 use Rattle.std.proofs.Common.{◌≡◌, ◌<◌, ℕ, length, refl}
+use Rattle.igp_theory.specs.LoopLaws.{BeginsOld}
 use Rattle.igp_theory.specs.Migrations.{Migration}
-use Rattle.igp_theory.specs.States.{IsSound, State, state_of}
+use Rattle.igp_theory.specs.Phases.{State}
+use Rattle.igp_theory.specs.States.{IsSound, state_of}
 use Rattle.igp_theory.specs.WaveLaws.{HopsAreRouters}
 use Rattle.igp_theory.specs.Waves.{HasNoneSeamless}
 use Rattle.igp_theory.proofs.Delivery.{delivers_sound, sound_delivers}
@@ -43,9 +45,9 @@ module _ (move : Migration) where
     no_order_sound = none.orders;
   }
 
-  -- over tables whose hops are routers of the network a plan means what the headline says
-  module _ (old_hops : HopsAreRouters move.net move.old) (new_hops : HopsAreRouters move.net move.new) (budget : ℕ) (some : 0 < length move.net)
-      (network : IsNetwork move.net) where
+  -- over tables whose hops are routers of the network, where every router begins in Old, a plan means what the headline says
+  module _ (begins : BeginsOld move) (old_hops : HopsAreRouters move.net move.old)
+      (new_hops : HopsAreRouters move.net move.new) (budget : ℕ) (some : 0 < length move.net) (network : IsNetwork move.net) where
     delivers : (state : State) → IsSound move state → DeliversAll move state
     delivers state sound a p address target = sound_delivers move state a p old_hops new_hops sound address target
 
@@ -56,7 +58,7 @@ module _ (move : Migration) where
       no_waves = λ e. absurd (Prim.cc e);
       no_ends = λ _. record {
         tells = unsound_old (fault_told fault) (faulty_not_sound is) is;
-        none = none_delivers (plan_means move budget (UnsoundOld fault) is);
+        none = none_delivers (plan_means move budget (UnsoundOld fault) begins is);
       };
       no_more = λ e. absurd (Prim.cc e);
     }
@@ -66,12 +68,12 @@ module _ (move : Migration) where
       no_waves = λ e. absurd (Prim.cc e);
       no_ends = λ _. record {
         tells = unsound_new (fault_told fault) is.first (faulty_not_sound is.last) is.last;
-        none = none_delivers (plan_means move budget (UnsoundNew fault) is);
+        none = none_delivers (plan_means move budget (UnsoundNew fault) begins is);
       };
       no_more = λ e. absurd (Prim.cc e);
     }
     headline (Searched (Waves ranks pairs chain trail)) is =
-        let means : AreSeamlessWithOrder move ranks = plan_means move budget (Searched (Waves ranks pairs chain trail)) is in
+        let means : AreSeamlessWithOrder move ranks = plan_means move budget (Searched (Waves ranks pairs chain trail)) begins is in
         let reads = plan_reads_back move budget network some (Waves ranks pairs chain trail) is.is_found in
         record {
           ends = waves is.ends;
@@ -92,7 +94,7 @@ module _ (move : Migration) where
           no_more = λ e. absurd (Prim.cc e);
         }
     headline (Searched (Refuted tree)) is =
-        let means : HasNoneSeamless move = plan_means move budget (Searched (Refuted tree)) is in
+        let means : HasNoneSeamless move = plan_means move budget (Searched (Refuted tree)) begins is in
         let reads = plan_reads_back move budget network some (Refuted tree) is.is_found in
         record {
           ends = refutation is.ends;

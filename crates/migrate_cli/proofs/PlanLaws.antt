@@ -2,7 +2,7 @@
 use Rattle.std.proofs.Common.{◌≡◌, ℕ, List, [], sym, ap}
 use Rattle.net_model.specs.Network.{Network}
 use Rattle.igp_theory.specs.Migrations.{Migration, ospf_to_isis}
-use Rattle.igp_theory.specs.States.{all_new, all_old}
+use Rattle.igp_theory.specs.Phases.{all_new}
 use Rattle.order_search.specs.declared.found.Found.TheVariants.{Waves}
 use Rattle.order_search.specs.Trees.{branch_count}
 use Rattle.order_search.specs.declared.tree.Node.{Node}
@@ -24,7 +24,7 @@ use Rattle.migrate_cli.proofs.OriginatedFacts.{one_count}
 
 -- a plan is of the network's routers
 pub plan_tellable : (move : Migration) (budget : ℕ) (planned : Planned) → IsPlanned move budget planned → IsPlanTellable move.net planned
-plan_tellable move budget (UnsoundOld fault) is = fault_below move all_old fault is
+plan_tellable move budget (UnsoundOld fault) is = fault_below move move.start fault is
 plan_tellable move budget (UnsoundNew fault) is = fault_below move all_new fault is.last
 plan_tellable move budget (Searched found) is = plan_printable move budget found is.is_found
 

@@ -33,7 +33,7 @@ use Rattle.migrate_cli.proofs.HeadlineLaws.{headline}
 pub decision_means : {budget : ℕ} {net : Network} {d : Decision} → IsPlanDecision budget net d →
     Headline (ospf_to_isis net) budget (decision_status d) (decision_text net d)
 decision_means {budget} {net} (plans planned some network is) =
-    headline (ospf_to_isis net)
+    headline (ospf_to_isis net) (λ u. refl)
     (λ u h q e below entry leads. ospf_hop_is_router net u h q e entry leads)
     (λ u h q e below entry leads. isis_hop_is_router net u h q e entry leads) budget some network planned is
 

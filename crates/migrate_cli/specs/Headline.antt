@@ -8,7 +8,8 @@ use Rattle.igp_theory.specs.Forwarding.{IsTarget}
 use Rattle.igp_theory.specs.LoopLaws.{AreSoundEnds}
 use Rattle.igp_theory.specs.Loops.{Fault, IsFault}
 use Rattle.igp_theory.specs.Migrations.{Migration}
-use Rattle.igp_theory.specs.States.{State, IsSeamless, IsSound, all_new, all_old, state_of}
+use Rattle.igp_theory.specs.Phases.{State, all_new}
+use Rattle.igp_theory.specs.States.{IsSeamless, IsSound, state_of}
 use Rattle.igp_theory.specs.WaveLaws.{Delivers}
 use Rattle.igp_theory.specs.Waves.{AreSeamlessWaves, IsWavesState}
 use Rattle.order_core.specs.Orders.{IsOrder}
@@ -77,12 +78,12 @@ pub record ShowsThereIsNone (move : Migration) (text : List ℕ) : Type 0 where
   pub leaves : ℕ
   pub refutes : IsTreeDecision move text (Tree (Closed branches leaves))
 
--- the text tells the fault of the first end that isn't sound: of the state in which every router is Old, or where that is sound
+-- the text tells the fault of the first end that isn't sound: of the state in which the migration starts, or where that is sound
 -- of the one in which every router is New
 pub data TellsUnsoundEnd (move : Migration) : List ℕ → Type 0 where
-  unsound_old : (fault : Fault) → ¬ IsSound move all_old → IsFault move all_old fault →
+  unsound_old : (fault : Fault) → ¬ IsSound move move.start → IsFault move move.start fault →
       TellsUnsoundEnd move (unsound_text Old (names_of move.net) fault)
-  unsound_new : (fault : Fault) → IsSound move all_old → ¬ IsSound move all_new → IsFault move all_new fault →
+  unsound_new : (fault : Fault) → IsSound move move.start → ¬ IsSound move all_new → IsFault move all_new fault →
       TellsUnsoundEnd move (unsound_text New (names_of move.net) fault)
 
 -- both ends are states of every wave list and of every order, so none delivers throughout
