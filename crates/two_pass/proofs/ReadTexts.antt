@@ -20,7 +20,7 @@ use Rattle.two_pass.specs.TwoFiles.{AreTwoWaves, NamesTwo}
 use Rattle.two_pass.specs.declared.kind.TwoKind.{TwoKind}
 use Rattle.two_pass.specs.declared.kind.TwoKind.TheVariants.{Form, NotInNetwork, Twice, Missing, Early}
 use Rattle.two_pass.specs.steps.Found.{LacksSome}
-use Rattle.two_pass.specs.steps.Standing.{BeginsTwo, HaveLedTo, IsInOneWave, IsLowestTwoFault, IsReadTo, Standing}
+use Rattle.two_pass.specs.steps.Standing.{BeginsTwo, HaveLedTo, IsInOneWave, IsLowestTwoFault, IsReadTo, TwoStanding}
 use Rattle.two_pass.proofs.ItemFacts.{NamesItem-below, item_named}
 use Rattle.two_pass.proofs.TakenLines.{start_leads}
 use Rattle.two_pass.proofs.TakenWaves.{among_all, kind_some}
@@ -46,7 +46,7 @@ no_header net text none = record {
     least other Missing f = omega (arith, f.number_is)
     least other Early f = behind other Early f
 
-module _ (net : Network) (text : List ℕ) (lines : List (List ℕ)) (s : Standing) (led : HaveLedTo net lines s) where
+module _ (net : Network) (text : List ℕ) (lines : List (List ℕ)) (s : TwoStanding) (led : HaveLedTo net lines s) where
   module _ (rest : List (List ℕ)) (whole : line_texts text ≡ two_header ∷ (lines ++ rest)) where
     -- a fault stands behind the lines that were read
     behind_read : (other : ℕ) (its : TwoKind) → HasTwoFault net text other its → length lines + 2 ≤ other
@@ -196,7 +196,7 @@ few_lines text =
     )
 
 -- the header was read
-pub read_start : (net : Network) (text : List ℕ) (left : List (List ℕ)) (n : ℕ) (s : Standing) → line_texts text ≡ two_header ∷ left → n ≡ length net →
+pub read_start : (net : Network) (text : List ℕ) (left : List (List ℕ)) (n : ℕ) (s : TwoStanding) → line_texts text ≡ two_header ∷ left → n ≡ length net →
     s.ranks ≡ replicate (2 * n) None → s.waves ≡ 0 → s.chained ≡ false → IsReadTo net text left 2 s
 read_start net text left n s whole same ranks waves chained = record {
   lines = [];
@@ -210,7 +210,7 @@ read_start net text left n s whole same ranks waves chained = record {
 }
 
 -- a further line was read
-pub read_more : (net : Network) (text line : List ℕ) (rest : List (List ℕ)) (number : ℕ) (s t : Standing)
+pub read_more : (net : Network) (text line : List ℕ) (rest : List (List ℕ)) (number : ℕ) (s t : TwoStanding)
     (r : IsReadTo net text (line ∷ rest) number s) → HaveLedTo net (r.lines ++ line ∷ []) t → t.waves ≤ s.waves + 1 → IsReadTo net text rest (number + 1) t
 read_more net text line rest number s t r led few = record {
   lines = r.lines ++ line ∷ [];

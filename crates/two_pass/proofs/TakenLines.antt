@@ -16,7 +16,7 @@ use Rattle.two_pass.specs.TwoFaults.{IsChainLineOf, IsOffForm, IsTwoFaultBehind,
 use Rattle.two_pass.specs.TwoFaults.IsOffForm.{says_nothing, behind_chain, wrong_chain, unordered}
 use Rattle.two_pass.specs.declared.kind.TwoKind.{TwoKind}
 use Rattle.two_pass.specs.declared.kind.TwoKind.TheVariants.{Form, NotInNetwork, Twice, Missing, Early}
-use Rattle.two_pass.specs.steps.Standing.{HaveLedTo, IsInOneWave, IsLowestTwoFault, Standing, StandsIn}
+use Rattle.two_pass.specs.steps.Standing.{HaveLedTo, IsInOneWave, IsLowestTwoFault, TwoStanding, StandsIn}
 use Rattle.two_pass.proofs.TakenWaves.{among_all, faultless_more, kind_some}
 
 -- a line off the form has no lower kind
@@ -49,7 +49,7 @@ start_leads net n same = record {
   faultless = λ e after kind parts f. absurd (omega (arith, ap length parts, length-append e.before (e.line ∷ after)));
 }
 
-module _ (net : Network) (lines : List (List ℕ)) (s : Standing) (led : HaveLedTo net lines s) where
+module _ (net : Network) (lines : List (List ℕ)) (s : TwoStanding) (led : HaveLedTo net lines s) where
   -- a word stands in a wave where it names an item of this wave
   pub stands_from : (word : List ℕ) (w : ℕ) → Contains (wave_at (waves_on Two lines) w) word → StandsIn net s.ranks word w
   stands_from word w c = by_rank (get_or s.ranks its.0 None) refl (led.places word its.0 its.1)

@@ -26,7 +26,7 @@ use Rattle.two_pass.specs.TwoFaults.IsOffForm.{says_nothing, behind_chain, wrong
 use Rattle.two_pass.specs.declared.kind.TwoKind.{TwoKind}
 use Rattle.two_pass.specs.declared.kind.TwoKind.TheVariants.{Form, NotInNetwork, Twice, Missing, Early}
 use Rattle.two_pass.specs.steps.Found.{AreSeated, AscendWhereFound, DescendSomewhere, IsEarlyItem, IsItemFound, IsSeatTaken, LacksSome}
-use Rattle.two_pass.specs.steps.Standing.{AreFaultless, HaveLedTo, IsInOneWave, IsLowestTwoFault, Standing}
+use Rattle.two_pass.specs.steps.Standing.{AreFaultless, HaveLedTo, IsInOneWave, IsLowestTwoFault, TwoStanding}
 use Rattle.two_pass.proofs.ItemFacts.{NamesItem-below, NamesItem-unique, NamesItem-word, first_named, second_item, second_of}
 use Rattle.two_pass.proofs.FoundItems.{all_named, break_by, in_or_out, no_break, no_change_at, seating}
 
@@ -66,7 +66,7 @@ among_all (wave ∷ waves) zero word c = Contains-append_left wave (all_in waves
 among_all (wave ∷ waves) (suc w) word c = Contains-append_right wave (all_in waves) word (among_all waves w word c)
 
 module _ (net : Network) (network : NamesAscend net) (lines : List (List ℕ)) (line : List ℕ) (words : List (List ℕ)) (is : IsWaveOf line words)
-    (s : Standing) (led : HaveLedTo net lines s) (unchained : s.chained ≡ false) where
+    (s : TwoStanding) (led : HaveLedTo net lines s) (unchained : s.chained ≡ false) where
   abbrev e : TwoEntry
   e = two_entry lines line
 

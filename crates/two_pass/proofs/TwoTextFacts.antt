@@ -38,7 +38,7 @@ use Rattle.two_pass.specs.TwoFaults.{IsChainLineOf, IsWaveOf, two_header}
 use Rattle.two_pass.specs.TwoFiles.{AreTwoWaves, NamesTwo}
 use Rattle.two_pass.specs.TwoTexts.{item_word, items_line, two_text}
 use Rattle.two_pass.specs.steps.Found.{AreSeated, AscendWhereFound, IsEarlyItem, IsItemFound}
-use Rattle.two_pass.specs.steps.Standing.{HaveLedTo, Standing, StandsIn}
+use Rattle.two_pass.specs.steps.Standing.{HaveLedTo, TwoStanding, StandsIn}
 use Rattle.two_pass.proofs.FoundItems.{seating}
 use Rattle.two_pass.proofs.ReadTexts.{names_two}
 use Rattle.two_pass.proofs.TakenLines.{chain_leads, stands_in_wave, start_leads}
@@ -285,7 +285,7 @@ module _ (net : Network) (network : IsNetwork net) (ranks : List ℕ) (two : Are
   abbrev lines_below : ℕ → List (List ℕ)
   lines_below k = map (items_line (names_of net) (codes "wave")) (map (wave_of ranks) (numbers_below k))
 
-  abbrev stand : ℕ → Standing
+  abbrev stand : ℕ → TwoStanding
   stand k = record { ranks = ranks_below k ranks; waves = k; chained = false }
 
   lines_more : (k : ℕ) → lines_below (k + 1) ≡ lines_below k ++ items_line (names_of net) (codes "wave") (wave_of ranks k) ∷ []

@@ -6,7 +6,7 @@ ghost use Rattle.step_scripts.specs.WaveLines.{waves_on};
 ghost use Rattle.step_scripts.specs.declared.version.Version.TheVariants.{Two};
 ghost use Rattle.two_pass.specs.TwoFaults.{RefusesTwo, two_header};
 ghost use Rattle.two_pass.specs.TwoFiles.{AreTwoWaves, NamesTwo};
-ghost use Rattle.two_pass.specs.steps.Standing.{BeginsTwo, HaveLedTo, StandsIn, TakesLine, TakesWave, standing, taking};
+ghost use Rattle.two_pass.specs.steps.Standing.{BeginsTwo, HaveLedTo, StandsIn, TakesTwoLine, TakesWave, standing, taking};
 
 use crate::items::{all_found, are_in_order, item_of, items_found};
 use crate::seating::{ReadSoFar, seat, some_early};
@@ -73,7 +73,7 @@ fn take_line(
     requires network { IsNetwork net.now }
     requires each { length read.old.ranks.items ≡ 2 * length net.now }
     requires room { read.old.waves + 1 < 2 ^ 32 }
-    ensures taken { IfOk result (TakesLine net.now line.now (taking read.old read.new)) }
+    ensures taken { IfOk result (TakesTwoLine net.now line.now (taking read.old read.new)) }
     ensures each { length read.new.ranks.items ≡ 2 * length net.now }
     ensures waves { read.new.waves ≤ read.old.waves + 1 }
 {

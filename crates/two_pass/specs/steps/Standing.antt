@@ -11,7 +11,7 @@ use Rattle.two_pass.specs.declared.kind.TwoKind.{TwoKind}
 use Rattle.two_pass.specs.declared.seating.ReadSoFar.{ReadSoFar}
 
 -- the wave of each item so far, how many waves there are, and whether the chain has come
-pub record Standing : Type 0 where
+pub record TwoStanding : Type 0 where
   pub ranks : List (Option ℕ)
   pub waves : ℕ
   pub chained : Bool
@@ -28,7 +28,7 @@ AreFaultless net lines =
     (e : TwoEntry) (after : List (List ℕ)) (kind : TwoKind) → lines ≡ e.before ++ e.line ∷ after → IsTwoFaultBehind net e kind → ⊥
 
 -- that is where these lines, of which none is faulty, lead
-pub record HaveLedTo (net : Network) (lines : List (List ℕ)) (s : Standing) : Type 0 where
+pub record HaveLedTo (net : Network) (lines : List (List ℕ)) (s : TwoStanding) : Type 0 where
   pub each : length s.ranks ≡ 2 * length net
   pub count : length (waves_on Two lines) ≡ s.waves
   pub places : (word : List ℕ) (item : ℕ) → NamesItem net word item →
@@ -51,7 +51,7 @@ abbrev pub BeginsTwo : List (List ℕ) → Type 0
 BeginsTwo lines = slice_get lines 0 ≡ Some two_header
 
 -- lines were read up to this number, none of them faulty, and these are left
-pub record IsReadTo (net : Network) (text : List ℕ) (left : List (List ℕ)) (number : ℕ) (s : Standing) : Type 0 where
+pub record IsReadTo (net : Network) (text : List ℕ) (left : List (List ℕ)) (number : ℕ) (s : TwoStanding) : Type 0 where
   pub lines : List (List ℕ)
   pub whole : line_texts text ≡ two_header ∷ (lines ++ left)
   pub number_is : number ≡ length lines + 2
@@ -60,17 +60,17 @@ pub record IsReadTo (net : Network) (text : List ℕ) (left : List (List ℕ)) (
 
 -- where reading stands before and after a further line
 pub record Taking : Type 0 where
-  pub before : Standing
-  pub after : Standing
+  pub before : TwoStanding
+  pub after : TwoStanding
 
 -- a further line behind these lines: where it is faulty its lowest kind is told, else it leads on
-abbrev pub LeadsOn : Network → List (List ℕ) → List ℕ → Standing → Option TwoKind → Type 0
+abbrev pub LeadsOn : Network → List (List ℕ) → List ℕ → TwoStanding → Option TwoKind → Type 0
 LeadsOn net lines line after fault =
     MatchOption fault (HaveLedTo net (lines ++ line ∷ []) after) (IsLowestTwoFault net (two_entry lines line))
 
 -- that is so whatever lines have led so far
-abbrev pub TakesLine : Network → List ℕ → Taking → Option TwoKind → Type 0
-TakesLine net line t fault = (lines : List (List ℕ)) → HaveLedTo net lines t.before → LeadsOn net lines line t.after fault
+abbrev pub TakesTwoLine : Network → List ℕ → Taking → Option TwoKind → Type 0
+TakesTwoLine net line t fault = (lines : List (List ℕ)) → HaveLedTo net lines t.before → LeadsOn net lines line t.after fault
 
 -- and where no chain stands before, whatever line is a wave of these words
 abbrev pub TakesWave : Network → List (List ℕ) → Taking → Option TwoKind → Type 0
@@ -85,7 +85,7 @@ pub record StandsIn (net : Network) (ranks : List (Option ℕ)) (word : List ℕ
   pub rank : slice_index_or ranks item None ≡ Some wave
 
 -- where the reader stands
-abbrev pub standing : ReadSoFar → Standing
+abbrev pub standing : ReadSoFar → TwoStanding
 standing read = record { ranks = read.ranks.items; waves = read.waves; chained = read.chained }
 
 abbrev pub taking : ReadSoFar → ReadSoFar → Taking

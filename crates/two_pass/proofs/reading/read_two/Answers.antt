@@ -6,7 +6,7 @@ use Rattle.two_pass.specs.TwoFaults.{IsLeastTwoFault, two_header}
 use Rattle.two_pass.specs.TwoFiles.{AreTwoWaves, NamesTwo}
 use Rattle.two_pass.specs.declared.kind.TwoKind.TheVariants.{Missing}
 use Rattle.two_pass.specs.steps.Found.{LacksSome}
-use Rattle.two_pass.specs.steps.Standing.{IsReadTo, Standing, standing}
+use Rattle.two_pass.specs.steps.Standing.{IsReadTo, TwoStanding, standing}
 use Rattle.two_pass.proofs.ReadTexts.{few_lines, least_here, least_missing, names_two, read_more, read_start, two_waves}
 use Rattle.two_pass.proofs.reading.read_two.Goals as goal
 
@@ -45,7 +45,7 @@ loop-line-preserved c =
     (standing c.take_line.new.read) read (rw c.in_default-2.is at (c.in_ok-kind.ensures.taken read.lines read.led)) c.take_line.ensures.waves
 
 -- no line is left
-whole : (net : Network) (text : List ℕ) (left : List (List ℕ)) (number : ℕ) (s : Standing) (r : IsReadTo net text left number s) → left ≡ [] →
+whole : (net : Network) (text : List ℕ) (left : List (List ℕ)) (number : ℕ) (s : TwoStanding) (r : IsReadTo net text left number s) → left ≡ [] →
     line_texts text ≡ two_header ∷ r.lines
 whole net text left number s r none = r.whole ∙ ap (λ (l : List (List ℕ)). two_header ∷ (r.lines ++ l)) none ∙ ap (λ l. two_header ∷ l) (append-nil r.lines)
 
