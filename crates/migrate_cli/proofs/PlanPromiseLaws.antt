@@ -1,5 +1,5 @@
 -- What a call of `plan` promises.
-use Rattle.std.proofs.Common.{◌≡◌, ◌≢◌, ℕ, List, [], subst}
+use Rattle.std.proofs.Common.{◌≡◌, ◌≢◌, ℕ, List, [], refl, subst}
 use Rattle.igp_theory.specs.Migrations.{ospf_to_isis}
 use Rattle.igp_theory.proofs.Delivery.{isis_hop_is_router, ospf_hop_is_router}
 use Rattle.net_model.specs.Network.{Network}

@@ -13,7 +13,7 @@ use Rattle.net_model.proofs.Names.{IsBelow-irrefl, named_at, named_from, named_w
 use Rattle.net_model.proofs.NetworkFacts.{IsNamed-unique}
 use Rattle.ospf_pair.specs.NetworkPairs.{NetworkPair, HasRouter, StandsInOne, HaveSameRouters}
 use Rattle.ospf_pair.specs.PairRefusals.{IsLeastName}
-use Rattle.ospf_pair.specs.steps.Places.{HasLesser, IsLesserAt, HasSameNameAt}
+use Rattle.ospf_pair.specs.steps.Places.{HasLesser, IsLesserAt, IsNamedAlikeAt}
 
 -- of two names of which the first comes after the second
 pub below_from_greater : (one other : List ℕ) → slice_cmp nat_cmp one other ≡ Greater → IsBelow other one
@@ -83,7 +83,7 @@ module _ (net other : Network) (u : ℕ) (name : List ℕ) (up : NamesAscend net
   )
 
 module _ (nets : NetworkPair) (u : ℕ) (name : List ℕ) (old_up : NamesAscend nets.old) (new_up : NamesAscend nets.new)
-    (same : (v : ℕ) → v < u → HasSameNameAt nets v) where
+    (same : (v : ℕ) → v < u → IsNamedAlikeAt nets v) where
   by_old : HasLesser nets.old nets.new u name → IsLeastName (StandsInOne nets) name
   by_old h = record {
     holds = inl ((u, h.named), absent nets.old nets.new u name old_up new_up (λ v l its. same v l its) h);
@@ -107,7 +107,7 @@ module _ (nets : NetworkPair) (u : ℕ) (name : List ℕ) (old_up : NamesAscend 
   IsLeastName-from_lesser h = ⊎_elim by_old by_new h
 
 -- two networks that have the same names at each number below both counts have the same routers
-pub HaveSameRouters-below : (nets : NetworkPair) (n : ℕ) → length nets.old ≤ n → length nets.new ≤ n → ((v : ℕ) → v < n → HasSameNameAt nets v) →
+pub HaveSameRouters-below : (nets : NetworkPair) (n : ℕ) → length nets.old ≤ n → length nets.new ≤ n → ((v : ℕ) → v < n → IsNamedAlikeAt nets v) →
     HaveSameRouters nets
 HaveSameRouters-below nets n old_few new_few same name v = (
   λ k. (same v (omega (arith, named_within nets.old name v k)) name).0 k,
@@ -118,6 +118,6 @@ HaveSameRouters-below nets n old_few new_few same name v = (
 pub lesser_from_new : {A : Type 0} (value : A → List ℕ) (nets : NetworkPair) (u : ℕ) (found : Option A) →
     ((name : List ℕ) → IsNamed nets.old name u → ⊥) →
     MatchOption found ((name : List ℕ) → IsNamed nets.new name u → ⊥) (λ x. IsNamed nets.new (value x) u) →
-    MatchOption found (HasSameNameAt nets u) (λ x. IsLesserAt nets u (value x))
+    MatchOption found (IsNamedAlikeAt nets u) (λ x. IsLesserAt nets u (value x))
 lesser_from_new value nets u None none h = λ name. (λ k. absurd (none name k), λ k. absurd (h name k))
 lesser_from_new value nets u (Some x) none h = inr (record { named = h; before = λ its k. absurd (none its k) })

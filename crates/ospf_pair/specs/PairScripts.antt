@@ -11,14 +11,14 @@ use Rattle.step_scripts.specs.declared.version.Version.{Version}
 use Rattle.ospf_pair.specs.NetworkPairs.{NetworkPair}
 
 -- from here on the OSPF process has this distance; without one there is no line
-abbrev pub ospf_process_lines : ℕ → Option ℕ → List (List ℕ)
-ospf_process_lines distance None = []
-ospf_process_lines distance (Some process) = ospf_head process ∷ distance_line distance ∷ []
+abbrev pub ospf_distance_lines : ℕ → Option ℕ → List (List ℕ)
+ospf_distance_lines distance None = []
+ospf_distance_lines distance (Some process) = ospf_head process ∷ distance_line distance ∷ []
 
 -- the lines of a change: a first one gives the new process the distance 115, a second one the old process 255
 abbrev pub pair_change_lines : NetworkPair → Change → List (List ℕ)
-pair_change_lines nets (first u) = by_configuration (λ (c : Configuration). ospf_process_lines ISIS_DISTANCE c.process) (slice_get nets.new u)
-pair_change_lines nets (second u) = by_configuration (λ (c : Configuration). ospf_process_lines MOST_DISTANCE c.process) (slice_get nets.old u)
+pair_change_lines nets (first u) = by_configuration (λ (c : Configuration). ospf_distance_lines ISIS_DISTANCE c.process) (slice_get nets.new u)
+pair_change_lines nets (second u) = by_configuration (λ (c : Configuration). ospf_distance_lines MOST_DISTANCE c.process) (slice_get nets.old u)
 
 -- what a script is of: the version of its order file, the two networks, and the rank of each router
 pub record PairScripted : Type 0 where

@@ -4,7 +4,7 @@ ghost use Rattle.net_model.specs.Lookups.{IsNamed};
 ghost use Rattle.net_model.specs.Refusals.{IsNetwork};
 ghost use Rattle.ospf_pair.specs.NetworkPairs.{HaveSameRouters, NoRouterMeets, RouterMeets, StandsInOne, network_pair};
 ghost use Rattle.ospf_pair.specs.PairRefusals.{IsLeastName};
-ghost use Rattle.ospf_pair.specs.steps.Places.{IsLesserAt, IsLesserOf, HasSameNameAt, MeetsAt};
+ghost use Rattle.ospf_pair.specs.steps.Places.{IsLesserAt, IsLesserOf, IsNamedAlikeAt, MeetsAt};
 
 use crate::conditions::PairCondition;
 use net_addr::Name;
@@ -31,7 +31,7 @@ pub(crate) fn least_missing(alloc: Global, old: &Net, new: &Net) -> Result<Optio
 /// The lesser of the names that the two networks have at a number, where they aren't the same.
 fn lesser_name<'a>(old: &'a Net, new: &'a Net, router: u32) -> Option<&'a [u8]>
     ensures { MatchOption result
-        (HasSameNameAt (network_pair old.now new.now) router)
+        (IsNamedAlikeAt (network_pair old.now new.now) router)
         (λ name. IsLesserAt (network_pair old.now new.now) router name.now) }
 {
     match (name_at(old, router), name_at(new, router)) {

@@ -5,7 +5,7 @@ ghost use Rattle.printed_lines.specs.Texts.{text_of};
 ghost use Rattle.step_scripts.specs.Scripts.{change_comment, distance_line, name_on, opens_wave, ospf_head};
 ghost use Rattle.step_scripts.specs.Scripts.{shows_waves, wave_comment, wave_comments};
 ghost use Rattle.ospf_pair.specs.PairScripts.{lacks_ospf, pair_change_lines, pair_end_lines, pair_part, pair_script_text};
-ghost use Rattle.ospf_pair.specs.PairScripts.{pair_scripted, ospf_process_lines};
+ghost use Rattle.ospf_pair.specs.PairScripts.{pair_scripted, ospf_distance_lines};
 
 use crate::PairNet;
 use net_addr::Bytes;
@@ -133,7 +133,7 @@ fn with_process(
     config: &Config,
     distance: u8,
 ) -> Result<TextBuilder, AllocError>
-    ensures { IfOk result (λ longer. longer ≡ text ++ text_of (ospf_process_lines distance config.now.process)) }
+    ensures { IfOk result (λ longer. longer ≡ text ++ text_of (ospf_distance_lines distance config.now.process)) }
 {
     match config.process {
         Some(process) => {

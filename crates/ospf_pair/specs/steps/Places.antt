@@ -11,8 +11,8 @@ abbrev pub IsLesserOf : List ℕ → List ℕ → List ℕ → Type 0
 IsLesserOf one other name = ((name ≡ one) × IsBelow one other) ⊎ ((name ≡ other) × IsBelow other one)
 
 -- both networks have this name at number u, or neither does
-abbrev pub HasSameNameAt : NetworkPair → ℕ → Type 0
-HasSameNameAt nets u = (name : List ℕ) → IsNamed nets.old name u ↔ IsNamed nets.new name u
+abbrev pub IsNamedAlikeAt : NetworkPair → ℕ → Type 0
+IsNamedAlikeAt nets u = (name : List ℕ) → IsNamed nets.old name u ↔ IsNamed nets.new name u
 
 -- a network has this name at number u, and where the other one has a name there, that comes after it
 pub record HasLesser (net other : Network) (u : ℕ) (name : List ℕ) : Type 0 where

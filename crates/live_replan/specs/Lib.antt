@@ -1,0 +1,4 @@
+pub mod BackTexts
+pub mod RestTexts
+pub mod RestLaws
+pub mod steps
