@@ -40,9 +40,9 @@ same_answer {one = one} asked same = (asked, ap status_of same, subst (TellTheSa
 -- a command, and what is told of the files
 pub record Question : Type 0 where
   pub content : Contents
-  pub command : Request
+  pub command : Command
 
-abbrev pub question : Contents → Request → Question
+abbrev pub question : Contents → Command → Question
 question content command = record { content = content; command = command }
 
 pub data OfFiles (q : Question) : List (List ℕ) → Outcome → Type 0 where

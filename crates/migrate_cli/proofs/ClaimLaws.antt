@@ -1,5 +1,5 @@
 -- A call that ended so keeps its promises.
-use Rattle.std.proofs.Common.{◌≡◌, ◌≢◌, ◌+◌, ◌∷◌, [], ℕ, List, arith, refl}
+use Rattle.std.proofs.Common.{◌≡◌, ◌≢◌, ◌+◌, ◌∷◌, [], ℕ, List, arith, refl, subst, sym}
 use Rattle.store_edge.specs.Faults.{Rose}
 use Rattle.migrate_words.specs.Asked.{Asks}
 use Rattle.migrate_words.specs.declared.command.CommandKind.TheVariants.{Plan, Prepare}
@@ -49,15 +49,15 @@ module _ (call : Call) (before after : Outside) where
   reads_so (no_memory _ _ _) fault = absurd (Prim.cc fault)
 
   -- where no read failed, the outcome is no read fault
-  no_fault_of : {outcome : Outcome} → ReadsAgree (status_of outcome) before.reads after.reads → after.reads.faults ≡ before.reads.faults →
+  no_fault_of : (outcome : Outcome) → ReadsAgree (status_of outcome) before.reads after.reads → after.reads.faults ≡ before.reads.faults →
       status_of outcome ≢ ReadFault
-  no_fault_of agree same fault = let one = (agree.read_fault fault).one in omega (arith, one, same)
+  no_fault_of outcome agree same fault = let one = (agree.read_fault fault).one in omega (arith, one, same)
 
   -- where no fault rises, it ends as its answers do or for want of memory
   calm_so : {asked : List (List ℕ)} {status : Status} (D : Status → Type 0) → D Memory →
       ((outcome : Outcome) → status_of outcome ≢ ReadFault → IsAnswer call asked outcome → D (status_of outcome)) →
       Ends call asked (course before after) status → Fails status → NoFaultRose before after → D status
-  calm_so D none holds (whole outcome is agree _) fails calm = holds outcome (no_fault_of agree calm.files) is
+  calm_so D none holds (whole outcome is agree _) fails calm = holds outcome (no_fault_of outcome agree calm.files) is
   calm_so D none holds (cut _ _ _ _) fails calm = absurd (calm.sink (fails refl))
   calm_so D none holds (no_memory _ _ _) fails calm = none
 
@@ -110,3 +110,8 @@ module _ (call : Call) (before after : Outside) where
           decides = λ it calm. sample_so it ends fails calm;
         };
       }
+
+  -- so it does where it returns the status of what it wrote
+  pub claim_written : (status other : Status) → status ≡ other → Answers call before after other → Fails other →
+      (other ≢ WriteFault → after.sink_faults ≡ before.sink_faults) → Claim call before after status
+  claim_written status other same answers fails stands = subst (Claim call before after) (sym same) (claim other answers fails stands)

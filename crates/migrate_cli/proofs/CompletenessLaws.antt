@@ -112,9 +112,9 @@ names_ascend : {texts : List (List ℕ)} {net : Network} → GiveNetwork texts n
 names_ascend gives = gives.make.network.ascending
 
 -- what is said of the one own text is said of the file that is decided on
-said_of : {own : List (List ℕ)} {name one : List ℕ} {other : NamedText} (P : List ℕ → Type 0) → own ≡ one ∷ [] →
+said_of : (name : List ℕ) {own : List (List ℕ)} {one : List ℕ} {other : NamedText} (P : List ℕ → Type 0) → own ≡ one ∷ [] →
     named_texts (name ∷ []) own ≡ other ∷ [] → P one → P other.text
-said_of {own} {name} {one} {other} P first second holds =
+said_of name {own} {one} {other} P first second holds =
     let lists : named_text name one ∷ [] ≡ other ∷ [] = ap (named_texts (name ∷ [])) (sym first) ∙ second in
     let same : named_text name one ≡ other = cc lists in
     subst (λ (file : NamedText). P file.text) same holds
@@ -141,7 +141,7 @@ pub check_decides : (call : Call) → AcceptsCheck call → (asked : List (List 
     IsAnswer call asked outcome → Decides (status_of outcome)
 check_decides call it =
     ends_decided call (command_of Check (it.file ∷ []) it.configs 0) it.texts it.net it.accepted Decides
-    (λ decision is. check_of_waves (names_ascend it.accepted.gives) (said_of (λ t. NamesWaves it.net t it.version it.ranks) it.text_is is.1 it.names) is.2)
+    (λ decision is. check_of_waves (names_ascend it.accepted.gives) (said_of it.file (λ t. NamesWaves it.net t it.version it.ranks) it.text_is is.1 it.names) is.2)
 
 -- ---- `scripts` ----
 
@@ -155,7 +155,7 @@ pub scripts_write : (call : Call) → AcceptsScripts call → (asked : List (Lis
     IsAnswer call asked outcome → Writes (status_of outcome)
 scripts_write call it =
     ends_decided call (command_of Scripts (it.file ∷ []) it.configs 0) it.texts it.net it.accepted Writes
-    (λ decision is. scripts_of_waves (names_ascend it.accepted.gives) (said_of (λ t. NamesWaves it.net t it.version it.ranks) it.text_is is.1 it.names) is.2)
+    (λ decision is. scripts_of_waves (names_ascend it.accepted.gives) (said_of it.file (λ t. NamesWaves it.net t it.version it.ranks) it.text_is is.1 it.names) is.2)
 
 -- ---- `replay` ----
 
@@ -194,4 +194,4 @@ pub prepare_writes : (call : Call) → AcceptsPrepare call → (asked : List (Li
     IsAnswer call asked outcome → Writes (status_of outcome)
 prepare_writes call it =
     ends_decided call (command_of Prepare (it.file ∷ []) it.configs 0) it.texts it.net it.accepted Writes
-    (λ decision is. settled_writes it.design it.settled (said_of (λ t. SaysDesign t it.design) it.text_is is.1 it.says) it.settles is.2)
+    (λ decision is. settled_writes it.design it.settled (said_of it.file (λ t. SaysDesign t it.design) it.text_is is.1 it.says) it.settles is.2)

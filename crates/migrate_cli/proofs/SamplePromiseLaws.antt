@@ -25,6 +25,7 @@ use Rattle.migrate_cli.specs.Calls.{Call, Outside, course}
 use Rattle.migrate_cli.specs.CommandFiles.{command_of, config_texts, files_of, own_texts, given_texts}
 use Rattle.migrate_cli.specs.Outcomes.{IsOutcome}
 use Rattle.migrate_cli.specs.Outcomes.IsOutcome.{faulty_configuration, no_network, off_start, decided}
+use Rattle.migrate_cli.specs.PlanDecision.{IsPlanDecision}
 use Rattle.migrate_cli.specs.PlanDecision.IsPlanDecision.{plans}
 use Rattle.migrate_cli.specs.PlanPromise.{PlansOrNot}
 use Rattle.migrate_cli.specs.PlanPromise.PlansOrNot.{planned as ends_planned}
@@ -132,9 +133,11 @@ sample_means call before after status answers routers asks = has_sampled call be
 
 sample_plans : {routers : ℕ} {net : Network} {d : Decision} → IsSampleDecision routers net d → PlansOrNot net (decision_status d)
 sample_plans {net = net} (summed_up ranks pairs chain trail _ some network found _) =
-    ends_planned (decision_means (plans {budget = USUAL_BUDGET} {net = net} (Searched (Waves ranks pairs chain trail)) some network found)).ends
+    let is : IsPlanDecision USUAL_BUDGET net (Plan (Searched (Waves ranks pairs chain trail))) = plans _ some network found in
+    ends_planned (decision_means is).ends
 sample_plans {net = net} (as_planned planned _ some network found) =
-    ends_planned (decision_means (plans {budget = USUAL_BUDGET} {net = net} planned some network found)).ends
+    let is : IsPlanDecision USUAL_BUDGET net (Plan planned) = plans planned some network found in
+    ends_planned (decision_means is).ends
 
 pub sample_decides : (call : Call) → (it : AcceptsSample call) → (asked : List (List ℕ)) (outcome : Outcome) → IsAnswer call asked outcome →
     PlansOrNot it.net (status_of outcome)

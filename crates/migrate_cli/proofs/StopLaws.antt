@@ -202,10 +202,10 @@ module _ (content : Contents) where
     same_next = one_text n t s told_there one.next (subst (λ some. IsReadOf content some s) (sym same_place.1) other.next)
 
     -- and for one reason
-    pub same_limit : {first second : Outcome} → IsBrokenSo (broken_at b n ts t) first → IsBrokenSo (broken_at c m ss s) second → first ≡ second
-    same_limit {second = second} here there =
+    pub same_limit : {told retold : Outcome} → IsBrokenSo (broken_at b n ts t) told → IsBrokenSo (broken_at c m ss s) retold → told ≡ retold
+    same_limit {retold = retold} here there =
         let place = same_place in
         let texts = same_texts in
         let next = same_next in
         let at : broken_at b n ts t ≡ broken_at c m ss s = λ i. broken_at (place.0 i) (place.1 i) (texts i) (next i) in
-        one_limit (broken_at b n ts t) here (subst (λ (some : Broken). IsBrokenSo some second) (sym at) there)
+        one_limit (broken_at b n ts t) here (subst (λ (some : Broken). IsBrokenSo some retold) (sym at) there)
