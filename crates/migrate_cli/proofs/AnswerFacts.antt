@@ -10,7 +10,7 @@ use Rattle.migrate_words.specs.Refusals.{IsRefusal}
 use Rattle.migrate_words.specs.declared.command.Command.{Command}
 use Rattle.migrate_words.specs.declared.refusal.WordsRefused.{WordsRefused}
 use Rattle.migrate_words.specs.declared.refusal.WordsRefused.TheVariants.{Words as NotTaken, Number, OutOfMemory as NoMemoryForWords}
-use Rattle.migration_report.specs.Outcomes.{HasText, network_status, status_of}
+use Rattle.migration_report.specs.Outcomes.{HasOutcomeText, network_status, status_of}
 use Rattle.migration_report.specs.declared.outcome.Outcome.{Outcome}
 use Rattle.migration_report.specs.declared.outcome.Outcome.TheVariants.{Refused}
 use Rattle.migration_report.specs.declared.refusal.Refusal.TheVariants.{Read, Length, Network as NoNetwork}
@@ -149,7 +149,7 @@ reads_or_not (long_file _ _ _ _ _ _ _) = inr (λ e. Prim.cc e)
 reads_or_not (long_files _ _ _ _ _ _ _ _) = inr (λ e. Prim.cc e)
 
 -- an answer has a text
-pub answer_has_text : {call : Call} {asked : List (List ℕ)} {outcome : Outcome} → IsAnswer call asked outcome → HasText outcome
+pub answer_has_text : {call : Call} {asked : List (List ℕ)} {outcome : Outcome} → IsAnswer call asked outcome → HasOutcomeText outcome
 answer_has_text (judged command texts _ _ _ _ is) = outcome_has_text command (given_texts (own_texts command texts) (config_texts command texts)) is
 answer_has_text (refused_words _ _) = tt
 answer_has_text (many_files _ _ _) = tt

@@ -11,7 +11,7 @@ use Rattle.net_model.specs.declared.refusal.NetRefusal.{NetRefusal}
 use Rattle.net_model.specs.declared.refusal.NetRefusal.TheVariants.{OutOfMemory}
 use Rattle.net_model.proofs.RefusalLaws.{IsNetworkOf-unique, MakeNetwork-refused, Refuses-unique}
 use Rattle.migrate_words.specs.declared.command.Command.{Command}
-use Rattle.migration_report.specs.Outcomes.{HasText}
+use Rattle.migration_report.specs.Outcomes.{HasOutcomeText}
 use Rattle.migration_report.specs.declared.outcome.Outcome.{Outcome}
 use Rattle.migration_report.specs.declared.outcome.Outcome.TheVariants.{Refused, Decided}
 use Rattle.migration_report.specs.declared.refusal.Refusal.TheVariants.{Config, Network as NoNetwork, OffStart}
@@ -82,7 +82,7 @@ module _ (command : Command) (texts : GivenTexts) where
       λ i. Decided (same i) (decision i)
 
   -- which has a text
-  pub outcome_has_text : {outcome : Outcome} → IsOutcome command texts outcome → HasText outcome
+  pub outcome_has_text : {outcome : Outcome} → IsOutcome command texts outcome → HasOutcomeText outcome
   outcome_has_text (faulty_configuration _ _ _ _) = tt
   outcome_has_text (no_network _ _ _ _ told) = told
   outcome_has_text (off_start _ _ _ _ _ _ _) = tt

@@ -10,7 +10,7 @@ use Rattle.migrate_words.specs.Asked.{Asks}
 use Rattle.migrate_words.specs.declared.command.Command.{Command}
 use Rattle.migrate_words.specs.declared.command.CommandKind.TheVariants.{Plan}
 use Rattle.migrate_words.proofs.OneCommand.{one_command}
-use Rattle.migration_report.specs.Outcomes.{decision_status, decision_text, network_status, status_of, text_of}
+use Rattle.migration_report.specs.Outcomes.{decision_status, decision_text, network_status, status_of, outcome_text}
 use Rattle.migration_report.specs.declared.decision.Decision.{Decision}
 use Rattle.migration_report.specs.declared.outcome.Outcome.{Outcome}
 use Rattle.migration_report.specs.declared.status.Status.TheVariants.{ReadFault}
@@ -44,7 +44,7 @@ network_not_planned _ is = is
 
 module _ (call : Call) (budget : ℕ) (configs : List (List ℕ)) (outside : Course) where
   outcome_means : (texts : List (List ℕ)) {outcome : Outcome} → AreRead call.content (files_of (command_of Plan [] configs budget)) texts →
-      AreWithin (files_of (command_of Plan [] configs budget)) texts → AddsBytes outside.before.written outside.after.written (text_of outcome) →
+      AreWithin (files_of (command_of Plan [] configs budget)) texts → AddsBytes outside.before.written outside.after.written (outcome_text outcome) →
       IsOutcome (command_of Plan [] configs budget) (given_texts (own_texts (command_of Plan [] configs budget) texts) (config_texts (command_of Plan [] configs budget) texts)) outcome →
       IsOfPlan (status_of outcome) → HasPlanned call budget configs outside (status_of outcome)
   outcome_means texts read within adds (faulty_configuration _ _ _ _) of = absurd of
@@ -63,7 +63,7 @@ module _ (call : Call) (budget : ℕ) (configs : List (List ℕ)) (outside : Cou
   }
 
   pub answer_means : {asked : List (List ℕ)} {outcome : Outcome} → Asks call.words (command_of Plan [] configs budget) → IsAnswer call asked outcome →
-      AddsBytes outside.before.written outside.after.written (text_of outcome) → IsOfPlan (status_of outcome) →
+      AddsBytes outside.before.written outside.after.written (outcome_text outcome) → IsOfPlan (status_of outcome) →
       HasPlanned call budget configs outside (status_of outcome)
   answer_means asks (refused_words _ _) adds of = absurd of
   answer_means asks (many_files _ _ _) adds of = absurd of

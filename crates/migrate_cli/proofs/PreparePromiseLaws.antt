@@ -16,7 +16,7 @@ use Rattle.migrate_words.proofs.Ranges.{ranges}
 use Rattle.migrate_words.specs.Asked.{Asks}
 use Rattle.migrate_words.specs.declared.command.Command.{Command}
 use Rattle.migrate_words.specs.declared.command.CommandKind.TheVariants.{Prepare}
-use Rattle.migration_report.specs.Outcomes.{decision_status, decision_text, network_status, status_of, text_of}
+use Rattle.migration_report.specs.Outcomes.{decision_status, decision_text, network_status, status_of, outcome_text}
 use Rattle.migration_report.specs.declared.decision.Decision.{Decision}
 use Rattle.migration_report.specs.declared.outcome.Outcome.{Outcome}
 use Rattle.migration_report.specs.declared.status.Status.TheVariants.{Done}
@@ -81,7 +81,7 @@ module _ (call : Call) (file : List ℕ) (configs : List (List ℕ)) (outside : 
       omega (arith, files, count)
 
   outcome_read : (texts : List (List ℕ)) {outcome : Outcome} → AreRead call.content (files_of command) texts → AreWithin (files_of command) texts →
-      AddsBytes outside.before.written outside.after.written (text_of outcome) →
+      AddsBytes outside.before.written outside.after.written (outcome_text outcome) →
       IsOutcome command (given_texts (own_texts command texts) (config_texts command texts)) outcome → status_of outcome ≡ Done →
       HasPrepared call file configs outside
   outcome_read texts read within adds (faulty_configuration _ _ _ _) done = absurd (Prim.cc done)
@@ -111,7 +111,7 @@ module _ (call : Call) (file : List ℕ) (configs : List (List ℕ)) (outside : 
       }
 
   pub reads_back : {asked : List (List ℕ)} {outcome : Outcome} → IsAnswer call asked outcome →
-      AddsBytes outside.before.written outside.after.written (text_of outcome) → status_of outcome ≡ Done → HasPrepared call file configs outside
+      AddsBytes outside.before.written outside.after.written (outcome_text outcome) → status_of outcome ≡ Done → HasPrepared call file configs outside
   reads_back (refused_words _ _) adds done = absurd (Prim.cc done)
   reads_back (many_files _ _ _) adds done = absurd (Prim.cc done)
   reads_back (read_fault _ _ _ _ _ _) adds done = absurd (Prim.cc done)

@@ -23,11 +23,11 @@ use Rattle.refutation_check.specs.declared.verdict.Verdict.TheVariants.{Closed, 
 use Rattle.refutation_check.proofs.SameVerdicts as same_verdicts
 use Rattle.rib_mix.specs.Mixture.{Mixture, migration_of}
 use Rattle.route_core.specs.Tables.{HasEntry}
-use Rattle.migrate_cli.specs.steps.Tables.{AreTablesOf, MixesTables}
+use Rattle.migrate_cli.specs.steps.Tables.{AreBothTables, MixesTables}
 use Rattle.migrate_cli.proofs.PlanTables.{planned_over}
 
 -- a mixture of the tables of a network
-module _ (net : Network) (old : OspfRoutes) (new : IsisRoutes) (tables : AreTablesOf net old new) where
+module _ (net : Network) (old : OspfRoutes) (new : IsisRoutes) (tables : AreBothTables net old new) where
   mixes_tables : (m : Mixture OspfRoutes IsisRoutes) → m.net ≡ net → m.old ≡ old → m.new ≡ new → MixesTables net m
   mixes_tables m net_is old_is new_is =
       let same_old : HaveSameEntries net (HasEntry (table_at m.old)) (OspfEntry net) =

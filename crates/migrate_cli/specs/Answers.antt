@@ -4,7 +4,7 @@ use Rattle.store_edge.specs.Files.{ReadsSoFar}
 use Rattle.store_edge.specs.Sink.{AddsBytes, AddsFront}
 use Rattle.migrate_words.specs.Asked.{Asks}
 use Rattle.migrate_words.specs.declared.command.Command.{Command}
-use Rattle.migration_report.specs.Outcomes.{status_of, text_of}
+use Rattle.migration_report.specs.Outcomes.{status_of, outcome_text}
 use Rattle.migration_report.specs.declared.outcome.Outcome.{Outcome}
 use Rattle.migration_report.specs.declared.outcome.Outcome.TheVariants.{Refused}
 use Rattle.migration_report.specs.declared.refusal.Refusal.TheVariants.{Words, Read, Files, Length, Total}
@@ -61,10 +61,10 @@ pub data MayFail (before after : ReadsSoFar) : Type 0 where
 pub data Ends (call : Call) (asked : List (List ℕ)) (outside : Course) : Status → Type 0 where
   whole : (outcome : Outcome) → IsAnswer call asked outcome →
       ReadsAgree (status_of outcome) outside.before.reads outside.after.reads →
-      AddsBytes outside.before.written outside.after.written (text_of outcome) → Ends call asked outside (status_of outcome)
+      AddsBytes outside.before.written outside.after.written (outcome_text outcome) → Ends call asked outside (status_of outcome)
   cut : (outcome : Outcome) → IsAnswer call asked outcome →
       ReadsAgree (status_of outcome) outside.before.reads outside.after.reads →
-      AddsFront outside.before.written outside.after.written (text_of outcome) → Ends call asked outside WriteFault
+      AddsFront outside.before.written outside.after.written (outcome_text outcome) → Ends call asked outside WriteFault
   no_memory : MayAsk call asked → MayFail outside.before.reads outside.after.reads → outside.after.written ≡ outside.before.written →
       Ends call asked outside Memory
 

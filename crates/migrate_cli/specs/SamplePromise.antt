@@ -7,7 +7,7 @@ use Rattle.sample_network.specs.SampleTexts.{sample_text}
 use Rattle.migrate_words.specs.Asked.{Asks}
 use Rattle.migrate_words.specs.declared.command.CommandKind.TheVariants.{Plan, Sample}
 use Rattle.migrate_words.specs.declared.command.TheConstants.{USUAL_BUDGET}
-use Rattle.migration_report.specs.Outcomes.{status_of, text_of}
+use Rattle.migration_report.specs.Outcomes.{status_of, outcome_text}
 use Rattle.migration_report.specs.declared.outcome.Outcome.{Outcome}
 use Rattle.migration_report.specs.declared.status.Status.{Status}
 use Rattle.migration_report.specs.declared.status.Status.TheVariants.{Done, WriteFault, Memory}
@@ -37,9 +37,9 @@ pub record IsAsPlanned (routers : ℕ) (outcome : Outcome) : Type 0 where
 -- nothing is written
 pub data EndsSample (routers : ℕ) (before after : Outside) : Status → Type 0 where
   whole : (outcome : Outcome) → IsOutcomeOfSample routers outcome → IsAsPlanned routers outcome →
-      AddsBytes before.written after.written (text_of outcome) → EndsSample routers before after (status_of outcome)
+      AddsBytes before.written after.written (outcome_text outcome) → EndsSample routers before after (status_of outcome)
   cut : (outcome : Outcome) → IsOutcomeOfSample routers outcome → IsAsPlanned routers outcome →
-      AddsFront before.written after.written (text_of outcome) → EndsSample routers before after WriteFault
+      AddsFront before.written after.written (outcome_text outcome) → EndsSample routers before after WriteFault
   no_memory : after.written ≡ before.written → EndsSample routers before after Memory
 
 -- no file was asked for, and the call ended so

@@ -22,11 +22,11 @@ impl<'a> Model for Tables<'a> {
 
     ghost Value = { Network };
 
-    ghost use Rattle.migrate_cli.specs.steps.Tables.{AreTablesOf};
+    ghost use Rattle.migrate_cli.specs.steps.Tables.{AreBothTables};
 
     ghost view = { λ x. x.net.now };
 
-    ghost invariant = { λ x. AreTablesOf x.net.now x.old x.new };
+    ghost invariant = { λ x. AreBothTables x.net.now x.old x.new };
 }
 
 impl<'a> Tables<'a> {

@@ -137,11 +137,11 @@ status_of (Refused refusal) = refusal_status refusal
 status_of (Decided net decision) = decision_status decision
 
 -- the text that tells it
-abbrev pub text_of : Outcome → List ℕ
-text_of (Refused refusal) = refusal_text refusal
-text_of (Decided net decision) = decision_text net decision
+abbrev pub outcome_text : Outcome → List ℕ
+outcome_text (Refused refusal) = refusal_text refusal
+outcome_text (Decided net decision) = decision_text net decision
 
 -- it has a text: no want of memory is told as a refusal, and a decision is of the routers of its network
-abbrev pub HasText : Outcome → Type 0
-HasText (Refused refusal) = IsPrinted refusal
-HasText (Decided net decision) = IsTellable net decision
+abbrev pub HasOutcomeText : Outcome → Type 0
+HasOutcomeText (Refused refusal) = IsPrinted refusal
+HasOutcomeText (Decided net decision) = IsTellable net decision

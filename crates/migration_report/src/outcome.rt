@@ -24,7 +24,7 @@ pub enum Outcome {
 
 impl Outcome {
     ghost use Rattle.std.specs.Prelude.{◌≡◌, IfOk};
-    ghost use Rattle.migration_report.specs.Outcomes.{HasText, status_of, text_of};
+    ghost use Rattle.migration_report.specs.Outcomes.{HasOutcomeText, status_of, outcome_text};
 
     /// How a call ends that comes to this and writes its text whole.
     pub fn status(&self) -> Status
@@ -38,8 +38,8 @@ impl Outcome {
 
     /// The text that tells it. The only error is want of memory.
     pub fn text(self, alloc: Global) -> Result<Bytes, OutOfMemory>
-        requires { HasText self }
-        ensures { IfOk result (λ text. text ≡ text_of self) }
+        requires { HasOutcomeText self }
+        ensures { IfOk result (λ text. text ≡ outcome_text self) }
     {
         match self {
             Outcome::Refused { refusal } => refusal_text(alloc, &refusal),

@@ -1,6 +1,6 @@
 ghost use Rattle.std.specs.Prelude.{◌≡◌, ◌≢◌, ◌<◌, ◌≤◌, ℕ, All, IfOk, length};
 ghost use Rattle.net_model.specs.Network.{Network};
-ghost use Rattle.migration_report.specs.Outcomes.{HasText, IsTellable};
+ghost use Rattle.migration_report.specs.Outcomes.{HasOutcomeText, IsTellable};
 ghost use Rattle.migration_report.specs.Texts.{IsPrinted};
 
 use ios_lines::ReadKind;
@@ -22,7 +22,7 @@ fn prints(
     outcome: Outcome,
     expected: &[u8],
 ) -> Result<(), AllocError>
-    requires { HasText outcome }
+    requires { HasOutcomeText outcome }
 {
     let text = outcome.text(alloc)?;
     assert_eq!(rt; text.as_slice(), expected);

@@ -11,7 +11,7 @@ use Rattle.ospf_routes.specs.declared.source.OspfRoutes.{OspfRoutes}
 use Rattle.rib_mix.specs.Mixture.{Mixture, migration_of}
 
 -- the old ones are those of OSPF, and the new ones those of IS-IS
-pub record AreTablesOf (net : Network) (old : OspfRoutes) (new : IsisRoutes) : Type 0 where
+pub record AreBothTables (net : Network) (old : OspfRoutes) (new : IsisRoutes) : Type 0 where
   pub old_tables : AreOspfRoutes net old
   pub new_tables : AreIsisRoutes net new
 
