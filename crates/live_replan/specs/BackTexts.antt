@@ -1,5 +1,5 @@
 -- The way back: the lines that undo the changes of a journal, from the last to the first.
-use Rattle.std.specs.Prelude.{◌≡◌, ℕ, if◌then◌else◌, List, [], ◌∷◌, reverse, slice_get, codes, decimal, Option, Some, None}
+use Rattle.std.specs.Prelude.{◌≡◌, ℕ, if◌then◌else◌, List, [], ◌∷◌, reverse, slice_get, codes, decimal}
 use Rattle.std.specs.List.{AllZip, enumerate_from, flat_map}
 use Rattle.net_addr.specs.Lines.{line_texts}
 use Rattle.net_model.specs.Configuration.{Configuration}
@@ -9,7 +9,7 @@ use Rattle.igp_theory.specs.Waves.{Change, first, second, changed}
 use Rattle.printed_lines.specs.Words.{joined}
 use Rattle.printed_lines.specs.Texts.{text_of}
 use Rattle.state_replay.specs.Journals.{journal_header, TellsChange}
-use Rattle.step_scripts.specs.Scripts.{by_configuration, distance_line, isis_head, name_on, ospf_head}
+use Rattle.step_scripts.specs.Scripts.{by_configuration, distance_line, isis_head, name_on, ospf_distance_lines}
 
 -- a journal tells these changes: it is the header and, for each of them, the line that tells it
 pub record TellsChanges (net : Network) (journal : List ℕ) (changes : List Change) : Type 0 where
@@ -26,15 +26,10 @@ pub record IsWholeJournal (net : Network) (journal : List ℕ) : Type 0 where
 abbrev pub isis_undo_lines : Configuration → List (List ℕ)
 isis_undo_lines c = if c.isis then isis_head c.tag ∷ distance_line MOST_DISTANCE ∷ [] else []
 
--- an OSPF process gets this distance; without one there is no line
-abbrev pub ospf_undo_lines : ℕ → Option ℕ → List (List ℕ)
-ospf_undo_lines distance None = []
-ospf_undo_lines distance (Some process) = ospf_head process ∷ distance_line distance ∷ []
-
 -- the lines that undo a change: a second one gives OSPF the distance of the configuration back
 abbrev pub undo_lines : Network → Change → List (List ℕ)
 undo_lines net (first u) = by_configuration isis_undo_lines (slice_get net u)
-undo_lines net (second u) = by_configuration (λ (c : Configuration). ospf_undo_lines c.distances.ospf c.process) (slice_get net u)
+undo_lines net (second u) = by_configuration (λ (c : Configuration). ospf_distance_lines c.distances.ospf c.process) (slice_get net u)
 
 -- the comment before them, with the number of the change in the journal, from 1, and the name of its router
 abbrev pub undo_comment : ℕ → List ℕ → List ℕ

@@ -2,8 +2,8 @@ ghost use Rattle.std.specs.Prelude.{◌≡◌, ◌<◌, ◌++◌, ◌∷◌, [],
 ghost use Rattle.igp_theory.specs.Waves.{Change};
 ghost use Rattle.printed_lines.specs.Texts.{text_of};
 ghost use Rattle.state_replay.specs.Halves.{change_of};
-ghost use Rattle.step_scripts.specs.Scripts.{distance_line, isis_head, ospf_head};
-ghost use Rattle.live_replan.specs.BackTexts.{IsWholeJournal, TellsChanges, back_text, isis_undo_lines, ospf_undo_lines, undo_comment, undo_part};
+ghost use Rattle.step_scripts.specs.Scripts.{distance_line, isis_head, ospf_distance_lines, ospf_head};
+ghost use Rattle.live_replan.specs.BackTexts.{IsWholeJournal, TellsChanges, back_text, isis_undo_lines, undo_comment, undo_part};
 
 use crate::told::{Told, told_changes};
 use net_addr::Bytes;
@@ -85,7 +85,7 @@ fn with_ospf_undone(
     distance: u8,
     process: Option<u32>,
 ) -> Result<TextBuilder, AllocError>
-    ensures { IfOk result (λ longer. longer ≡ text ++ text_of (ospf_undo_lines distance process)) }
+    ensures { IfOk result (λ longer. longer ≡ text ++ text_of (ospf_distance_lines distance process)) }
 {
     match process {
         Some(process) => {

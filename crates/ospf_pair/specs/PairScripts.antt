@@ -1,19 +1,14 @@
 -- The script of a move from one OSPF process to another: along the flat run, for each change a comment and the lines that make it.
-use Rattle.std.specs.Prelude.{ℕ, Bool, is_none, if◌then◌else◌, List, [], ◌∷◌, ◌++◌, slice_get, Option, Some, None}
+use Rattle.std.specs.Prelude.{ℕ, Bool, is_none, if◌then◌else◌, List, [], ◌∷◌, ◌++◌, slice_get}
 use Rattle.std.specs.List.{enumerate_from, flat_map, list_any}
 use Rattle.net_model.specs.Configuration.{Configuration}
 use Rattle.net_model.specs.declared.bounds.TheConstants.{ISIS_DISTANCE, MOST_DISTANCE}
 use Rattle.order_core.specs.Rankings.{flat_of}
 use Rattle.igp_theory.specs.Waves.{Change, first, second, changed, run_along}
 use Rattle.printed_lines.specs.Texts.{text_of}
-use Rattle.step_scripts.specs.Scripts.{by_configuration, change_comment, distance_line, end_comment, name_on, ospf_head, wave_comments}
+use Rattle.step_scripts.specs.Scripts.{by_configuration, change_comment, end_comment, name_on, ospf_distance_lines, wave_comments}
 use Rattle.step_scripts.specs.declared.version.Version.{Version}
 use Rattle.ospf_pair.specs.NetworkPairs.{NetworkPair}
-
--- from here on the OSPF process has this distance; without one there is no line
-abbrev pub ospf_distance_lines : ℕ → Option ℕ → List (List ℕ)
-ospf_distance_lines distance None = []
-ospf_distance_lines distance (Some process) = ospf_head process ∷ distance_line distance ∷ []
 
 -- the lines of a change: a first one gives the new process the distance 115, a second one the old process 255
 abbrev pub pair_change_lines : NetworkPair → Change → List (List ℕ)

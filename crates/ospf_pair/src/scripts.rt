@@ -2,10 +2,11 @@ ghost use Rattle.std.specs.Prelude.{◌≡◌, ◌+◌, ◌<◌, ◌++◌, ◌�
 ghost use Rattle.std.specs.List.{list_any};
 ghost use Rattle.igp_theory.specs.Waves.{first, second};
 ghost use Rattle.printed_lines.specs.Texts.{text_of};
-ghost use Rattle.step_scripts.specs.Scripts.{change_comment, distance_line, name_on, opens_wave, ospf_head};
+ghost use Rattle.step_scripts.specs.Scripts.{change_comment, distance_line, name_on, opens_wave, ospf_distance_lines};
+ghost use Rattle.step_scripts.specs.Scripts.{ospf_head};
 ghost use Rattle.step_scripts.specs.Scripts.{shows_waves, wave_comment, wave_comments};
 ghost use Rattle.ospf_pair.specs.PairScripts.{lacks_ospf, pair_change_lines, pair_end_lines, pair_part, pair_script_text};
-ghost use Rattle.ospf_pair.specs.PairScripts.{pair_scripted, ospf_distance_lines};
+ghost use Rattle.ospf_pair.specs.PairScripts.{pair_scripted};
 
 use crate::PairNet;
 use net_addr::Bytes;

@@ -31,10 +31,14 @@ distance_line distance = spaced (codes "distance" ∷ decimal distance ∷ [])
 abbrev pub isis_change_lines : Configuration → List (List ℕ)
 isis_change_lines c = if c.isis then isis_head c.tag ∷ distance_line ISIS_DISTANCE ∷ [] else []
 
--- a second change: the distance of the OSPF process is 255 from here on; without one there is no line
+-- the OSPF process has this distance from here on; without one there is no line
+abbrev pub ospf_distance_lines : ℕ → Option ℕ → List (List ℕ)
+ospf_distance_lines distance None = []
+ospf_distance_lines distance (Some process) = ospf_head process ∷ distance_line distance ∷ []
+
+-- a second change: the distance of the OSPF process is 255 from here on
 abbrev pub ospf_change_lines : Option ℕ → List (List ℕ)
-ospf_change_lines None = []
-ospf_change_lines (Some process) = ospf_head process ∷ distance_line MOST_DISTANCE ∷ []
+ospf_change_lines process = ospf_distance_lines MOST_DISTANCE process
 
 -- what is said of a router by its configuration
 abbrev pub by_configuration : {A : Type 0} → (Configuration → List A) → Option Configuration → List A
