@@ -247,7 +247,8 @@ module _ (net : Network) (network : NamesAscend net) (lines : List (List ℕ)) (
 
           module _ (turned : All (λ i. IsEarlyItem ranks s.waves i → ⊥) items) where
             -- the first change of a router whose second one is of this wave had a wave before
-            had_first : (u : ℕ) → Contains items (2 * u + 1) → (v : ℕ) × (get_or s.ranks (2 * u) None ≡ Some v) × (get_or ranks (2 * u) None ≡ Some v) × (v < s.waves)
+            had_first : (u : ℕ) → Contains items (2 * u + 1) →
+                (v : ℕ) × (get_or s.ranks (2 * u) None ≡ Some v) × (get_or ranks (2 * u) None ≡ Some v) × (v < s.waves)
             had_first u c = by_rank (get_or ranks (2 * u) None) refl
               where
                 late : ((v : ℕ) → get_or ranks (2 * u) None ≡ Some v → v < s.waves → ⊥) → ⊥
@@ -278,7 +279,8 @@ module _ (net : Network) (network : NamesAscend net) (lines : List (List ℕ)) (
                 let u : ℕ = its.4.router in
                 let had = had_first u (subst (Contains items) parts.0 (its.0, its.2, its.3)) in
                 let place = led.places (change_word f.name 1) (2 * u) (first_named net f.name u parts.1) in
-                let at = subst (λ o. MatchOption o (Contains (stood_on lines) (change_word f.name 1) → ⊥) (IsInOneWave (waves_on Two lines) (change_word f.name 1)))
+                let at =
+                subst (λ o. MatchOption o (Contains (stood_on lines) (change_word f.name 1) → ⊥) (IsInOneWave (waves_on Two lines) (change_word f.name 1)))
                 had.1 place in
                 f.absent (among_all (waves_on Two lines) had.0 (change_word f.name 1) at.among)
 

@@ -365,7 +365,8 @@ module _ (net : Network) (network : IsNetwork net) (ranks : List ℕ) (two : Are
         } in
         let lead = chain_leads net (lines_below (wave_count ranks)) (stand (wave_count ranks)) led line (map word chain) says refl of_each in
         let whole = (lines_read_back (two_header ∷ (lines_below (wave_count ranks) ++ line ∷ [])) printed).texts in
-        names_two net text (lines_below (wave_count ranks) ++ line ∷ []) (record { ranks = ranks_below (wave_count ranks) ranks; waves = wave_count ranks; chained = true })
+        names_two net text (lines_below (wave_count ranks) ++ line ∷ [])
+        (record { ranks = ranks_below (wave_count ranks) ranks; waves = wave_count ranks; chained = true })
         lead whole ranks (all_below (wave_count ranks) ranks
         (All-weaker (Contains ranks) (λ r. r < wave_count ranks) (rank_below_count ranks) ranks (All-contains_itself ranks)))
 
