@@ -1,37 +1,32 @@
 //! `migrate`: plans the move of a network from OSPF to Integrated IS-IS.
 #![tactic(auto)]
 
+ghost use Rattle.std.specs.Prelude.{◌≡◌};
+ghost use Rattle.std.specs.Process.{exit_status};
+ghost use Rattle.migrate_cli.specs.Codes.{code_of};
+
 use migrate_cli::{Status, run};
+use std::io;
 use std::process::ExitCode;
-use std::rt::Env;
-use std::{env, io};
-use store_edge::{RealFiles, RealSink};
+use store_edge::{RealFiles, RealSink, call_words};
 
 fn main(rt: HostRuntime) -> ExitCode {
-    ExitCode::from(answer(&rt).code())
+    exit_code(answer(&rt))
 }
 
-/// Answers the words of the call, by the files of the system and on standard output.
+/// Answers the words of the environment, by the files of the system and on standard output.
 fn answer(rt: &HostRuntime) -> Status {
-    let alloc = rt.alloc();
-    let words = match words(rt) {
-        Ok(words) => words,
-        Err(error) if error.kind() == io::ErrorKind::OutOfMemory => return Status::Memory,
-        // A word isn't UTF-8, so that the words aren't those of a command.
-        Err(_) => Vec::new(alloc),
+    let Ok(words) = call_words(rt) else {
+        return Status::Memory;
     };
-    let mut files = RealFiles::new(rt, alloc);
+    let mut files = RealFiles::new(rt, rt.alloc());
     let mut out = RealSink::new(io::writer(rt));
-    run(alloc, words.as_slice(), &mut files, &mut out)
+    run(rt.alloc(), words.as_slice(), &mut files, &mut out)
 }
 
-/// The words after the program's name.
-fn words(rt: &(impl AllocGlobal + Env)) -> io::Result<Vec<String>> {
-    let mut words = env::args(rt)?;
-    let _program = words.next();
-    let mut all = Vec::new(rt.alloc());
-    for word in words {
-        all.push(word)?;
-    }
-    Ok(all)
+/// The exit code that tells a status.
+fn exit_code(status: Status) -> ExitCode
+    ensures { exit_status result ≡ code_of status }
+{
+    ExitCode::from(status.code())
 }

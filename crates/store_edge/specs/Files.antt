@@ -1,5 +1,6 @@
 -- What a read does, and what the files in memory are.
-use Rattle.std.specs.Prelude.{◌≡◌, ℕ, ◌+◌, List, [], ◌∷◌, ◌++◌, length, Contains, Option, Some, None, Result, Ok, Err, ◌⊎◌, bytes_eq}
+use Rattle.std.specs.Prelude.{◌≡◌, ℕ, ◌+◌, List, [], ◌∷◌, ◌++◌, length, Contains, Option, Some, None, Result, Ok, Err, ◌⊎◌}
+use Rattle.std.specs.Prelude.{bytes_eq}
 use Rattle.std.specs.Map.{lookup}
 use Rattle.store_edge.specs.declared.files.FileAnswer.{FileAnswer}
 use Rattle.store_edge.specs.declared.files.FileAnswer.TheVariants.{Failed, OutOfMemory}

@@ -1,5 +1,6 @@
 -- What a write does, and what the sinks in memory are.
-use Rattle.std.specs.Prelude.{◌≡◌, ℕ, ◌+◌, ◌<◌, List, ◌++◌, length, Bool, Contains, Option, Some, None, ◌⊎◌, nat_le, if◌then◌else◌}
+use Rattle.std.specs.Prelude.{◌≡◌, ℕ, ◌+◌, ◌<◌, List, ◌++◌, length, Bool, Contains, Option, Some, None, ◌⊎◌, nat_le}
+use Rattle.std.specs.Prelude.{if◌then◌else◌}
 use Rattle.store_edge.specs.Faults.{next_count}
 
 -- these bytes came last, where the bytes written are still told afterwards

@@ -1,4 +1,4 @@
-//! The outside: files to read and a sink to write to, as traits, in memory and real.
+//! The outside: files to read and a sink to write to, as traits, in memory and real; and the words of a call.
 //!
 //! | Notion | Definition | Code |
 //! |---|---|---|
@@ -12,18 +12,19 @@
 //! can tell them. `MemoryFiles` and `MemorySink` fail at the calls that they are told to; `SureFiles` and `SureSink` never fail,
 //! and show that what a caller owes can be met. All four are for the tests of this crate and of its callers, which need no disk.
 //!
-//! A read takes time of the bytes that it gives, a write of those that it takes; in memory a read looks besides for its name among
-//! those of the files.
+//! A read takes time of the bytes that it gives, a write of those that it takes; in memory a read looks besides for its name
+//! among those of the files.
 #![tactic(auto)]
 
 // What a caller sees: the two traits.
 mod files;
 mod sink;
 
-// Real files, and a real sink.
+// Real files, a real sink, and the words of the environment.
 mod real_files;
 mod real_sink;
 mod transfer;
+mod words;
 
 // In memory: files and a sink that fail at some calls, and such as never fail.
 mod calls;
@@ -48,3 +49,4 @@ pub use std::alloc::AllocError as OutOfMemory;
 pub use sure_files::SureFiles;
 pub use sure_sink::SureSink;
 pub use transfer::read_front;
+pub use words::call_words;

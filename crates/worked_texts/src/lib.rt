@@ -3,12 +3,14 @@
 //!
 //! | File | What is read or printed |
 //! |---|---|
-//! | `files` | files, by `store_edge` |
+//! | `files`, `environment` | files, and the words of an environment, by `store_edge` |
 //! | `words`, `journals` | the words of a call, a journal of changes |
 //! | `printed`, `reports` | lines of words, and each answer of the program |
 #![tactic(auto)]
 
 // What is read.
+#[cfg(test)]
+mod environment;
 #[cfg(test)]
 mod files;
 #[cfg(test)]
