@@ -3,7 +3,7 @@
 
 ghost use Rattle.std.specs.Prelude.{◌≡◌};
 ghost use Rattle.std.specs.Process.{exit_status};
-ghost use Rattle.migrate_cli.specs.Codes.{code_of};
+ghost use Rattle.migration_report.specs.Codes.{code_of};
 
 use migrate_cli::{Status, run};
 use std::io;
