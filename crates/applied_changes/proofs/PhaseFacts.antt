@@ -8,7 +8,8 @@ use Rattle.std.proofs.lemmas.List.Concat.{flat_map-append}
 use Rattle.net_model.specs.Configuration.{Configuration}
 use Rattle.net_model.specs.Network.{Network, HasConfiguration}
 use Rattle.printed_lines.specs.Texts.{text_of}
-use Rattle.igp_theory.specs.States.{State, changes_of, changes_on, phase_after}
+use Rattle.igp_theory.specs.Phases.{State}
+use Rattle.igp_theory.specs.States.{changes_of, changes_on, phase_after}
 use Rattle.igp_theory.specs.declared.phase.Phase.{Phase}
 use Rattle.igp_theory.specs.declared.phase.Phase.TheVariants.{New}
 use Rattle.ios_lines.specs.Lookups.{last_of}

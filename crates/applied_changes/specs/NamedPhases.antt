@@ -1,7 +1,7 @@
 -- The phase of a router in a state, by its name.
 use Rattle.std.specs.Prelude.{ℕ, ◌+◌, List, [], ◌∷◌, bytes_eq, if◌then◌else◌}
 use Rattle.net_model.specs.Network.{Network}
-use Rattle.igp_theory.specs.States.{State}
+use Rattle.igp_theory.specs.Phases.{State}
 use Rattle.igp_theory.specs.declared.phase.Phase.{Phase}
 use Rattle.igp_theory.specs.declared.phase.Phase.TheVariants.{Old}
 

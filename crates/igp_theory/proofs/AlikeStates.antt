@@ -2,7 +2,8 @@
 use Rattle.std.proofs.Common.{◌≡◌, ℕ, ◌<◌, ◌∷◌, length, sym, subst}
 use Rattle.igp_theory.specs.Forwarding.{Steps, HasStep}
 use Rattle.igp_theory.specs.Migrations.{Migration}
-use Rattle.igp_theory.specs.States.{State, StepsIn, IsSoundAt, IsSound}
+use Rattle.igp_theory.specs.Phases.{State}
+use Rattle.igp_theory.specs.States.{StepsIn, IsSoundAt, IsSound}
 use Rattle.igp_theory.specs.declared.phase.Phase.{Phase}
 use Rattle.igp_theory.proofs.SameTables.{follows_over}
 

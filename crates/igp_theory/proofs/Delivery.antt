@@ -20,7 +20,8 @@ use Rattle.igp_theory.specs.Laws.{IsOspfNeighbor, IsIsisNeighbor}
 use Rattle.igp_theory.specs.Migrations.{Migration}
 use Rattle.igp_theory.specs.Ospf.{OspfEntry}
 use Rattle.igp_theory.specs.Routes.{EntryLeadsTo}
-use Rattle.igp_theory.specs.States.{State, StepsIn, Follows, IsSoundAt, IsSound}
+use Rattle.igp_theory.specs.Phases.{State}
+use Rattle.igp_theory.specs.States.{StepsIn, Follows, IsSoundAt, IsSound}
 use Rattle.igp_theory.specs.WaveLaws.{HopsAreRouters, Delivers}
 use Rattle.igp_theory.specs.declared.phase.Phase.{Phase}
 use Rattle.net_model.proofs.Members.{Contains-none, Contains-first, Contains-rest, Contains-cases}

@@ -8,7 +8,8 @@ use Rattle.igp_theory.specs.Forwarding.{MustForward, HasStep}
 use Rattle.igp_theory.specs.Laws.{fault_address}
 use Rattle.igp_theory.specs.Loops.{Fault, IsFault, missing_step, loop_arises, IsFirstFault, IsFoundRing}
 use Rattle.igp_theory.specs.Migrations.{Migration}
-use Rattle.igp_theory.specs.States.{State, StepsIn, IsSoundAt, IsSound, IsSeamless, changes_of, changes_on, phase_after, state_of}
+use Rattle.igp_theory.specs.Phases.{State}
+use Rattle.igp_theory.specs.States.{StepsIn, IsSoundAt, IsSound, IsSeamless, changes_of, changes_on, phase_after, state_of}
 use Rattle.igp_theory.proofs.FoundRings.{found_ring_returns, found_ring_unique}
 use Rattle.igp_theory.proofs.Tags.{AreTagged, same_tagged}
 

@@ -6,7 +6,8 @@ use Rattle.order_core.specs.Orders.{IsOrder}
 use Rattle.order_core.specs.Rankings.{IsRanking, rank_of, wave_count, flat_of, ComesBefore}
 use Rattle.order_core.proofs.WaveLists.{flat_is_order, waves_by_rank}
 use Rattle.igp_theory.specs.Migrations.{Migration}
-use Rattle.igp_theory.specs.States.{State, IsSeamless, changes_of, changes_on, phase_after, state_of}
+use Rattle.igp_theory.specs.Phases.{State}
+use Rattle.igp_theory.specs.States.{IsSeamless, changes_of, changes_on, phase_after, state_of}
 use Rattle.igp_theory.specs.WaveLaws.{IsStateOfSomeWave}
 use Rattle.igp_theory.specs.Waves.{Change, first, second, changed, IsRun, IsWavesState, AreSeamlessWaves, run_along, state_after}
 use Rattle.net_model.proofs.Members.{Contains-first, Contains-rest}

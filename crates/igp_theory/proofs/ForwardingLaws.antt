@@ -4,6 +4,7 @@ use Rattle.std.proofs.lemmas.Bool.{cases_lt, cases_order}
 use Rattle.net_addr.specs.Addresses.{Block, ContainsAddress}
 use Rattle.igp_theory.specs.Forwarding.{Usable, Counts, connected_counts, old_counts, new_counts, Uses, HasStep}
 use Rattle.igp_theory.specs.Migrations.{Migration}
+use Rattle.igp_theory.specs.Phases.{made_in}
 use Rattle.igp_theory.specs.declared.phase.Phase.{Phase}
 use Rattle.igp_theory.specs.declared.phase.Phase.TheVariants.{Old, Middle, New}
 
@@ -107,3 +108,14 @@ every_phase_steps one two Middle =
       | inl uses ↦ record { hop = one.hop; steps = record { must = one.steps.must; used = one.steps.used; uses = uses; leads = one.steps.leads } }
       | inr uses ↦ record { hop = two.hop; steps = record { must = two.steps.must; used = two.steps.used; uses = uses; leads = two.steps.leads } }
     ]
+
+-- where it has a step in the phase from which it starts and one in New, it has one in every phase from there on
+pub later_phase_steps : {move : Migration} {u a : ℕ} (start : Phase) → HasStep move u start a → HasStep move u New a → (phase : Phase) →
+    made_in start ≤ made_in phase → HasStep move u phase a
+later_phase_steps Old one two phase from = every_phase_steps one two phase
+later_phase_steps Middle one two Old from = absurd (omega (arith, from))
+later_phase_steps Middle one two Middle from = one
+later_phase_steps Middle one two New from = two
+later_phase_steps New one two Old from = absurd (omega (arith, from))
+later_phase_steps New one two Middle from = absurd (omega (arith, from))
+later_phase_steps New one two New from = two

@@ -8,13 +8,14 @@ use Rattle.order_core.specs.declared.turn.Tag.{Tag}
 use Rattle.order_core.specs.declared.turn.Tag.TheVariants as tag
 use Rattle.order_core.specs.declared.turn.Turn.{Turn}
 use Rattle.igp_theory.specs.Forwarding.{Steps}
-use Rattle.igp_theory.specs.LoopLaws.{AgreesWithTags, AreSoundEnds, IsLoopOfState, IsLoopFault}
+use Rattle.igp_theory.specs.LoopLaws.{IsFromStart, AgreesWithTags, AreSoundEnds, IsLoopOfState, IsLoopFault}
 use Rattle.igp_theory.specs.Loops.{IsTagOf, IsTag, IsLoop, Arises, Fault, IsFault, missing_step, loop_arises}
 use Rattle.igp_theory.specs.Migrations.{Migration}
-use Rattle.igp_theory.specs.States.{State, StepsIn, IsSoundAt, IsSound}
+use Rattle.igp_theory.specs.Phases.{State, made_in, all_new}
+use Rattle.igp_theory.specs.States.{StepsIn, IsSoundAt, IsSound}
 use Rattle.igp_theory.specs.declared.phase.Phase.{Phase}
 use Rattle.igp_theory.specs.declared.phase.Phase.TheVariants.{Old, Middle, New}
-use Rattle.igp_theory.proofs.ForwardingLaws.{middle_is_old_or_new, middle_uses_one, every_phase_steps}
+use Rattle.igp_theory.proofs.ForwardingLaws.{middle_is_old_or_new, middle_uses_one, later_phase_steps}
 use Rattle.net_model.proofs.Members.{Contains-none, Contains-first, Contains-rest, Contains-cases}
 use Rattle.igp_theory.proofs.Rings.{around_inside, around_both, around_at, found_goes_round, found_distinct, around_of_routers, turns_distinct, turns_return}
 use Rattle.igp_theory.proofs.Rings.{some_turn}
@@ -86,7 +87,7 @@ new_listed ring t inside tagged = turn_passes is_new ring t inside (ap is_new ta
 
 -- What a router steps to
 
--- a router that steps to h in both phases does so in every phase
+-- a router that steps to h in Old and in New does so in every phase
 both_step : {move : Migration} {u a h : ℕ} → Steps move u Old a h → Steps move u New a h → (phase : Phase) →
     Steps move u phase a h
 both_step one two Old = one
@@ -106,47 +107,75 @@ old_or_new_step Middle steps = elim (middle_is_old_or_new steps.uses) [
   | inr uses ↦ inr (record { must = steps.must; used = steps.used; uses = uses; leads = steps.leads })
 ]
 
+-- so is it from the phase on from which it starts
+later_step : {move : Migration} {u a h : ℕ} (start : Phase) → Steps move u start a h → Steps move u New a h → (phase : Phase) →
+    made_in start ≤ made_in phase → Steps move u phase a h
+later_step Old one two phase from = both_step one two phase
+later_step Middle one two Old from = absurd (omega (arith, from))
+later_step Middle one two Middle from = one
+later_step Middle one two New from = two
+later_step New one two Old from = absurd (omega (arith, from))
+later_step New one two Middle from = absurd (omega (arith, from))
+later_step New one two New from = two
+
+pub start_or_new_step : {move : Migration} {u a h : ℕ} (start phase : Phase) → made_in start ≤ made_in phase → Steps move u phase a h →
+    Steps move u start a h ⊎ Steps move u New a h
+start_or_new_step Old phase from steps = old_or_new_step phase steps
+start_or_new_step Middle Old from steps = absurd (omega (arith, from))
+start_or_new_step Middle Middle from steps = inl steps
+start_or_new_step Middle New from steps = inr steps
+start_or_new_step New Old from steps = absurd (omega (arith, from))
+start_or_new_step New Middle from steps = absurd (omega (arith, from))
+start_or_new_step New New from steps = inr steps
+
 -- a router by its tag
-tag_step : {move : Migration} {u a h : ℕ} (t : Tag) (phase : Phase) →
-    IsTagOf t (Steps move u Old a h) (Steps move u New a h) →
-    (t ≡ tag.Old → phase ≡ Old) → (t ≡ tag.New → phase ≡ New) → Steps move u phase a h
-tag_step {move} {u} {a} {h} tag.Old phase is in_old in_new = subst (λ (p : Phase). Steps move u p a h) (sym (in_old refl)) is.0
-tag_step {move} {u} {a} {h} tag.New phase is in_old in_new = subst (λ (p : Phase). Steps move u p a h) (sym (in_new refl)) is.1
-tag_step tag.Both phase is in_old in_new = both_step is.0 is.1 phase
+tag_step : {move : Migration} {u a h : ℕ} (t : Tag) (start phase : Phase) →
+    IsTagOf t (Steps move u start a h) (Steps move u New a h) → made_in start ≤ made_in phase →
+    (t ≡ tag.Old → phase ≡ start) → (t ≡ tag.New → phase ≡ New) → Steps move u phase a h
+tag_step {move} {u} {a} {h} tag.Old start phase is from in_old in_new = subst (λ (p : Phase). Steps move u p a h) (sym (in_old refl)) is.0
+tag_step {move} {u} {a} {h} tag.New start phase is from in_old in_new = subst (λ (p : Phase). Steps move u p a h) (sym (in_new refl)) is.1
+tag_step tag.Both start phase is from in_old in_new = later_step start is.0 is.1 phase from
 
--- a tag other than Old has a step in New, a tag other than New one in Old
-new_step : {move : Migration} {u a h : ℕ} (t : Tag) → IsTagOf t (Steps move u Old a h) (Steps move u New a h) →
-    (t ≡ tag.Old → ⊥) → Steps move u New a h
-new_step tag.Old is other = absurd (other refl)
-new_step tag.New is other = is.1
-new_step tag.Both is other = is.1
+-- the steps of a turn's router to the next one, at the start and in New
+abbrev StartSteps : Migration → ℕ → Turn → ℕ → Type 0
+StartSteps move a turn next = Steps move turn.router (move.start turn.router) a next
 
-old_step : {move : Migration} {u a h : ℕ} (t : Tag) → IsTagOf t (Steps move u Old a h) (Steps move u New a h) →
-    (t ≡ tag.New → ⊥) → Steps move u Old a h
-old_step tag.Old is other = is.0
-old_step tag.New is other = absurd (other refl)
-old_step tag.Both is other = is.0
+abbrev NewSteps : Migration → ℕ → Turn → ℕ → Type 0
+NewSteps move a turn next = Steps move turn.router New a next
+
+-- a tag other than Old has a step in New, a tag other than New one at the start
+new_step : (old new : Type 0) (t : Tag) → IsTagOf t old new → (t ≡ tag.Old → ⊥) → new
+new_step old new tag.Old is other = absurd (other refl)
+new_step old new tag.New is other = is.1
+new_step old new tag.Both is other = is.1
+
+old_step : (old new : Type 0) (t : Tag) → IsTagOf t old new → (t ≡ tag.New → ⊥) → old
+old_step old new tag.Old is other = is.0
+old_step old new tag.New is other = absurd (other refl)
+old_step old new tag.Both is other = is.0
 
 -- each router of a loop is one of the network
-pub tag_inside : (move : Migration) (u a h : ℕ) (t : Tag) →
-    IsTagOf t (Steps move u Old a h) (Steps move u New a h) → u < length move.net
-tag_inside move u a h tag.Old is = is.0.must.router
-tag_inside move u a h tag.New is = is.1.must.router
-tag_inside move u a h tag.Both is = is.0.must.router
+pub tag_inside : (move : Migration) (u a h : ℕ) (start : Phase) (t : Tag) →
+    IsTagOf t (Steps move u start a h) (Steps move u New a h) → u < length move.net
+tag_inside move u a h start tag.Old is = is.0.must.router
+tag_inside move u a h start tag.New is = is.1.must.router
+tag_inside move u a h start tag.Both is = is.0.must.router
 
 pub loop_inside : (move : Migration) (a : ℕ) (turns : List Turn) → IsLoop move a turns → All (λ (t : Turn). t.router < length move.net) turns
 loop_inside move a turns is =
     All-weaker (Contains turns) (λ (t : Turn). t.router < length move.net)
-    (λ t among. let at = around_at (IsTagTo move a) turns t is.tags among in tag_inside move t.router a at.0.router t.tag at.1.steps) turns
+    (λ t among. let at = around_at (IsTagTo move a) turns t is.tags among in
+    tag_inside move t.router a at.0.router (move.start t.router) t.tag at.1.steps) turns
     (All-contains_itself turns)
 
 -- Where loops arise
 
-pub loop_arises_by_tags : (move : Migration) (state : State) (a : ℕ) (ring : List Turn) → IsLoop move a ring →
-    AgreesWithTags state ring → Arises move state a ring
-loop_arises_by_tags move state a ring is agrees =
+pub loop_arises_by_tags : (move : Migration) (state : State) (a : ℕ) (ring : List Turn) → IsFromStart move state → IsLoop move a ring →
+    AgreesWithTags move state ring → Arises move state a ring
+loop_arises_by_tags move state a ring from is agrees =
     around_inside (IsTagTo move a) (λ (r s : Turn). StepsIn move state a r.router s.router) ring
-    (λ r s inside tagged. tag_step r.tag (state r.router) tagged.steps
+    (λ r s inside tagged. tag_step r.tag (move.start r.router) (state r.router) tagged.steps
+    (from r.router (tag_inside move r.router a s.router (move.start r.router) r.tag tagged.steps))
     (λ is_old. agrees.old r.router (old_listed ring r inside is_old)) (λ is_new. agrees.new r.router (new_listed ring r inside is_new)))
     is.tags
 
@@ -165,28 +194,26 @@ arising_is_unsound move state a ring is arises sound =
 -- Between sound ends
 
 -- no router steps to itself
-no_self_step : {move : Migration} {u a : ℕ} (phase : Phase) → AreSoundEnds move → a < 2 ^ 32 →
-    Steps move u phase a u → ⊥
-no_self_step {u = u} {a = a} phase ends address steps = elim (old_or_new_step phase steps) [
-  | inl one ↦ (ends.first a address).returns_never u u [] (one, refl)
-  | inr two ↦ (ends.last a address).returns_never u u [] (two, refl)
-]
+no_self_step : (move : Migration) (u a : ℕ) (t : Tag) → AreSoundEnds move → a < 2 ^ 32 →
+    IsTagOf t (Steps move u (move.start u) a u) (Steps move u New a u) → ⊥
+no_self_step move u a tag.Old ends address is = (ends.first a address).returns_never u u [] (is.0, refl)
+no_self_step move u a tag.New ends address is = (ends.last a address).returns_never u u [] (is.1, refl)
+no_self_step move u a tag.Both ends address is = (ends.first a address).returns_never u u [] (is.0, refl)
 
-two_or_more : {move : Migration} (state : State) {a : ℕ} (ring : List Turn) → AreSoundEnds move →
-    a < 2 ^ 32 → 0 < length ring →
-    Arises move state a ring → 2 ≤ length ring
-two_or_more state [] ends address some arises = absurd (omega (arith, some))
-two_or_more state (r ∷ []) ends address some arises = absurd (no_self_step (state r.router) ends address arises)
-two_or_more state (r ∷ s ∷ rest) ends address some arises = omega arith
+two_or_more : {move : Migration} {a : ℕ} (ring : List Turn) → AreSoundEnds move → a < 2 ^ 32 → 0 < length ring →
+    AreTagged move a ring → 2 ≤ length ring
+two_or_more [] ends address some tags = absurd (omega (arith, some))
+two_or_more {move} {a} (r ∷ []) ends address some tags = absurd (no_self_step move r.router a r.tag ends address tags.steps)
+two_or_more (r ∷ s ∷ rest) ends address some tags = omega arith
 
 -- a ring without a router tagged Old arises in the last state, one without a router tagged New in the first
 has_old : {move : Migration} {a : ℕ} (ring : List Turn) → AreSoundEnds move → a < 2 ^ 32 → 0 < length ring →
     AreTagged move a ring → 0 < length (old_routers ring)
 has_old {move} {a} ring ends address some tags = elim (cases_lt 0 (length (old_routers ring))) [
   | inl has ↦ has
-  | inr none ↦ absurd (ring_is_unsound (λ (u : ℕ). New) ring some
+  | inr none ↦ absurd (ring_is_unsound all_new ring some
       (around_inside (IsTagTo move a) (λ (r s : Turn). Steps move r.router New a s.router) ring
-      (λ r s inside tagged. new_step r.tag tagged.steps
+      (λ r s inside tagged. new_step (StartSteps move a r s.router) (NewSteps move a r s.router) r.tag tagged.steps
       (λ is. let among = old_listed ring r inside is in let within = among.1 in omega (arith, within, none))) tags)
       (ends.last a address))
 ]
@@ -195,9 +222,9 @@ has_new : {move : Migration} {a : ℕ} (ring : List Turn) → AreSoundEnds move 
     AreTagged move a ring → 0 < length (new_routers ring)
 has_new {move} {a} ring ends address some tags = elim (cases_lt 0 (length (new_routers ring))) [
   | inl has ↦ has
-  | inr none ↦ absurd (ring_is_unsound (λ (u : ℕ). Old) ring some
-      (around_inside (IsTagTo move a) (λ (r s : Turn). Steps move r.router Old a s.router) ring
-      (λ r s inside tagged. old_step r.tag tagged.steps
+  | inr none ↦ absurd (ring_is_unsound move.start ring some
+      (around_inside (IsTagTo move a) (λ (r s : Turn). Steps move r.router (move.start r.router) a s.router) ring
+      (λ r s inside tagged. old_step (StartSteps move a r s.router) (NewSteps move a r s.router) r.tag tagged.steps
       (λ is. let among = new_listed ring r inside is in let within = among.1 in omega (arith, within, none))) tags)
       (ends.first a address))
 ]
@@ -208,19 +235,6 @@ loop_has_both_tags move a ring ends is =
     let many = is.some in
     let some : 0 < length ring = omega (arith, many) in
     record { old = has_old ring ends is.address some is.tags; new = has_new ring ends is.address some is.tags }
-
--- a router that doesn't step to h in New, and does in this phase, is in Old or Middle
-early_phase : {move : Migration} {u a h : ℕ} (phase : Phase) → Steps move u phase a h → (Steps move u New a h → ⊥) →
-    (phase ≡ Old) ⊎ (phase ≡ Middle)
-early_phase Old steps not = inl refl
-early_phase Middle steps not = inr refl
-early_phase New steps not = absurd (not steps)
-
-late_phase : {move : Migration} {u a h : ℕ} (phase : Phase) → Steps move u phase a h → (Steps move u Old a h → ⊥) →
-    (phase ≡ Middle) ⊎ (phase ≡ New)
-late_phase Old steps not = absurd (not steps)
-late_phase Middle steps not = inl refl
-late_phase New steps not = inr refl
 
 -- the steps of a ring's router in a state, with its tag
 pub record StepsWithTag (move : Migration) (state : State) (a : ℕ) (r s : Turn) : Type 0 where
@@ -235,57 +249,54 @@ steps_with_tags {move} state {a} ring tags arises r inside =
     (around_both (IsTagTo move a) (λ (x y : Turn). StepsIn move state a x.router y.router) ring tags arises) inside in
     (both.0, record { tagged = both.1.0; steps = both.1.1 })
 
-not_new : {move : Migration} {u a h : ℕ} (t : Tag) → t ≡ tag.Old →
-    IsTagOf t (Steps move u Old a h) (Steps move u New a h) →
-    Steps move u New a h → ⊥
-not_new tag.Old same is steps = is.1 steps
-not_new tag.New same is steps = cc
-not_new tag.Both same is steps = cc
+-- a router tagged Old doesn't step to the next one in New, and one tagged New doesn't at the start
+not_new : (old new : Type 0) (t : Tag) → t ≡ tag.Old → IsTagOf t old new → new → ⊥
+not_new old new tag.Old same is steps = is.1 steps
+not_new old new tag.New same is steps = cc
+not_new old new tag.Both same is steps = cc
 
-not_old : {move : Migration} {u a h : ℕ} (t : Tag) → t ≡ tag.New →
-    IsTagOf t (Steps move u Old a h) (Steps move u New a h) →
-    Steps move u Old a h → ⊥
-not_old tag.Old same is steps = cc
-not_old tag.New same is steps = is.0 steps
-not_old tag.Both same is steps = cc
+not_old : (old new : Type 0) (t : Tag) → t ≡ tag.New → IsTagOf t old new → old → ⊥
+not_old old new tag.Old same is steps = cc
+not_old old new tag.New same is steps = is.0 steps
+not_old old new tag.Both same is steps = cc
 
 pub old_is_early : (move : Migration) (state : State) (a : ℕ) (ring : List Turn) →
-    AreTagged move a ring → Arises move state a ring → (u : ℕ) → Contains (old_routers ring) u →
-    (state u ≡ Old) ⊎ (state u ≡ Middle)
-old_is_early move state a ring tags arises u inside =
+    AreTagged move a ring → Arises move state a ring → (u : ℕ) → Contains (old_routers ring) u → state u ≢ New
+old_is_early move state a ring tags arises u inside is_new =
     let one = old_turn ring u inside in
     let at : (s : Turn) × StepsWithTag move state a one.turn s = steps_with_tags state ring tags arises one.turn one.among in
-    subst (λ (v : ℕ). (state v ≡ Old) ⊎ (state v ≡ Middle)) one.router
-    (early_phase (state one.turn.router) at.1.steps (not_new one.turn.tag one.tagged at.1.tagged.steps))
+    let here : state one.turn.router ≡ New = ap state one.router ∙ is_new in
+    not_new (StartSteps move a one.turn at.0.router) (NewSteps move a one.turn at.0.router) one.turn.tag one.tagged at.1.tagged.steps
+    (subst (λ (p : Phase). Steps move one.turn.router p a at.0.router) here at.1.steps)
 
 pub new_is_late : (move : Migration) (state : State) (a : ℕ) (ring : List Turn) →
-    AreTagged move a ring → Arises move state a ring → (u : ℕ) → Contains (new_routers ring) u →
-    (state u ≡ Middle) ⊎ (state u ≡ New)
-new_is_late move state a ring tags arises u inside =
+    AreTagged move a ring → Arises move state a ring → (u : ℕ) → Contains (new_routers ring) u → state u ≢ move.start u
+new_is_late move state a ring tags arises u inside is_start =
     let one = new_turn ring u inside in
     let at : (s : Turn) × StepsWithTag move state a one.turn s = steps_with_tags state ring tags arises one.turn one.among in
-    subst (λ (v : ℕ). (state v ≡ Middle) ⊎ (state v ≡ New)) one.router
-    (late_phase (state one.turn.router) at.1.steps (not_old one.turn.tag one.tagged at.1.tagged.steps))
+    let here : state one.turn.router ≡ move.start one.turn.router = ap state one.router ∙ is_start ∙ sym (ap move.start one.router) in
+    not_old (StartSteps move a one.turn at.0.router) (NewSteps move a one.turn at.0.router) one.turn.tag one.tagged at.1.tagged.steps
+    (subst (λ (p : Phase). Steps move one.turn.router p a at.0.router) here at.1.steps)
 
 -- a ring of distinct routers with its tags that arises between sound ends is a loop with both tags
 pub ring_between_ends : (move : Migration) (state : State) (a : ℕ) (ring : List Turn) → AreSoundEnds move → a < 2 ^ 32 →
     0 < length ring → AllPairs (λ (r s : Turn). r.router ≢ s.router) ring → AreTagged move a ring →
     Arises move state a ring → IsLoopOfState move state a ring
 ring_between_ends move state a ring ends address some distinct tags arises = record {
-  is_loop = record { address = address; some = two_or_more state ring ends address some arises; distinct = distinct; tags = tags };
+  is_loop = record { address = address; some = two_or_more ring ends address some tags; distinct = distinct; tags = tags };
   arises = arises;
   both = record { old = has_old ring ends address some tags; new = has_new ring ends address some tags };
   old_early = old_is_early move state a ring tags arises;
   new_late = new_is_late move state a ring tags arises;
 }
 
--- the fault of an unsound state between sound ends is such a loop
-pub fault_between_ends : (move : Migration) (state : State) (fault : Fault) → AreSoundEnds move →
-    IsFault move state fault →
-    IsLoopFault move state fault
-fault_between_ends move state fault ends (missing_step {a = a} {u = u} address below must lacks lowest) =
-    absurd (lacks (every_phase_steps ((ends.first a address).forwards u must) ((ends.last a address).forwards u must) (state u)))
-fault_between_ends move state fault ends (loop_arises {a = a} {ring = ring} address below forwards found tags) =
+-- the fault of an unsound state from the start on between sound ends is such a loop
+pub fault_between_ends : (move : Migration) (state : State) (fault : Fault) → AreSoundEnds move → IsFromStart move state →
+    IsFault move state fault → IsLoopFault move state fault
+fault_between_ends move state fault ends from (missing_step {a = a} {u = u} address below must lacks lowest) =
+    absurd (lacks (later_phase_steps (move.start u) ((ends.first a address).forwards u must) ((ends.last a address).forwards u must) (state u)
+    (from u must.router)))
+fault_between_ends move state fault ends from (loop_arises {a = a} {ring = ring} address below forwards found tags) =
     let begins = found.first in
     let some : 0 < length ring = some_turn ring found.lowest found.others begins in
     record {

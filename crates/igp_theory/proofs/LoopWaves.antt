@@ -10,10 +10,11 @@ use Rattle.order_core.specs.declared.turn.Tag.{Tag}
 use Rattle.order_core.specs.declared.turn.Tag.TheVariants as tag
 use Rattle.order_core.specs.declared.turn.Turn.{Turn}
 use Rattle.igp_theory.specs.Forwarding.{Steps}
-use Rattle.igp_theory.specs.LoopLaws.{AgreesWithTags, AreSoundEnds, IsLoopOfState, ArisesInWave, StandsRoundWave, PutsSomeOldFirstInEach, IsLoopOfWave}
+use Rattle.igp_theory.specs.LoopLaws.{IsFromStart, BeginsOld, AgreesWithTags, AreSoundEnds, IsLoopOfState, ArisesInWave, StandsRoundWave, PutsSomeOldFirstInEach, IsLoopOfWave}
 use Rattle.igp_theory.specs.Loops.{IsTagOf, IsTag, EachToNext, AroundRing, IsLoop, Arises, Fault, loop}
 use Rattle.igp_theory.specs.Migrations.{Migration}
-use Rattle.igp_theory.specs.States.{State, StepsIn, Follows, IsSound}
+use Rattle.igp_theory.specs.Phases.{State, made_in}
+use Rattle.igp_theory.specs.States.{StepsIn, Follows, IsSound}
 use Rattle.igp_theory.specs.WaveFaults.{StepsInSome, IsUnsoundInSome, IsFaultOver, missing_in_one, loop_over_all, IsWavesFault}
 use Rattle.igp_theory.specs.WaveLaws.{IsStateOfSomeWave}
 use Rattle.igp_theory.specs.Waves.{IsWavesState, AreSeamlessWaves, IsStateOfWave}
@@ -21,8 +22,8 @@ use Rattle.igp_theory.specs.declared.phase.Phase.{Phase}
 use Rattle.igp_theory.specs.declared.phase.Phase.TheVariants.{Old, Middle, New}
 use Rattle.igp_theory.proofs.Delivery.{contains_or_not}
 use Rattle.igp_theory.proofs.FlatOrders.{wave_state_is_reached}
-use Rattle.igp_theory.proofs.ForwardingLaws.{every_phase_steps}
-use Rattle.igp_theory.proofs.LoopLaws.{old_turn, new_turn, old_or_new_step, tag_inside, loop_arises_by_tags, arising_is_unsound, old_is_early, new_is_late}
+use Rattle.igp_theory.proofs.ForwardingLaws.{later_phase_steps}
+use Rattle.igp_theory.proofs.LoopLaws.{old_turn, new_turn, start_or_new_step, tag_inside, loop_arises_by_tags, arising_is_unsound, old_is_early, new_is_late}
 use Rattle.igp_theory.proofs.LoopLaws.{ring_between_ends}
 use Rattle.net_model.proofs.Members.{Contains-none, Contains-first, Contains-rest, Contains-cases}
 use Rattle.igp_theory.proofs.OrderedLists.{pairs_first, pairs_rest}
@@ -38,7 +39,7 @@ turn_inside : (move : Migration) (a : ℕ) (ring : List Turn) (t : Turn) → Are
     Contains ring t → t.router < length move.net
 turn_inside move a ring t tags inside =
     let at = around_at (IsTagTo move a) ring t tags inside in
-    tag_inside move t.router a at.0.router t.tag at.1.steps
+    tag_inside move t.router a at.0.router (move.start t.router) t.tag at.1.steps
 
 old_inside : (move : Migration) (a : ℕ) (ring : List Turn) (u : ℕ) → AreTagged move a ring →
     Contains (old_routers ring) u → u < length move.net
@@ -52,30 +53,28 @@ new_inside move a ring u tags inside =
     let one = new_turn ring u inside in
     subst (λ (v : ℕ). v < length move.net) one.router (turn_inside move a ring one.turn tags one.among)
 
-is_not_old : (phase : Phase) → (phase ≡ Middle) ⊎ (phase ≡ New) → phase ≡ Old → ⊥
-is_not_old phase (inl middle) old = let clash : Middle ≡ Old = sym middle ∙ old in cc
-is_not_old phase (inr new) old = let clash : New ≡ Old = sym new ∙ old in cc
-
-is_not_new : (phase : Phase) → (phase ≡ Old) ⊎ (phase ≡ Middle) → phase ≡ New → ⊥
-is_not_new phase (inl old) new = let clash : Old ≡ New = sym old ∙ new in cc
-is_not_new phase (inr middle) new = let clash : Middle ≡ New = sym middle ∙ new in cc
-
 -- a ring that arises in a state of a wave stands round it
-pub stands_round : (move : Migration) (ranks : List ℕ) (w : ℕ) (state : State) (a : ℕ) (ring : List Turn) →
+pub stands_round : (move : Migration) (ranks : List ℕ) (w : ℕ) (state : State) (a : ℕ) (ring : List Turn) → BeginsOld move →
     AreTagged move a ring → IsStateOfWave (length move.net) ranks w state → Arises move state a ring →
     StandsRoundWave ranks w ring
-stands_round move ranks w state a ring tags of_wave arises = record {
+stands_round move ranks w state a ring begins tags of_wave arises = record {
   new = λ u inside. elim (cases_lt w (rank_of ranks u)) [
     | inr within ↦ within
-    | inl later ↦ absurd (is_not_old (state u) (new_is_late move state a ring tags arises u inside)
-        (of_wave.later u (new_inside move a ring u tags inside) later))
+    | inl later ↦ absurd (new_is_late move state a ring tags arises u inside
+        (of_wave.later u (new_inside move a ring u tags inside) later ∙ sym (begins u)))
   ];
   old = λ u inside. elim (cases_lt (rank_of ranks u) w) [
     | inr within ↦ within
-    | inl earlier ↦ absurd (is_not_new (state u) (old_is_early move state a ring tags arises u inside)
+    | inl earlier ↦ absurd (old_is_early move state a ring tags arises u inside
         (of_wave.earlier u (old_inside move a ring u tags inside) earlier))
   ];
 }
+
+-- where every router begins in Old each state is one from the start on
+from_old : (move : Migration) (state : State) → BeginsOld move → IsFromStart move state
+from_old move state begins u below =
+    let none : made_in (move.start u) ≡ 0 = ap made_in (begins u) in
+    omega (arith, none)
 
 -- one of two phases, by which of two facts holds
 abbrev pick : {P Q : Type 0} → P ⊎ Q → Phase → Phase → Phase
@@ -123,14 +122,15 @@ old_isnt_new ring u distinct is_old is_new =
     let clash : tag.Old ≡ tag.New = sym one.tagged ∙ ap (λ (t : Turn). t.tag) same ∙ two.tagged in
     cc
 
-for_agrees : (ranks : List ℕ) (w : ℕ) (ring : List Turn) → AllPairs (λ (r s : Turn). r.router ≢ s.router) ring → StandsRoundWave ranks w ring →
-    AgreesWithTags (state_for ranks w ring) ring
-for_agrees ranks w ring distinct round = record {
+for_agrees : (move : Migration) (ranks : List ℕ) (w : ℕ) (ring : List Turn) → BeginsOld move →
+    AllPairs (λ (r s : Turn). r.router ≢ s.router) ring → StandsRoundWave ranks w ring → AgreesWithTags move (state_for ranks w ring) ring
+for_agrees move ranks w ring begins distinct round = record {
   old = λ u inside.
       let from = round.old u inside in
       pick_second (cases_lt (rank_of ranks u) w) New (from_wave ranks w ring u) (λ early. omega (arith, early, from))
       ∙ pick_same (cases_lt w (rank_of ranks u)) Old (inside_wave ring u) Old refl
-      (pick_second (contains_or_not u (new_routers ring)) New Old (λ is_new. old_isnt_new ring u distinct inside is_new));
+      (pick_second (contains_or_not u (new_routers ring)) New Old (λ is_new. old_isnt_new ring u distinct inside is_new))
+      ∙ sym (begins u);
   new = λ u inside.
       let upto = round.new u inside in
       pick_same (cases_lt (rank_of ranks u) w) New (from_wave ranks w ring u) New refl
@@ -138,12 +138,13 @@ for_agrees ranks w ring distinct round = record {
       ∙ pick_first (contains_or_not u (new_routers ring)) New Old (λ absent. absent inside));
 }
 
-pub arises_in_wave : (move : Migration) (ranks : List ℕ) (w a : ℕ) (ring : List Turn) → IsLoop move a ring →
+pub arises_in_wave : (move : Migration) (ranks : List ℕ) (w a : ℕ) (ring : List Turn) → BeginsOld move → IsLoop move a ring →
     StandsRoundWave ranks w ring → ArisesInWave move ranks w a ring
-arises_in_wave move ranks w a ring is round = record {
+arises_in_wave move ranks w a ring begins is round = record {
   state = state_for ranks w ring;
   of_wave = for_is_of_wave (length move.net) ranks w ring;
-  arises = loop_arises_by_tags move (state_for ranks w ring) a ring is (for_agrees ranks w ring is.distinct round);
+  arises = loop_arises_by_tags move (state_for ranks w ring) a ring (from_old move (state_for ranks w ring) begins) is
+      (for_agrees move ranks w ring begins is.distinct round);
 }
 
 -- Seamless wave lists put some router tagged Old first
@@ -209,16 +210,16 @@ earlier_or_none ranks w (x ∷ routers) = elim (cases_lt (rank_of ranks x) w) [
   ]
 ]
 
-pub seamless_puts_old_first : (move : Migration) (ranks : List ℕ) → AreSeamlessWaves move ranks →
+pub seamless_puts_old_first : (move : Migration) (ranks : List ℕ) → BeginsOld move → AreSeamlessWaves move ranks →
     PutsSomeOldFirstInEach move ranks
-seamless_puts_old_first move ranks seamless a ring is both =
+seamless_puts_old_first move ranks begins seamless a ring is both =
     let last = latest_of_some ranks (new_routers ring) both.new in
     let w : ℕ = rank_of ranks last.0 in
     let within : last.0 < length ranks = let k = new_inside move a ring last.0 is.tags last.1.among in omega (arith, k, seamless.waves.each) in
     elim (earlier_or_none ranks w (old_routers ring)) [
       | inl one ↦ record { old = one.0; new = last.0; is_old = one.1; is_new = last.1.among; keeps = one.2 }
       | inr none ↦
-          let there : ArisesInWave move ranks w a ring = arises_in_wave move ranks w a ring is (record { new = last.1.latest; old = none }) in
+          let there : ArisesInWave move ranks w a ring = arises_in_wave move ranks w a ring begins is (record { new = last.1.latest; old = none }) in
           let reached : IsWavesState (length move.net) ranks there.state = wave_state_is_reached (length move.net) ranks there.state seamless.waves
           (record { wave = w; is_wave = Contains-get_or ranks last.0 0 within; of_wave = there.of_wave }) in
           absurd (arising_is_unsound move there.state a ring is there.arises (seamless.sound there.state reached))
@@ -227,8 +228,8 @@ seamless_puts_old_first move ranks seamless a ring is both =
 -- Between sound ends that is enough
 
 -- a router that steps to h in some phase has a tag towards it, so what holds for no tag holds not
-tag_towards : {move : Migration} {u a h : ℕ} → Steps move u Old a h ⊎ Steps move u New a h →
-    ((t : Tag) → IsTagOf t (Steps move u Old a h) (Steps move u New a h) → ⊥) → ⊥
+tag_towards : {move : Migration} {u a h : ℕ} {start : Phase} → Steps move u start a h ⊎ Steps move u New a h →
+    ((t : Tag) → IsTagOf t (Steps move u start a h) (Steps move u New a h) → ⊥) → ⊥
 tag_towards (inl one) none = none tag.Old (one, λ two. none tag.Both (one, two))
 tag_towards (inr two) none = none tag.New ((λ one. none tag.Both (one, two)), two)
 
@@ -239,7 +240,7 @@ record TaggedTurns (move : Migration) (a : ℕ) (first : Turn) (routers : List �
   tags : EachToNext (IsTagTo move a) first turns
 
 one_more : {move : Migration} {a : ℕ} (first : Turn) (u v : ℕ) (rest : List ℕ) (t : Tag) →
-    IsTagOf t (Steps move u Old a v) (Steps move u New a v) → TaggedTurns move a first (v ∷ rest) →
+    IsTagOf t (Steps move u (move.start u) a v) (Steps move u New a v) → TaggedTurns move a first (v ∷ rest) →
     TaggedTurns move a first (u ∷ v ∷ rest)
 one_more {move} {a} first u v rest t is others = more others.turns others.same others.tags
   where
@@ -251,19 +252,19 @@ one_more {move} {a} first u v rest t is others = more others.turns others.same o
         record {
           turns = record { router = u; tag = t } ∷ s ∷ turns;
           same = ap (λ (l : List ℕ). u ∷ l) same;
-          tags = (record { steps = subst (λ (h : ℕ). IsTagOf t (Steps move u Old a h) (Steps move u New a h)) next is }, tags);
+          tags = (record { steps = subst (λ (h : ℕ). IsTagOf t (Steps move u (move.start u) a h) (Steps move u New a h)) next is }, tags);
         }
 
 -- it can't be that the routers have no tags
-tagged_turns : (move : Migration) (state : State) (a : ℕ) (first : Turn) (routers : List ℕ) →
+tagged_turns : (move : Migration) (state : State) (a : ℕ) (first : Turn) (routers : List ℕ) → IsFromStart move state →
     EachToNext (StepsIn move state a) first.router routers → (TaggedTurns move a first routers → ⊥) → ⊥
-tagged_turns move state a first [] goes none = none (record { turns = []; same = refl; tags = tt })
-tagged_turns move state a first (u ∷ []) goes none =
-    tag_towards (old_or_new_step (state u) goes)
+tagged_turns move state a first [] from goes none = none (record { turns = []; same = refl; tags = tt })
+tagged_turns move state a first (u ∷ []) from goes none =
+    tag_towards (start_or_new_step (move.start u) (state u) (from u goes.must.router) goes)
     (λ t is. none (record { turns = record { router = u; tag = t } ∷ []; same = refl; tags = record { steps = is } }))
-tagged_turns move state a first (u ∷ v ∷ rest) goes none =
-    tag_towards (old_or_new_step (state u) goes.0)
-    (λ t is. tagged_turns move state a first (v ∷ rest) goes.1 (λ others. none (one_more first u v rest t is others)))
+tagged_turns move state a first (u ∷ v ∷ rest) from goes none =
+    tag_towards (start_or_new_step (move.start u) (state u) (from u goes.0.must.router) goes.0)
+    (λ t is. tagged_turns move state a first (v ∷ rest) from goes.1 (λ others. none (one_more first u v rest t is others)))
 
 -- the first element of a ring may be told by its router alone
 other_first : (move : Migration) (a : ℕ) (first other : Turn) (ring : List Turn) → first.router ≡ other.router →
@@ -290,38 +291,41 @@ close_ring {move} {a} u rest turns = close turns.turns turns.same turns.tags
         let first : u ≡ t.router = cc in
         record { ring = t ∷ ring; same = same; tags = other_first move a (record { router = u; tag = tag.Both }) t (t ∷ ring) first tags }
 
-tagged_ring : (move : Migration) (state : State) (a u : ℕ) (rest : List ℕ) → AroundRing (StepsIn move state a) (u ∷ rest) →
-    (TaggedRing move a (u ∷ rest) → ⊥) → ⊥
-tagged_ring move state a u rest goes none =
-    tagged_turns move state a (record { router = u; tag = tag.Both }) (u ∷ rest) goes (λ turns. none (close_ring u rest turns))
+tagged_ring : (move : Migration) (state : State) (a u : ℕ) (rest : List ℕ) → IsFromStart move state →
+    AroundRing (StepsIn move state a) (u ∷ rest) → (TaggedRing move a (u ∷ rest) → ⊥) → ⊥
+tagged_ring move state a u rest from goes none =
+    tagged_turns move state a (record { router = u; tag = tag.Both }) (u ∷ rest) from goes (λ turns. none (close_ring u rest turns))
 
 -- what a ring between sound ends in a state of a wave would say of the wave list
-ring_breaks : (move : Migration) (ranks : List ℕ) (w : ℕ) (state : State) (a u : ℕ) (rest : List ℕ) →
+ring_breaks : (move : Migration) (ranks : List ℕ) (w : ℕ) (state : State) (a u : ℕ) (rest : List ℕ) → BeginsOld move →
     AreSoundEnds move → a < 2 ^ 32 →
     PutsSomeOldFirstInEach move ranks → IsStateOfWave (length move.net) ranks w state → AreDistinct (u ∷ rest) →
     AroundRing (StepsIn move state a) (u ∷ rest) → TaggedRing move a (u ∷ rest) → ⊥
-ring_breaks move ranks w state a u rest ends address puts of_wave distinct goes tagged =
+ring_breaks move ranks w state a u rest begins ends address puts of_wave distinct goes tagged =
     let some : 0 < length tagged.ring = some_turn tagged.ring u rest tagged.same in
     let arises : Arises move state a tagged.ring = around_of_routers (StepsIn move state a) tagged.ring
     (subst (AroundRing (StepsIn move state a)) (sym tagged.same) goes) in
     let is : IsLoopOfState move state a tagged.ring = ring_between_ends move state a tagged.ring ends address some
     (turns_distinct tagged.ring (subst AreDistinct (sym tagged.same) distinct)) tagged.tags arises in
     let first : RanksSomeOldFirst ranks tagged.ring = puts a tagged.ring is.is_loop is.both in
-    let round : StandsRoundWave ranks w tagged.ring = stands_round move ranks w state a tagged.ring tagged.tags of_wave arises in
+    let round : StandsRoundWave ranks w tagged.ring = stands_round move ranks w state a tagged.ring begins tagged.tags of_wave arises in
     let upto = round.new first.new first.is_new in
     let from = round.old first.old first.is_old in
     let before = first.keeps in
     omega (arith, upto, from, before)
 
-wave_is_sound : (move : Migration) (ranks : List ℕ) (w : ℕ) (state : State) → AreSoundEnds move →
+wave_is_sound : (move : Migration) (ranks : List ℕ) (w : ℕ) (state : State) → BeginsOld move → AreSoundEnds move →
     PutsSomeOldFirstInEach move ranks → IsStateOfWave (length move.net) ranks w state → IsSound move state
-wave_is_sound move ranks w state ends puts of_wave a address = record {
-  forwards = λ u must. every_phase_steps ((ends.first a address).forwards u must) ((ends.last a address).forwards u must) (state u);
-  returns_never = λ u h hops follows.
-      let ring : StepRing (StepsIn move state a) = ring_of_return (StepsIn move state a) u h hops follows in
-      tagged_ring move state a ring.first ring.others ring.goes
-      (ring_breaks move ranks w state a ring.first ring.others ends address puts of_wave ring.distinct ring.goes);
-}
+wave_is_sound move ranks w state begins ends puts of_wave a address =
+    let from : IsFromStart move state = from_old move state begins in
+    record {
+      forwards = λ u must. later_phase_steps (move.start u) ((ends.first a address).forwards u must) ((ends.last a address).forwards u must)
+          (state u) (from u must.router);
+      returns_never = λ u h hops follows.
+          let ring : StepRing (StepsIn move state a) = ring_of_return (StepsIn move state a) u h hops follows in
+          tagged_ring move state a ring.first ring.others from ring.goes
+          (ring_breaks move ranks w state a ring.first ring.others begins ends address puts of_wave ring.distinct ring.goes);
+    }
 
 -- a network without a router has sound states alone
 pub empty_is_sound : (move : Migration) (state : State) → length move.net ≤ 0 → IsSound move state
@@ -330,15 +334,15 @@ empty_is_sound move state none a address = record {
   returns_never = λ u h hops follows. let within = follows.0.must.router in omega (arith, within, none);
 }
 
-pub old_first_is_seamless : (move : Migration) (ranks : List ℕ) → AreSoundEnds move → IsRanking (length move.net) ranks →
+pub old_first_is_seamless : (move : Migration) (ranks : List ℕ) → BeginsOld move → AreSoundEnds move → IsRanking (length move.net) ranks →
     PutsSomeOldFirstInEach move ranks → AreSeamlessWaves move ranks
-old_first_is_seamless move ranks ends waves puts = record {
+old_first_is_seamless move ranks begins ends waves puts = record {
   waves = waves;
   sound = λ state is. elim (cases_lt 0 (length move.net)) [
     | inr none ↦ empty_is_sound move state none
     | inl some ↦
         let one : IsStateOfSomeWave (length move.net) ranks state = state_of_wave (length move.net) ranks state some waves is in
-        wave_is_sound move ranks one.wave state ends puts one.of_wave
+        wave_is_sound move ranks one.wave state begins ends puts one.of_wave
   ];
 }
 
@@ -417,11 +421,11 @@ seamless_by_waves move ranks waves sound = record {
 -- The fault of a wave between sound ends
 
 -- a ring over every hop of a wave's states, with its tags, is a loop of the wave
-ring_of_wave : (move : Migration) (ranks : List ℕ) (w a : ℕ) (ring : List Turn) (u : ℕ) (rest : List ℕ) →
+ring_of_wave : (move : Migration) (ranks : List ℕ) (w a : ℕ) (ring : List Turn) (u : ℕ) (rest : List ℕ) → BeginsOld move →
     AreSoundEnds move →
     a < 2 ^ 32 → routers_of ring ≡ u ∷ rest → AreDistinct (routers_of ring) → AreTagged move a ring →
     AroundRing (StepsInSome move (IsStateOfWave (length move.net) ranks w) a) (routers_of ring) → IsLoopOfWave move ranks w (loop a ring)
-ring_of_wave move ranks w a ring u rest ends address begins distinct tags goes =
+ring_of_wave move ranks w a ring u rest starts ends address begins distinct tags goes =
     let there : WaveSteps move ranks w a u (u ∷ rest) = wave_steps move ranks w a u (u ∷ rest) (subst AreDistinct begins distinct)
     (subst (AroundRing (StepsInSome move (IsStateOfWave (length move.net) ranks w) a)) begins goes) in
     let arises : Arises move there.state a ring = around_of_routers (StepsIn move there.state a) ring
@@ -435,18 +439,19 @@ ring_of_wave move ranks w a ring u rest ends address begins distinct tags goes =
       is_loop = is.is_loop;
       both = is.both;
       arises = record { state = there.state; of_wave = there.of_wave; arises = arises };
-      round = stands_round move ranks w there.state a ring tags there.of_wave arises;
+      round = stands_round move ranks w there.state a ring starts tags there.of_wave arises;
     }
 
-fault_of_wave : (move : Migration) (ranks : List ℕ) (w : ℕ) (fault : Fault) → AreSoundEnds move →
+fault_of_wave : (move : Migration) (ranks : List ℕ) (w : ℕ) (fault : Fault) → BeginsOld move → AreSoundEnds move →
     IsFaultOver move (IsStateOfWave (length move.net) ranks w) fault → IsLoopOfWave move ranks w fault
-fault_of_wave move ranks w fault ends (missing_in_one {a = a} {u = u} least lacks lowest) =
+fault_of_wave move ranks w fault begins ends (missing_in_one {a = a} {u = u} least lacks lowest) =
     let first = (ends.first a least.address).forwards u lacks.must in
     let last = (ends.last a least.address).forwards u lacks.must in
-    absurd (lacks.lacks (every_phase_steps first last (lacks.state u)))
-fault_of_wave move ranks w fault ends (loop_over_all {a = a} {ring = ring} least forwards found tags) =
-    ring_of_wave move ranks w a ring found.lowest found.others ends least.address found.first (found_distinct found) tags (found_goes_round found)
+    absurd (lacks.lacks (later_phase_steps (move.start u) first last (lacks.state u) (from_old move lacks.state begins u lacks.must.router)))
+fault_of_wave move ranks w fault begins ends (loop_over_all {a = a} {ring = ring} least forwards found tags) =
+    ring_of_wave move ranks w a ring found.lowest found.others begins ends least.address found.first (found_distinct found) tags
+    (found_goes_round found)
 
-pub wave_fault_between_ends : (move : Migration) (ranks : List ℕ) (w : ℕ) (fault : Fault) → AreSoundEnds move →
+pub wave_fault_between_ends : (move : Migration) (ranks : List ℕ) (w : ℕ) (fault : Fault) → BeginsOld move → AreSoundEnds move →
     IsWavesFault move ranks w fault → IsLoopOfWave move ranks w fault
-wave_fault_between_ends move ranks w fault ends is = fault_of_wave move ranks w fault ends is.here
+wave_fault_between_ends move ranks w fault begins ends is = fault_of_wave move ranks w fault begins ends is.here

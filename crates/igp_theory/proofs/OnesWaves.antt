@@ -10,7 +10,8 @@ use Rattle.order_core.specs.Orders.{IsOrder}
 use Rattle.order_core.specs.Rankings.{IsRanking, rank_of}
 use Rattle.order_core.proofs.Orders.{order_length}
 use Rattle.igp_theory.specs.Migrations.{Migration}
-use Rattle.igp_theory.specs.States.{State, IsSeamless, changes_of, changes_on, phase_after, state_of}
+use Rattle.igp_theory.specs.Phases.{State, made_in}
+use Rattle.igp_theory.specs.States.{IsSeamless, changes_of, changes_on, phase_after, state_of}
 use Rattle.igp_theory.specs.Waves.{AreSeamlessWaves, IsStateOfWave, AreOnes}
 use Rattle.igp_theory.specs.WaveLaws.{IsStateOfSomeWave}
 use Rattle.igp_theory.specs.declared.phase.Phase.{Phase}
@@ -74,18 +75,13 @@ count_at u (v ∷ order) (suc p) (suc (suc k)) distinct within at =
     count_at u order p k (pairs_rest (λ x y. x ≢ y) v order distinct) (omega (arith, within)) at in
     omega (arith, none, rest)
 
--- how many changes lead to a phase
-abbrev changes_to : Phase → ℕ
-changes_to Old = 0
-changes_to Middle = 1
-changes_to New = 2
+-- at most two changes are made in a phase, and they lead to it
+made_in_few : (phase : Phase) → made_in phase ≤ 2
+made_in_few Old = omega arith
+made_in_few Middle = omega arith
+made_in_few New = omega arith
 
-changes_to_few : (phase : Phase) → changes_to phase ≤ 2
-changes_to_few Old = omega arith
-changes_to_few Middle = omega arith
-changes_to_few New = omega arith
-
-phase_reached : (phase : Phase) → phase_after (changes_to phase) ≡ phase
+phase_reached : (phase : Phase) → phase_after (made_in phase) ≡ phase
 phase_reached Old = refl
 phase_reached Middle = refl
 phase_reached New = refl
@@ -149,11 +145,11 @@ ones_in_turn n order ranks lists ones i j d before within =
 
 -- a state of wave w is state 2 w of the order, or one of the two after it
 alike_order : (n : ℕ) (order ranks : List ℕ) (w : ℕ) (state : State) → IsOrder n order → AreOnes order ranks →
-    IsStateOfWave n ranks w state → AreAlike n (state_of order (2 * w + changes_to (state (get_or order w 0)))) state
+    IsStateOfWave n ranks w state → AreAlike n (state_of order (2 * w + made_in (state (get_or order w 0)))) state
 alike_order n order ranks w state lists ones of_wave u below =
     let stands = stands_at_rank n order ranks u lists ones below in
-    let made : ℕ = changes_to (state (get_or order w 0)) in
-    let few : made ≤ 2 = changes_to_few (state (get_or order w 0)) in
+    let made : ℕ = made_in (state (get_or order w 0)) in
+    let few : made ≤ 2 = made_in_few (state (get_or order w 0)) in
     let count : changes_on u (take (2 * w + made) (changes_of order)) ≡ min 2 (2 * w + made - 2 * rank_of ranks u) =
     count_at u order (rank_of ranks u) (2 * w + made) lists.once stands.within stands.at in
     elim (cases_order (rank_of ranks u) w) [
@@ -181,8 +177,8 @@ order_is_seamless move order ranks seamless ones =
         | inl some ↦
             let one : IsStateOfSomeWave (length move.net) ranks state = state_of_wave (length move.net) ranks state some waves is in
             let within = wave_is_place (length move.net) order ranks one.wave seamless.lists ones one.is_wave in
-            let few = changes_to_few (state (get_or order one.wave 0)) in
+            let few = made_in_few (state (get_or order one.wave 0)) in
             sound_alike (alike_order (length move.net) order ranks one.wave state seamless.lists ones one.of_wave)
-            (seamless.sound (2 * one.wave + changes_to (state (get_or order one.wave 0))) (omega (arith, within, few)))
+            (seamless.sound (2 * one.wave + made_in (state (get_or order one.wave 0))) (omega (arith, within, few)))
       ];
     }

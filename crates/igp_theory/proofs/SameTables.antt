@@ -6,14 +6,15 @@ use Rattle.igp_theory.specs.Forwarding.{Usable, Counts, connected_counts, old_co
 use Rattle.igp_theory.specs.Laws.{HaveSameTables}
 use Rattle.igp_theory.specs.Loops.{IsTag, EachToNext, AroundRing, IsLoop, Arises, Fault, IsLive, IsLowestLive, IsLowestLiveHop, IsFoundRing, IsFault}
 use Rattle.igp_theory.specs.Loops.{missing_step, loop_arises, IsFirstFault}
-use Rattle.igp_theory.specs.Migrations.{Migration, migration}
+use Rattle.igp_theory.specs.Migrations.{Migration, retabled}
 use Rattle.igp_theory.specs.Routes.{Tables}
-use Rattle.igp_theory.specs.States.{State, StepsIn, Follows, IsSoundAt, IsSound, IsSeamless}
+use Rattle.igp_theory.specs.Phases.{State}
+use Rattle.igp_theory.specs.States.{StepsIn, Follows, IsSoundAt, IsSound, IsSeamless}
 use Rattle.igp_theory.specs.declared.phase.Phase.{Phase}
 use Rattle.igp_theory.proofs.Tags.{tags_over}
 
 pub same_tables_sym : {move : Migration} {old' new' : Tables} → HaveSameTables move old' new' →
-    HaveSameTables (migration move.net old' new') move.old move.new
+    HaveSameTables (retabled move old' new') move.old move.new
 same_tables_sym same = record {
   same_old = λ u p e within. ((same.same_old u p e within).1, (same.same_old u p e within).0);
   same_new = λ u p e within. ((same.same_new u p e within).1, (same.same_new u p e within).0);
@@ -22,7 +23,7 @@ same_tables_sym same = record {
 -- Used entries and steps
 
 counts_over : {move : Migration} {old' new' : Tables} {u d : ℕ} {phase : Phase} {p : Block} {x : Usable} →
-    HaveSameTables move old' new' → u < length move.net → Counts move u phase p d x → Counts (migration move.net old' new') u phase p d x
+    HaveSameTables move old' new' → u < length move.net → Counts move u phase p d x → Counts (retabled move old' new') u phase p d x
 counts_over same within (connected_counts is) = connected_counts is
 counts_over {u = u} {p = p} same within (old_counts {e = e} counts c has is set entry) =
     old_counts counts c has is set ((same.same_old u p e within).0 entry)
@@ -31,7 +32,7 @@ counts_over {u = u} {p = p} same within (new_counts {e = e} counts entry) =
 
 -- the used entries are the same
 pub uses_over : {move : Migration} {old' new' : Tables} {u a : ℕ} {phase : Phase} {x : Usable} →
-    HaveSameTables move old' new' → u < length move.net → Uses move u phase a x → Uses (migration move.net old' new') u phase a x
+    HaveSameTables move old' new' → u < length move.net → Uses move u phase a x → Uses (retabled move old' new') u phase a x
 uses_over same within uses = record {
   prefix = uses.prefix;
   distance = uses.distance;
@@ -43,7 +44,7 @@ uses_over same within uses = record {
 
 -- the steps are the same
 pub steps_over : {move : Migration} {old' new' : Tables} {u a h : ℕ} {phase : Phase} →
-    HaveSameTables move old' new' → Steps move u phase a h → Steps (migration move.net old' new') u phase a h
+    HaveSameTables move old' new' → Steps move u phase a h → Steps (retabled move old' new') u phase a h
 steps_over same steps = record {
   must = steps.must;
   used = steps.used;
@@ -52,7 +53,7 @@ steps_over same steps = record {
 }
 
 pub has_step_over : {move : Migration} {old' new' : Tables} {u a : ℕ} {phase : Phase} →
-    HaveSameTables move old' new' → HasStep move u phase a → HasStep (migration move.net old' new') u phase a
+    HaveSameTables move old' new' → HasStep move u phase a → HasStep (retabled move old' new') u phase a
 has_step_over same has = record { hop = has.hop; steps = steps_over same has.steps }
 
 -- States and orders
@@ -64,7 +65,7 @@ follows_over over u [] v follows = follows
 follows_over over u (h ∷ hops) v follows = (over u h follows.0, follows_over over h hops v follows.1)
 
 pub sound_at_over : {move : Migration} {old' new' : Tables} {state : State} {a : ℕ} →
-    HaveSameTables move old' new' → IsSoundAt move state a → IsSoundAt (migration move.net old' new') state a
+    HaveSameTables move old' new' → IsSoundAt move state a → IsSoundAt (retabled move old' new') state a
 sound_at_over same sound = record {
   forwards = λ u must. has_step_over same (sound.forwards u must);
   returns_never = λ u h hops follows.
@@ -73,12 +74,12 @@ sound_at_over same sound = record {
 
 -- the sound states are the same
 pub sound_over : {move : Migration} {old' new' : Tables} {state : State} →
-    HaveSameTables move old' new' → IsSound move state → IsSound (migration move.net old' new') state
+    HaveSameTables move old' new' → IsSound move state → IsSound (retabled move old' new') state
 sound_over same sound a address = sound_at_over same (sound a address)
 
 -- the seamless orders are the same
 pub seamless_over : {move : Migration} {old' new' : Tables} {order : List ℕ} →
-    HaveSameTables move old' new' → IsSeamless move order → IsSeamless (migration move.net old' new') order
+    HaveSameTables move old' new' → IsSeamless move order → IsSeamless (retabled move old' new') order
 seamless_over same seamless = record {
   lists = seamless.lists;
   sound = λ k within. sound_over same (seamless.sound k within);
@@ -98,14 +99,14 @@ around_ring_over over [] goes = tt
 around_ring_over over (r ∷ rest) goes = each_to_next_over over r (r ∷ rest) goes
 
 pub tag_over : {move : Migration} {old' new' : Tables} {a next : ℕ} {r : Turn} →
-    HaveSameTables move old' new' → IsTag move a r next → IsTag (migration move.net old' new') a r next
+    HaveSameTables move old' new' → IsTag move a r next → IsTag (retabled move old' new') a r next
 tag_over {r = r} same tag = record {
   steps = tags_over r.tag (steps_over same, steps_over (same_tables_sym same)) (steps_over same, steps_over (same_tables_sym same)) tag.steps;
 }
 
 -- the loops of the network are the same
 pub loop_over : {move : Migration} {old' new' : Tables} {a : ℕ} {ring : List Turn} →
-    HaveSameTables move old' new' → IsLoop move a ring → IsLoop (migration move.net old' new') a ring
+    HaveSameTables move old' new' → IsLoop move a ring → IsLoop (retabled move old' new') a ring
 loop_over {ring = ring} same is = record {
   address = is.address;
   some = is.some;
@@ -114,7 +115,7 @@ loop_over {ring = ring} same is = record {
 }
 
 pub arises_over : {move : Migration} {old' new' : Tables} (state : State) (a : ℕ) (ring : List Turn) →
-    HaveSameTables move old' new' → Arises move state a ring → Arises (migration move.net old' new') state a ring
+    HaveSameTables move old' new' → Arises move state a ring → Arises (retabled move old' new') state a ring
 arises_over state a ring same arises =
     around_ring_over (λ (r s : Turn). steps_over {u = r.router} {a = a} {h = s.router} {phase = state r.router} same) ring arises
 
@@ -175,12 +176,12 @@ found_ring_over same is = record {
 -- Faults
 
 same_steps_in : {move : Migration} {old' new' : Tables} (state : State) (a : ℕ) →
-    HaveSameTables move old' new' → SameHops (StepsIn move state a) (StepsIn (migration move.net old' new') state a)
+    HaveSameTables move old' new' → SameHops (StepsIn move state a) (StepsIn (retabled move old' new') state a)
 same_steps_in state a same u h = (steps_over same, steps_over (same_tables_sym same))
 
 -- the faults of a state are the same
 pub fault_over : {move : Migration} {old' new' : Tables} {state : State} {fault : Fault} →
-    HaveSameTables move old' new' → IsFault move state fault → IsFault (migration move.net old' new') state fault
+    HaveSameTables move old' new' → IsFault move state fault → IsFault (retabled move old' new') state fault
 fault_over same (missing_step address below must lacks lowest) =
     missing_step address (λ b less. sound_at_over same (below b less)) must
     (λ has. lacks (has_step_over (same_tables_sym same) has))
@@ -191,7 +192,7 @@ fault_over {state = state} same (loop_arises {a = a} {ring = ring} address below
 
 -- the first fault of an order is the same
 pub first_fault_over : {move : Migration} {old' new' : Tables} {order : List ℕ} {k : ℕ} {fault : Fault} →
-    HaveSameTables move old' new' → IsFirstFault move order k fault → IsFirstFault (migration move.net old' new') order k fault
+    HaveSameTables move old' new' → IsFirstFault move order k fault → IsFirstFault (retabled move old' new') order k fault
 first_fault_over same first = record {
   before = λ j less. sound_over same (first.before j less);
   here = fault_over same first.here;

@@ -31,9 +31,9 @@ tags_over Both first second is = (first.0 is.0, second.0 is.1)
 same_turn : {move : Migration} {a : ℕ} (r s : Turn) (next other : ℕ) → r.router ≡ s.router → next ≡ other →
     IsTag move a r next → IsTag move a s other → r ≡ s
 same_turn {move} {a} r s next other router follows one two =
-    let here = subst (λ (h : ℕ). IsTagOf s.tag (Steps move s.router phase.Old a h) (Steps move s.router phase.New a h))
+    let here = subst (λ (h : ℕ). IsTagOf s.tag (Steps move s.router (move.start s.router) a h) (Steps move s.router phase.New a h))
     (sym follows) two.steps in
-    let tags = subst (λ (u : ℕ). IsTagOf s.tag (Steps move u phase.Old a next) (Steps move u phase.New a next)) (sym router) here in
+    let tags = subst (λ (u : ℕ). IsTagOf s.tag (Steps move u (move.start u) a next) (Steps move u phase.New a next)) (sym router) here in
     let tag : r.tag ≡ s.tag = same_tag r.tag s.tag _ _ one.steps tags in
     λ i. record { router = router i; tag = tag i }
 

@@ -7,9 +7,10 @@ use Rattle.order_core.specs.declared.turn.Turn.{Turn}
 use Rattle.igp_theory.specs.Forwarding.{MustForward, HasStep}
 use Rattle.igp_theory.specs.Laws.{HaveSameTables}
 use Rattle.igp_theory.specs.Loops.{IsFoundRing, Fault, loop, IsFault, missing_step, loop_arises}
-use Rattle.igp_theory.specs.Migrations.{Migration, migration}
+use Rattle.igp_theory.specs.Migrations.{Migration, retabled}
 use Rattle.igp_theory.specs.Routes.{Tables}
-use Rattle.igp_theory.specs.States.{State, StepsIn, IsSoundAt, IsSound}
+use Rattle.igp_theory.specs.Phases.{State}
+use Rattle.igp_theory.specs.States.{StepsIn, IsSoundAt, IsSound}
 use Rattle.igp_theory.specs.WaveFaults.{StepsInSome, LacksStep, HasStepsInAll, IsLeastUnsound, IsFaultOver, missing_in_one, loop_over_all, IsWavesFault}
 use Rattle.igp_theory.specs.WaveLaws.{Delivers}
 use Rattle.igp_theory.specs.Waves.{AreSeamlessWaves, IsStateOfWave}
@@ -154,7 +155,7 @@ fault_in_one move state fault (loop_arises {a = a} {ring = ring} address below f
 -- Tables with the same entries
 
 pub delivers_over : {move : Migration} {old' new' : Tables} {state : State} {a : ℕ} {p : Block} → HaveSameTables move old' new' →
-    Delivers move state a p → Delivers (migration move.net old' new') state a p
+    Delivers move state a p → Delivers (retabled move old' new') state a p
 delivers_over {move} {old'} {new'} {state} {a} same is = record {
   short = λ u v hops below follows. is.short u v hops below (follows_over (λ w h. steps_over (same_tables_sym same)) u hops v follows);
   onward = λ u v hops below follows. elim (is.onward u v hops below (follows_over (λ w h. steps_over (same_tables_sym same)) u hops v follows)) [
@@ -164,18 +165,18 @@ delivers_over {move} {old'} {new'} {state} {a} same is = record {
 }
 
 pub seamless_waves_over : {move : Migration} {old' new' : Tables} {ranks : List ℕ} → HaveSameTables move old' new' →
-    AreSeamlessWaves move ranks → AreSeamlessWaves (migration move.net old' new') ranks
+    AreSeamlessWaves move ranks → AreSeamlessWaves (retabled move old' new') ranks
 seamless_waves_over same seamless = record { waves = seamless.waves; sound = λ state is. sound_over same (seamless.sound state is) }
 
 some_steps_over : {move : Migration} {old' new' : Tables} {states : State → Type 0} (a : ℕ) → HaveSameTables move old' new' →
-    SameHops (StepsInSome move states a) (StepsInSome (migration move.net old' new') states a)
+    SameHops (StepsInSome move states a) (StepsInSome (retabled move old' new') states a)
 some_steps_over a same u h = (
   λ some. record { state = some.state; among = some.among; steps = steps_over same some.steps },
   λ some. record { state = some.state; among = some.among; steps = steps_over (same_tables_sym same) some.steps },
 )
 
 least_over : {move : Migration} {old' new' : Tables} {states : State → Type 0} {a : ℕ} → HaveSameTables move old' new' →
-    IsLeastUnsound move states a → IsLeastUnsound (migration move.net old' new') states a
+    IsLeastUnsound move states a → IsLeastUnsound (retabled move old' new') states a
 least_over same least = record {
   address = least.address;
   unsound = record {
@@ -187,7 +188,7 @@ least_over same least = record {
 }
 
 pub fault_over_tables : {move : Migration} {old' new' : Tables} {states : State → Type 0} {fault : Fault} → HaveSameTables move old' new' →
-    IsFaultOver move states fault → IsFaultOver (migration move.net old' new') states fault
+    IsFaultOver move states fault → IsFaultOver (retabled move old' new') states fault
 fault_over_tables same (missing_in_one least lacks lowest) =
     missing_in_one (least_over same least)
     (record {
@@ -202,7 +203,7 @@ fault_over_tables same (loop_over_all {a = a} {ring = ring} least forwards found
     (found_ring_over (some_steps_over a same) found) (around_ring_over (λ (r s : Turn). tag_over {next = s.router} {r = r} same) ring tags)
 
 pub waves_fault_over : {move : Migration} {old' new' : Tables} {ranks : List ℕ} {w : ℕ} {fault : Fault} → HaveSameTables move old' new' →
-    IsWavesFault move ranks w fault → IsWavesFault (migration move.net old' new') ranks w fault
+    IsWavesFault move ranks w fault → IsWavesFault (retabled move old' new') ranks w fault
 waves_fault_over same is = record {
   is_wave = is.is_wave;
   before = λ v less state of_wave. sound_over same (is.before v less state of_wave);

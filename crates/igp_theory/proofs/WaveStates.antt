@@ -8,7 +8,8 @@ use Rattle.std.proofs.lemmas.List.{map-append, take-append-drop, take_at}
 use Rattle.std.proofs.lemmas.List.Elements.{Contains-append_left, Contains-append_right, Contains-append_cases, Contains-get_or}
 use Rattle.order_core.specs.Orders.{IsOrder}
 use Rattle.order_core.specs.Rankings.{IsRanking, rank_of}
-use Rattle.igp_theory.specs.States.{State, changes_on, phase_after}
+use Rattle.igp_theory.specs.Phases.{State}
+use Rattle.igp_theory.specs.States.{changes_on, phase_after}
 use Rattle.igp_theory.specs.Waves.{Change, first, second, changed, MayPrecede, IsRun, IsWavesState, IsStateOfWave}
 use Rattle.igp_theory.specs.WaveLaws.{IsStateOfSomeWave}
 use Rattle.igp_theory.specs.declared.phase.Phase.{Phase}
@@ -250,15 +251,15 @@ count_along ranks f (v ∷ order) u own turns router =
 -- A state of a wave is one of a run
 
 -- the changes of a router that are made in a phase, and those that are left
-abbrev made_in : Phase → ℕ → List Change
-made_in Old u = []
-made_in Middle u = first u ∷ []
-made_in New u = first u ∷ second u ∷ []
+abbrev made_changes : Phase → ℕ → List Change
+made_changes Old u = []
+made_changes Middle u = first u ∷ []
+made_changes New u = first u ∷ second u ∷ []
 
-abbrev left_in : Phase → ℕ → List Change
-left_in Old u = first u ∷ second u ∷ []
-left_in Middle u = second u ∷ []
-left_in New u = []
+abbrev left_changes : Phase → ℕ → List Change
+left_changes Old u = first u ∷ second u ∷ []
+left_changes Middle u = second u ∷ []
+left_changes New u = []
 
 pub both_own : (u : ℕ) (c : Change) → Contains (first u ∷ second u ∷ []) c → (first u ≡ c) ⊎ (second u ≡ c)
 both_own u c inside = elim (Contains-cases (first u) (second u ∷ []) c inside) [
@@ -272,17 +273,17 @@ both_are_own u c inside = elim (both_own u c inside) [
   | inr two ↦ sym (ap changed two)
 ]
 
-made_own : (phase : Phase) (u : ℕ) (c : Change) → Contains (made_in phase u) c → changed c ≡ u
+made_own : (phase : Phase) (u : ℕ) (c : Change) → Contains (made_changes phase u) c → changed c ≡ u
 made_own Old u c inside = absurd (Contains-none c inside)
 made_own Middle u c inside = sym (ap changed (contains_one (first u) c inside))
 made_own New u c inside = both_are_own u c inside
 
-left_own : (phase : Phase) (u : ℕ) (c : Change) → Contains (left_in phase u) c → changed c ≡ u
+left_own : (phase : Phase) (u : ℕ) (c : Change) → Contains (left_changes phase u) c → changed c ≡ u
 left_own Old u c inside = both_are_own u c inside
 left_own Middle u c inside = sym (ap changed (contains_one (second u) c inside))
 left_own New u c inside = absurd (Contains-none c inside)
 
-made_or_left : (phase : Phase) (c : Change) → Contains (made_in phase (changed c)) c ⊎ Contains (left_in phase (changed c)) c
+made_or_left : (phase : Phase) (c : Change) → Contains (made_changes phase (changed c)) c ⊎ Contains (left_changes phase (changed c)) c
 made_or_left Old (first u) = inr (Contains-first (first u) (second u ∷ []))
 made_or_left Old (second u) = inr (Contains-rest (first u) (second u ∷ []) (second u) (Contains-first (second u) []))
 made_or_left Middle (first u) = inl (Contains-first (first u) [])
@@ -294,7 +295,7 @@ halves_apart : (u v : ℕ) → first u ≡ second v → ⊥
 halves_apart u v same = cc
 
 -- in a router's own changes one that is made may precede one that is left
-made_before_left : (ranks : List ℕ) (phase : Phase) (u : ℕ) (c d : Change) → Contains (made_in phase u) c → Contains (left_in phase u) d →
+made_before_left : (ranks : List ℕ) (phase : Phase) (u : ℕ) (c d : Change) → Contains (made_changes phase u) c → Contains (left_changes phase u) d →
     MayPrecede ranks c d
 made_before_left ranks Old u c d made left = absurd (Contains-none c made)
 made_before_left ranks New u c d made left = absurd (Contains-none d left)
@@ -321,44 +322,44 @@ both_in_turn ranks u = pairs_more (MayPrecede ranks) (first u) (second u ∷ [])
 one_change : (ranks : List ℕ) (c : Change) → AllPairs (MayPrecede ranks) (c ∷ [])
 one_change ranks c = pairs_more (MayPrecede ranks) c [] (λ d inside. absurd (Contains-none d inside)) (pairs_none (MayPrecede ranks))
 
-made_in_turn : (ranks : List ℕ) (phase : Phase) (u : ℕ) → AllPairs (MayPrecede ranks) (made_in phase u)
+made_in_turn : (ranks : List ℕ) (phase : Phase) (u : ℕ) → AllPairs (MayPrecede ranks) (made_changes phase u)
 made_in_turn ranks Old u = pairs_none (MayPrecede ranks)
 made_in_turn ranks Middle u = one_change ranks (first u)
 made_in_turn ranks New u = both_in_turn ranks u
 
-left_in_turn : (ranks : List ℕ) (phase : Phase) (u : ℕ) → AllPairs (MayPrecede ranks) (left_in phase u)
+left_in_turn : (ranks : List ℕ) (phase : Phase) (u : ℕ) → AllPairs (MayPrecede ranks) (left_changes phase u)
 left_in_turn ranks Old u = both_in_turn ranks u
 left_in_turn ranks Middle u = one_change ranks (second u)
 left_in_turn ranks New u = pairs_none (MayPrecede ranks)
 
-made_phase : (phase : Phase) (u : ℕ) → phase_after (changes_on u (map changed (made_in phase u))) ≡ phase
+made_phase : (phase : Phase) (u : ℕ) → phase_after (changes_on u (map changed (made_changes phase u))) ≡ phase
 made_phase Old u = refl
 made_phase Middle u = ap phase_after (count_own u (first u) [] refl)
 made_phase New u = ap phase_after (count_own u (first u) (second u ∷ []) refl ∙ ap suc (count_own u (second u) [] refl))
 
 -- a router with a change made isn't of a later wave, one with a change left isn't of an earlier one
 made_wave : (n : ℕ) (ranks : List ℕ) (w : ℕ) (state : State) (u : ℕ) (c : Change) → IsStateOfWave n ranks w state → u < n →
-    Contains (made_in (state u) u) c → rank_of ranks u ≤ w
+    Contains (made_changes (state u) u) c → rank_of ranks u ≤ w
 made_wave n ranks w state u c of_wave below made = elim (cases_lt w (rank_of ranks u)) [
   | inr within ↦ within
-  | inl later ↦ absurd (Contains-none c (subst (λ (p : Phase). Contains (made_in p u) c) (of_wave.later u below later) made))
+  | inl later ↦ absurd (Contains-none c (subst (λ (p : Phase). Contains (made_changes p u) c) (of_wave.later u below later) made))
 ]
 
 left_wave : (n : ℕ) (ranks : List ℕ) (w : ℕ) (state : State) (u : ℕ) (c : Change) → IsStateOfWave n ranks w state → u < n →
-    Contains (left_in (state u) u) c → w ≤ rank_of ranks u
+    Contains (left_changes (state u) u) c → w ≤ rank_of ranks u
 left_wave n ranks w state u c of_wave below left = elim (cases_lt (rank_of ranks u) w) [
   | inr within ↦ within
-  | inl earlier ↦ absurd (Contains-none c (subst (λ (p : Phase). Contains (left_in p u) c) (of_wave.earlier u below earlier) left))
+  | inl earlier ↦ absurd (Contains-none c (subst (λ (p : Phase). Contains (left_changes p u) c) (of_wave.earlier u below earlier) left))
 ]
 
 -- the run that comes through a state of a wave: what is made in it along an order of waves, then what is left
 abbrev through : State → List ℕ → List Change
-through state order = flat_map (λ u. made_in (state u) u) order ++ flat_map (λ u. left_in (state u) u) order
+through state order = flat_map (λ u. made_changes (state u) u) order ++ flat_map (λ u. left_changes (state u) u) order
 
 through_all : (n : ℕ) (state : State) (order : List ℕ) → IsOrder n order → (c : Change) → changed c < n → Contains (through state order) c
 through_all n state order lists c below =
-    let made : ℕ → List Change = λ u. made_in (state u) u in
-    let left : ℕ → List Change = λ u. left_in (state u) u in
+    let made : ℕ → List Change = λ u. made_changes (state u) u in
+    let left : ℕ → List Change = λ u. left_changes (state u) u in
     let router : Contains order (changed c) = (lists.all (changed c)).1 below in
     elim (made_or_left (state (changed c)) c) [
       | inl one ↦ Contains-append_left (flat_map made order) (flat_map left order) c (inside_whole made order (changed c) c router one)
@@ -367,8 +368,8 @@ through_all n state order lists c below =
 
 through_only : (n : ℕ) (state : State) (order : List ℕ) → IsOrder n order → (c : Change) → Contains (through state order) c → changed c < n
 through_only n state order lists c inside =
-    let made : ℕ → List Change = λ u. made_in (state u) u in
-    let left : ℕ → List Change = λ u. left_in (state u) u in
+    let made : ℕ → List Change = λ u. made_changes (state u) u in
+    let left : ℕ → List Change = λ u. left_changes (state u) u in
     elim (Contains-append_cases (flat_map made order) (flat_map left order) c inside) [
       | inl one ↦ (lists.all (changed c)).0 (own_inside made order c (λ u. made_own (state u) u) one)
       | inr two ↦ (lists.all (changed c)).0 (own_inside left order c (λ u. left_own (state u) u) two)
@@ -376,10 +377,10 @@ through_only n state order lists c inside =
 
 -- what is made in a state of a wave may precede what is left
 across_state : (n : ℕ) (ranks : List ℕ) (w : ℕ) (state : State) (c d : Change) → IsStateOfWave n ranks w state → changed c < n → changed d < n →
-    Contains (made_in (state (changed c)) (changed c)) c → Contains (left_in (state (changed d)) (changed d)) d → MayPrecede ranks c d
+    Contains (made_changes (state (changed c)) (changed c)) c → Contains (left_changes (state (changed d)) (changed d)) d → MayPrecede ranks c d
 across_state n ranks w state c d of_wave within below made left = elim (cases_eq (changed c) (changed d)) [
   | inl same ↦ made_before_left ranks (state (changed c)) (changed c) c d made
-      (subst (λ (v : ℕ). Contains (left_in (state v) v) d) (sym same) left)
+      (subst (λ (v : ℕ). Contains (left_changes (state v) v) d) (sym same) left)
   | inr apart ↦ precede_apart ranks c d (record {
     apart = apart;
     wave =
@@ -392,8 +393,8 @@ across_state n ranks w state c d of_wave within below made left = elim (cases_eq
 through_is_run : (n : ℕ) (ranks : List ℕ) (w : ℕ) (state : State) (order : List ℕ) → IsOrder n order → AllPairs (InWaveOrder ranks) order →
     IsStateOfWave n ranks w state → IsRun n ranks (through state order)
 through_is_run n ranks w state order lists turns of_wave =
-    let made : ℕ → List Change = λ u. made_in (state u) u in
-    let left : ℕ → List Change = λ u. left_in (state u) u in
+    let made : ℕ → List Change = λ u. made_changes (state u) u in
+    let left : ℕ → List Change = λ u. left_changes (state u) u in
     record {
       all = λ c. (through_only n state order lists c, through_all n state order lists c);
       in_turn = pairs_append (MayPrecede ranks) (flat_map made order) (flat_map left order)
@@ -410,8 +411,8 @@ through_is_run n ranks w state order lists turns of_wave =
 pub wave_is_reached : (n : ℕ) (ranks : List ℕ) (w : ℕ) (state : State) (order : List ℕ) → IsOrder n order → AllPairs (InWaveOrder ranks) order →
     IsStateOfWave n ranks w state → IsWavesState n ranks state
 wave_is_reached n ranks w state order lists turns of_wave =
-    let made : ℕ → List Change = λ u. made_in (state u) u in
-    let left : ℕ → List Change = λ u. left_in (state u) u in
+    let made : ℕ → List Change = λ u. made_changes (state u) u in
+    let left : ℕ → List Change = λ u. left_changes (state u) u in
     record {
       run = through state order;
       is_run = through_is_run n ranks w state order lists turns of_wave;

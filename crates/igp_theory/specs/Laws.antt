@@ -11,9 +11,10 @@ use Rattle.route_core.specs.declared.entry.Entry.TheVariants.{Discard}
 use Rattle.order_core.specs.declared.turn.Turn.{Turn}
 use Rattle.igp_theory.specs.Forwarding.{Usable, Uses, Steps}
 use Rattle.igp_theory.specs.Loops.{IsLoop, Arises, Fault, missing, loop, IsFault, IsFirstFault}
-use Rattle.igp_theory.specs.Migrations.{Migration, migration}
+use Rattle.igp_theory.specs.Migrations.{Migration, retabled}
 use Rattle.igp_theory.specs.Routes.{Tables, EntryLeadsTo, HaveSameEntries}
-use Rattle.igp_theory.specs.States.{State, IsSoundAt, IsSound, IsSeamless}
+use Rattle.igp_theory.specs.Phases.{State}
+use Rattle.igp_theory.specs.States.{IsSoundAt, IsSound, IsSeamless}
 use Rattle.igp_theory.specs.declared.phase.Phase.{Phase}
 use Rattle.igp_theory.specs.Ospf.{IntraAreaCost, BorderCost, InterAreaCost, OspfEntry}
 use Rattle.igp_theory.specs.Isis.{IsisEntry}
@@ -123,49 +124,49 @@ pub record HaveSameTables (move : Migration) (other_old other_new : Tables) : Ty
 abbrev pub SameUsedEntries : Migration → Tables → Tables → Type 0
 SameUsedEntries move other_old other_new =
     (u a : ℕ) (phase : Phase) (used : Usable) → HaveSameTables move other_old other_new →
-    u < length move.net → Uses move u phase a used ↔ Uses (migration move.net other_old other_new) u phase a used
+    u < length move.net → Uses move u phase a used ↔ Uses (retabled move other_old other_new) u phase a used
 
 -- and steps to the same hops
 abbrev pub SameSteps : Migration → Tables → Tables → Type 0
 SameSteps move other_old other_new =
     (u a h : ℕ) (phase : Phase) → HaveSameTables move other_old other_new →
-    Steps move u phase a h ↔ Steps (migration move.net other_old other_new) u phase a h
+    Steps move u phase a h ↔ Steps (retabled move other_old other_new) u phase a h
 
 -- the same states are sound
 abbrev pub SameSoundStates : Migration → Tables → Tables → Type 0
 SameSoundStates move other_old other_new =
     (state : State) → HaveSameTables move other_old other_new →
-    IsSound move state ↔ IsSound (migration move.net other_old other_new) state
+    IsSound move state ↔ IsSound (retabled move other_old other_new) state
 
 -- the same orders are seamless
 abbrev pub SameSeamlessOrders : Migration → Tables → Tables → Type 0
 SameSeamlessOrders move other_old other_new =
     (order : List ℕ) → HaveSameTables move other_old other_new →
-    IsSeamless move order ↔ IsSeamless (migration move.net other_old other_new) order
+    IsSeamless move order ↔ IsSeamless (retabled move other_old other_new) order
 
 -- the network has the same loops
 abbrev pub SameLoops : Migration → Tables → Tables → Type 0
 SameLoops move other_old other_new =
     (a : ℕ) (ring : List Turn) → HaveSameTables move other_old other_new →
-    IsLoop move a ring ↔ IsLoop (migration move.net other_old other_new) a ring
+    IsLoop move a ring ↔ IsLoop (retabled move other_old other_new) a ring
 
 -- the same loops arise in a state
 abbrev pub SameArisingLoops : Migration → Tables → Tables → Type 0
 SameArisingLoops move other_old other_new =
     (state : State) (a : ℕ) (ring : List Turn) → HaveSameTables move other_old other_new →
-    Arises move state a ring ↔ Arises (migration move.net other_old other_new) state a ring
+    Arises move state a ring ↔ Arises (retabled move other_old other_new) state a ring
 
 -- a state has the same faults
 abbrev pub SameFaults : Migration → Tables → Tables → Type 0
 SameFaults move other_old other_new =
     (state : State) (fault : Fault) → HaveSameTables move other_old other_new →
-    IsFault move state fault ↔ IsFault (migration move.net other_old other_new) state fault
+    IsFault move state fault ↔ IsFault (retabled move other_old other_new) state fault
 
 -- an order has the same first fault
 abbrev pub SameFirstFaults : Migration → Tables → Tables → Type 0
 SameFirstFaults move other_old other_new =
     (order : List ℕ) (k : ℕ) (fault : Fault) → HaveSameTables move other_old other_new →
-    IsFirstFault move order k fault ↔ IsFirstFault (migration move.net other_old other_new) order k fault
+    IsFirstFault move order k fault ↔ IsFirstFault (retabled move other_old other_new) order k fault
 
 -- Faults
 

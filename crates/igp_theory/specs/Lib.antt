@@ -8,6 +8,7 @@ pub use Rattle.order_core.specs.Orders
 pub use Rattle.order_core.specs.Rankings
 pub use Rattle.order_core.specs.Turns
 pub mod Routes
+pub mod Phases
 pub mod Migrations
 pub mod Ospf
 pub mod Isis

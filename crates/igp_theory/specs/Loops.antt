@@ -6,19 +6,21 @@ use Rattle.order_core.specs.declared.turn.Tag.TheVariants as tag
 use Rattle.order_core.specs.declared.turn.Turn.{Turn}
 use Rattle.igp_theory.specs.Forwarding.{MustForward, Steps, HasStep}
 use Rattle.igp_theory.specs.Migrations.{Migration}
-use Rattle.igp_theory.specs.States.{State, StepsIn, Follows, IsSoundAt, IsSound, state_of}
-use Rattle.igp_theory.specs.declared.phase.Phase.TheVariants.{Old, New}
+use Rattle.igp_theory.specs.Phases.{State}
+use Rattle.igp_theory.specs.States.{StepsIn, Follows, IsSoundAt, IsSound, state_of}
+use Rattle.igp_theory.specs.declared.phase.Phase.TheVariants.{New}
 
--- which tag says what two phases do: Old where only the old phase does it, New where only the new phase
--- does, Both where both do
+-- which tag says what two phases do: Old where only the first of them does it, New where only the second does, Both where
+-- both do
 abbrev pub IsTagOf : Tag → Type 0 → Type 0 → Type 0
 IsTagOf tag.Old old new = old × (¬ new)
 IsTagOf tag.New old new = (¬ old) × new
 IsTagOf tag.Both old new = old × new
 
--- the tag of a ring's router says which of its phases Old and New step to the next router
+-- the tag of a ring's router says in which of two phases it steps to the next router: in that of the start, which is Old
+-- where the migration begins, and in New
 pub record IsTag (move : Migration) (a : ℕ) (turn : Turn) (next : ℕ) : Type 0 where
-  pub steps : IsTagOf turn.tag (Steps move turn.router Old a next) (Steps move turn.router New a next)
+  pub steps : IsTagOf turn.tag (Steps move turn.router (move.start turn.router) a next) (Steps move turn.router New a next)
 
 -- R holds of each router of a list and the next one, and of the last one and `first`
 abbrev pub EachToNext : {A : Type 0} → (A → A → Type 0) → A → List A → Type 0

@@ -4,19 +4,9 @@ use Rattle.std.specs.Prelude.{length, take}
 use Rattle.order_core.specs.Orders.{IsOrder}
 use Rattle.igp_theory.specs.Forwarding.{MustForward, Steps, HasStep}
 use Rattle.igp_theory.specs.Migrations.{Migration}
+use Rattle.igp_theory.specs.Phases.{State}
 use Rattle.igp_theory.specs.declared.phase.Phase.{Phase}
 use Rattle.igp_theory.specs.declared.phase.Phase.TheVariants.{Old, Middle, New}
-
--- a state gives each router a phase
-abbrev pub State : Type 0
-State = ℕ → Phase
-
--- the ends of a move: the first state, in which every router is Old, and the last one, in which every router is New
-abbrev pub all_old : State
-all_old u = Old
-
-abbrev pub all_new : State
-all_new u = New
 
 -- the steps of a state, for one address
 abbrev pub StepsIn : Migration → State → ℕ → ℕ → ℕ → Type 0

@@ -3,9 +3,9 @@ use Rattle.std.specs.Prelude.{◌≡◌, ℕ, ◌↔◌, List}
 use Rattle.net_addr.specs.Addresses.{Block}
 use Rattle.igp_theory.specs.Laws.{HaveSameTables}
 use Rattle.igp_theory.specs.Loops.{Fault, IsFault}
-use Rattle.igp_theory.specs.Migrations.{Migration, migration}
+use Rattle.igp_theory.specs.Migrations.{Migration, retabled}
 use Rattle.igp_theory.specs.Routes.{Tables}
-use Rattle.igp_theory.specs.States.{State}
+use Rattle.igp_theory.specs.Phases.{State}
 use Rattle.igp_theory.specs.WaveFaults.{IsFaultOver, IsWavesFault}
 use Rattle.igp_theory.specs.WaveLaws.{Delivers}
 use Rattle.igp_theory.specs.Waves.{AreSeamlessWaves}
@@ -41,22 +41,22 @@ WavesFaultsAreUnsound move =
 abbrev pub SameDeliveries : Migration → Tables → Tables → Type 0
 SameDeliveries move other_old other_new =
     (state : State) (a : ℕ) (p : Block) → HaveSameTables move other_old other_new →
-    Delivers move state a p ↔ Delivers (migration move.net other_old other_new) state a p
+    Delivers move state a p ↔ Delivers (retabled move other_old other_new) state a p
 
 -- the same wave lists are seamless
 abbrev pub SameSeamlessWaves : Migration → Tables → Tables → Type 0
 SameSeamlessWaves move other_old other_new =
     (ranks : List ℕ) → HaveSameTables move other_old other_new →
-    AreSeamlessWaves move ranks ↔ AreSeamlessWaves (migration move.net other_old other_new) ranks
+    AreSeamlessWaves move ranks ↔ AreSeamlessWaves (retabled move other_old other_new) ranks
 
 -- a set of states has the same fault
 abbrev pub SameFaultsOver : Migration → Tables → Tables → (State → Type 0) → Type 0
 SameFaultsOver move other_old other_new states =
     (fault : Fault) → HaveSameTables move other_old other_new →
-    IsFaultOver move states fault ↔ IsFaultOver (migration move.net other_old other_new) states fault
+    IsFaultOver move states fault ↔ IsFaultOver (retabled move other_old other_new) states fault
 
 -- a wave list has the same fault
 abbrev pub SameWavesFaults : Migration → Tables → Tables → Type 0
 SameWavesFaults move other_old other_new =
     (ranks : List ℕ) (w : ℕ) (fault : Fault) → HaveSameTables move other_old other_new →
-    IsWavesFault move ranks w fault ↔ IsWavesFault (migration move.net other_old other_new) ranks w fault
+    IsWavesFault move ranks w fault ↔ IsWavesFault (retabled move other_old other_new) ranks w fault

@@ -5,7 +5,8 @@ use Rattle.order_core.specs.declared.turn.Turn.{Turn}
 use Rattle.igp_theory.specs.Forwarding.{MustForward, HasStep}
 use Rattle.igp_theory.specs.Loops.{IsTag, AroundRing, Fault, missing, loop, IsFoundRing}
 use Rattle.igp_theory.specs.Migrations.{Migration}
-use Rattle.igp_theory.specs.States.{State, StepsIn, IsSoundAt, IsSound}
+use Rattle.igp_theory.specs.Phases.{State}
+use Rattle.igp_theory.specs.States.{StepsIn, IsSoundAt, IsSound}
 use Rattle.igp_theory.specs.Waves.{IsStateOfWave}
 
 -- the steps of a set of states, for one address: each router has every hop that it has in some of them

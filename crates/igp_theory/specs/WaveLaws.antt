@@ -10,7 +10,8 @@ use Rattle.igp_theory.specs.Ospf.{OspfEntry}
 use Rattle.igp_theory.specs.Routes.{Tables, EntryLeadsTo}
 use Rattle.order_core.specs.Orders.{IsOrder}
 use Rattle.order_core.specs.Rankings.{IsRanking, flat_of}
-use Rattle.igp_theory.specs.States.{State, StepsIn, Follows, IsSound, IsSeamless, state_of}
+use Rattle.igp_theory.specs.Phases.{State}
+use Rattle.igp_theory.specs.States.{StepsIn, Follows, IsSound, IsSeamless, state_of}
 use Rattle.igp_theory.specs.Waves.{Change, IsRun, IsWavesState, AreSeamlessWaves, IsStateOfWave, AreOnes, run_along, state_after}
 
 -- What sound means

@@ -4,7 +4,8 @@ use Rattle.std.specs.Prelude.{AllPairs}
 use Rattle.std.specs.List.{flat_map}
 use Rattle.order_core.specs.Rankings.{IsRanking, rank_of}
 use Rattle.igp_theory.specs.Migrations.{Migration}
-use Rattle.igp_theory.specs.States.{State, IsSound, IsSeamless, changes_on, phase_after}
+use Rattle.igp_theory.specs.Phases.{State}
+use Rattle.igp_theory.specs.States.{IsSound, IsSeamless, changes_on, phase_after}
 use Rattle.igp_theory.specs.declared.phase.Phase.TheVariants.{Old, New}
 
 -- A wave list is told by a ranking: router u stands in the wave `rank_of ranks u`, counted from 0, so in

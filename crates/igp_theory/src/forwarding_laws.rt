@@ -1,6 +1,6 @@
 ghost use Rattle.std.specs.Prelude.{ℕ, ◌⊎◌};
 ghost use Rattle.igp_theory.specs.Forwarding.{Usable, Uses, MustForward, HasStep};
-ghost use Rattle.igp_theory.specs.States.{State};
+ghost use Rattle.igp_theory.specs.Phases.{State};
 ghost use Rattle.igp_theory.specs.declared.phase.Phase.{Phase};
 
 use crate::migration::AnyMigration;

@@ -4,11 +4,12 @@
 //! | Specification | What it defines | By |
 //! |---|---|---|
 //! | `Routes` | a table: which entry a router has for a prefix | |
-//! | `Migrations` | a migration: a network, its old and its new tables | |
+//! | `Phases` | the phases in their order, states | Vanbever et al., SIGCOMM 2011 |
+//! | `Migrations` | a migration: a network, its old and its new tables, and the phases from which its routers start | |
 //! | `Ospf` | routes within an area, ranges and summaries, routes between areas, the table | RFC 2328, sections 16.1, 12.4.3, 16.2 |
 //! | `Isis` | the levels 1 and 2, what is leaked, attached routers, the table | RFC 1195; RFC 5305; RFC 5302 |
 //! | `Forwarding` | the used entry of an address: the longest match, then the distance; the steps | RFC 1812, section 5.2.4.3 |
-//! | `States` | phases, sound states, the states of an order, seamless orders | Vanbever et al., SIGCOMM 2011 |
+//! | `States` | sound states, the states of an order, seamless orders | the same |
 //! | `Loops` | loops of the network with their tags, the fault of an unsound state | the same |
 //! | `Waves` | wave lists, their runs and states, seamless wave lists | the same |
 //! | `WaveFaults` | the fault of a set of states, and of a wave list | |

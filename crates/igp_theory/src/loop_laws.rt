@@ -4,8 +4,9 @@ ghost use Rattle.igp_theory.specs.LoopLaws.{WavesAreSeamlessByLoops};
 
 use crate::migration::AnyMigration;
 
-/// The law that a loop of the network arises where every router tagged `Old` is in `Old` and every router
-/// tagged `New` in `New`, and that a state in which a loop arises isn't sound.
+/// The law that a loop of the network arises where every router tagged `Old` is at its start and every router
+/// tagged `New` in `New`, whatever phases from the start on the others are in, and that a state in which a loop
+/// arises isn't sound.
 pub fn loops_arise<T: AnyMigration>()
     ensures arise { LoopsArise T.migration }
     ensures unsound { ArisingLoopsAreUnsound T.migration }
@@ -13,14 +14,15 @@ pub fn loops_arise<T: AnyMigration>()
 
 /// The law that between sound ends faults are loops with a turn tagged `Old` and one tagged `New`.
 ///
-/// The fault of an unsound state is such a loop that arises there, that of a wave list one that arises in a
-/// state of its wave. A missing step and a loop of one tag are impossible there.
+/// The fault of an unsound state from the start on is such a loop that arises there; where every router begins in
+/// `Old`, that of a wave list is one that arises in a state of its wave. A missing step and a loop of one tag are
+/// impossible there.
 pub fn faults_between_sound_ends_are_loops<T: AnyMigration>()
     ensures state { FaultsBetweenSoundEndsAreLoops T.migration }
     ensures waves { WaveFaultsBetweenSoundEndsAreLoops T.migration }
 {}
 
-/// The law of the waves in which loops arise.
+/// The law of the waves in which loops arise, where every router begins in `Old`.
 ///
 /// A loop arises in a state of wave w exactly where its routers tagged `New` stand in waves up to w and its
 /// routers tagged `Old` in waves from w on.
@@ -36,7 +38,7 @@ pub fn returns_in_waves_are_unsound<T: AnyMigration>()
     ensures { ReturnsInWavesAreUnsound T.migration }
 {}
 
-/// The law that loops say which wave lists are seamless.
+/// The law that loops say which wave lists are seamless, where every router begins in `Old`.
 ///
 /// Whatever the ends, a seamless wave list puts some router tagged `Old` of each loop with both tags in an
 /// earlier wave than some router tagged `New`. Between sound ends a wave list is seamless exactly where it

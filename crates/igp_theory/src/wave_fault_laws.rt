@@ -1,6 +1,6 @@
 ghost use Rattle.igp_theory.specs.WaveFaultLaws.{FaultsOverAreUnique, FaultsOverOneAreFaults, WavesFaultsAreUnique, WavesFaultsAreUnsound, SameDeliveries};
 ghost use Rattle.igp_theory.specs.WaveFaultLaws.{SameSeamlessWaves, SameFaultsOver, SameWavesFaults};
-ghost use Rattle.igp_theory.specs.States.{State};
+ghost use Rattle.igp_theory.specs.Phases.{State};
 
 use crate::migration::AnyMigration;
 

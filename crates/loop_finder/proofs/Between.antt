@@ -1,7 +1,8 @@
 -- The states between two: their steps are those of both.
 use Rattle.std.proofs.Common.{◌≡◌, ℕ, List, ◌∷◌, length, Option, None, Some, IfNone, inl, inr, refl, sym, subst}
 use Rattle.igp_theory.specs.Forwarding.{MustForward, HasStep}
-use Rattle.igp_theory.specs.States.{State, StepsIn}
+use Rattle.igp_theory.specs.Phases.{State}
+use Rattle.igp_theory.specs.States.{StepsIn}
 use Rattle.igp_theory.specs.declared.phase.Phase.{Phase}
 use Rattle.igp_theory.proofs.ForwardingLaws.{every_phase_steps}
 use Rattle.igp_theory.proofs.LoopLaws.{old_or_new_step}

@@ -8,7 +8,7 @@ use Rattle.std.proofs.lemmas.Bool.Decides.{leb_tells}
 use Rattle.std.proofs.lemmas.List.{get_or-set_other, get_or-set_same}
 use Rattle.std.proofs.Math.ListN.{length-set}
 use Rattle.order_core.specs.Rankings.{rank_of}
-use Rattle.igp_theory.specs.States.{State, all_old}
+use Rattle.igp_theory.specs.Phases.{State, all_old}
 use Rattle.igp_theory.specs.Waves.{IsStateOfWave}
 use Rattle.igp_theory.specs.declared.phase.Phase.{Phase}
 use Rattle.igp_theory.specs.declared.phase.Phase.TheVariants.{Old, New}

@@ -5,7 +5,8 @@ use Rattle.order_core.specs.Orders.{IsOrder}
 use Rattle.order_core.specs.declared.turn.Turn.{Turn}
 use Rattle.igp_theory.specs.Loops.{IsFault, IsFirstFault}
 use Rattle.igp_theory.specs.Migrations.{Migration}
-use Rattle.igp_theory.specs.States.{State, IsSound, IsSeamless}
+use Rattle.igp_theory.specs.Phases.{State}
+use Rattle.igp_theory.specs.States.{IsSound, IsSeamless}
 use Rattle.igp_theory.proofs.FaultLaws.{faulty_not_sound}
 use Rattle.loop_finder.specs.Faults.{told_fault}
 use Rattle.loop_finder.specs.Orders.{AreFirstStates}

@@ -4,7 +4,8 @@ use Rattle.std.proofs.lemmas.Bool.{OnTrue_at, cases_lt}
 use Rattle.std.proofs.lemmas.Bool.Decides.{eqb_tells}
 use Rattle.std.proofs.lemmas.List.{get_or_past}
 use Rattle.igp_theory.specs.Forwarding.{MustForward}
-use Rattle.igp_theory.specs.States.{State, Follows}
+use Rattle.igp_theory.specs.Phases.{State}
+use Rattle.igp_theory.specs.States.{Follows}
 use Rattle.igp_theory.specs.declared.phase.Phase.{Phase}
 use Rattle.igp_theory.proofs.ForwardingLaws.{every_phase_steps}
 use Rattle.igp_theory.proofs.LoopLaws.{old_or_new_step}

@@ -5,7 +5,7 @@ use Rattle.std.proofs.lemmas.Bool.{cases_lt}
 use Rattle.std.proofs.lemmas.List.{get_or_default}
 use Rattle.std.proofs.lemmas.List.Elements.{All-contains, All-push, Contains-append_left, Contains-push}
 use Rattle.std.proofs.lemmas.List.Quantifiers.{all_pairs_push}
-use Rattle.igp_theory.specs.States.{State}
+use Rattle.igp_theory.specs.Phases.{State}
 use Rattle.loop_finder.specs.Parts.{ClassPart, AllMove, IsPart, IsCovered, StepsEver, has_part, never_unsound, as_earlier, AreParts}
 use Rattle.loop_finder.specs.steps.PartRows.{HasEarlierHops}
 use Rattle.loop_finder.specs.Mixes.{sample_of, Mix, class_in}

@@ -3,7 +3,8 @@ use Rattle.std.proofs.Common.{◌≡◌, ℕ, ◌<◌, List, [], ◌∷◌, ◌+
 use Rattle.std.proofs.lemmas.Bool.Decides.{eqb_tells}
 use Rattle.igp_theory.specs.Forwarding.{MustForward, Steps, HasStep}
 use Rattle.igp_theory.specs.Migrations.{Migration}
-use Rattle.igp_theory.specs.States.{State, StepsIn, Follows, IsSoundAt}
+use Rattle.igp_theory.specs.Phases.{State}
+use Rattle.igp_theory.specs.States.{StepsIn, Follows, IsSoundAt}
 use Rattle.igp_theory.specs.declared.phase.Phase.{Phase}
 use Rattle.igp_theory.proofs.SameTables.{follows_over}
 use Rattle.loop_finder.specs.Returns.{NeverReturnsTo}

@@ -9,7 +9,7 @@ use Rattle.net_model.specs.Network.{Network}
 use Rattle.route_core.specs.declared.entry.Entry.{Entry}
 use Rattle.igp_theory.specs.Laws.{HaveSameTables}
 use Rattle.igp_theory.specs.Migrations.{migration, listed_migration}
-use Rattle.igp_theory.specs.States.{State}
+use Rattle.igp_theory.specs.Phases.{State}
 use Rattle.igp_theory.proofs.SameTables.{sound_at_over, same_tables_sym}
 use Rattle.prefix_atoms.specs.Classes.{AreSamples, Classes, IsInClass, SourceEntry}
 use Rattle.prefix_atoms.specs.Laws.{ActAlike}

@@ -5,7 +5,8 @@ use Rattle.order_core.specs.Rankings.{IsRanking}
 use Rattle.order_core.specs.declared.turn.Turn.{Turn}
 use Rattle.order_core.proofs.WaveLists.{rank_below_count, count_le_length}
 use Rattle.igp_theory.specs.Migrations.{Migration}
-use Rattle.igp_theory.specs.States.{State, IsSound}
+use Rattle.igp_theory.specs.Phases.{State}
+use Rattle.igp_theory.specs.States.{IsSound}
 use Rattle.igp_theory.specs.WaveLaws.{IsStateOfSomeWave}
 use Rattle.igp_theory.specs.Waves.{AreSeamlessWaves}
 use Rattle.igp_theory.proofs.LoopWaves.{seamless_by_waves}

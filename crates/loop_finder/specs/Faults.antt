@@ -1,7 +1,7 @@
 -- What an answer tells: a fault, with the ring of its loop beside it.
 use Rattle.std.specs.Prelude.{◌≡◌, ℕ, List, Option, Some, None, slice_index_or}
 use Rattle.igp_theory.specs.Loops.{Fault as WholeFault, missing, loop}
-use Rattle.igp_theory.specs.States.{State}
+use Rattle.igp_theory.specs.Phases.{State}
 use Rattle.igp_theory.specs.declared.phase.Phase.{Phase}
 use Rattle.igp_theory.specs.declared.phase.Phase.TheVariants.{Old}
 use Rattle.rib_mix.specs.Mixture.{Mixture}

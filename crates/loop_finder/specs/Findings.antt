@@ -3,7 +3,7 @@ use Rattle.std.specs.Prelude.{◌≡◌, ℕ, Bool, List, length}
 use Rattle.std.specs.Bool.{OnTrue}
 use Rattle.loop_finder.specs.Calm.{AreCalm}
 use Rattle.loop_finder.specs.Orders.{AreFirstStates}
-use Rattle.igp_theory.specs.States.{all_old}
+use Rattle.igp_theory.specs.Phases.{all_old}
 use Rattle.loop_finder.specs.Parts.{ClassPart, AreParts}
 use Rattle.loop_finder.specs.Rooms.{HasRoom}
 use Rattle.loop_finder.specs.Mixes.{Mix}

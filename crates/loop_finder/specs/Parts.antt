@@ -2,7 +2,8 @@
 use Rattle.std.specs.Prelude.{◌≡◌, ℕ, ◌<◌, ◌⊎◌, Bool, List, [], length, slice_index_or, All, AllPairs, Contains}
 use Rattle.std.specs.Bool.{OnTrue}
 use Rattle.igp_theory.specs.Forwarding.{MustForward, Steps, HasStep}
-use Rattle.igp_theory.specs.States.{State, Follows}
+use Rattle.igp_theory.specs.Phases.{State}
+use Rattle.igp_theory.specs.States.{Follows}
 use Rattle.igp_theory.specs.declared.phase.Phase.{Phase}
 use Rattle.igp_theory.specs.declared.phase.Phase.TheVariants.{Old, Middle, New}
 use Rattle.loop_finder.specs.Mixes.{sample_of, Mix, migration_in, ClassIn, class_in, least_of}

@@ -1,7 +1,8 @@
 -- When a state is sound, over what is mixed.
 use Rattle.std.specs.Prelude.{ℕ, length}
 use Rattle.igp_theory.specs.Migrations.{migration}
-use Rattle.igp_theory.specs.States.{State, IsSoundAt, IsSound}
+use Rattle.igp_theory.specs.Phases.{State}
+use Rattle.igp_theory.specs.States.{IsSoundAt, IsSound}
 use Rattle.prefix_atoms.specs.Classes.{AreClasses, SourceEntry}
 use Rattle.loop_finder.specs.Mixes.{Mix, migration_in}
 

@@ -5,7 +5,7 @@ ghost use Rattle.loop_finder.specs.Mixes.{mix_of};
 ghost use Rattle.loop_finder.specs.Faults.{KeepsRing, state_in, told, told_fault};
 ghost use Rattle.loop_finder.specs.Orders.{AreFirstStates};
 ghost use Rattle.loop_finder.specs.steps.Orders.{IsAdvanced, IsStateOf, next_phase};
-ghost use Rattle.igp_theory.specs.States.{all_old};
+ghost use Rattle.igp_theory.specs.Phases.{all_old};
 ghost use Rattle.loop_finder.specs.Parts.{AreParts};
 ghost use Rattle.loop_finder.specs.Rooms.{HasRoom};
 ghost use Rattle.loop_finder.specs.Soundness.{Sound};

@@ -4,7 +4,7 @@ ghost use Rattle.order_core.specs.Rankings.{IsRanking};
 ghost use Rattle.loop_finder.specs.Mixes.{mix_of};
 ghost use Rattle.loop_finder.specs.Calm.{AreCalm};
 ghost use Rattle.loop_finder.specs.Faults.{KeepsRing, told, told_fault};
-ghost use Rattle.igp_theory.specs.States.{all_old};
+ghost use Rattle.igp_theory.specs.Phases.{all_old};
 ghost use Rattle.loop_finder.specs.Parts.{AreParts};
 ghost use Rattle.loop_finder.specs.Rooms.{HasRoom};
 ghost use Rattle.loop_finder.specs.Soundness.{Sound};

@@ -5,7 +5,7 @@ use Rattle.igp_theory.specs.Migrations.{Migration}
 use Rattle.igp_theory.specs.WaveFaults.{IsFaultOver, missing_in_one, loop_over_all}
 use Rattle.igp_theory.specs.Forwarding.{Steps}
 use Rattle.igp_theory.specs.declared.phase.Phase.TheVariants as phase
-use Rattle.igp_theory.specs.States.{State}
+use Rattle.igp_theory.specs.Phases.{State}
 use Rattle.loop_finder.specs.Faults.{told_fault, KeepsRing}
 use Rattle.loop_finder.specs.declared.fault.Fault.{Fault}
 use Rattle.loop_finder.specs.declared.fault.Fault.TheVariants.{Loop, Missing}
@@ -24,7 +24,7 @@ module _ (move : Migration) (a : ℕ) where
   tag_within : (r : Turn) (next : ℕ) → IsTag move a r next → r.router < length move.net
   tag_within r next is = by_tag r.tag is.steps
     where
-      by_tag : (t : Tag) → IsTagOf t (Steps move r.router phase.Old a next) (Steps move r.router phase.New a next) → r.router < length move.net
+      by_tag : (t : Tag) → IsTagOf t (Steps move r.router (move.start r.router) a next) (Steps move r.router phase.New a next) → r.router < length move.net
       by_tag Old steps = steps.0.must.router
       by_tag New steps = steps.1.must.router
       by_tag Both steps = steps.0.must.router

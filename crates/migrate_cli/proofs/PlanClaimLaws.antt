@@ -4,7 +4,8 @@ use Rattle.std.proofs.lemmas.Option.{same_Some}
 use Rattle.igp_theory.specs.Isis.{IsisEntry}
 use Rattle.igp_theory.specs.Migrations.{migration, ospf_to_isis}
 use Rattle.igp_theory.specs.Ospf.{OspfEntry}
-use Rattle.igp_theory.specs.States.{IsSound, State, state_of}
+use Rattle.igp_theory.specs.Phases.{State}
+use Rattle.igp_theory.specs.States.{IsSound, state_of}
 use Rattle.igp_theory.proofs.Delivery.{delivers_sound, isis_hop_is_router, ospf_hop_is_router, sound_delivers}
 use Rattle.net_model.specs.Network.{Network}
 use Rattle.net_model.specs.Refusals.{IsNetwork}
@@ -70,7 +71,7 @@ plan_holds {budget} {net} some network (waves ranks pairs chain trail ends found
     let old = OspfEntry net in
     let new = IsisEntry net in
     let means : AreSeamlessWithOrder (migration net old new) ranks =
-    plan_means (migration net old new) budget (Searched (Waves ranks pairs chain trail)) (record { ends = ends; is_found = found }) in
+    plan_means (migration net old new) budget (Searched (Waves ranks pairs chain trail)) (λ u. refl) (record { ends = ends; is_found = found }) in
     let reads = plan_reads_back (migration net old new) budget network some (Waves ranks pairs chain trail) found in
     record {
       ranks = ranks;
@@ -88,7 +89,7 @@ plan_holds {budget} {net} some network (refuted tree ends refutes) =
     let old = OspfEntry net in
     let new = IsisEntry net in
     let means : HasNoneSeamless (migration net old new) =
-    plan_means (migration net old new) budget (Searched (Refuted tree)) (record { ends = ends; is_found = refutes }) in
+    plan_means (migration net old new) budget (Searched (Refuted tree)) (λ u. refl) (record { ends = ends; is_found = refutes }) in
     record {
       no_waves_deliver = λ ranks ranking deliver.
           means.waves ranks (record { waves = ranking; sound = λ state is. sound_where_delivers net state (deliver state is) });

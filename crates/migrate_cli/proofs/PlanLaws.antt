@@ -4,7 +4,7 @@ use Rattle.net_model.specs.Network.{Network}
 use Rattle.net_model.specs.RouterNames.{names_of}
 use Rattle.igp_theory.specs.Loops.{IsFault, loop, missing}
 use Rattle.igp_theory.specs.Migrations.{Migration, ospf_to_isis}
-use Rattle.igp_theory.specs.States.{State, all_new, all_old}
+use Rattle.igp_theory.specs.Phases.{State, all_new}
 use Rattle.igp_theory.proofs.FaultLaws.{faulty_not_sound}
 use Rattle.order_search.specs.declared.found.Found.TheVariants.{Waves, Refuted, Spent}
 use Rattle.plan_theory.specs.Plans.{IsPlanned, fault_told}
@@ -64,7 +64,7 @@ end_within move state (Loop a turns) is = loop_within move state a turns is
 end_within move state (Missing a u) is = missing_within move state a u [] is
 
 pub has_text : (move : Migration) (budget : ℕ) (planned : Planned) → IsPlanned move budget planned → IsTellable move.net planned
-has_text move budget (UnsoundOld fault) is = end_within move all_old fault is
+has_text move budget (UnsoundOld fault) is = end_within move move.start fault is
 has_text move budget (UnsoundNew fault) is = end_within move all_new fault is.last
 has_text move budget (Searched found) is = plan_printable move budget found is.is_found
 

@@ -2,7 +2,7 @@
 use Rattle.std.proofs.Common.{ℕ, List}
 use Rattle.igp_theory.specs.Laws.{HaveSameTables}
 use Rattle.igp_theory.specs.LoopLaws.{AreSoundEnds}
-use Rattle.igp_theory.specs.Migrations.{Migration, migration}
+use Rattle.igp_theory.specs.Migrations.{Migration, retabled}
 use Rattle.igp_theory.specs.Routes.{Tables}
 use Rattle.igp_theory.proofs.SameTables.{fault_over, loop_over, same_tables_sym, sound_over}
 use Rattle.igp_theory.proofs.WaveFaultLaws.{seamless_waves_over, waves_fault_over}
@@ -26,10 +26,10 @@ module _ (move : Migration) (old' new' : Tables) (same : HaveSameTables move old
   m = waves_meaning move
 
   abbrev m' : Meaning
-  m' = waves_meaning (migration move.net old' new')
+  m' = waves_meaning (retabled move old' new')
 
   -- the same loop is told of a wave list
-  picked_over : (ranks : List ℕ) (a : ℕ) (turns : List Turn) → IsPickedFault move ranks a turns → IsPickedFault (migration move.net old' new') ranks a turns
+  picked_over : (ranks : List ℕ) (a : ℕ) (turns : List Turn) → IsPickedFault move ranks a turns → IsPickedFault (retabled move old' new') ranks a turns
   picked_over ranks a turns picked = record { wave = picked.wave; is_fault = waves_fault_over same picked.is_fault }
 
   tree_node_over : (place : Place) (node : Node) → IsTreeNode m.real place node → IsTreeNode m'.real place node
@@ -102,7 +102,7 @@ module _ (move : Migration) (old' new' : Tables) (same : HaveSameTables move old
         path = is.path;
       }
 
-  ends_over : AreSoundEnds move → AreSoundEnds (migration move.net old' new')
+  ends_over : AreSoundEnds move → AreSoundEnds (retabled move old' new')
   ends_over ends = record { first = sound_over same ends.first; last = sound_over same ends.last }
 
   found_over : (budget : ℕ) (found : Found) → IsFound m budget found → IsFound m' budget found
@@ -111,7 +111,7 @@ module _ (move : Migration) (old' new' : Tables) (same : HaveSameTables move old
   found_over budget (Spent tree) is = spent_over is
 
   -- so the same is planned
-  pub planned_over : (budget : ℕ) (planned : Planned) → IsPlanned move budget planned → IsPlanned (migration move.net old' new') budget planned
+  pub planned_over : (budget : ℕ) (planned : Planned) → IsPlanned move budget planned → IsPlanned (retabled move old' new') budget planned
   planned_over budget (UnsoundOld fault) is = fault_over same is
   planned_over budget (UnsoundNew fault) is = record { first = sound_over same is.first; last = fault_over same is.last }
   planned_over budget (Searched found) is = record { ends = ends_over is.ends; is_found = found_over budget found is.is_found }

@@ -3,7 +3,7 @@ use Rattle.std.proofs.Common.{◌≡◌, ℕ, List, refl, sym, ap, subst, ◌∙
 use Rattle.net_model.specs.Network.{Network}
 use Rattle.net_model.specs.Refusals.{IsNetwork}
 use Rattle.igp_theory.specs.Laws.{HaveSameTables}
-use Rattle.igp_theory.specs.Migrations.{Migration, migration, ospf_to_isis}
+use Rattle.igp_theory.specs.Migrations.{Migration, retabled, ospf_to_isis}
 use Rattle.igp_theory.specs.Routes.{Tables}
 use Rattle.refutation_check.specs.Verdicts.{IsTextVerdict, RefutesWhereClosed}
 use Rattle.refutation_check.specs.declared.verdict.Verdict.{Verdict}
@@ -66,7 +66,7 @@ tree_verdict move tree text status verdict network is means status_is text_is =
 
 -- tables with the same entries give a tree file the same answer
 pub tree_verdict_over : (move : Migration) (old' new' : Tables) (tree : List ℕ) {status : Status} {text : List ℕ} →
-    HaveSameTables move old' new' → IsTreeVerdict move tree status text → IsTreeVerdict (migration move.net old' new') tree status text
+    HaveSameTables move old' new' → IsTreeVerdict move tree status text → IsTreeVerdict (retabled move old' new') tree status text
 tree_verdict_over move old' new' tree same (closed b l network is none) =
     closed b l network (same_verdicts.verdict_over move old' new' same tree (Closed b l) is) (same_verdicts.none_over move old' new' same none)
 tree_verdict_over move old' new' tree same (unfinished u network is) =

@@ -6,7 +6,8 @@ use Rattle.net_model.specs.Network.{Network}
 use Rattle.net_model.specs.RouterNames.{names_of}
 use Rattle.igp_theory.specs.Forwarding.{IsTarget}
 use Rattle.igp_theory.specs.Migrations.{ospf_to_isis}
-use Rattle.igp_theory.specs.States.{State, IsSeamless, state_of}
+use Rattle.igp_theory.specs.Phases.{State}
+use Rattle.igp_theory.specs.States.{IsSeamless, state_of}
 use Rattle.igp_theory.specs.WaveLaws.{Delivers}
 use Rattle.igp_theory.specs.Waves.{AreSeamlessWaves, IsWavesState}
 use Rattle.order_core.specs.Orders.{IsOrder}

@@ -6,7 +6,8 @@ use Rattle.net_model.specs.RouterNames.{names_of}
 use Rattle.igp_theory.specs.LoopLaws.{AreSoundEnds}
 use Rattle.igp_theory.specs.Loops.{Fault, IsFault}
 use Rattle.igp_theory.specs.Migrations.{Migration, ospf_to_isis}
-use Rattle.igp_theory.specs.States.{IsSound, all_new, all_old}
+use Rattle.igp_theory.specs.Phases.{all_new}
+use Rattle.igp_theory.specs.States.{IsSound}
 use Rattle.order_core.specs.Pairs.{Pair}
 use Rattle.order_search.specs.Answers.{found_waves, AreFoundWaves, IsRefutation, IsSpent}
 use Rattle.order_search.specs.declared.tree.Node.{Node}
@@ -18,14 +19,14 @@ use Rattle.migration_report.specs.declared.ends.End.TheVariants.{Old, New}
 use Rattle.migrate_cli.specs.declared.status.Status.{Status}
 use Rattle.migrate_cli.specs.declared.status.Status.TheVariants.{Done, Negative, Unsound, Spent}
 
--- what is answered, by the tables of the two protocols. The state in which every router is Old isn't sound, and its fault is
--- told; or that state is sound and the one in which every router is New isn't, and the fault of this one is told. Where both
+-- what is answered, by the tables of the two protocols. The start, in which every router is Old, isn't sound, and its fault is
+-- told; or it is sound and the one in which every router is New isn't, and the fault of this one is told. Where both
 -- are sound, a seamless wave list is written, with the chain that shows the number of its waves; or a closed tree, so that
 -- no wave list is seamless; or a tree where the budget of branches was spent
 pub data IsPlanOver (move : Migration) (budget : ℕ) : Status → List ℕ → Type 0 where
-  unsound_old : (fault : Fault) → ¬ IsSound move all_old → IsFault move all_old fault →
+  unsound_old : (fault : Fault) → ¬ IsSound move move.start → IsFault move move.start fault →
       IsPlanOver move budget Unsound (unsound_text Old (names_of move.net) fault)
-  unsound_new : (fault : Fault) → IsSound move all_old → ¬ IsSound move all_new → IsFault move all_new fault →
+  unsound_new : (fault : Fault) → IsSound move move.start → ¬ IsSound move all_new → IsFault move all_new fault →
       IsPlanOver move budget Unsound (unsound_text New (names_of move.net) fault)
   waves : (ranks : List ℕ) (pairs : List Pair) (chain : List ℕ) (trail : List Node) → AreSoundEnds move →
       AreFoundWaves (waves_meaning move) budget (found_waves ranks pairs chain trail) →

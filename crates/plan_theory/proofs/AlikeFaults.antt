@@ -3,7 +3,7 @@ use Rattle.std.proofs.Common.{length, sym, subst}
 use Rattle.igp_theory.specs.Forwarding.{HasStep}
 use Rattle.igp_theory.specs.Loops.{Fault, IsFault, missing_step, loop_arises}
 use Rattle.igp_theory.specs.Migrations.{Migration}
-use Rattle.igp_theory.specs.States.{State}
+use Rattle.igp_theory.specs.Phases.{State}
 use Rattle.igp_theory.specs.declared.phase.Phase.{Phase}
 use Rattle.igp_theory.proofs.AlikeStates.{AreAlike, alike_sym, steps_alike, sound_at_alike}
 use Rattle.igp_theory.proofs.SameTables.{found_ring_over}

@@ -2,6 +2,7 @@
 use Rattle.std.proofs.Common.{◌≡◌, ℕ, List, []}
 use Rattle.order_core.specs.Turns.{HasBothTags, RanksSomeOldFirst}
 use Rattle.order_core.specs.declared.turn.Turn.{Turn}
+use Rattle.igp_theory.specs.LoopLaws.{BeginsOld}
 use Rattle.igp_theory.specs.Loops.{loop, IsLoop}
 use Rattle.igp_theory.specs.Migrations.{Migration}
 use Rattle.igp_theory.specs.Waves.{AreSeamlessWaves}
@@ -12,14 +13,15 @@ use Rattle.order_search.specs.Meanings.{KeepsPairs-nil}
 use Rattle.plan_theory.specs.WavesMeaning.{IsPickedFault}
 
 -- a seamless wave list ranks some Old turn's router of each loop with both tags before some New turn's router
-pub seamless_ranks_old_first : (move : Migration) (address : ℕ) (turns : List Turn) (ranks : List ℕ) →
+pub seamless_ranks_old_first : (move : Migration) → BeginsOld move → (address : ℕ) (turns : List Turn) (ranks : List ℕ) →
     IsLoop move address turns → HasBothTags turns → AreSeamlessWaves move ranks → RanksSomeOldFirst ranks turns
-seamless_ranks_old_first move address turns ranks is both seamless = seamless_puts_old_first move ranks seamless address turns is both
+seamless_ranks_old_first move begins address turns ranks is both seamless =
+    seamless_puts_old_first move ranks begins seamless address turns is both
 
-pub waves_are_decisive : (move : Migration) → IsDecisive (AreSeamlessWaves move) (IsLoop move) []
-waves_are_decisive move = record {
+pub waves_are_decisive : (move : Migration) → BeginsOld move → IsDecisive (AreSeamlessWaves move) (IsLoop move) []
+waves_are_decisive move begins = record {
   keeps_base = λ ranks seamless. KeepsPairs-nil ranks;
-  decides = seamless_ranks_old_first move;
+  decides = seamless_ranks_old_first move begins;
 }
 
 pub waves_pick_one : (move : Migration) → PicksOne (AreSeamlessWaves move) (IsPickedFault move)

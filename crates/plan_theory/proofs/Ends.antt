@@ -4,22 +4,24 @@ use Rattle.std.proofs.lemmas.Bool.{cases_lt}
 use Rattle.std.proofs.lemmas.List.Elements.{Contains-get_or}
 use Rattle.order_core.specs.Rankings.{IsRanking, rank_of, wave_count, flat_of}
 use Rattle.order_core.proofs.WaveLists.{rank_below_count, rank_stands}
+use Rattle.igp_theory.specs.LoopLaws.{BeginsOld}
 use Rattle.igp_theory.specs.Migrations.{Migration}
-use Rattle.igp_theory.specs.States.{IsSound, all_old, all_new}
+use Rattle.igp_theory.specs.Phases.{all_new}
+use Rattle.igp_theory.specs.States.{IsSound}
 use Rattle.igp_theory.specs.Waves.{IsWavesState, AreSeamlessWaves, IsStateOfWave, run_along}
 use Rattle.igp_theory.proofs.FlatOrders.{flat_is_run, wave_state_is_reached}
 use Rattle.igp_theory.proofs.LoopWaves.{empty_is_sound}
 
 -- before any change every router is Old
-pub begins_sound : (move : Migration) (ranks : List ℕ) → AreSeamlessWaves move ranks → IsSound move all_old
-begins_sound move ranks seamless = seamless.sound all_old begins
+pub begins_sound : (move : Migration) (ranks : List ℕ) → BeginsOld move → AreSeamlessWaves move ranks → IsSound move move.start
+begins_sound move ranks begins seamless = seamless.sound move.start before
   where
-    begins : IsWavesState (length move.net) ranks all_old
-    begins = record {
+    before : IsWavesState (length move.net) ranks move.start
+    before = record {
       run = run_along (flat_of ranks);
       is_run = flat_is_run (length move.net) ranks seamless.waves;
       k = 0;
-      after = λ u below. refl;
+      after = λ u below. begins u;
     }
 
 -- every router's rank is below the count of waves

@@ -1,5 +1,6 @@
 -- What a plan means.
 use Rattle.std.proofs.Common.{ℕ}
+use Rattle.igp_theory.specs.LoopLaws.{BeginsOld}
 use Rattle.igp_theory.specs.Migrations.{Migration}
 use Rattle.igp_theory.proofs.FaultLaws.{faulty_not_sound}
 use Rattle.igp_theory.proofs.FlatOrders.{flat_is_seamless}
@@ -16,18 +17,18 @@ use Rattle.plan_theory.specs.declared.planned.Planned.TheVariants.{UnsoundOld, U
 use Rattle.plan_theory.proofs.Decided.{waves_are_decisive}
 use Rattle.plan_theory.proofs.Ends.{begins_sound, ends_sound}
 
-found_means : (move : Migration) (budget : ℕ) (found : Found) → IsFound (waves_meaning move) budget found →
+found_means : (move : Migration) (budget : ℕ) (found : Found) → BeginsOld move → IsFound (waves_meaning move) budget found →
     FoundMeans move found
-found_means move budget (Waves ranks pairs chain trail) is =
+found_means move budget (Waves ranks pairs chain trail) begins is =
     record { waves = is.is_good; order = flat_is_seamless move ranks is.is_good }
-found_means move budget (Refuted tree) is =
-    none_without_waves move (refutation_refutes (waves_meaning move) (waves_are_decisive move) budget tree is)
-found_means move budget (Spent tree) is = tt
+found_means move budget (Refuted tree) begins is =
+    none_without_waves move (refutation_refutes (waves_meaning move) (waves_are_decisive move begins) budget tree is)
+found_means move budget (Spent tree) begins is = tt
 
-pub plan_means : (move : Migration) (budget : ℕ) (planned : Planned) → IsPlanned move budget planned →
+pub plan_means : (move : Migration) (budget : ℕ) (planned : Planned) → BeginsOld move → IsPlanned move budget planned →
     PlanMeans move planned
-plan_means move budget (UnsoundOld fault) is =
-    none_without_waves move (λ ranks seamless. faulty_not_sound is (begins_sound move ranks seamless))
-plan_means move budget (UnsoundNew fault) is =
+plan_means move budget (UnsoundOld fault) begins is =
+    none_without_waves move (λ ranks seamless. faulty_not_sound is (begins_sound move ranks begins seamless))
+plan_means move budget (UnsoundNew fault) begins is =
     none_without_waves move (λ ranks seamless. faulty_not_sound is.last (ends_sound move ranks seamless))
-plan_means move budget (Searched found) is = found_means move budget found is.is_found
+plan_means move budget (Searched found) begins is = found_means move budget found begins is.is_found

@@ -1,7 +1,7 @@
 -- Between sound ends what is told of a wave list that isn't seamless is a loop that breaks its ranking.
 use Rattle.std.proofs.Common.{◌≡◌, ℕ, List, arith, subst}
 use Rattle.order_core.specs.declared.turn.Turn.{Turn}
-use Rattle.igp_theory.specs.LoopLaws.{AreSoundEnds, IsLoopOfWave}
+use Rattle.igp_theory.specs.LoopLaws.{BeginsOld, AreSoundEnds, IsLoopOfWave}
 use Rattle.igp_theory.specs.Loops.{missing, loop}
 use Rattle.igp_theory.specs.Migrations.{Migration}
 use Rattle.igp_theory.specs.WaveFaults.{IsWavesFault}
@@ -26,19 +26,19 @@ breaks_of_wave move ranks w a turns fault is address ring =
       no_later = λ u v is_old is_new. omega (arith, is.round.new v is_new, is.round.old u is_old);
     }))
 
-pub wave_fault_breaks : (move : Migration) (ranks : List ℕ) (w a : ℕ) (turns : List Turn) → AreSoundEnds move →
+pub wave_fault_breaks : (move : Migration) (ranks : List ℕ) (w a : ℕ) (turns : List Turn) → BeginsOld move → AreSoundEnds move →
     IsWavesFault move ranks w (loop a turns) → Break (waves_meaning move) ranks a turns
-wave_fault_breaks move ranks w a turns ends fault =
-    let is = wave_fault_between_ends move ranks w (loop a turns) ends fault in
+wave_fault_breaks move ranks w a turns begins ends fault =
+    let is = wave_fault_between_ends move ranks w (loop a turns) begins ends fault in
     let same : loop a turns ≡ loop is.address is.ring = is.is in
     let address : is.address ≡ a = cc in
     let ring : is.ring ≡ turns = cc in
     breaks_of_wave move ranks w a turns fault is address ring
 
 -- no router lacks a step there
-pub no_step_lacks : (move : Migration) (ranks : List ℕ) (w a u : ℕ) → AreSoundEnds move →
+pub no_step_lacks : (move : Migration) (ranks : List ℕ) (w a u : ℕ) → BeginsOld move → AreSoundEnds move →
     IsWavesFault move ranks w (missing a u) → ⊥
-no_step_lacks move ranks w a u ends fault =
-    let is = wave_fault_between_ends move ranks w (missing a u) ends fault in
+no_step_lacks move ranks w a u begins ends fault =
+    let is = wave_fault_between_ends move ranks w (missing a u) begins ends fault in
     let clash : missing a u ≡ loop is.address is.ring = is.is in
     cc

@@ -1,6 +1,7 @@
 -- What the laws on plans say (Vanbever et al., SIGCOMM 2011, on seamless orders and their loops).
 use Rattle.std.specs.Prelude.{◌≡◌, ℕ, List, []}
 use Rattle.order_core.specs.Rankings.{flat_of}
+use Rattle.igp_theory.specs.LoopLaws.{BeginsOld}
 use Rattle.igp_theory.specs.Loops.{IsLoop}
 use Rattle.igp_theory.specs.Migrations.{Migration}
 use Rattle.igp_theory.specs.States.{IsSeamless}
@@ -13,10 +14,10 @@ use Rattle.plan_theory.specs.Plans.{IsPlanned}
 use Rattle.plan_theory.specs.declared.planned.Planned.{Planned}
 use Rattle.plan_theory.specs.declared.planned.Planned.TheVariants.{UnsoundOld, UnsoundNew, Searched}
 
--- loops decide which wave lists are seamless: each seamless one ranks some Old turn's router of every loop with both
+-- where every router begins in Old, loops decide which wave lists are seamless: each seamless one ranks some Old turn's router of every loop with both
 -- tags before some New turn's router
 abbrev pub WavesAreDecided : Migration → Type 0
-WavesAreDecided move = IsDecisive (AreSeamlessWaves move) (IsLoop move) []
+WavesAreDecided move = BeginsOld move → IsDecisive (AreSeamlessWaves move) (IsLoop move) []
 
 -- one loop at most is told of a wave list, and none of a seamless one
 abbrev pub WavesPickOne : Migration → Type 0
@@ -39,7 +40,7 @@ FoundMeans move (Waves ranks pairs chain trail) = AreSeamlessWithOrder move rank
 FoundMeans move (Refuted tree) = HasNoneSeamless move
 FoundMeans move (Spent tree) = Unit {0}
 
--- what a plan means: an end that isn't sound leaves none either
+-- what a plan means where every router begins in Old: an end that isn't sound leaves none either
 abbrev pub PlanMeans : Migration → Planned → Type 0
 PlanMeans move (UnsoundOld fault) = HasNoneSeamless move
 PlanMeans move (UnsoundNew fault) = HasNoneSeamless move
@@ -47,4 +48,4 @@ PlanMeans move (Searched found) = FoundMeans move found
 
 abbrev pub PlansMean : Migration → Type 0
 PlansMean move =
-    (budget : ℕ) (planned : Planned) → IsPlanned move budget planned → PlanMeans move planned
+    (budget : ℕ) (planned : Planned) → BeginsOld move → IsPlanned move budget planned → PlanMeans move planned

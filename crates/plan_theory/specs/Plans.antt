@@ -3,7 +3,8 @@ use Rattle.std.specs.Prelude.{ℕ}
 use Rattle.igp_theory.specs.LoopLaws.{AreSoundEnds}
 use Rattle.igp_theory.specs.Loops.{Fault, missing, loop, IsFault}
 use Rattle.igp_theory.specs.Migrations.{Migration}
-use Rattle.igp_theory.specs.States.{IsSound, all_old, all_new}
+use Rattle.igp_theory.specs.Phases.{all_new}
+use Rattle.igp_theory.specs.States.{IsSound}
 use Rattle.order_search.specs.Answers.{IsFound}
 use Rattle.order_search.specs.declared.found.Found.{Found}
 use Rattle.plan_theory.specs.WavesMeaning.{waves_meaning}
@@ -17,9 +18,9 @@ abbrev pub fault_told : EndFault → Fault
 fault_told (Loop address turns) = loop address turns
 fault_told (Missing address router) = missing address router
 
--- the first state is sound, and the last one has this fault, so it isn't
+-- the start is sound, and the last state has this fault, so it isn't
 pub record IsUnsoundNew (move : Migration) (fault : Fault) : Type 0 where
-  pub first : IsSound move all_old
+  pub first : IsSound move move.start
   pub last : IsFault move all_new fault
 
 -- both are sound, and this is what the search found between them
@@ -29,6 +30,6 @@ pub record IsSearched (move : Migration) (budget : ℕ) (found : Found) : Type 0
 
 -- what is planned of a network, with this budget of branches
 abbrev pub IsPlanned : Migration → ℕ → Planned → Type 0
-IsPlanned move budget (UnsoundOld fault) = IsFault move all_old (fault_told fault)
+IsPlanned move budget (UnsoundOld fault) = IsFault move move.start (fault_told fault)
 IsPlanned move budget (UnsoundNew fault) = IsUnsoundNew move (fault_told fault)
 IsPlanned move budget (Searched found) = IsSearched move budget found

@@ -2,7 +2,7 @@ ghost use Rattle.plan_theory.specs.Laws.{WavesAreDecided, WavesPickOne, PlansAre
 
 use igp_theory::AnyMigration;
 
-/// The law that loops decide which wave lists are seamless: every seamless wave list puts some router tagged `Old` of
+/// The law that loops decide which wave lists are seamless, where every router begins in `Old`: every seamless wave list puts some router tagged `Old` of
 /// each loop with both tags before some router tagged `New`. And one loop at most is told of a wave list, and none of a
 /// seamless one.
 pub fn waves_are_decided<T: AnyMigration>()
@@ -15,7 +15,7 @@ pub fn plans_are_one<T: AnyMigration>()
     ensures { PlansAreOne T.migration }
 {}
 
-/// The law of what a plan means.
+/// The law of what a plan means, where every router begins in `Old`.
 ///
 /// Planned waves are seamless, and so is the order that writes them wave by wave. Where there is a refutation, or an
 /// end that isn't sound, no wave list is seamless, and no order.

@@ -10,7 +10,8 @@ use Rattle.route_core.specs.Tables.{LongestEntry}
 use Rattle.route_core.specs.declared.entry.Entry.{Entry}
 use Rattle.igp_theory.specs.Forwarding.{IsOriginated, IsTarget, Usable, Counts, connected_counts, old_counts, new_counts, Uses, MustForward, Steps}
 use Rattle.igp_theory.specs.Migrations.{Migration}
-use Rattle.igp_theory.specs.States.{State, StepsIn, Follows, IsSoundAt}
+use Rattle.igp_theory.specs.Phases.{State}
+use Rattle.igp_theory.specs.States.{StepsIn, Follows, IsSoundAt}
 use Rattle.igp_theory.specs.declared.phase.Phase.{Phase}
 use Rattle.prefix_atoms.specs.Classes.{Occurs, connected_occurs, old_occurs, new_occurs, AreSamples, Classes, IsInClass, HasTarget, AreClasses}
 use Rattle.prefix_atoms.specs.Laws.{ActAlike}

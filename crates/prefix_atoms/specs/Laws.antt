@@ -6,7 +6,8 @@ use Rattle.route_core.specs.Tables.{LongestEntry}
 use Rattle.route_core.specs.declared.entry.Entry.{Entry}
 use Rattle.igp_theory.specs.Forwarding.{IsTarget, Usable, Uses, Steps}
 use Rattle.igp_theory.specs.Migrations.{Migration}
-use Rattle.igp_theory.specs.States.{State, IsSoundAt}
+use Rattle.igp_theory.specs.Phases.{State}
+use Rattle.igp_theory.specs.States.{IsSoundAt}
 use Rattle.igp_theory.specs.declared.phase.Phase.{Phase}
 use Rattle.prefix_atoms.specs.Classes.{Classes, AreClasses, IsInClass}
 

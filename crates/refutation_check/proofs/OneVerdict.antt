@@ -13,7 +13,8 @@ use Rattle.igp_theory.proofs.OrderedLists.{longer, same_front}
 use Rattle.igp_theory.specs.Forwarding.{MustForward, Steps}
 use Rattle.igp_theory.specs.Loops.{IsLoop, IsTag, IsTagOf}
 use Rattle.igp_theory.specs.Migrations.{Migration}
-use Rattle.igp_theory.specs.declared.phase.Phase.TheVariants.{Old, New}
+use Rattle.igp_theory.specs.declared.phase.Phase.{Phase}
+use Rattle.igp_theory.specs.declared.phase.Phase.TheVariants.{New}
 use Rattle.order_core.specs.declared.turn.Tag.{Tag}
 use Rattle.order_core.specs.declared.turn.Tag.TheVariants as tag
 use Rattle.order_core.specs.declared.turn.Turn.{Turn}
@@ -68,11 +69,11 @@ said_parts R (x ∷ xs) ys (z ∷ zs) said =
 -- A node that is right has no wrong kind
 
 -- whoever has a tag has to pass packets on
-tag_must : (move : Migration) (u a h : ℕ) (t : Tag) →
-    IsTagOf t (Steps move u Old a h) (Steps move u New a h) → MustForward move.net a u
-tag_must move u a h tag.Old is = is.0.must
-tag_must move u a h tag.New is = is.1.must
-tag_must move u a h tag.Both is = is.0.must
+tag_must : (move : Migration) (u a h : ℕ) (start : Phase) (t : Tag) →
+    IsTagOf t (Steps move u start a h) (Steps move u New a h) → MustForward move.net a u
+tag_must move u a h start tag.Old is = is.0.must
+tag_must move u a h start tag.New is = is.1.must
+tag_must move u a h start tag.Both is = is.0.must
 
 -- the turn at a place of a loop has to pass packets on
 loop_must : (move : Migration) (a : ℕ) (turns : List Turn) (k : ℕ) (turn : Turn) → IsLoop move a turns → k < length turns →
@@ -80,7 +81,8 @@ loop_must : (move : Migration) (a : ℕ) (turns : List Turn) (k : ℕ) (turn : T
 loop_must move a turns k turn loop within is =
     let at = around_at (λ (r s : Turn). IsTag move a r s.router) turns k turn loop.tags within in
     subst (λ (t : Turn). MustForward move.net a t.router) is
-    (tag_must move (get_or turns k turn).router a (next_at turns k turn).router (get_or turns k turn).tag at.steps)
+    (tag_must move (get_or turns k turn).router a (next_at turns k turn).router (move.start (get_or turns k turn).router)
+    (get_or turns k turn).tag at.steps)
 
 right_no_wrong : (move : Migration) → IsNetwork move.net → (place : Place) (node : Node) (kind : WrongKind) →
     IsRightNode move place node → WrongNode move place node kind → ⊥

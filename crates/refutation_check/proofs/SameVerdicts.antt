@@ -1,7 +1,7 @@
 -- Over tables with the same entries at the routers of the network a text has the same verdict, and means the same.
 use Rattle.std.proofs.Common.{ℕ, List, [], ◌∷◌}
 use Rattle.igp_theory.specs.Laws.{HaveSameTables}
-use Rattle.igp_theory.specs.Migrations.{Migration, migration}
+use Rattle.igp_theory.specs.Migrations.{Migration, retabled}
 use Rattle.igp_theory.specs.Routes.{Tables}
 use Rattle.igp_theory.proofs.SameTables.{same_tables_sym, around_ring_over, loop_over, seamless_over, tag_over}
 use Rattle.igp_theory.proofs.WaveFaultLaws.{seamless_waves_over}
@@ -22,7 +22,7 @@ use Rattle.refutation_check.specs.declared.verdict.WrongKind.TheVariants.{Form, 
 
 -- the same branches are wrong
 branch_over : (move : Migration) (old' new' : Tables) → HaveSameTables move old' new' → (a : ℕ) (turns : List Turn) (kind : WrongKind) →
-    WrongBranch move a turns kind → WrongBranch (migration move.net old' new') a turns kind
+    WrongBranch move a turns kind → WrongBranch (retabled move old' new') a turns kind
 branch_over move old' new' same a turns Form w = w
 branch_over move old' new' same a turns Router w = w
 branch_over move old' new' same a turns Address w = w
@@ -33,7 +33,7 @@ branch_over move old' new' same a turns OneSided w = w
 branch_over move old' new' same a turns NotAssumed w = w
 
 wrong_over : (move : Migration) (old' new' : Tables) → HaveSameTables move old' new' → (place : Place) (node : Node) (kind : WrongKind) →
-    WrongNode move place node kind → WrongNode (migration move.net old' new') place node kind
+    WrongNode move place node kind → WrongNode (retabled move old' new') place node kind
 wrong_over move old' new' same place (Branch a turns) kind w = branch_over move old' new' same a turns kind w
 wrong_over move old' new' same place (Leaf cycle) kind w = w
 wrong_over move old' new' same place Unvisited kind w = w
@@ -41,7 +41,7 @@ wrong_over move old' new' same place Unvisited kind w = w
 -- and the same words
 words_over : (move : Migration) (old' new' : Tables) → HaveSameTables move old' new' →
     (place : Place) (words : List (List ℕ)) (kind : WrongKind)
-    → WrongWords move place words kind → WrongWords (migration move.net old' new') place words kind
+    → WrongWords move place words kind → WrongWords (retabled move old' new') place words kind
 words_over move old' new' same place words Form w = w
 words_over move old' new' same place words Router w = w
 words_over move old' new' same place words Address w =
@@ -57,30 +57,30 @@ words_over move old' new' same place words NotAssumed w =
 
 module _ (move : Migration) (old' new' : Tables) (same : HaveSameTables move old' new') where
   lowest_over : (place : Place) (words : List (List ℕ)) (kind : WrongKind) → IsLowestKind (WrongWords move place words) kind →
-      IsLowestKind (WrongWords (migration move.net old' new') place words) kind
+      IsLowestKind (WrongWords (retabled move old' new') place words) kind
   lowest_over place words kind low = record {
     wrong = words_over move old' new' same place words kind low.wrong;
-    lowest = λ other w. low.lowest other (words_over (migration move.net old' new') move.old move.new (same_tables_sym same) place words other w);
+    lowest = λ other w. low.lowest other (words_over (retabled move old' new') move.old move.new (same_tables_sym same) place words other w);
   }
 
   -- the same nodes are right
-  right_over : (place : Place) (node : Node) → IsRightNode move place node → IsRightNode (migration move.net old' new') place node
+  right_over : (place : Place) (node : Node) → IsRightNode move place node → IsRightNode (retabled move old' new') place node
   right_over place (Branch a turns) right = (loop_over same right.0, right.1)
   right_over place (Leaf cycle) right = right
   right_over place Unvisited right = right
 
   lines_over : (lines : List (List ℕ)) (nodes : List Node) (left : List Place) → AreRightLines move lines nodes left →
-      AreRightLines (migration move.net old' new') lines nodes left
+      AreRightLines (retabled move old' new') lines nodes left
   lines_over lines nodes left right = record {
     said = right.said;
-    fills = Fill-weaker (IsRightNode move) (IsRightNode (migration move.net old' new')) right_over ([] ∷ []) left nodes right.fills;
+    fills = Fill-weaker (IsRightNode move) (IsRightNode (retabled move old' new')) right_over ([] ∷ []) left nodes right.fills;
   }
 
-  tree_over : (text : List ℕ) (nodes : List Node) → IsTreeText move text nodes → IsTreeText (migration move.net old' new') text nodes
+  tree_over : (text : List ℕ) (nodes : List Node) → IsTreeText move text nodes → IsTreeText (retabled move old' new') text nodes
   tree_over text nodes tree = record { lines = tree.lines; text_is = tree.text_is; right = lines_over tree.lines nodes [] tree.right }
 
   first_wrong_over : (text : List ℕ) (line : ℕ) (kind : WrongKind) → IsFirstWrongLine move text line kind →
-      IsFirstWrongLine (migration move.net old' new') text line kind
+      IsFirstWrongLine (retabled move old' new') text line kind
   first_wrong_over text line kind (header_missing none) = header_missing none
   first_wrong_over text line kind (wrong_there before x after nodes place left k is right low) =
       wrong_there before x after nodes place left k is (lines_over before nodes (place ∷ left) right) (lowest_over place (pieces_of x) k low)
@@ -89,7 +89,7 @@ module _ (move : Migration) (old' new' : Tables) (same : HaveSameTables move old
       ends_early lines nodes place left is (lines_over lines nodes (place ∷ left) right)
 
   -- a text has the same verdict
-  pub verdict_over : (text : List ℕ) (verdict : Verdict) → IsTextVerdict move text verdict → IsTextVerdict (migration move.net old' new') text verdict
+  pub verdict_over : (text : List ℕ) (verdict : Verdict) → IsTextVerdict move text verdict → IsTextVerdict (retabled move old' new') text verdict
   verdict_over text (Closed branches leaves) is = record {
     nodes = is.nodes;
     tree = tree_over text is.nodes is.tree;
@@ -106,7 +106,7 @@ module _ (move : Migration) (old' new' : Tables) (same : HaveSameTables move old
   verdict_over text (Wrong line kind) is = first_wrong_over text line kind is
 
   -- where no wave list and no order is seamless, none is
-  pub none_over : HasNoneSeamless move → HasNoneSeamless (migration move.net old' new')
+  pub none_over : HasNoneSeamless move → HasNoneSeamless (retabled move old' new')
   none_over none = record {
     waves = λ ranks seamless. none.waves ranks (seamless_waves_over (same_tables_sym same) seamless);
     orders = λ order seamless. none.orders order (seamless_over (same_tables_sym same) seamless);

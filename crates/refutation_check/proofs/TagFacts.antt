@@ -5,7 +5,7 @@ use Rattle.igp_theory.specs.Forwarding.{MustForward, Steps}
 use Rattle.igp_theory.specs.Loops.{IsTag, IsTagOf}
 use Rattle.igp_theory.specs.Migrations.{Migration}
 use Rattle.igp_theory.specs.declared.phase.Phase.{Phase}
-use Rattle.igp_theory.specs.declared.phase.Phase.TheVariants.{Old, New}
+use Rattle.igp_theory.specs.declared.phase.Phase.TheVariants.{New}
 use Rattle.order_core.specs.declared.turn.Tag.{Tag}
 use Rattle.order_core.specs.declared.turn.Tag.TheVariants as tag
 use Rattle.order_core.specs.declared.turn.Turn.{Turn}
@@ -27,10 +27,10 @@ told tag.Both false new P Q p q = (λ e. absurd (false≢true e), λ is. absurd 
 
 -- the tag of a turn, by two tests for its router's steps to the next one
 pub tag_told : (move : Migration) (a : ℕ) (turn : Turn) (next : ℕ) (b c result : Bool) →
-    (IsTrue b ↔ Steps move turn.router Old a next) → (IsTrue c ↔ Steps move turn.router New a next)
+    (IsTrue b ↔ Steps move turn.router (move.start turn.router) a next) → (IsTrue c ↔ Steps move turn.router New a next)
     → result ≡ tells turn.tag b c → IsTrue result ↔ IsTag move a turn next
 tag_told move a turn next b c result by_old by_new is =
-    let tagged = told turn.tag b c (Steps move turn.router Old a next) (Steps move turn.router New a next) by_old by_new in
+    let tagged = told turn.tag b c (Steps move turn.router (move.start turn.router) a next) (Steps move turn.router New a next) by_old by_new in
     (λ e. record { steps = tagged.0 (sym is ∙ e) }, λ t. is ∙ tagged.1 t.steps)
 
 -- a test for what an answer forwards to is one for the steps of its router

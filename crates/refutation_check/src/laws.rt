@@ -3,7 +3,8 @@ ghost use Rattle.refutation_check.specs.TreeTexts.{TreesReadBack};
 
 use igp_theory::AnyMigration;
 
-/// The law that where a text is a closed tree no wave list and no order of the network is seamless.
+/// The law that where every router begins in `Old` and a text is a closed tree, no wave list and no order of the network is
+/// seamless.
 ///
 /// Neither end needs to be sound, and no branch needs to be the one that a search would make.
 pub fn closed_trees_refute<T: AnyMigration>()

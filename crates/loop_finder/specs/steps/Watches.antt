@@ -1,6 +1,6 @@
 -- Changes of a router, and what becomes of the faults of states.
 use Rattle.std.specs.Prelude.{◌≡◌, ℕ, List, length}
-use Rattle.igp_theory.specs.States.{State}
+use Rattle.igp_theory.specs.Phases.{State}
 use Rattle.igp_theory.specs.declared.phase.Phase.{Phase}
 use Rattle.order_core.specs.declared.turn.Turn.{Turn}
 use Rattle.loop_finder.specs.Faults.{state_in}

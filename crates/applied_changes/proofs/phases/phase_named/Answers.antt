@@ -1,5 +1,6 @@
 use Rattle.std.proofs.Common.{◌∙◌, sym}
-use Rattle.igp_theory.specs.States.{State, state_of}
+use Rattle.igp_theory.specs.Phases.{State}
+use Rattle.igp_theory.specs.States.{state_of}
 use Rattle.applied_changes.proofs.PhaseFacts.{phase_further, phase_here}
 use Rattle.applied_changes.proofs.phases.phase_named.Goals as goal
 

@@ -4,6 +4,6 @@ use Rattle.igp_theory.proofs.loop_laws.faults_between_sound_ends_are_loops.Goals
 
 pub returns : goal.returns
 returns g c = record {
-  state = λ state fault ends is. fault_between_ends g.T.AnyMigration.migration state fault ends is;
-  waves = λ ranks w fault ends is. wave_fault_between_ends g.T.AnyMigration.migration ranks w fault ends is;
+  state = λ state fault ends from is. fault_between_ends g.T.AnyMigration.migration state fault ends from is;
+  waves = λ ranks w fault begins ends is. wave_fault_between_ends g.T.AnyMigration.migration ranks w fault begins ends is;
 }

@@ -1,6 +1,6 @@
 use Rattle.std.proofs.Common.{Bool, sym, subst}
 use Rattle.std.specs.Bool.{OnTrue}
-use Rattle.igp_theory.specs.States.{State, all_old}
+use Rattle.igp_theory.specs.Phases.{State, all_old}
 use Rattle.loop_finder.specs.Faults.{state_in}
 use Rattle.loop_finder.specs.Soundness.{Sound}
 use Rattle.loop_finder.proofs.OrderStates.{same_state}

@@ -1,4 +1,4 @@
-use Rattle.std.proofs.Common.{◌+◌, length, arith}
+use Rattle.std.proofs.Common.{◌+◌, length, arith, refl}
 use Rattle.std.proofs.lemmas.List.{length-map}
 use Rattle.std.proofs.lemmas.Result.{MatchResult-at_ok}
 use Rattle.net_addr.specs.Spans.{bytes_of}
@@ -43,6 +43,6 @@ returns-in-Ok-clause-refutes g c =
     let read : HasReadLines move lines c.in-Ok.read =
     MatchResult-at_ok (HasReadLines move lines) (IsWrongVerdict move text) c.in-Ok.read
     c.in-Ok.is c.in_ok-read.ensures in
-    verdict_refutes move text c.end_verdict.result
+    verdict_refutes move text c.end_verdict.result (λ u. refl)
     (end_is move text lines c.in-Ok.read (length entries + 2) c.end_verdict.result c.in-Some.ensures.some.lines read
     (omega (arith, length-map entries (λ (line : Line). bytes_of text line.span))) c.end_verdict.ensures)

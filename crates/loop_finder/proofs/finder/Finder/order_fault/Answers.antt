@@ -1,7 +1,8 @@
 use Rattle.std.proofs.Common.{ℕ, ◌↔◌, List, IsNone, length, subst, sym, ap, ◌∙◌, arith}
 use Rattle.order_core.specs.Orders.{IsOrder}
 use Rattle.order_core.proofs.Orders.{order_length}
-use Rattle.igp_theory.specs.States.{State, IsSeamless, state_of}
+use Rattle.igp_theory.specs.Phases.{State}
+use Rattle.igp_theory.specs.States.{IsSeamless, state_of}
 use Rattle.rib_mix.specs.Mixture.{migration_of}
 use Rattle.loop_finder.specs.Faults.{Finding}
 use Rattle.loop_finder.specs.Orders.{AreFirstStates}
