@@ -198,7 +198,7 @@ no_reads_end (Err e) reads no_fault = none_failed (record { none = refl; none_si
 -- where there is no memory for the text of an answer
 pub agree_may_fail : {call : Call} {asked : List (List ℕ)} {outcome : Outcome} {before after : ReadsSoFar} → IsAnswer call asked outcome →
     ReadsAgree (status_of outcome) before after → MayFail before after
-agree_may_fail is agree = elim (reads_or_not is) [ | inl fault ↦ last_failed (agree.read_fault fault) | inr none ↦ none_failed (agree.unless_read_fault none) ]
+agree_may_fail is agree = elim (reads_or_not is) [ inl fault ↦ last_failed (agree.read_fault fault) | inr none ↦ none_failed (agree.unless_read_fault none) ]
 
 -- why configurations aren't read is the outcome
 pub unread_outcome : (command : Command) (texts : GivenTexts) (unread : Unread) (r : Result Outcome AllocError) →

@@ -8,7 +8,6 @@ use Rattle.migration_report.specs.Outcomes.{status_of}
 use Rattle.migration_report.specs.declared.outcome.Outcome.{Outcome}
 use Rattle.migration_report.specs.declared.outcome.Outcome.TheVariants.{Refused}
 use Rattle.migration_report.specs.declared.refusal.Refusal.TheVariants.{Words, Files}
-use Rattle.migration_report.specs.declared.status.Status.{Status}
 use Rattle.migration_report.specs.declared.status.Status.TheVariants.{ReadFault}
 use Rattle.migrate_cli.specs.AnswerLaws.{IsFileTold, MayEnd, TellTheSame}
 use Rattle.migrate_cli.specs.AnswerLaws.TellTheSame.{same_outcome, words_refused}

@@ -1,5 +1,5 @@
 -- A call that ended so keeps its promises.
-use Rattle.std.proofs.Common.{◌≡◌, ◌≢◌, ◌+◌, ◌∷◌, [], ℕ, List, arith, refl, subst, sym}
+use Rattle.std.proofs.Common.{◌≡◌, ◌≢◌, ◌∷◌, [], ℕ, List, arith, refl, subst, sym}
 use Rattle.store_edge.specs.Faults.{Rose}
 use Rattle.migrate_words.specs.Asked.{Asks}
 use Rattle.migrate_words.specs.declared.command.CommandKind.TheVariants.{Plan, Prepare}

@@ -7,7 +7,7 @@ use Rattle.migrate_words.specs.Usages.{usage_of}
 use Rattle.migrate_words.specs.declared.command.Command.{Command}
 use Rattle.migrate_words.specs.declared.command.CommandKind.{CommandKind}
 use Rattle.migrate_cli.specs.CommandFiles.{own_file, own_files, own_most}
-use Rattle.migrate_cli.specs.Reading.{AreShort, NamedText, named_text, named_texts}
+use Rattle.migrate_cli.specs.Reading.{AreShort, named_text, named_texts}
 use Rattle.migrate_cli.proofs.FileFacts.{most_small, short_length}
 
 -- one name and one text are one file

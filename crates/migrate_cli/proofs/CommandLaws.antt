@@ -1,5 +1,5 @@
 -- A command decides one thing of its input, and what it decides has a text.
-use Rattle.std.proofs.Common.{◌≡◌, ◌∙◌, ◌∷◌, [], ℕ, List, sym, subst}
+use Rattle.std.proofs.Common.{◌≡◌, ◌∙◌, ◌∷◌, [], List, sym, subst}
 use Rattle.igp_theory.specs.Migrations.{ospf_to_isis}
 use Rattle.net_model.specs.Refusals.{NamesAscend}
 use Rattle.migrate_words.specs.declared.command.CommandKind.{CommandKind}

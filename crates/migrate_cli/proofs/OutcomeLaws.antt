@@ -1,7 +1,6 @@
 -- The texts that a command reads come to one outcome: each step towards it goes one way.
 use Rattle.std.proofs.Common.{◌≡◌, ◌≢◌, ℕ, List, sym, ap, subst, ◌∙◌, arith}
 use Rattle.std.proofs.lemmas.Option.{same_Some}
-use Rattle.ios_reader.specs.declared.kind.ReadKind.{ReadKind}
 use Rattle.isis_writer.specs.ReadTexts.{ReadsTexts}
 use Rattle.net_model.specs.Configuration.{Configuration}
 use Rattle.net_model.specs.Network.{Network, HasConfiguration}

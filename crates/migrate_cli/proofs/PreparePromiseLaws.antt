@@ -1,5 +1,5 @@
 -- What a call of `prepare` wrote is read back.
-use Rattle.std.proofs.Common.{◌≡◌, ◌≢◌, ◌<◌, ◌∷◌, [], Contains, ℕ, List, ap, arith, length, map, subst, sym, take}
+use Rattle.std.proofs.Common.{◌≡◌, ◌≢◌, ◌<◌, ◌∷◌, [], Contains, ℕ, List, ap, arith, length, map, subst, take}
 use Rattle.std.proofs.lemmas.List.Elements.{All-contains_itself}
 use Rattle.std.proofs.lemmas.List.Sorted.{All-permutation, IsPermutation-sym}
 use Rattle.store_edge.specs.Sink.{AddsBytes}

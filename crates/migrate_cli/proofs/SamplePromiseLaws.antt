@@ -1,8 +1,7 @@
 -- What a call of `sample` promises.
-use Rattle.std.proofs.Common.{◌≡◌, ◌∙◌, ◌<◌, ◌++◌, ◌∷◌, [], ℕ, List, ap, append-nil, arith, length, refl, subst, sym}
+use Rattle.std.proofs.Common.{◌≡◌, ◌∙◌, ◌++◌, ◌∷◌, [], ℕ, List, ap, append-nil, arith, length, refl, subst, sym}
 use Rattle.std.proofs.lemmas.List.{length-append}
 use Rattle.net_model.specs.Network.{Network}
-use Rattle.igp_theory.specs.Migrations.{ospf_to_isis}
 use Rattle.sample_network.specs.SampleTexts.{sample_text}
 use Rattle.order_search.specs.declared.found.Found.TheVariants.{Waves}
 use Rattle.plan_theory.specs.declared.planned.Planned.TheVariants.{Searched}

@@ -45,11 +45,7 @@ pub(crate) fn judge_check(
 }
 
 /// What is decided of an order of the routers, by the tables of both protocols.
-fn judge_order(
-    alloc: Global,
-    tables: &Tables<'_>,
-    order: &[u32],
-) -> Result<Decision, OutOfMemory>
+fn judge_order(alloc: Global, tables: &Tables<'_>, order: &[u32]) -> Result<Decision, OutOfMemory>
     requires { IsOrder (length tables.now) order.now }
     ensures { IfOk result (IsOrderDecision (ospf_to_isis tables.now) order.now) }
 {
@@ -78,11 +74,7 @@ fn judge_mixed_order(
 }
 
 /// What is decided of a wave list of the routers, by the tables of both protocols.
-fn judge_waves(
-    alloc: Global,
-    tables: &Tables<'_>,
-    waves: &Waves,
-) -> Result<Decision, OutOfMemory>
+fn judge_waves(alloc: Global, tables: &Tables<'_>, waves: &Waves) -> Result<Decision, OutOfMemory>
     requires { length waves.now ≡ length tables.now }
     ensures { IfOk result (IsWavesDecision (ospf_to_isis tables.now) waves.now) }
 {

@@ -68,12 +68,7 @@ fn judge_counting(
 }
 
 /// Of each router the change that may come next.
-fn nexts_of(
-    alloc: Global,
-    routers: u32,
-    ranks: &[u32],
-    done: &[u8],
-) -> Result<Nexts, OutOfMemory>
+fn nexts_of(alloc: Global, routers: u32, ranks: &[u32], done: &[u8]) -> Result<Nexts, OutOfMemory>
     requires each { length ranks.now ≡ routers }
     requires ranking { IsRanking routers ranks.now }
     requires counts { length done.now ≡ routers }

@@ -41,11 +41,7 @@ pub fn run<F: Files, S: Sink>(alloc: Global, words: &[String], files: &mut F, ou
 }
 
 /// What the words of a call come to.
-fn decide<F: Files>(
-    alloc: Global,
-    words: &[String],
-    files: &mut F,
-) -> Result<Outcome, OutOfMemory>
+fn decide<F: Files>(alloc: Global, words: &[String], files: &mut F) -> Result<Outcome, OutOfMemory>
     ensures answer { HasAnswer (call_of (map string_bytes words.now) (F.content files.old)) (F.asked files.old) (F.asked files.new) result }
     ensures reads { ReadsEnd result (reads_so_far (F.asked files.old) (F.faults files.old) (F.failed_at files.old))
         (reads_so_far (F.asked files.new) (F.faults files.new) (F.failed_at files.new)) }

@@ -27,12 +27,7 @@ pub(crate) fn judge_sample(alloc: Global, routers: u32, net: &Net) -> Result<Dec
 }
 
 /// What is decided where this is planned.
-fn sum_up(
-    alloc: Global,
-    routers: u32,
-    net: &Net,
-    planned: Planned,
-) -> Result<Decision, OutOfMemory>
+fn sum_up(alloc: Global, routers: u32, net: &Net, planned: Planned) -> Result<Decision, OutOfMemory>
     requires some { 0 < length net.now }
     requires network { IsNetwork net.now }
     requires planned { IsPlanned (ospf_to_isis net.now) USUAL_BUDGET planned }

@@ -22,11 +22,7 @@ pub(crate) fn safe_text(alloc: Global, changes: u32) -> Result<Bytes, AllocError
 }
 
 /// The line that a wave list is safe, with the count of its changes and that of its waves.
-pub(crate) fn waves_safe_text(
-    alloc: Global,
-    changes: u32,
-    waves: u32,
-) -> Result<Bytes, AllocError>
+pub(crate) fn waves_safe_text(alloc: Global, changes: u32, waves: u32) -> Result<Bytes, AllocError>
     ensures { IfOk result (λ text. text ≡ waves_safe_text changes waves) }
 {
     let line = LineBuilder::start(alloc, b"safe")?.number(u64::from(changes))?;

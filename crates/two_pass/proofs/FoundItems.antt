@@ -163,7 +163,7 @@ module _ (items : List ℕ) (place wave : ℕ) (before now : List (Option ℕ)) 
       kept = λ i no.
           let apart : i ≡ item → ⊥ =
           λ e. no (subst (Contains (take place items ++ item ∷ [])) (sym e)
-              (Contains-append_right (take place items) (item ∷ []) item (Contains-first item []))) in
+          (Contains-append_right (take place items) (item ∷ []) item (Contains-first item []))) in
           get_or-set_other now item i (Some wave) None apart
           ∙ front.kept i (λ c. no (Contains-append_left (take place items) (item ∷ []) i c));
     })

@@ -30,12 +30,7 @@ fn prints(
 }
 
 /// The decision on a network of two routers is printed as this line.
-fn tells(
-    rt: &impl Abort,
-    alloc: Global,
-    decision: Decision,
-    expected: &[u8],
-) -> Result<(), Fail>
+fn tells(rt: &impl Abort, alloc: Global, decision: Decision, expected: &[u8]) -> Result<(), Fail>
     requires { (net : Network) → length net ≡ 2 → IsTellable net decision }
 {
     let net = Net::build(alloc, bare(alloc, 2)?)?;
@@ -137,7 +132,12 @@ fn input_is_refused(rt: HostRuntime) -> Result<(), Fail> {
     };
     let length = Refusal::Length { file: file(alloc)? };
     let total = Refusal::Total { number: 67108865 };
-    refuses(&rt, alloc, Refusal::Words { detail: none }, b"words refused\n")?;
+    refuses(
+        &rt,
+        alloc,
+        Refusal::Words { detail: none },
+        b"words refused\n",
+    )?;
     refuses(
         &rt,
         alloc,

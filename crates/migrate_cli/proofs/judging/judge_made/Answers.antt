@@ -1,4 +1,4 @@
-use Rattle.std.proofs.Common.{◌≡◌, ◌≤◌, ℕ, List, [], ◌∷◌, IfOk, ap, arith, length, map, subst, sym}
+use Rattle.std.proofs.Common.{◌≤◌, ℕ, List, [], ◌∷◌, IfOk, ap, arith, length, map, subst, sym}
 use Rattle.std.proofs.lemmas.List.Elements.{All-cons}
 use Rattle.migrate_cli.specs.CommandFiles.{given_texts, own_file}
 use Rattle.migrate_cli.specs.Outcomes.{IsOutcome}

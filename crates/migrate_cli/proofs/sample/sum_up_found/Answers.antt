@@ -1,4 +1,4 @@
-use Rattle.std.proofs.Common.{◌≡◌, ap, subst, sym}
+use Rattle.std.proofs.Common.{subst, sym}
 use Rattle.igp_theory.specs.Migrations.{ospf_to_isis}
 use Rattle.order_search.specs.declared.found.Found.{Found}
 use Rattle.plan_theory.specs.Plans.{IsPlanned}

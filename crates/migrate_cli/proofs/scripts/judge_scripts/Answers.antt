@@ -1,4 +1,4 @@
-use Rattle.std.proofs.Common.{ℕ, List, subst}
+use Rattle.std.proofs.Common.{subst}
 use Rattle.step_scripts.specs.FaultyLines.{IsLeastFaultyLine, RefusesWaves}
 use Rattle.step_scripts.specs.WaveFiles.{NamesWaves}
 use Rattle.migration_report.specs.declared.decision.Decision.TheVariants.{BadOrder}
