@@ -1,5 +1,5 @@
 -- What a plan means, in packets.
-use Rattle.std.proofs.Common.{◌≡◌, ◌<◌, ℕ, length, refl}
+use Rattle.std.proofs.Common.{◌<◌, ℕ, length, refl}
 use Rattle.igp_theory.specs.LoopLaws.{BeginsOld}
 use Rattle.igp_theory.specs.Migrations.{Migration}
 use Rattle.igp_theory.specs.Phases.{State}
