@@ -40,11 +40,11 @@ fn answer_call(rt: &(impl AllocGlobal + rt::Files + Print), call: &str) -> Resul
         words.push(String::from_str(alloc, word)?)?;
     }
     let mut files = files_of(rt, words.as_slice())?;
-    let held = answer(alloc, words.as_slice(), &mut files);
+    let held = answered(alloc, words.as_slice(), &mut files);
     io::writer(rt).write_all(held.text.as_slice())?;
     if !call.contains(" made/") {
         let mut real = RealFiles::new(rt, alloc);
-        if !held.is_same(&answer(alloc, words.as_slice(), &mut real)) {
+        if !held.is_same(&answered(alloc, words.as_slice(), &mut real)) {
             bail!("another answer on the files of the system");
         }
     }
@@ -66,7 +66,7 @@ impl Answer {
 }
 
 /// Answers words on these files, into memory.
-fn answer<F: Files>(alloc: Global, words: &[String], files: &mut F) -> Answer {
+fn answered<F: Files>(alloc: Global, words: &[String], files: &mut F) -> Answer {
     let mut out = RealSink::telling(Vec::new(alloc));
     let status = run(alloc, words, files, &mut out);
     Answer {
