@@ -114,7 +114,8 @@ module _ (call : Call) (before after : List (List ℕ)) (command : Command) (ask
 
   pub stop_answer : (stop : Stop) (r : Result Outcome AllocError) → HasRead (to_read call.content (files_of command)) before after (Err stop) →
       IfOk r (StopsSo stop) → HasAnswer call before after r
-  stop_answer stop (Ok outcome) read so = answered call before after read.asked (Ok outcome) read.asked_is (stopped_so stop outcome read so) (may_stop stop read)
+  stop_answer stop (Ok outcome) read so =
+      answered call before after read.asked (Ok outcome) read.asked_is (stopped_so stop outcome read so) (may_stop stop read)
   stop_answer stop (Err e) read so = answered call before after read.asked (Err e) read.asked_is tt (may_stop stop read)
 
 -- ---- no outcome of texts is a fault ----

@@ -75,7 +75,8 @@ module _ (call : Call) (before after : Outside) where
   plan_so budget configs asks (no_memory _ _ _) of = absurd of
 
   -- and prepared
-  prepare_so : {asked : List (List ℕ)} {status : Status} (file : List ℕ) (configs : List (List ℕ)) → Asks call.words (command_of Prepare (file ∷ []) configs 0) →
+  prepare_so : {asked : List (List ℕ)} {status : Status} (file : List ℕ) (configs : List (List ℕ)) →
+      Asks call.words (command_of Prepare (file ∷ []) configs 0) →
       Ends call asked (course before after) status → status ≡ Done → HasPrepared call file configs (course before after)
   prepare_so file configs asks (whole outcome is _ adds) done = reads_back call file configs (course before after) asks is adds done
   prepare_so file configs asks (cut _ _ _ _) done = absurd (Prim.cc done)

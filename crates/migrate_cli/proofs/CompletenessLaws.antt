@@ -141,7 +141,8 @@ pub check_decides : (call : Call) → AcceptsCheck call → (asked : List (List 
     IsAnswer call asked outcome → Decides (status_of outcome)
 check_decides call it =
     ends_decided call (command_of Check (it.file ∷ []) it.configs 0) it.texts it.net it.accepted Decides
-    (λ decision is. check_of_waves (names_ascend it.accepted.gives) (said_of it.file (λ t. NamesWaves it.net t it.version it.ranks) it.text_is is.1 it.names) is.2)
+    (λ decision is. check_of_waves (names_ascend it.accepted.gives)
+    (said_of it.file (λ t. NamesWaves it.net t it.version it.ranks) it.text_is is.1 it.names) is.2)
 
 -- ---- `scripts` ----
 
@@ -155,7 +156,8 @@ pub scripts_write : (call : Call) → AcceptsScripts call → (asked : List (Lis
     IsAnswer call asked outcome → Writes (status_of outcome)
 scripts_write call it =
     ends_decided call (command_of Scripts (it.file ∷ []) it.configs 0) it.texts it.net it.accepted Writes
-    (λ decision is. scripts_of_waves (names_ascend it.accepted.gives) (said_of it.file (λ t. NamesWaves it.net t it.version it.ranks) it.text_is is.1 it.names) is.2)
+    (λ decision is. scripts_of_waves (names_ascend it.accepted.gives)
+    (said_of it.file (λ t. NamesWaves it.net t it.version it.ranks) it.text_is is.1 it.names) is.2)
 
 -- ---- `replay` ----
 

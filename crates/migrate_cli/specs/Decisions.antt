@@ -24,7 +24,8 @@ pub record Input : Type 0 where
   pub net : Network
 
 abbrev pub input_of : Command → GivenTexts → Network → Input
-input_of command texts net = record { own = named_texts command.own texts.own; number = command.number; configs = texts.configs; net = net }
+input_of command texts net =
+    record { own = named_texts command.own texts.own; number = command.number; configs = texts.configs; net = net }
 
 -- what a command decides
 abbrev pub IsDecision : CommandKind → Input → Decision → Type 0
@@ -32,8 +33,10 @@ IsDecision Check input decision = (order : NamedText) × (input.own ≡ order �
 IsDecision Prepare input decision =
     (design : NamedText) × (input.own ≡ design ∷ []) × IsPrepareDecision design (configured input.configs input.net) decision
 IsDecision Plan input decision = IsPlanDecision input.number input.net decision
-IsDecision Refute input decision = (tree : NamedText) × (input.own ≡ tree ∷ []) × IsTreeDecision (ospf_to_isis input.net) tree.text decision
+IsDecision Refute input decision =
+    (tree : NamedText) × (input.own ≡ tree ∷ []) × IsTreeDecision (ospf_to_isis input.net) tree.text decision
 IsDecision Scripts input decision = (order : NamedText) × (input.own ≡ order ∷ []) × IsScriptsDecision order input.net decision
 IsDecision Replay input decision =
-    (order : NamedText) × (journal : NamedText) × (input.own ≡ order ∷ journal ∷ []) × IsReplayDecision order (journal_of journal.text input.net) decision
+    (order : NamedText) × (journal : NamedText) × (input.own ≡ order ∷ journal ∷ []) ×
+    IsReplayDecision order (journal_of journal.text input.net) decision
 IsDecision Sample input decision = IsSampleDecision input.number input.net decision

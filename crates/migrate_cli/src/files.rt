@@ -91,7 +91,8 @@ fn add_own<'a>(
     kind: CommandKind,
     names: &[&'a str],
 ) -> Result<(), OutOfMemory>
-    ensures { OnOk result (map file_of files.new.items ≡ map file_of files.old.items ++ map (own_file kind) (map (λ name. name.now) names.now)) }
+    ensures { OnOk result (map file_of files.new.items ≡ map file_of files.old.items
+        ++ map (own_file kind) (map (λ name. name.now) names.now)) }
 {
     for name in names {
         files.push(Wanted::own(kind, name))?;

@@ -24,8 +24,10 @@ const FILES_MOST: usize = 200;
 /// text is built whole, and then its first byte is written.
 pub fn run<F: Files, S: Sink>(alloc: Global, words: &[String], files: &mut F, out: &mut S) -> Status
     ensures { Claim (call_of (map string_bytes words.now) (F.content files.old))
-        (outside (reads_so_far (F.asked files.old) (F.faults files.old) (F.failed_at files.old)) (S.written out.old) (S.faults out.old))
-        (outside (reads_so_far (F.asked files.new) (F.faults files.new) (F.failed_at files.new)) (S.written out.new) (S.faults out.new)) result }
+        (outside (reads_so_far (F.asked files.old) (F.faults files.old) (F.failed_at files.old))
+        (S.written out.old) (S.faults out.old))
+        (outside (reads_so_far (F.asked files.new) (F.faults files.new) (F.failed_at files.new))
+        (S.written out.new) (S.faults out.new)) result }
 {
     let Ok(outcome) = decide(alloc, words, files) else {
         return Status::Memory;
@@ -42,7 +44,8 @@ pub fn run<F: Files, S: Sink>(alloc: Global, words: &[String], files: &mut F, ou
 
 /// What the words of a call come to.
 fn decide<F: Files>(alloc: Global, words: &[String], files: &mut F) -> Result<Outcome, OutOfMemory>
-    ensures answer { HasAnswer (call_of (map string_bytes words.now) (F.content files.old)) (F.asked files.old) (F.asked files.new) result }
+    ensures answer { HasAnswer (call_of (map string_bytes words.now) (F.content files.old))
+        (F.asked files.old) (F.asked files.new) result }
     ensures reads { ReadsEnd result (reads_so_far (F.asked files.old) (F.faults files.old) (F.failed_at files.old))
         (reads_so_far (F.asked files.new) (F.faults files.new) (F.failed_at files.new)) }
 {

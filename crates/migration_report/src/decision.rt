@@ -1,6 +1,7 @@
 ghost use Rattle.std.specs.Prelude.{◌≡◌, IfOk};
 ghost use Rattle.net_model.specs.RouterNames.{names_of};
-ghost use Rattle.migration_report.specs.Outcomes.{IsPlanTellable, IsTellable, decision_status, decision_text, found_status, plan_status, plan_text, verdict_status};
+ghost use Rattle.migration_report.specs.Outcomes.{IsPlanTellable, IsTellable, decision_status, decision_text};
+ghost use Rattle.migration_report.specs.Outcomes.{found_status, plan_status, plan_text, verdict_status};
 
 use crate::Status;
 use crate::design::refused_design_text;

@@ -38,6 +38,7 @@ returns c = λ net mixes.
     (subst (λ m. IsWavesFault (migration_of table_at table_at m) c.ranks.result.now found.wave told) c.in_ok-finder.ensures.mixture found.is_fault) in
     let whole = c.in_ok-fault-in-Some.fault in
     let fault = subst (IsWavesFault move ranks found.wave)
-    (sym (c.in_ok-fault-in-Some.ensures ∙ ap (told_fault c.in-Some.fault) c.ring.ensures)) (waves_fault net c.args.mixed.now mixes ranks found.wave told first) in
+    (sym (c.in_ok-fault-in-Some.ensures ∙ ap (told_fault c.in-Some.fault) c.ring.ensures))
+    (waves_fault net c.args.mixed.now mixes ranks found.wave told first) in
     subst (λ n. IsWavesDecision move ranks (UnsafeWave n whole)) (sym found.number_is)
     (unsafe_wave found.wave whole (λ seamless. waves_fault_unsound move ranks found.wave _ fault seamless) fault)

@@ -15,27 +15,33 @@ use Rattle.migrate_cli.proofs.commands.judge_command.Goals as goal
 
 pub first_own-requires-clause-texts : goal.first_own-requires-clause-texts
 first_own-requires-clause-texts c =
-    let count : length c.args.own.now ≡ 1 = text_count c.args.command.now c.args.own.now Check c.in-Check.is c.requires.range c.requires.own in omega (arith, count)
+    let count : length c.args.own.now ≡ 1 = text_count c.args.command.now c.args.own.now Check c.in-Check.is c.requires.range c.requires.own in
+    omega (arith, count)
 
 pub first_own-requires-in-Prepare-clause-texts : goal.first_own-requires-in-Prepare-clause-texts
 first_own-requires-in-Prepare-clause-texts c =
-    let count : length c.args.own.now ≡ 1 = text_count c.args.command.now c.args.own.now Prepare c.in-Prepare.is c.requires.range c.requires.own in omega (arith, count)
+    let count : length c.args.own.now ≡ 1 = text_count c.args.command.now c.args.own.now Prepare c.in-Prepare.is c.requires.range c.requires.own in
+    omega (arith, count)
 
 pub first_own-requires-in-Scripts-clause-texts : goal.first_own-requires-in-Scripts-clause-texts
 first_own-requires-in-Scripts-clause-texts c =
-    let count : length c.args.own.now ≡ 1 = text_count c.args.command.now c.args.own.now Scripts c.in-Scripts.is c.requires.range c.requires.own in omega (arith, count)
+    let count : length c.args.own.now ≡ 1 = text_count c.args.command.now c.args.own.now Scripts c.in-Scripts.is c.requires.range c.requires.own in
+    omega (arith, count)
 
 pub first_own-requires-in-Replay-clause-texts : goal.first_own-requires-in-Replay-clause-texts
 first_own-requires-in-Replay-clause-texts c =
-    let count : length c.args.own.now ≡ 2 = text_count c.args.command.now c.args.own.now Replay c.in-Replay.is c.requires.range c.requires.own in omega (arith, count)
+    let count : length c.args.own.now ≡ 2 = text_count c.args.command.now c.args.own.now Replay c.in-Replay.is c.requires.range c.requires.own in
+    omega (arith, count)
 
 pub bounds-own-0 : goal.bounds-own-0
 bounds-own-0 c =
-    let count : length c.args.own.now ≡ 1 = text_count c.args.command.now c.args.own.now Refute c.in-Refute.is c.requires.range c.requires.own in omega (arith, count)
+    let count : length c.args.own.now ≡ 1 = text_count c.args.command.now c.args.own.now Refute c.in-Refute.is c.requires.range c.requires.own in
+    omega (arith, count)
 
 pub bounds-own-1 : goal.bounds-own-1
 bounds-own-1 c =
-    let count : length c.args.own.now ≡ 2 = text_count c.args.command.now c.args.own.now Replay c.in-Replay.is c.requires.range c.requires.own in omega (arith, count)
+    let count : length c.args.own.now ≡ 2 = text_count c.args.command.now c.args.own.now Replay c.in-Replay.is c.requires.range c.requires.own in
+    omega (arith, count)
 
 pub judge_refute-requires : goal.judge_refute-requires
 judge_refute-requires c =

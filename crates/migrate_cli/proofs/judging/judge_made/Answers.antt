@@ -26,7 +26,8 @@ judge_texts-requires-clause-short c =
     let range = sample_number c.args.command.now c.requires.kind c.requires.range in
     let few : c.args.command.now.number ≤ 60 = range.1 in
     let IsShort : List ℕ → Type 0 = λ text. length text ≤ 16777216 in
-    All-cons IsShort c.in_ok-text.text [] (subst IsShort (sym c.in_ok-text.ensures) (sample_short c.args.command.now.number few)) (λ k d within. absurd (omega arith))
+    All-cons IsShort c.in_ok-text.text [] (subst IsShort (sym c.in_ok-text.ensures) (sample_short c.args.command.now.number few))
+    (λ k d within. absurd (omega arith))
 
 pub returns : goal.returns
 returns c =
