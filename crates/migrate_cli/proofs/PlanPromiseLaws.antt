@@ -45,7 +45,8 @@ network_not_planned _ is = is
 module _ (call : Call) (budget : ℕ) (configs : List (List ℕ)) (outside : Course) where
   outcome_means : (texts : List (List ℕ)) {outcome : Outcome} → AreRead call.content (files_of (command_of Plan [] configs budget)) texts →
       AreWithin (files_of (command_of Plan [] configs budget)) texts → AddsBytes outside.before.written outside.after.written (outcome_text outcome) →
-      IsOutcome (command_of Plan [] configs budget) (given_texts (own_texts (command_of Plan [] configs budget) texts) (config_texts (command_of Plan [] configs budget) texts)) outcome →
+      IsOutcome (command_of Plan [] configs budget) (given_texts (own_texts (command_of Plan [] configs budget) texts)
+      (config_texts (command_of Plan [] configs budget) texts)) outcome →
       IsOfPlan (status_of outcome) → HasPlanned call budget configs outside (status_of outcome)
   outcome_means texts read within adds (faulty_configuration _ _ _ _) of = absurd of
   outcome_means texts read within adds (no_network _ refusal _ _ _) of = absurd (network_not_planned refusal of)
