@@ -2,10 +2,11 @@ mod ReadingFacts
 mod SendingFacts
 mod StopFacts
 mod FileFacts
+mod TextLaws
+mod GroupLaws
 mod ConfigurationFacts
 mod StatusFacts
 mod FaultFacts
-mod PlanTables
 mod TableFacts
 mod CheckLaws
 mod NextFacts
@@ -13,13 +14,11 @@ mod PrepareFacts
 mod PrepareLaws
 mod OriginatedFacts
 mod PlanLaws
-mod SampleFacts
 mod RefuteLaws
 mod ReplayLaws
 mod ScriptsLaws
 mod CommandFacts
 mod CommandLaws
-mod TextLaws
 mod OutcomeLaws
 mod AnswerFacts
 mod StopLaws

@@ -50,13 +50,13 @@ module _ (call : Call) (budget : ℕ) (configs : List (List ℕ)) (outside : Cou
       IsOfPlan (status_of outcome) → HasPlanned call budget configs outside (status_of outcome)
   outcome_means texts read within adds (faulty_configuration _ _ _ _) of = absurd of
   outcome_means texts read within adds (no_network _ refusal _ _ _) of = absurd (network_not_planned refusal of)
-  outcome_means texts read within adds (off_start _ _ _ _ _ _ _) of = absurd of
-  outcome_means texts read within adds (decided net decision gives start is) of = record {
+  outcome_means texts read within adds (off_start _ _ _ _ _ _ _ _) of = absurd of
+  outcome_means texts read within adds (decided net _ decision gives start is) of = record {
     texts = texts;
     read = read;
     within = within;
     net = net;
-    gives = gives;
+    gives = gives.0;
     start = start tt;
     text = decision_text net decision;
     written = adds;
@@ -80,5 +80,5 @@ module _ (call : Call) (budget : ℕ) (configs : List (List ℕ)) (outside : Cou
 pub plan_decides : (call : Call) → (it : AcceptsPlan call) → (asked : List (List ℕ)) (outcome : Outcome) → status_of outcome ≢ ReadFault →
     IsAnswer call asked outcome → PlansOrNot it.net (status_of outcome)
 plan_decides call it =
-    ends_decided call (command_of Plan [] it.configs it.budget) it.texts it.net it.accepted (PlansOrNot it.net)
+    ends_decided call (command_of Plan [] it.configs it.budget) it.texts it.net [] it.accepted (PlansOrNot it.net)
     (λ decision is. as_planned (decision_means is).ends)

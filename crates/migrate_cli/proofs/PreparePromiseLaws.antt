@@ -86,8 +86,8 @@ module _ (call : Call) (file : List ℕ) (configs : List (List ℕ)) (outside : 
       HasPrepared call file configs outside
   outcome_read texts read within adds (faulty_configuration _ _ _ _) done = absurd (Prim.cc done)
   outcome_read texts read within adds (no_network _ refusal _ _ _) done = absurd (network_not_done refusal done)
-  outcome_read texts read within adds (off_start _ _ _ _ _ _ _) done = absurd (Prim.cc done)
-  outcome_read texts read within adds (decided net decision gives _ is) done = by_decision decision is.2 adds done
+  outcome_read texts read within adds (off_start _ _ _ _ _ _ _ _) done = absurd (Prim.cc done)
+  outcome_read texts read within adds (decided net _ decision gives _ is) done = by_decision decision is.2 adds done
     where
       by_decision : (d : Decision) → IsPrepareDecision is.0 (configured (config_texts command texts) net) d →
           AddsBytes outside.before.written outside.after.written (decision_text net d) → decision_status d ≡ Done → HasPrepared call file configs outside
@@ -98,7 +98,7 @@ module _ (call : Call) (file : List ℕ) (configs : List (List ℕ)) (outside : 
         read = read;
         within = within;
         net = net;
-        gives = gives;
+        gives = gives.0;
         text = is.0.text;
         text_is = own_is file texts is.0 is.1;
         design = said;
@@ -107,7 +107,7 @@ module _ (call : Call) (file : List ℕ) (configs : List (List ℕ)) (outside : 
         settles = settles;
         written = prepared_texts net settled (config_texts command texts);
         adds = writes;
-        reads_back = network_read (config_texts command texts) net settled gives fits (some_configs texts within);
+        reads_back = network_read (config_texts command texts) net settled gives.0 fits (some_configs texts within);
       }
 
   pub reads_back : {asked : List (List ℕ)} {outcome : Outcome} → IsAnswer call asked outcome →
