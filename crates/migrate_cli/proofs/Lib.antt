@@ -25,6 +25,7 @@ mod StopLaws
 mod CallLaws
 mod CompletenessLaws
 mod NetworkFacts
+mod DecidedLaws
 mod HeadlineLaws
 mod PlanPromiseLaws
 mod PreparePromiseLaws
