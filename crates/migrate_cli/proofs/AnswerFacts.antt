@@ -1,11 +1,12 @@
 -- Which answer each step of a call gives.
-use Rattle.std.proofs.Common.{◌≡◌, ◌≢◌, ◌⊎◌, inl, inr, ℕ, List, [], ◌++◌, Result, Ok, Err, IfOk, OnOk, refl, sym, subst, append-nil}
+use Rattle.std.proofs.Common.{◌≡◌, ◌≢◌, ◌⊎◌, inl, inr, ℕ, List, [], ◌∷◌, ◌++◌, Result, Ok, Err, IfOk, OnOk, refl, sym, subst, append-nil}
 use Rattle.std.specs.declared.alloc.AllocError.{AllocError}
 use Rattle.net_model.specs.declared.refusal.NetRefusal.{NetRefusal}
 use Rattle.net_model.specs.declared.refusal.NetRefusal.TheVariants.{Limit as NetLimit, OutOfMemory as NoNetMemory}
 use Rattle.isis_writer.specs.ReadTexts.{ReadsTexts}
 use Rattle.net_model.specs.Configuration.{Configuration}
-use Rattle.net_model.specs.Refusals.{Refuses}
+use Rattle.net_model.specs.Network.{HasConfiguration, Network}
+use Rattle.net_model.specs.OffStarts.{IsLowestOffStart}
 use Rattle.migrate_words.specs.Refusals.{IsRefusal}
 use Rattle.migrate_words.specs.declared.command.Command.{Command}
 use Rattle.migrate_words.specs.declared.refusal.WordsRefused.{WordsRefused}
@@ -13,7 +14,7 @@ use Rattle.migrate_words.specs.declared.refusal.WordsRefused.TheVariants.{Words 
 use Rattle.migration_report.specs.Outcomes.{HasOutcomeText, network_status, status_of}
 use Rattle.migration_report.specs.declared.outcome.Outcome.{Outcome}
 use Rattle.migration_report.specs.declared.outcome.Outcome.TheVariants.{Refused}
-use Rattle.migration_report.specs.declared.refusal.Refusal.TheVariants.{Read, Length, Network as NoNetwork}
+use Rattle.migration_report.specs.declared.refusal.Refusal.TheVariants.{Read, Length, Network as NoNetwork, OffStart}
 use Rattle.migration_report.specs.declared.status.Status.TheVariants.{ReadFault, WriteFault}
 use Rattle.store_edge.specs.Files.{ReadsSoFar}
 use Rattle.migrate_cli.specs.Answers.{AsksForFew, IsAnswer, MayAsk, MayFail, ReadsAgree}
@@ -22,8 +23,8 @@ use Rattle.migrate_cli.specs.Answers.MayAsk.{asks_none, asks_some}
 use Rattle.migrate_cli.specs.Answers.MayFail.{last_failed, none_failed}
 use Rattle.migrate_cli.specs.Calls.{Call}
 use Rattle.migrate_cli.specs.CallWords.AreRefused.{not_taken, number_off}
-use Rattle.migrate_cli.specs.CommandFiles.{GivenTexts, config_texts, files_of, given_texts, own_texts, text_names}
-use Rattle.migrate_cli.specs.Configurations.RefusesFirst.{here}
+use Rattle.migrate_cli.specs.CommandFiles.{GivenTexts, NeedsStart, config_texts, files_of, given_texts, groups_of, own_texts, text_names}
+use Rattle.migrate_cli.specs.Configurations.{GiveNetworks, RefusesFirst}
 use Rattle.migrate_cli.specs.Outcomes.{IsOutcome}
 use Rattle.migrate_cli.specs.Outcomes.IsOutcome.{faulty_configuration, no_network, off_start, decided}
 use Rattle.migrate_cli.specs.Reading.{AreRead, AreWithin, NoneFailed, file_names, to_read}
@@ -43,6 +44,11 @@ use Rattle.migrate_cli.proofs.StopFacts.{read_so_far}
 pub from_equal : {T E : Type 0} (r : Result T E) (value : T) (P : T → Type 0) → IfOk r (λ t. t ≡ value) → P value → IfOk r P
 from_equal (Ok t) value P same holds = subst P (sym same) holds
 from_equal (Err e) value P same holds = tt
+
+-- what holds of a result under a premise holds of what it has
+pub under_premise : {T E G : Type 0} {P : T → Type 0} (r : Result T E) → (G → IfOk r P) → IfOk r (λ t. G → P t)
+under_premise (Ok t) holds = λ g. holds g
+under_premise (Err e) holds = tt
 
 -- an answer after these names were asked for
 pub answered : (call : Call) (before after asked : List (List ℕ)) (r : Result Outcome AllocError) → after ≡ before ++ asked
@@ -210,10 +216,20 @@ unread_outcome command texts (Bad file line kind) (Ok outcome) is so =
 unread_outcome command texts NoMemoryToRead (Ok outcome) is so = absurd so
 unread_outcome command texts unread (Err e) is so = tt
 
--- that configurations make no network is the outcome
+-- that a group of configurations makes no network is the outcome
 pub refused_network : (command : Command) (texts : GivenTexts) (all : List Configuration) (refusal : NetRefusal) (r : Result Outcome AllocError) →
-    ReadsTexts texts.configs all → Refuses refusal all → OnOk r (refusal ≢ NoNetMemory) → IfOk r (λ outcome. outcome ≡ Refused (NoNetwork refusal)) →
-    IfOk r (IsOutcome command texts)
+    ReadsTexts texts.configs all → RefusesFirst refusal (groups_of command.kind texts.configs) → OnOk r (refusal ≢ NoNetMemory) →
+    IfOk r (λ outcome. outcome ≡ Refused (NoNetwork refusal)) → IfOk r (IsOutcome command texts)
 refused_network command texts all refusal (Ok outcome) read refuses told so =
-    subst (IsOutcome command texts) (sym so) (no_network all refusal read (here all read refuses) told)
+    subst (IsOutcome command texts) (sym so) (no_network all refusal read refuses told)
 refused_network command texts all refusal (Err e) read refuses told so = tt
+
+-- that a router is off the start is the outcome
+pub start_refused : (command : Command) (texts : GivenTexts) (net : Network) (others : List Network) (router : ℕ) (r : Result Outcome AllocError) →
+    GiveNetworks (groups_of command.kind texts.configs) (net ∷ others) → NeedsStart command.kind → IsLowestOffStart net router →
+    IfOk r (λ outcome. (config : Configuration) → HasConfiguration net router config → outcome ≡ Refused (OffStart config.name)) →
+    IfOk r (IsOutcome command texts)
+start_refused command texts net others router (Ok outcome) gives needs lowest so =
+    let off = lowest.holds in
+    subst (IsOutcome command texts) (sym (so off.config off.router)) (off_start net others router off.config gives needs lowest off.router)
+start_refused command texts net others router (Err e) gives needs lowest so = tt

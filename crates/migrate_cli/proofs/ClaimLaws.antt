@@ -1,5 +1,7 @@
 -- A call that ended so keeps its promises.
 use Rattle.std.proofs.Common.{◌≡◌, ◌≢◌, ◌∷◌, [], ℕ, List, arith, refl, subst, sym}
+use Rattle.igp_theory.specs.Migrations.{ospf_to_isis}
+use Rattle.ospf_pair.specs.PairMigrations.{ospf_to_ospf}
 use Rattle.store_edge.specs.Faults.{Rose}
 use Rattle.store_edge.specs.Sink.{AddsBytes}
 use Rattle.migration_report.specs.Outcomes.{outcome_text, status_of}
@@ -16,6 +18,7 @@ use Rattle.migrate_cli.specs.Completeness.{Decides, DecidesTree, NoFaultRose, Wr
 use Rattle.migrate_cli.specs.Completeness.Decides.{memory}
 use Rattle.migrate_cli.specs.Completeness.DecidesTree.{no_memory as none_for_tree}
 use Rattle.migrate_cli.specs.Completeness.Writes.{unwritten}
+use Rattle.migrate_cli.specs.PairPromise.{HasPaired}
 use Rattle.migrate_cli.specs.PlanPromise.{HasPlanned, IsOfPlan, PlansOrNot}
 use Rattle.migrate_cli.specs.PlanPromise.PlansOrNot.{no_memory as none_planned}
 use Rattle.migrate_cli.specs.PreparePromise.{HasPrepared}
@@ -24,6 +27,7 @@ use Rattle.migrate_cli.specs.SamplePromise.{AcceptsSample}
 use Rattle.migrate_cli.proofs.AnswerFacts.{reads_or_not}
 use Rattle.migrate_cli.proofs.CallLaws.{ends_so}
 use Rattle.migrate_cli.proofs.CompletenessLaws.{check_decides, prepare_writes, refute_decides, replay_decides, scripts_write}
+use Rattle.migrate_cli.proofs.PairPromiseLaws.{has_paired, pair_check_decides, pair_decides, pair_refute_decides, pair_scripts_write}
 use Rattle.migrate_cli.proofs.PlanPromiseLaws.{answer_means, plan_decides}
 use Rattle.migrate_cli.proofs.PreparePromiseLaws.{reads_back}
 use Rattle.migrate_cli.proofs.SamplePromiseLaws.{sample_decides, sample_means}
@@ -60,7 +64,7 @@ module _ (call : Call) (before after : Outside) where
   calm_so D none holds (no_memory _ _ _) fails calm = none
 
   sample_so : {asked : List (List ℕ)} {status : Status} → (it : AcceptsSample call) → Ends call asked (course before after) status → Fails status →
-      (Rose before.sink_faults after.sink_faults → ⊥) → PlansOrNot it.net status
+      (Rose before.sink_faults after.sink_faults → ⊥) → PlansOrNot (ospf_to_isis it.net) status
   sample_so {asked} it (whole outcome is _ _) fails calm = sample_decides call it asked outcome is
   sample_so it (cut _ _ _ _) fails calm = absurd (calm (fails refl))
   sample_so it (no_memory _ _ _) fails calm = none_planned
@@ -88,10 +92,10 @@ module _ (call : Call) (before after : Outside) where
         plans = record {
           means = λ budget configs asks. wrote_so IsOfPlan (HasPlanned call budget configs (course before after)) (λ q. q) (λ q. q)
               (λ outcome is adds of. answer_means call budget configs (course before after) asks is adds of) ends;
-          decides = λ it calm. calm_so (PlansOrNot it.net) none_planned (plan_decides call it asked) ends fails calm;
+          decides = λ it calm. calm_so (PlansOrNot (ospf_to_isis it.net)) none_planned (plan_decides call it asked) ends fails calm;
         };
         checks = λ it calm. calm_so Decides memory (check_decides call it asked) ends fails calm;
-        refutes = λ it calm. calm_so (DecidesTree it.net it.tree) none_for_tree (refute_decides call it asked) ends fails calm;
+        refutes = λ it calm. calm_so (DecidesTree (ospf_to_isis it.net) it.tree) none_for_tree (refute_decides call it asked) ends fails calm;
         replays = λ it calm. calm_so Decides memory (replay_decides call it asked) ends fails calm;
         scripts = λ it calm. calm_so Writes unwritten (scripts_write call it asked) ends fails calm;
         prepares = record {
@@ -99,6 +103,15 @@ module _ (call : Call) (before after : Outside) where
               (λ e. Prim.cc e) (λ outcome is adds done. reads_back call file configs (course before after) asks is adds done) ends;
           writes = λ it calm. calm_so Writes unwritten (prepare_writes call it asked) ends fails calm;
         };
+        pairs = record {
+          means = λ budget old new asks. wrote_so IsOfPlan (HasPaired call budget old new (course before after)) (λ q. q) (λ q. q)
+              (λ outcome is adds of. has_paired call budget old new (course before after) asks is adds of) ends;
+          decides = λ it calm. calm_so (PlansOrNot (ospf_to_ospf it.old it.new)) none_planned (pair_decides call it asked) ends fails calm;
+        };
+        pair_checks = λ it calm. calm_so Decides memory (pair_check_decides call it asked) ends fails calm;
+        pair_refutes = λ it calm. calm_so (DecidesTree (ospf_to_ospf it.old it.new) it.tree) none_for_tree (pair_refute_decides call it asked) ends
+            fails calm;
+        pair_scripts = λ it calm. calm_so Writes unwritten (pair_scripts_write call it asked) ends fails calm;
         samples = record {
           means = sample_means call before after status answers;
           decides = λ it calm. sample_so it ends fails calm;

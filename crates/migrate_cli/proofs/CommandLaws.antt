@@ -1,12 +1,17 @@
 -- A command decides one thing of its input, and what it decides has a text.
-use Rattle.std.proofs.Common.{◌≡◌, ◌∙◌, ◌∷◌, [], List, sym, subst}
+use Rattle.std.proofs.Common.{◌≡◌, ◌∙◌, ◌∷◌, [], List, ap, get_or, sym, subst}
 use Rattle.igp_theory.specs.Migrations.{ospf_to_isis}
 use Rattle.net_model.specs.Refusals.{NamesAscend}
 use Rattle.migrate_words.specs.declared.command.CommandKind.{CommandKind}
 use Rattle.migrate_words.specs.declared.command.CommandKind.TheVariants.{Check, Prepare, Plan, Refute, Scripts, Replay, Sample}
+use Rattle.migrate_words.specs.declared.command.CommandKind.TheVariants.{Pair, PairScripts, PairCheck, PairRefute}
 use Rattle.migration_report.specs.Outcomes.{IsTellable}
 use Rattle.migration_report.specs.declared.decision.Decision.{Decision}
-use Rattle.migrate_cli.specs.CheckDecision.{IsCheckDecision}
+use Rattle.net_model.specs.Network.{Network}
+use Rattle.ospf_pair.specs.NetworkPairs.{network_pair}
+use Rattle.migrate_cli.specs.CheckDecision.{IsCheckDecision, IsCheckOver}
+use Rattle.migrate_cli.specs.PairDecision.{IsPairCheck, IsPairPlan, IsPairScripts, IsPairTree, IsScriptOfPair, between}
+use Rattle.migrate_cli.specs.PlanDecision.{IsPlanOver}
 use Rattle.migrate_cli.specs.Decisions.{Input, IsDecision}
 use Rattle.migrate_cli.specs.PrepareDecision.{IsPrepareDecision, configured}
 use Rattle.migrate_cli.specs.Reading.{NamedText}
@@ -14,6 +19,7 @@ use Rattle.migrate_cli.specs.RefuteDecision.{IsTreeDecision}
 use Rattle.migrate_cli.specs.ReplayDecision.{IsReplayDecision, journal_of}
 use Rattle.migrate_cli.specs.ScriptsDecision.{IsScriptsDecision}
 use Rattle.migrate_cli.proofs.CheckLaws.{check_tellable, one_check_decision}
+use Rattle.migrate_cli.proofs.PairLaws.{one_pair_decision, one_script, pair_tellable, script_tellable}
 use Rattle.migrate_cli.proofs.PlanLaws.{one_plan_decision, one_sample_decision, plan_decision_tellable, sample_tellable}
 use Rattle.migrate_cli.proofs.PrepareLaws.{one_prepare_decision, prepare_tellable}
 use Rattle.migrate_cli.proofs.RefuteLaws.{one_tree_decision, tree_tellable}
@@ -26,6 +32,11 @@ moved {one = one} {other = other} P first second holds =
     let lists : one ∷ [] ≡ other ∷ [] = sym first ∙ second in
     let same : one ≡ other = cc lists in
     subst P (sym same) holds
+
+-- and of one redesign of the other one
+redesigned : {others : List Network} {one other : Network} (P : Network → Type 0) → others ≡ one ∷ [] → others ≡ other ∷ [] → P other → P one
+redesigned {one = one} P first second holds =
+    subst P (sym (ap (λ (nets : List Network). get_or nets 0 one) (sym first ∙ second))) holds
 
 pub one_decision : (kind : CommandKind) (input : Input) {d e : Decision} → NamesAscend input.net → IsDecision kind input d →
     IsDecision kind input e → d ≡ e
@@ -47,6 +58,24 @@ one_decision Replay input {e = e} ascending one other =
     (subst (λ (file : NamedText). IsReplayDecision file (journal_of one.1.text input.net) e) (sym order)
     (subst (λ (file : NamedText). IsReplayDecision other.0 (journal_of file.text input.net) e) (sym journal) other.3))
 one_decision Sample input ascending one other = one_sample_decision one other
+one_decision Pair input {e = e} ascending one other =
+    one_pair_decision (network_pair input.net one.0) (IsPlanOver (between (network_pair input.net one.0)) input.number) one_plan_decision one.2
+    (redesigned (λ new. IsPairPlan (network_pair input.net new) input.number e) one.1 other.1 other.2)
+one_decision PairScripts input {e = e} ascending one other =
+    let nets = network_pair input.net one.0 in
+    one_pair_decision nets (IsScriptOfPair nets one.2) (one_script nets one.2 ascending) one.4
+    (redesigned (λ new. IsPairScripts (network_pair input.net new) one.2 e) one.1 other.1
+    (moved (λ file. IsPairScripts (network_pair input.net other.0) file e) one.3 other.3 other.4))
+one_decision PairCheck input {e = e} ascending one other =
+    let nets = network_pair input.net one.0 in
+    one_pair_decision nets (IsCheckOver (between nets) one.2) (one_check_decision (between nets) one.2 ascending) one.4
+    (redesigned (λ new. IsPairCheck (network_pair input.net new) one.2 e) one.1 other.1
+    (moved (λ file. IsPairCheck (network_pair input.net other.0) file e) one.3 other.3 other.4))
+one_decision PairRefute input {e = e} ascending one other =
+    let nets = network_pair input.net one.0 in
+    one_pair_decision nets (IsTreeDecision (between nets) one.2.text) one_tree_decision one.4
+    (redesigned (λ new. IsPairTree (network_pair input.net new) one.2.text e) one.1 other.1
+    (moved (λ file. IsPairTree (network_pair input.net other.0) file.text e) one.3 other.3 other.4))
 
 pub decision_tellable : (kind : CommandKind) (input : Input) (d : Decision) → IsDecision kind input d → IsTellable input.net d
 decision_tellable Check input d is = check_tellable is.2
@@ -56,3 +85,8 @@ decision_tellable Refute input d is = tree_tellable is.2
 decision_tellable Scripts input d is = scripts_tellable is.0 input.net is.2
 decision_tellable Replay input d is = replay_tellable is.3
 decision_tellable Sample input d is = sample_tellable is
+decision_tellable Pair input d is = pair_tellable (network_pair input.net is.0) input.net _ plan_decision_tellable is.2
+decision_tellable PairScripts input d is =
+    pair_tellable (network_pair input.net is.0) input.net _ (script_tellable (network_pair input.net is.0) is.2 input.net) is.4
+decision_tellable PairCheck input d is = pair_tellable (network_pair input.net is.0) input.net _ check_tellable is.4
+decision_tellable PairRefute input d is = pair_tellable (network_pair input.net is.0) input.net _ tree_tellable is.4

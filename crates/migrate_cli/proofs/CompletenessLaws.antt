@@ -116,7 +116,7 @@ names_ascend : {texts : List (List ℕ)} {net : Network} → GiveNetwork texts n
 names_ascend gives = gives.make.network.ascending
 
 -- what is said of the one own text is said of the file that is decided on
-said_of : (name : List ℕ) {own : List (List ℕ)} {one : List ℕ} {other : NamedText} (P : List ℕ → Type 0) → own ≡ one ∷ [] →
+pub said_of : (name : List ℕ) {own : List (List ℕ)} {one : List ℕ} {other : NamedText} (P : List ℕ → Type 0) → own ≡ one ∷ [] →
     named_texts (name ∷ []) own ≡ other ∷ [] → P one → P other.text
 said_of name {own} {one} {other} P first second holds =
     let lists : named_text name one ∷ [] ≡ other ∷ [] = ap (named_texts (name ∷ [])) (sym first) ∙ second in
@@ -134,7 +134,7 @@ waves_decide (safe_waves _) = yes
 waves_decide (unsafe_wave _ _ _ _) = no
 
 -- an order file that names a wave list is judged
-check_of_waves : {move : Migration} {order : NamedText} {version : Version} {ranks : List ℕ} {d : Decision} → NamesAscend move.net →
+pub check_of_waves : {move : Migration} {order : NamedText} {version : Version} {ranks : List ℕ} {d : Decision} → NamesAscend move.net →
     NamesWaves move.net order.text version ranks → IsCheckOver move order d → Decides (decision_status d)
 check_of_waves {move} {order} {version} {ranks} ascending names (faulty_order n k least) =
     absurd (no_fault move.net order.text version ranks n k ascending names least.faulty)
@@ -189,12 +189,12 @@ replay_decides call it =
 -- ---- `refute` and `prepare` ----
 
 pub refute_decides : (call : Call) → (it : AcceptsRefute call) → (asked : List (List ℕ)) (outcome : Outcome) → status_of outcome ≢ ReadFault
-    → IsAnswer call asked outcome → DecidesTree it.net it.tree (status_of outcome)
+    → IsAnswer call asked outcome → DecidesTree (ospf_to_isis it.net) it.tree (status_of outcome)
 refute_decides call it =
-    ends_decided call (command_of Refute (it.file ∷ []) it.configs 0) it.texts it.net [] it.accepted (DecidesTree it.net it.tree)
+    ends_decided call (command_of Refute (it.file ∷ []) it.configs 0) it.texts it.net [] it.accepted (DecidesTree (ospf_to_isis it.net) it.tree)
     (λ decision is. let lists : named_text it.file it.tree ∷ [] ≡ is.0 ∷ [] = ap (named_texts (it.file ∷ [])) (sym it.tree_is) ∙ is.1 in
     let same : named_text it.file it.tree ≡ is.0 = cc lists in
-    tree_decides it.tree it.net (subst (λ (file : NamedText). IsTreeDecision (ospf_to_isis it.net) file.text decision) (sym same) is.2))
+    tree_decides it.tree (ospf_to_isis it.net) (subst (λ (file : NamedText). IsTreeDecision (ospf_to_isis it.net) file.text decision) (sym same) is.2))
 
 pub prepare_writes : (call : Call) → AcceptsPrepare call → (asked : List (List ℕ)) (outcome : Outcome) → status_of outcome ≢ ReadFault →
     IsAnswer call asked outcome → Writes (status_of outcome)

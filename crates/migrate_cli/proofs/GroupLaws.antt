@@ -1,6 +1,7 @@
 -- Groups of texts of configurations: each gives one network, or the first that gives none is refused in one way.
-use Rattle.std.proofs.Common.{◌≡◌, ◌≢◌, ◌∙◌, List, [], ◌∷◌, ◌++◌, ℕ, refl, sym, ap, ap₂, subst, append-nil, append_assoc}
+use Rattle.std.proofs.Common.{◌≡◌, ◌≢◌, ◌∙◌, List, [], ◌∷◌, ◌++◌, ℕ, map, refl, sym, ap, ap₂, subst, append-nil, append_assoc}
 use Rattle.isis_writer.specs.ReadTexts.{ReadsTexts}
+use Rattle.ios_reader.specs.Texts.{ReadsText}
 use Rattle.ios_reader.specs.declared.kind.ReadKind.{ReadKind}
 use Rattle.net_model.specs.Configuration.{Configuration}
 use Rattle.net_model.specs.Network.{Network}
@@ -9,9 +10,11 @@ use Rattle.net_model.specs.declared.refusal.NetRefusal.{NetRefusal}
 use Rattle.net_model.specs.declared.refusal.NetRefusal.TheVariants.{OutOfMemory}
 use Rattle.net_model.proofs.RefusalLaws.{IsNetworkOf-unique, MakeNetwork-refused, Refuses-unique}
 use Rattle.migrate_words.specs.declared.command.CommandKind.{CommandKind}
-use Rattle.migrate_cli.specs.CommandFiles.{groups_of}
+use Rattle.migrate_words.specs.declared.command.CommandKind.TheVariants.{Pair, PairScripts, PairCheck, PairRefute}
+use Rattle.migrate_cli.specs.CommandFiles.{OverNetworks, alone, groups_of}
 use Rattle.migrate_cli.specs.Configurations.{GiveNetwork, GiveNetworks, IsFirstRefused, RefusesFirst, line_fault}
 use Rattle.migrate_cli.specs.Configurations.RefusesFirst.{here, later}
+use Rattle.migrate_cli.specs.steps.Unread.{ReadsBoth}
 use Rattle.migrate_cli.proofs.TextLaws.{none_refused, one_reading}
 
 -- ---- one group ----
@@ -37,8 +40,38 @@ abbrev joined : List (List (List ℕ)) → List (List ℕ)
 joined [] = []
 joined (texts ∷ groups) = texts ++ joined groups
 
+joined_alone : (texts : List (List ℕ)) → joined (map alone texts) ≡ texts
+joined_alone [] = refl
+joined_alone (text ∷ texts) = ap (λ (rest : List (List ℕ)). text ∷ rest) (joined_alone texts)
+
 groups_join : (kind : CommandKind) (texts : List (List ℕ)) → joined (groups_of kind texts) ≡ texts
-groups_join kind texts = append-nil texts
+groups_join Pair texts = joined_alone texts
+groups_join PairScripts texts = joined_alone texts
+groups_join PairCheck texts = joined_alone texts
+groups_join PairRefute texts = joined_alone texts
+groups_join _ texts = append-nil texts
+
+-- a command over one network has one group
+pub one_group : (kind : CommandKind) (texts : List (List ℕ)) → (OverNetworks kind → ⊥) → groups_of kind texts ≡ texts ∷ []
+one_group Pair texts not = absurd (not tt)
+one_group PairScripts texts not = absurd (not tt)
+one_group PairCheck texts not = absurd (not tt)
+one_group PairRefute texts not = absurd (not tt)
+one_group _ texts not = refl
+
+-- so its network is the one of its texts
+pub gives_one : (kind : CommandKind) (texts : List (List ℕ)) (net : Network) → (OverNetworks kind → ⊥) → GiveNetwork texts net →
+    GiveNetworks (groups_of kind texts) (net ∷ [])
+gives_one kind texts net not gives =
+    subst (λ (groups : List (List (List ℕ))). GiveNetworks groups (net ∷ [])) (sym (one_group kind texts not)) (gives, tt)
+
+-- and one over two networks a group for each text
+pub two_groups : (kind : CommandKind) (old new : List ℕ) → OverNetworks kind → groups_of kind (old ∷ new ∷ []) ≡ alone old ∷ alone new ∷ []
+two_groups Pair old new over = refl
+two_groups PairScripts old new over = refl
+two_groups PairCheck old new over = refl
+two_groups PairRefute old new over = refl
+two_groups _ old new over = absurd over
 
 -- texts and more texts are read
 pub reads_append : (texts more : List (List ℕ)) {one other : List Configuration} → ReadsTexts texts one → ReadsTexts more other →
@@ -104,3 +137,35 @@ one_first_refusal {one = one} told tell (here {texts = texts} all read refuses) 
 one_first_refusal {other = other} told tell (later net gives _) (here {texts = texts} all read refuses) =
     absurd (refused_or_given texts net all other gives read refuses tell)
 one_first_refusal told tell (later _ _ rest) (later _ _ more) = one_first_refusal told tell rest more
+
+-- ---- two texts, each a group ----
+
+one_read : (text : List ℕ) (configs : List Configuration) → ReadsText text configs → ReadsTexts (alone text) configs
+one_read text configs reads = record { one = configs; others = []; reads = reads; rest = refl; all = sym (append-nil configs) }
+
+module _ (texts : List (List ℕ)) (olds news : List Configuration) (both : ReadsBoth texts olds news) where
+  pub both_read : ReadsTexts texts (olds ++ news)
+  both_read =
+      subst (λ (some : List (List ℕ)). ReadsTexts some (olds ++ news)) (sym both.texts_are)
+      (reads_append (alone both.old) (alone both.new) (one_read both.old olds both.reads_old) (one_read both.new news both.reads_new))
+
+  module _ (kind : CommandKind) (over : OverNetworks kind) where
+    groups_are : groups_of kind texts ≡ alone both.old ∷ alone both.new ∷ []
+    groups_are = ap (groups_of kind) both.texts_are ∙ two_groups kind both.old both.new over
+
+    pub first_refuses : (refusal : NetRefusal) → Refuses refusal olds → RefusesFirst refusal (groups_of kind texts)
+    first_refuses refusal refuses = subst (RefusesFirst refusal) (sym groups_are) (here olds (one_read both.old olds both.reads_old) refuses)
+
+    pub second_refuses : (net : Network) (refusal : NetRefusal) → MakeNetwork olds net → Refuses refusal news →
+        RefusesFirst refusal (groups_of kind texts)
+    second_refuses net refusal make refuses =
+        subst (RefusesFirst refusal) (sym groups_are)
+        (later net (record { configs = olds; read = one_read both.old olds both.reads_old; make = make })
+        (here news (one_read both.new news both.reads_new) refuses))
+
+    pub gives_two : (net other : Network) → MakeNetwork olds net → MakeNetwork news other → GiveNetworks (groups_of kind texts) (net ∷ other ∷ [])
+    gives_two net other make makes =
+        subst (λ (groups : List (List (List ℕ))). GiveNetworks groups (net ∷ other ∷ [])) (sym groups_are) (
+          record { configs = olds; read = one_read both.old olds both.reads_old; make = make },
+          (record { configs = news; read = one_read both.new news both.reads_new; make = makes }, tt),
+        )

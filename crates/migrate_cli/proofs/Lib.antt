@@ -17,6 +17,7 @@ mod PlanLaws
 mod RefuteLaws
 mod ReplayLaws
 mod ScriptsLaws
+mod PairLaws
 mod CommandFacts
 mod CommandLaws
 mod OutcomeLaws
@@ -30,4 +31,5 @@ mod HeadlineLaws
 mod PlanPromiseLaws
 mod PreparePromiseLaws
 mod SamplePromiseLaws
+mod PairPromiseLaws
 mod ClaimLaws

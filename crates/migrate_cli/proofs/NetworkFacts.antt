@@ -10,13 +10,17 @@ use Rattle.migrate_words.specs.Asked.{AreConfigsInRange, IsInRange}
 use Rattle.migrate_words.specs.Usages.{usage_of}
 use Rattle.migrate_words.specs.declared.command.Command.{Command}
 use Rattle.migrate_words.specs.declared.command.CommandKind.{CommandKind}
-use Rattle.migrate_words.specs.declared.command.CommandKind.TheVariants.{Sample}
-use Rattle.migrate_cli.specs.CommandFiles.{names_for, text_names}
+use Rattle.migrate_words.specs.declared.command.CommandKind.TheVariants.{Sample, Pair, PairScripts, PairCheck, PairRefute}
+use Rattle.migrate_cli.specs.CommandFiles.{OverNetworks, names_for, text_names}
 use Rattle.isis_writer.specs.ReadTexts.{ReadsTexts}
 
 -- a command has a text of configurations
 names_some : (kind : CommandKind) (configs : List (List ℕ)) → AreConfigsInRange (usage_of kind).configs configs → 0 < length (names_for kind configs)
 names_some Sample configs range = omega arith
+names_some Pair configs range = omega (arith, range)
+names_some PairScripts configs range = omega (arith, range)
+names_some PairCheck configs range = omega (arith, range)
+names_some PairRefute configs range = omega (arith, range)
 names_some _ configs range = range
 
 -- which has a configuration
@@ -34,3 +38,15 @@ net_has_router command texts configs net range each read make =
     let some = configs_some texts configs (omega (arith, names, each)) read in
     let same = length_permutation configs net make.network.same in
     omega (arith, some, same)
+
+-- a command over two networks has two names
+pub names_two : (command : Command) → OverNetworks command.kind → IsInRange command → length (text_names command) ≡ 2
+names_two command over range = by_kind command.kind command.configs over range.configs
+  where
+    by_kind : (kind : CommandKind) (configs : List (List ℕ)) → OverNetworks kind → AreConfigsInRange (usage_of kind).configs configs →
+        length (names_for kind configs) ≡ 2
+    by_kind Pair configs over two = two
+    by_kind PairScripts configs over two = two
+    by_kind PairCheck configs over two = two
+    by_kind PairRefute configs over two = two
+    by_kind _ configs over two = absurd over

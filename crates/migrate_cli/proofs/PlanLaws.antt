@@ -15,8 +15,8 @@ use Rattle.migrate_words.specs.declared.command.TheConstants.{USUAL_BUDGET}
 use Rattle.migration_report.specs.Outcomes.{IsPlanTellable, IsTellable, plan_status}
 use Rattle.migration_report.specs.declared.decision.Decision.{Decision}
 use Rattle.migration_report.specs.declared.decision.Decision.TheVariants.{Plan, Summary}
-use Rattle.migrate_cli.specs.PlanDecision.{IsPlanDecision}
-use Rattle.migrate_cli.specs.PlanDecision.IsPlanDecision.{plans}
+use Rattle.migrate_cli.specs.PlanDecision.{IsPlanOver}
+use Rattle.migrate_cli.specs.PlanDecision.IsPlanOver.{plans}
 use Rattle.migrate_cli.specs.SampleDecision.{IsSampleDecision}
 use Rattle.migrate_cli.specs.SampleDecision.IsSampleDecision.{summed_up, as_planned}
 use Rattle.migrate_cli.proofs.FaultFacts.{fault_below}
@@ -28,12 +28,12 @@ plan_tellable move budget (UnsoundOld fault) is = fault_below move move.start fa
 plan_tellable move budget (UnsoundNew fault) is = fault_below move all_new fault is.last
 plan_tellable move budget (Searched found) is = plan_printable move budget found is.is_found
 
-pub plan_decision_tellable : {budget : ℕ} {net : Network} {d : Decision} → IsPlanDecision budget net d → IsTellable net d
-plan_decision_tellable {budget} {net} (plans planned _ _ is) = plan_tellable (ospf_to_isis net) budget planned is
+pub plan_decision_tellable : {budget : ℕ} {move : Migration} {d : Decision} → IsPlanOver move budget d → IsTellable move.net d
+plan_decision_tellable {budget} {move} (plans planned _ _ is) = plan_tellable move budget planned is
 
-pub one_plan_decision : {budget : ℕ} {net : Network} {d e : Decision} → IsPlanDecision budget net d → IsPlanDecision budget net e → d ≡ e
-one_plan_decision {budget} {net} (plans one _ _ is) (plans other _ _ its) =
-    ap (λ (p : Planned). Plan p) (one_plan (ospf_to_isis net) budget one other is its)
+pub one_plan_decision : {budget : ℕ} {move : Migration} {d e : Decision} → IsPlanOver move budget d → IsPlanOver move budget e → d ≡ e
+one_plan_decision {budget} {move} (plans one _ _ is) (plans other _ _ its) =
+    ap (λ (p : Planned). Plan p) (one_plan move budget one other is its)
 
 -- ---- a sample ----
 

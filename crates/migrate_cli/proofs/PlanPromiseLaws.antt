@@ -15,7 +15,7 @@ use Rattle.migrate_cli.specs.Calls.{Call, Course}
 use Rattle.migrate_cli.specs.CommandFiles.{command_of}
 use Rattle.migrate_cli.specs.Headline.{Headline}
 use Rattle.migrate_cli.specs.PlanDecision.{IsPlanDecision}
-use Rattle.migrate_cli.specs.PlanDecision.IsPlanDecision.{plans}
+use Rattle.migrate_cli.specs.PlanDecision.IsPlanOver.{plans}
 use Rattle.migrate_cli.specs.PlanPromise.{AcceptsPlan, HasPlanned, IsOfPlan, PlansOrNot}
 use Rattle.migrate_cli.specs.PlanPromise.PlansOrNot.{planned as as_planned}
 use Rattle.migrate_cli.proofs.CompletenessLaws.{ends_decided}
@@ -31,7 +31,7 @@ decision_means {budget} {net} (plans planned some network is) =
     (λ u h q e below entry leads. isis_hop_is_router net u h q e entry leads) budget some network planned is
 
 -- no refusal ends as a plan
-plan_no_refusal : IsNoRefusal IsOfPlan
+pub plan_no_refusal : IsNoRefusal IsOfPlan
 plan_no_refusal = record { words = λ q. q; read = λ q. q; limit = λ q. q; refused = λ q. q }
 
 -- a call whose answer is of a plan, and was written, has planned
@@ -55,7 +55,7 @@ answer_means call budget configs outside {outcome = outcome} asks is adds of =
     }
 
 pub plan_decides : (call : Call) → (it : AcceptsPlan call) → (asked : List (List ℕ)) (outcome : Outcome) → status_of outcome ≢ ReadFault →
-    IsAnswer call asked outcome → PlansOrNot it.net (status_of outcome)
+    IsAnswer call asked outcome → PlansOrNot (ospf_to_isis it.net) (status_of outcome)
 plan_decides call it =
-    ends_decided call (command_of Plan [] it.configs it.budget) it.texts it.net [] it.accepted (PlansOrNot it.net)
+    ends_decided call (command_of Plan [] it.configs it.budget) it.texts it.net [] it.accepted (PlansOrNot (ospf_to_isis it.net))
     (λ decision is. as_planned (decision_means is).ends)

@@ -1,7 +1,6 @@
 -- `refute` decides one thing of a tree file and a network.
 use Rattle.std.proofs.Common.{◌≡◌, ℕ, List, ap}
-use Rattle.net_model.specs.Network.{Network}
-use Rattle.igp_theory.specs.Migrations.{Migration, ospf_to_isis}
+use Rattle.igp_theory.specs.Migrations.{Migration}
 use Rattle.refutation_check.specs.declared.verdict.Verdict.{Verdict}
 use Rattle.refutation_check.specs.declared.verdict.Verdict.TheVariants.{Closed, Unfinished, Wrong}
 use Rattle.refutation_check.specs.declared.verdict.WrongKind.{WrongKind}
@@ -29,9 +28,9 @@ closed_or_wrong : (b l n : ℕ) (k : WrongKind) → Closed b l ≡ Wrong n k →
 closed_or_wrong b l n k e = Prim.cc e
 
 -- so it tells whether the tree is closed
-pub tree_decides : (tree : List ℕ) (net : Network) {d : Decision} → IsTreeDecision (ospf_to_isis net) tree d → DecidesTree net tree (decision_status d)
-tree_decides tree net (judged_tree (Closed b l) network is none) = closed_tree b l is none
-tree_decides tree net (judged_tree (Unfinished u) network is _) =
-    no_closed_tree (λ b l other. closed_or_unfinished b l u (one_verdict (ospf_to_isis net) network tree (Closed b l) (Unfinished u) other is))
-tree_decides tree net (judged_tree (Wrong n k) network is _) =
-    no_closed_tree (λ b l other. closed_or_wrong b l n k (one_verdict (ospf_to_isis net) network tree (Closed b l) (Wrong n k) other is))
+pub tree_decides : (tree : List ℕ) (move : Migration) {d : Decision} → IsTreeDecision move tree d → DecidesTree move tree (decision_status d)
+tree_decides tree move (judged_tree (Closed b l) network is none) = closed_tree b l is none
+tree_decides tree move (judged_tree (Unfinished u) network is _) =
+    no_closed_tree (λ b l other. closed_or_unfinished b l u (one_verdict move network tree (Closed b l) (Unfinished u) other is))
+tree_decides tree move (judged_tree (Wrong n k) network is _) =
+    no_closed_tree (λ b l other. closed_or_wrong b l n k (one_verdict move network tree (Closed b l) (Wrong n k) other is))

@@ -1,6 +1,7 @@
 -- What a call of `sample` promises.
 use Rattle.std.proofs.Common.{◌≡◌, ◌∙◌, ◌++◌, ◌∷◌, [], ℕ, List, ap, append-nil, arith, length, refl, subst, sym}
 use Rattle.std.proofs.lemmas.List.{length-append}
+use Rattle.igp_theory.specs.Migrations.{ospf_to_isis}
 use Rattle.net_model.specs.Network.{Network}
 use Rattle.sample_network.specs.SampleTexts.{sample_text}
 use Rattle.order_search.specs.declared.found.Found.TheVariants.{Waves}
@@ -25,7 +26,7 @@ use Rattle.migrate_cli.specs.CommandFiles.{command_of, config_texts, files_of, o
 use Rattle.migrate_cli.specs.Outcomes.{IsOutcome}
 use Rattle.migrate_cli.specs.Outcomes.IsOutcome.{faulty_configuration, no_network, off_start, decided}
 use Rattle.migrate_cli.specs.PlanDecision.{IsPlanDecision}
-use Rattle.migrate_cli.specs.PlanDecision.IsPlanDecision.{plans}
+use Rattle.migrate_cli.specs.PlanDecision.IsPlanOver.{plans}
 use Rattle.migrate_cli.specs.PlanPromise.{PlansOrNot}
 use Rattle.migrate_cli.specs.PlanPromise.PlansOrNot.{planned as ends_planned}
 use Rattle.migrate_cli.specs.Reading.{Contents, File, ReadUpTo, file_names, to_read}
@@ -130,7 +131,7 @@ sample_means call before after status answers routers asks = has_sampled call be
 
 -- ---- where nothing is refused, it is planned ----
 
-sample_plans : {routers : ℕ} {net : Network} {d : Decision} → IsSampleDecision routers net d → PlansOrNot net (decision_status d)
+sample_plans : {routers : ℕ} {net : Network} {d : Decision} → IsSampleDecision routers net d → PlansOrNot (ospf_to_isis net) (decision_status d)
 sample_plans {net = net} (summed_up ranks pairs chain trail _ some network found _) =
     let is : IsPlanDecision USUAL_BUDGET net (Plan (Searched (Waves ranks pairs chain trail))) = plans _ some network found in
     ends_planned (decision_means is).ends
@@ -139,8 +140,8 @@ sample_plans {net = net} (as_planned planned _ some network found) =
     ends_planned (decision_means is).ends
 
 pub sample_decides : (call : Call) → (it : AcceptsSample call) → (asked : List (List ℕ)) (outcome : Outcome) → IsAnswer call asked outcome →
-    PlansOrNot it.net (status_of outcome)
+    PlansOrNot (ospf_to_isis it.net) (status_of outcome)
 sample_decides call it asked outcome answer =
     let of = sampled call it.routers it.asks answer in
     let made = judged_alone (command_of Sample [] [] it.routers) [] (sample_text it.routers ∷ []) it.net [] (it.gives, tt) (λ _. it.start) of.is in
-    subst (λ (o : Outcome). PlansOrNot it.net (status_of o)) (sym made.outcome_is) (sample_plans made.is)
+    subst (λ (o : Outcome). PlansOrNot (ospf_to_isis it.net) (status_of o)) (sym made.outcome_is) (sample_plans made.is)

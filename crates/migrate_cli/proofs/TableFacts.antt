@@ -1,19 +1,17 @@
--- What is found over the tables of both protocols holds of the network.
-use Rattle.std.proofs.Common.{◌≡◌, ℕ, List, Result, Ok, Err, IfOk, subst, sym}
-use Rattle.igp_theory.specs.Isis.{IsisEntry}
+-- What is found over the tables before and after a migration holds of it.
+use Rattle.std.proofs.Common.{◌≡◌, ◌∙◌, ◌<◌, ℕ, List, Result, Ok, Err, IfOk, Some, arith, length, subst, sym}
 use Rattle.igp_theory.specs.Laws.{HaveSameTables}
 use Rattle.igp_theory.specs.Loops.{Fault, IsFirstFault}
-use Rattle.igp_theory.specs.Migrations.{listed_migration, ospf_to_isis}
+use Rattle.igp_theory.specs.Migrations.{Migration, listed_migration, migration}
 use Rattle.igp_theory.specs.Ospf.{OspfEntry}
-use Rattle.igp_theory.specs.Routes.{HaveSameEntries}
+use Rattle.igp_theory.specs.Routes.{HaveSameEntries, Tables}
 use Rattle.igp_theory.specs.States.{IsSeamless}
 use Rattle.igp_theory.specs.WaveFaults.{IsWavesFault}
 use Rattle.igp_theory.specs.Waves.{AreSeamlessWaves, HasNoneSeamless}
 use Rattle.igp_theory.proofs.SameTables.{first_fault_over, seamless_over}
 use Rattle.igp_theory.proofs.WaveFaultLaws.{seamless_waves_over, waves_fault_over}
-use Rattle.isis_routes.specs.declared.source.IsisRoutes.{IsisRoutes}
 use Rattle.net_model.specs.Network.{Network}
-use Rattle.ospf_routes.specs.RouteTables.{table_at}
+use Rattle.ospf_routes.specs.RouteTables.{AreOspfRoutes, table_at}
 use Rattle.ospf_routes.specs.declared.source.OspfRoutes.{OspfRoutes}
 use Rattle.plan_theory.specs.Plans.{IsPlanned}
 use Rattle.plan_theory.specs.declared.planned.Planned.{Planned}
@@ -23,64 +21,82 @@ use Rattle.refutation_check.specs.declared.verdict.Verdict.TheVariants.{Closed, 
 use Rattle.refutation_check.proofs.SameVerdicts as same_verdicts
 use Rattle.rib_mix.specs.Mixture.{Mixture, migration_of}
 use Rattle.route_core.specs.Tables.{HasEntry}
-use Rattle.migrate_cli.specs.steps.Tables.{AreBothTables, MixesTables}
+use Rattle.route_tables.specs.Tables.{Routes}
+use Rattle.migrate_cli.specs.declared.tables.NewRoutes.{NewRoutes}
+use Rattle.migrate_cli.specs.declared.tables.NewRoutes.TheVariants.{Ospf}
+use Rattle.migrate_cli.specs.steps.Tables.{AreBothTables, AreNewRoutes, MixesTables, NetworkMove, move_of, network_move, new_entries, new_table}
 use Rattle.plan_theory.proofs.PlanTables.{planned_over}
 
--- a mixture of the tables of a network
-module _ (net : Network) (old : OspfRoutes) (new : IsisRoutes) (tables : AreBothTables net old new) where
-  mixes_tables : (m : Mixture OspfRoutes IsisRoutes) → m.net ≡ net → m.old ≡ old → m.new ≡ new → MixesTables net m
+-- a mixture of the tables of a migration
+module _ (of : NetworkMove) (old : OspfRoutes) (new : NewRoutes) (tables : AreBothTables of old new) where
+  abbrev entries : Tables
+  entries = new_entries of.net of.redesign
+
+  mixes_tables : (m : Mixture OspfRoutes NewRoutes) → m.net ≡ of.net → m.old ≡ old → m.new ≡ new → MixesTables of m
   mixes_tables m net_is old_is new_is =
-      let same_old : HaveSameEntries net (HasEntry (table_at m.old)) (OspfEntry net) =
-      subst (λ (o : OspfRoutes). HaveSameEntries net (HasEntry (table_at o)) (OspfEntry net)) (sym old_is) tables.old_tables.entries in
-      let same_new : HaveSameEntries net (HasEntry (table_at m.new)) (IsisEntry net) =
-      subst (λ (n : IsisRoutes). HaveSameEntries net (HasEntry (table_at n)) (IsisEntry net)) (sym new_is) tables.new_tables.entries in
+      let same_old : HaveSameEntries of.net (HasEntry (table_at m.old)) (OspfEntry of.net) =
+      subst (λ (o : OspfRoutes). HaveSameEntries of.net (HasEntry (table_at o)) (OspfEntry of.net)) (sym old_is) tables.old_tables.entries in
+      let same_new : HaveSameEntries of.net (HasEntry (new_table m.new)) entries =
+      subst (λ (n : NewRoutes). HaveSameEntries of.net (HasEntry (new_table n)) entries) (sym new_is) tables.new_tables.entries in
       record {
         net_is = net_is;
         same =
-            subst (λ (some : Network). HaveSameTables (listed_migration some (table_at m.old) (table_at m.new)) (OspfEntry some) (IsisEntry some))
+            subst (λ (some : Network). HaveSameTables (listed_migration some (table_at m.old) (new_table m.new)) (OspfEntry of.net) entries)
             (sym net_is) (record { same_old = same_old; same_new = same_new });
       }
 
-  pub mixed_tables : {E : Type 0} (r : Result (Mixture OspfRoutes IsisRoutes) E) → IfOk r (λ m. m.net ≡ net) → IfOk r (λ m. m.old ≡ old) →
-      IfOk r (λ m. m.new ≡ new) → IfOk r (MixesTables net)
+  pub mixed_tables : {E : Type 0} (r : Result (Mixture OspfRoutes NewRoutes) E) → IfOk r (λ m. m.net ≡ of.net) → IfOk r (λ m. m.old ≡ old) →
+      IfOk r (λ m. m.new ≡ new) → IfOk r (MixesTables of)
   mixed_tables (Ok m) net_is old_is new_is = mixes_tables m net_is old_is new_is
   mixed_tables (Err e) net_is old_is new_is = tt
 
--- what holds over such a mixture holds of the network
-module _ (net : Network) (m : Mixture OspfRoutes IsisRoutes) (mixes : MixesTables net m) where
-  pub seamless_order : (order : List ℕ) → IsSeamless (migration_of table_at table_at m) order → IsSeamless (ospf_to_isis net) order
-  seamless_order order is = subst (λ (n : Network). IsSeamless (ospf_to_isis n) order) mixes.net_is (seamless_over mixes.same is)
+-- what holds over such a mixture holds of the migration
+module _ (of : NetworkMove) (m : Mixture OspfRoutes NewRoutes) (mixes : MixesTables of m) where
+  -- the migration, over some network
+  abbrev moved : Network → Migration
+  moved n = migration n (OspfEntry of.net) (new_entries of.net of.redesign)
 
-  pub first_fault : (order : List ℕ) (k : ℕ) (fault : Fault) → IsFirstFault (migration_of table_at table_at m) order k fault →
-      IsFirstFault (ospf_to_isis net) order k fault
+  pub seamless_order : (order : List ℕ) → IsSeamless (migration_of table_at new_table m) order → IsSeamless (move_of of) order
+  seamless_order order is = subst (λ (n : Network). IsSeamless (moved n) order) mixes.net_is (seamless_over mixes.same is)
+
+  pub first_fault : (order : List ℕ) (k : ℕ) (fault : Fault) → IsFirstFault (migration_of table_at new_table m) order k fault →
+      IsFirstFault (move_of of) order k fault
   first_fault order k fault is =
-      subst (λ (n : Network). IsFirstFault (ospf_to_isis n) order k fault) mixes.net_is (first_fault_over mixes.same is)
+      subst (λ (n : Network). IsFirstFault (moved n) order k fault) mixes.net_is (first_fault_over mixes.same is)
 
-  pub seamless_waves : (ranks : List ℕ) → AreSeamlessWaves (migration_of table_at table_at m) ranks → AreSeamlessWaves (ospf_to_isis net) ranks
+  pub seamless_waves : (ranks : List ℕ) → AreSeamlessWaves (migration_of table_at new_table m) ranks → AreSeamlessWaves (move_of of) ranks
   seamless_waves ranks is =
-      subst (λ (n : Network). AreSeamlessWaves (ospf_to_isis n) ranks) mixes.net_is (seamless_waves_over mixes.same is)
+      subst (λ (n : Network). AreSeamlessWaves (moved n) ranks) mixes.net_is (seamless_waves_over mixes.same is)
 
-  pub waves_fault : (ranks : List ℕ) (w : ℕ) (fault : Fault) → IsWavesFault (migration_of table_at table_at m) ranks w fault →
-      IsWavesFault (ospf_to_isis net) ranks w fault
+  pub waves_fault : (ranks : List ℕ) (w : ℕ) (fault : Fault) → IsWavesFault (migration_of table_at new_table m) ranks w fault →
+      IsWavesFault (move_of of) ranks w fault
   waves_fault ranks w fault is =
-      subst (λ (n : Network). IsWavesFault (ospf_to_isis n) ranks w fault) mixes.net_is (waves_fault_over mixes.same is)
+      subst (λ (n : Network). IsWavesFault (moved n) ranks w fault) mixes.net_is (waves_fault_over mixes.same is)
 
-  pub planned_of : (budget : ℕ) (planned : Planned) → IsPlanned (migration_of table_at table_at m) budget planned →
-      IsPlanned (ospf_to_isis net) budget planned
+  pub planned_of : (budget : ℕ) (planned : Planned) → IsPlanned (migration_of table_at new_table m) budget planned →
+      IsPlanned (move_of of) budget planned
   planned_of budget planned is =
-      subst (λ (n : Network). IsPlanned (ospf_to_isis n) budget planned) mixes.net_is
-      (planned_over (migration_of table_at table_at m) (OspfEntry m.net) (IsisEntry m.net) mixes.same budget planned is)
+      subst (λ (n : Network). IsPlanned (moved n) budget planned) mixes.net_is
+      (planned_over (migration_of table_at new_table m) (moved of.net).old (moved of.net).new mixes.same budget planned is)
 
-  pub text_verdict : (text : List ℕ) (verdict : Verdict) → IsTextVerdict (migration_of table_at table_at m) text verdict →
-      IsTextVerdict (ospf_to_isis net) text verdict
+  pub text_verdict : (text : List ℕ) (verdict : Verdict) → IsTextVerdict (migration_of table_at new_table m) text verdict →
+      IsTextVerdict (move_of of) text verdict
   text_verdict text verdict is =
-      subst (λ (n : Network). IsTextVerdict (ospf_to_isis n) text verdict) mixes.net_is
-      (same_verdicts.verdict_over (migration_of table_at table_at m) (OspfEntry m.net) (IsisEntry m.net) mixes.same text verdict is)
+      subst (λ (n : Network). IsTextVerdict (moved n) text verdict) mixes.net_is
+      (same_verdicts.verdict_over (migration_of table_at new_table m) (moved of.net).old (moved of.net).new mixes.same text verdict is)
 
-  pub refutes_where_closed : (verdict : Verdict) → RefutesWhereClosed (migration_of table_at table_at m) verdict →
-      RefutesWhereClosed (ospf_to_isis net) verdict
+  pub refutes_where_closed : (verdict : Verdict) → RefutesWhereClosed (migration_of table_at new_table m) verdict →
+      RefutesWhereClosed (move_of of) verdict
   refutes_where_closed (Closed b l) is =
-      subst (λ (n : Network). HasNoneSeamless (ospf_to_isis n)) mixes.net_is
-      (same_verdicts.none_over (migration_of table_at table_at m) (OspfEntry m.net) (IsisEntry m.net) mixes.same is)
+      subst (λ (n : Network). HasNoneSeamless (moved n)) mixes.net_is
+      (same_verdicts.none_over (migration_of table_at new_table m) (moved of.net).old (moved of.net).new mixes.same is)
   refutes_where_closed (Unfinished u) is = tt
   refutes_where_closed (Wrong line kind) is = tt
+
+-- the tables of the redesign are those of as many routers
+pub redesign_tables : (net new : Network) (routes : Routes) → length new ≡ length net → AreOspfRoutes new routes →
+    AreNewRoutes (network_move net (Some new)) (Ospf routes)
+redesign_tables net new routes same are = record {
+  routers = are.routers ∙ same;
+  entries = λ u p e below. are.entries u p e (omega (arith, below, same));
+}

@@ -8,6 +8,7 @@ use Rattle.migrate_cli.specs.AnswerLaws.{EndsByAnswer}
 use Rattle.migrate_cli.specs.Answers.{Answers}
 use Rattle.migrate_cli.specs.Calls.{Call, Outside}
 use Rattle.migrate_cli.specs.Completeness.{CheckDecides, RefuteDecides, ReplayDecides, ScriptsWrites}
+use Rattle.migrate_cli.specs.PairPromise.{PairCheckDecides, PairPromise, PairRefuteDecides, PairScriptsWrites}
 use Rattle.migrate_cli.specs.PlanPromise.{PlanPromise}
 use Rattle.migrate_cli.specs.PreparePromise.{PreparePromise}
 use Rattle.migrate_cli.specs.Reading.{LastFailed}
@@ -36,5 +37,11 @@ pub record Claim (call : Call) (before after : Outside) (status : Status) : Type
   pub scripts : ScriptsWrites call before after status
   -- `prepare` writes configurations that read as the same ones with the IS-IS of the design
   pub prepares : PreparePromise call before after status
+  -- `pair` plans between two networks of OSPF: its statuses mean the same there
+  pub pairs : PairPromise call before after status
+  -- `paircheck`, `pairrefute` and `pairscripts` do there what `check`, `refute` and `scripts` do
+  pub pair_checks : PairCheckDecides call before after status
+  pub pair_refutes : PairRefuteDecides call before after status
+  pub pair_scripts : PairScriptsWrites call before after status
   -- `sample` sums up the plan of a made network, and reads no file
   pub samples : SamplePromise call before after status

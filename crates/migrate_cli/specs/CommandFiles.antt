@@ -3,6 +3,7 @@ use Rattle.std.specs.Prelude.{ℕ, List, [], ◌∷◌, ◌++◌, codes, length,
 use Rattle.migrate_words.specs.declared.command.Command.{Command}
 use Rattle.migrate_words.specs.declared.command.CommandKind.{CommandKind}
 use Rattle.migrate_words.specs.declared.command.CommandKind.TheVariants.{Prepare, Sample}
+use Rattle.migrate_words.specs.declared.command.CommandKind.TheVariants.{Pair, PairScripts, PairCheck, PairRefute}
 use Rattle.sample_network.specs.SampleTexts.{sample_text}
 use Rattle.migrate_cli.specs.Reading.{File}
 use Rattle.migrate_cli.specs.declared.files.TheConstants.{FILE_MOST, DESIGN_MOST}
@@ -53,9 +54,26 @@ made_texts _ number texts = texts
 abbrev pub config_texts : Command → List (List ℕ) → List (List ℕ)
 config_texts command texts = made_texts command.kind command.number (drop (length command.own) texts)
 
--- the groups of texts of configurations of a command of this kind, each of which makes a network: today's have one
+-- a text as a group of its own
+abbrev pub alone : List ℕ → List (List ℕ)
+alone text = text ∷ []
+
+-- the groups of texts of configurations of a command of this kind, each of which makes a network: a command over two networks
+-- has a group for each text, all others have one
 abbrev pub groups_of : CommandKind → List (List ℕ) → List (List (List ℕ))
-groups_of kind texts = texts ∷ []
+groups_of Pair texts = map alone texts
+groups_of PairScripts texts = map alone texts
+groups_of PairCheck texts = map alone texts
+groups_of PairRefute texts = map alone texts
+groups_of _ texts = texts ∷ []
+
+-- the commands over two networks
+abbrev pub OverNetworks : CommandKind → Type 0
+OverNetworks Pair = Unit {0}
+OverNetworks PairScripts = Unit {0}
+OverNetworks PairCheck = Unit {0}
+OverNetworks PairRefute = Unit {0}
+OverNetworks _ = ⊥
 
 -- the names of the texts of configurations, by the kind of the command: those of the files, or `sample`
 abbrev pub names_for : CommandKind → List (List ℕ) → List (List ℕ)

@@ -4,7 +4,7 @@ use Rattle.net_model.specs.Network.{Network}
 use Rattle.migrate_words.specs.declared.command.Command.{Command}
 use Rattle.migrate_words.specs.declared.command.CommandKind.TheVariants.{Check, Refute, Scripts, Replay}
 use Rattle.refutation_check.specs.Verdicts.{IsClosedText}
-use Rattle.igp_theory.specs.Migrations.{ospf_to_isis}
+use Rattle.igp_theory.specs.Migrations.{Migration, ospf_to_isis}
 use Rattle.igp_theory.specs.Waves.{HasNoneSeamless}
 use Rattle.step_scripts.specs.WaveFiles.{NamesWaves}
 use Rattle.step_scripts.specs.declared.version.Version.{Version}
@@ -95,13 +95,13 @@ pub data Writes : Status → Type 0 where
   written : Writes Done
   unwritten : Writes Memory
 
--- a command that decides on a tree ends with yes where the tree is closed, and then no wave list and no order of the network
+-- a command that decides on a tree ends with yes where the tree is closed, and then no wave list and no order of the migration
 -- is seamless; with no where the text is no closed tree; or for want of memory
-pub data DecidesTree (net : Network) (tree : List ℕ) : Status → Type 0 where
-  closed_tree : (branches leaves : ℕ) → IsClosedText (ospf_to_isis net) tree branches leaves →
-      HasNoneSeamless (ospf_to_isis net) → DecidesTree net tree Done
-  no_closed_tree : ((branches leaves : ℕ) → ¬ IsClosedText (ospf_to_isis net) tree branches leaves) → DecidesTree net tree Negative
-  no_memory : DecidesTree net tree Memory
+pub data DecidesTree (move : Migration) (tree : List ℕ) : Status → Type 0 where
+  closed_tree : (branches leaves : ℕ) → IsClosedText move tree branches leaves →
+      HasNoneSeamless move → DecidesTree move tree Done
+  no_closed_tree : ((branches leaves : ℕ) → ¬ IsClosedText move tree branches leaves) → DecidesTree move tree Negative
+  no_memory : DecidesTree move tree Memory
 
 -- where nothing of the input of `check` is refused and no fault rises, it decides
 abbrev pub CheckDecides : Call → Outside → Outside → Status → Type 0
@@ -113,7 +113,7 @@ ReplayDecides call before after result = AcceptsReplay call → NoFaultRose befo
 
 -- `refute` decides on its tree
 abbrev pub RefuteDecides : Call → Outside → Outside → Status → Type 0
-RefuteDecides call before after result = (accepts : AcceptsRefute call) → NoFaultRose before after → DecidesTree accepts.net accepts.tree result
+RefuteDecides call before after result = (accepts : AcceptsRefute call) → NoFaultRose before after → DecidesTree (ospf_to_isis accepts.net) accepts.tree result
 
 -- and `scripts` writes
 abbrev pub ScriptsWrites : Call → Outside → Outside → Status → Type 0

@@ -5,10 +5,13 @@ use Rattle.net_model.specs.Network.{Network}
 use Rattle.migrate_words.specs.declared.command.Command.{Command}
 use Rattle.migrate_words.specs.declared.command.CommandKind.{CommandKind}
 use Rattle.migrate_words.specs.declared.command.CommandKind.TheVariants.{Check, Prepare, Plan, Refute, Scripts, Replay, Sample}
+use Rattle.migrate_words.specs.declared.command.CommandKind.TheVariants.{Pair, PairScripts, PairCheck, PairRefute}
 use Rattle.migration_report.specs.declared.decision.Decision.{Decision}
 use Rattle.migrate_cli.specs.CommandFiles.{GivenTexts}
 use Rattle.migrate_cli.specs.CheckDecision.{IsCheckDecision}
 use Rattle.migrate_cli.specs.PrepareDecision.{IsPrepareDecision, configured}
+use Rattle.ospf_pair.specs.NetworkPairs.{network_pair}
+use Rattle.migrate_cli.specs.PairDecision.{IsPairCheck, IsPairPlan, IsPairScripts, IsPairTree}
 use Rattle.migrate_cli.specs.PlanDecision.{IsPlanDecision}
 use Rattle.migrate_cli.specs.Reading.{NamedText, named_texts}
 use Rattle.migrate_cli.specs.RefuteDecision.{IsTreeDecision}
@@ -47,3 +50,14 @@ IsDecision Replay input decision =
     (order : NamedText) × (journal : NamedText) × (input.own ≡ order ∷ journal ∷ []) ×
     IsReplayDecision order (journal_of journal.text input.net) decision
 IsDecision Sample input decision = IsSampleDecision input.number input.net decision
+IsDecision Pair input decision =
+    (new : Network) × (input.others ≡ new ∷ []) × IsPairPlan (network_pair input.net new) input.number decision
+IsDecision PairScripts input decision =
+    (new : Network) × (input.others ≡ new ∷ []) × (order : NamedText) × (input.own ≡ order ∷ []) ×
+    IsPairScripts (network_pair input.net new) order decision
+IsDecision PairCheck input decision =
+    (new : Network) × (input.others ≡ new ∷ []) × (order : NamedText) × (input.own ≡ order ∷ []) ×
+    IsPairCheck (network_pair input.net new) order decision
+IsDecision PairRefute input decision =
+    (new : Network) × (input.others ≡ new ∷ []) × (tree : NamedText) × (input.own ≡ tree ∷ []) ×
+    IsPairTree (network_pair input.net new) tree.text decision

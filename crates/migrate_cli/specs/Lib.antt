@@ -11,6 +11,7 @@ pub mod SampleDecision
 pub mod RefuteDecision
 pub mod ReplayDecision
 pub mod ScriptsDecision
+pub mod PairDecision
 pub mod Decisions
 pub mod Outcomes
 pub mod Answers
@@ -20,5 +21,6 @@ pub mod Headline
 pub mod PlanPromise
 pub mod PreparePromise
 pub mod SamplePromise
+pub mod PairPromise
 pub mod Claim
 pub mod steps

@@ -1,6 +1,6 @@
 -- What a call of `plan` promises.
 use Rattle.std.specs.Prelude.{ℕ, List, []}
-use Rattle.igp_theory.specs.Migrations.{ospf_to_isis}
+use Rattle.igp_theory.specs.Migrations.{Migration, ospf_to_isis}
 use Rattle.net_model.specs.Network.{Network}
 use Rattle.store_edge.specs.Sink.{AddsBytes}
 use Rattle.migrate_words.specs.Asked.{Asks}
@@ -44,14 +44,14 @@ pub record AcceptsPlan (call : Call) : Type 0 where
   pub net : Network
   pub accepted : IsAccepted call (command_of Plan [] configs budget) texts net []
 
--- it ends as a plan of the network, or there was no memory
-pub data PlansOrNot (net : Network) : Status → Type 0 where
-  planned : {status : Status} → Plans (ospf_to_isis net) status → PlansOrNot net status
-  no_memory : PlansOrNot net Memory
+-- it ends as a plan of the migration, or there was no memory
+pub data PlansOrNot (move : Migration) : Status → Type 0 where
+  planned : {status : Status} → Plans move status → PlansOrNot move status
+  no_memory : PlansOrNot move Memory
 
 -- where the words ask for `plan`: with 0, 1, 7 and 8 it has planned, and where nothing of its input is refused and no fault
 -- rises it ends so, or for want of memory
 pub record PlanPromise (call : Call) (before after : Outside) (status : Status) : Type 0 where
   pub means : (budget : ℕ) (configs : List (List ℕ)) → Asks call.words (command_of Plan [] configs budget) → IsOfPlan status →
       HasPlanned call budget configs (course before after) status
-  pub decides : (accepts : AcceptsPlan call) → NoFaultRose before after → PlansOrNot accepts.net status
+  pub decides : (accepts : AcceptsPlan call) → NoFaultRose before after → PlansOrNot (ospf_to_isis accepts.net) status

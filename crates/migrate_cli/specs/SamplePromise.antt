@@ -2,6 +2,7 @@
 use Rattle.std.specs.Prelude.{◌≡◌, ◌≢◌, ℕ, List, [], ◌∷◌, codes}
 use Rattle.store_edge.specs.Faults.{Rose}
 use Rattle.store_edge.specs.Sink.{AddsBytes, AddsFront}
+use Rattle.igp_theory.specs.Migrations.{ospf_to_isis}
 use Rattle.net_model.specs.Network.{Network}
 use Rattle.sample_network.specs.SampleTexts.{sample_text}
 use Rattle.migrate_words.specs.Asked.{Asks}
@@ -59,4 +60,4 @@ pub record AcceptsSample (call : Call) : Type 0 where
 -- rises, it is planned
 pub record SamplePromise (call : Call) (before after : Outside) (status : Status) : Type 0 where
   pub means : (routers : ℕ) → Asks call.words (command_of Sample [] [] routers) → HasSampled routers before after status
-  pub decides : (accepts : AcceptsSample call) → (Rose before.sink_faults after.sink_faults → ⊥) → PlansOrNot accepts.net status
+  pub decides : (accepts : AcceptsSample call) → (Rose before.sink_faults after.sink_faults → ⊥) → PlansOrNot (ospf_to_isis accepts.net) status

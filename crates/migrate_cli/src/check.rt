@@ -1,15 +1,13 @@
 ghost use Rattle.std.specs.Prelude.{◌≡◌, ◌<◌, ◌≤◌, IfOk, length};
-ghost use Rattle.igp_theory.specs.Migrations.{ospf_to_isis};
-ghost use Rattle.net_model.specs.Network.{Network};
 ghost use Rattle.order_core.specs.Orders.{IsOrder};
-ghost use Rattle.migrate_cli.specs.CheckDecision.{IsCheckDecision, IsOrderDecision, IsWavesDecision};
+ghost use Rattle.migrate_cli.specs.CheckDecision.{IsCheckDecision, IsCheckOver, IsOrderDecision, IsWavesDecision};
 ghost use Rattle.migrate_cli.specs.Reading.{named_text};
-ghost use Rattle.migrate_cli.specs.steps.Tables.{MixesTables};
+ghost use Rattle.migrate_cli.specs.steps.Tables.{MixesTables, NetworkMove, move_of};
 
 use crate::OutOfMemory;
 use crate::files::{FILE_MOST, bad_order};
-use crate::tables::Tables;
-use isis_routes::IsisRoutes;
+use crate::moves::Move;
+use crate::tables::{NewRoutes, Tables};
 use loop_finder::Finder;
 use migration_report::Decision;
 use net_addr::Bytes;
@@ -21,7 +19,7 @@ use std::alloc::{AllocError, Global};
 use step_scripts::{OrderRefusal, Version, read_waves};
 use wave_oracle::whole_fault;
 
-/// What is decided of the text of an order file and a network with a router.
+/// What is decided of the text of an order file and a network with a router, by the tables of OSPF and of IS-IS.
 pub(crate) fn judge_check(
     alloc: Global,
     file: &str,
@@ -32,22 +30,36 @@ pub(crate) fn judge_check(
     requires some { 0 < length net.now }
     ensures { IfOk result (IsCheckDecision (named_text file.now text.now) net.now) }
 {
-    let read = match read_waves(alloc, net, text.as_slice()) {
+    check_over(alloc, file, text, &Move::to_isis(net))
+}
+
+/// What is decided of the text of an order file and a migration of a network with a router.
+pub(crate) fn check_over(
+    alloc: Global,
+    file: &str,
+    text: &Bytes,
+    of: &Move<'_>,
+) -> Result<Decision, OutOfMemory>
+    requires short { length text.now ≤ FILE_MOST }
+    requires some { 0 < length of.now.net }
+    ensures { IfOk result (IsCheckOver (move_of of.now) (named_text file.now text.now)) }
+{
+    let read = match read_waves(alloc, of.net(), text.as_slice()) {
         Ok(read) => read,
         Err(OrderRefusal::OutOfMemory) => return Err(AllocError),
         Err(OrderRefusal::Bad { line, kind }) => return bad_order(alloc, file, line, kind),
     };
-    let tables = Tables::of(alloc, net)?;
+    let tables = Tables::of(alloc, of)?;
     match read.version {
         Version::One => judge_order(alloc, &tables, read.waves.flat()),
         Version::Two => judge_waves(alloc, &tables, &read.waves),
     }
 }
 
-/// What is decided of an order of the routers, by the tables of both protocols.
+/// What is decided of an order of the routers, by the tables before and after.
 fn judge_order(alloc: Global, tables: &Tables<'_>, order: &[u32]) -> Result<Decision, OutOfMemory>
-    requires { IsOrder (length tables.now) order.now }
-    ensures { IfOk result (IsOrderDecision (ospf_to_isis tables.now) order.now) }
+    requires { IsOrder (length tables.now.net) order.now }
+    ensures { IfOk result (IsOrderDecision (move_of tables.now) order.now) }
 {
     let mixed = tables.mix(alloc)?;
     let decision = judge_mixed_order(alloc, &mixed, order)?;
@@ -57,11 +69,11 @@ fn judge_order(alloc: Global, tables: &Tables<'_>, order: &[u32]) -> Result<Deci
 /// What is decided of an order, by mixed forwarding.
 fn judge_mixed_order(
     alloc: Global,
-    mixed: &Mixed<'_, OspfRoutes, IsisRoutes>,
+    mixed: &Mixed<'_, OspfRoutes, NewRoutes>,
     order: &[u32],
 ) -> Result<Decision, OutOfMemory>
     requires { IsOrder (length mixed.now.net) order.now }
-    ensures { (net : Network) → MixesTables net mixed.now → IfOk result (IsOrderDecision (ospf_to_isis net) order.now) }
+    ensures { (of : NetworkMove) → MixesTables of mixed.now → IfOk result (IsOrderDecision (move_of of) order.now) }
 {
     let mut finder = Finder::new(alloc, mixed)?;
     match finder.order_fault(order) {
@@ -73,10 +85,10 @@ fn judge_mixed_order(
     }
 }
 
-/// What is decided of a wave list of the routers, by the tables of both protocols.
+/// What is decided of a wave list of the routers, by the tables before and after.
 fn judge_waves(alloc: Global, tables: &Tables<'_>, waves: &Waves) -> Result<Decision, OutOfMemory>
-    requires { length waves.now ≡ length tables.now }
-    ensures { IfOk result (IsWavesDecision (ospf_to_isis tables.now) waves.now) }
+    requires { length waves.now ≡ length tables.now.net }
+    ensures { IfOk result (IsWavesDecision (move_of tables.now) waves.now) }
 {
     let mixed = tables.mix(alloc)?;
     let decision = judge_mixed_waves(alloc, &mixed, waves)?;
@@ -86,11 +98,11 @@ fn judge_waves(alloc: Global, tables: &Tables<'_>, waves: &Waves) -> Result<Deci
 /// What is decided of a wave list, by mixed forwarding.
 fn judge_mixed_waves(
     alloc: Global,
-    mixed: &Mixed<'_, OspfRoutes, IsisRoutes>,
+    mixed: &Mixed<'_, OspfRoutes, NewRoutes>,
     waves: &Waves,
 ) -> Result<Decision, OutOfMemory>
     requires { length waves.now ≡ length mixed.now.net }
-    ensures { (net : Network) → MixesTables net mixed.now → IfOk result (IsWavesDecision (ospf_to_isis net) waves.now) }
+    ensures { (of : NetworkMove) → MixesTables of mixed.now → IfOk result (IsWavesDecision (move_of of) waves.now) }
 {
     let mut finder = Finder::new(alloc, mixed)?;
     match finder.waves_fault(waves.ranks()) {

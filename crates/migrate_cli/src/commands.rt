@@ -35,6 +35,7 @@ pub(crate) fn judge_command(
     net: &Net,
 ) -> Result<Decision, OutOfMemory>
     requires range { IsInRange command.now }
+    requires one { OverNetworks command.now.kind → ⊥ }
     requires some { 0 < length net.now }
     requires own { AreShort (own_files command.now) own.now }
     requires configs { All (λ text. length text ≤ FILE_MOST) configs.now }
@@ -60,7 +61,49 @@ pub(crate) fn judge_command(
             let (file, order) = first_own(command, own);
             judge_replay(alloc, file, order, journal, net)
         }
-        CommandKind::Sample => judge_sample(alloc, command.number, net),
+        _ => judge_sample(alloc, command.number, net),
+    }
+}
+
+/// Whether a command is over two networks.
+pub(crate) fn over_networks(kind: CommandKind) -> bool
+    ensures { IsTrue result ↔ OverNetworks kind }
+{
+    matches!(
+        kind,
+        CommandKind::Pair
+            | CommandKind::PairScripts
+            | CommandKind::PairCheck
+            | CommandKind::PairRefute
+    )
+}
+
+/// What a command over two networks decides on the texts of its own files and the pair of these networks.
+pub(crate) fn judge_pair(
+    alloc: Global,
+    command: &Command<'_>,
+    own: &[Bytes],
+    pair: &PairNet,
+) -> Result<Decision, OutOfMemory>
+    requires over { OverNetworks command.now.kind }
+    requires range { IsInRange command.now }
+    requires some { 0 < length pair.now.old }
+    requires own { AreShort (own_files command.now) own.now }
+    ensures { (configs : List (List ℕ)) → IfOk result (IsDecision command.now.kind
+        (input_of command.now (given_texts own.now configs) pair.now.old (pair.now.new ∷ []))) }
+{
+    let of = Move::to_ospf(pair);
+    match command.kind {
+        CommandKind::PairScripts => {
+            let (file, order) = first_own(command, own);
+            judge_pair_scripts(alloc, file, order, pair)
+        }
+        CommandKind::PairCheck => {
+            let (file, order) = first_own(command, own);
+            check_over(alloc, file, order, &of)
+        }
+        CommandKind::PairRefute => refute_over(alloc, &own[0], &of),
+        _ => plan_over(alloc, command.number, &of),
     }
 }
 

@@ -1,7 +1,7 @@
 ghost use Rattle.std.specs.Prelude.{◌≡◌, ◌≤◌, All, IfErr, IfOk, length, map};
 ghost use Rattle.ios_reader.specs.Texts.{ReadsText};
 ghost use Rattle.isis_writer.specs.ReadTexts.{ReadsTexts};
-ghost use Rattle.migrate_cli.specs.steps.Unread.{IsUnread, IsUnreadText};
+ghost use Rattle.migrate_cli.specs.steps.Unread.{IsUnread, IsUnreadText, ReadsBoth};
 
 use crate::files::FILE_MOST;
 use ios_reader::{ReadKind, ReadRefusal, read_configs};
@@ -46,6 +46,23 @@ pub(crate) fn read_all<'a>(
         }
     }
     Ok(Configs::from_vec(all))
+}
+
+/// The configurations of the texts of two files.
+pub(crate) fn read_two<'a>(
+    alloc: Global,
+    names: &[&'a str],
+    texts: &[Bytes],
+) -> Result<(Configs, Configs), Unread<'a>>
+    requires names { length names.now ≡ 2 }
+    requires texts { length texts.now ≡ 2 }
+    requires short { All (λ text. length text ≤ FILE_MOST) texts.now }
+    ensures ok { IfOk result (λ both. ReadsBoth texts.now both.0 both.1) }
+    ensures err { IfErr result (IsUnread (map (λ name. name.now) names.now) texts.now) }
+{
+    let old = read_one(alloc, names[0], &texts[0])?;
+    let new = read_one(alloc, names[1], &texts[1])?;
+    Ok((Configs::from_vec(old), Configs::from_vec(new)))
 }
 
 /// The configurations of the text of one file.

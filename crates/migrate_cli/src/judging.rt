@@ -1,22 +1,26 @@
 ghost use Rattle.std.specs.Prelude.{◌≡◌, ◌≢◌, ◌<◌, ◌≤◌, ◌∷◌, [], All, IfOk, MatchOption, OnOk, length};
+ghost use Rattle.net_model.specs.Configuration.{Configuration};
+ghost use Rattle.net_model.specs.Network.{HasConfiguration};
 ghost use Rattle.net_model.specs.OffStarts.{IsLowestOffStart};
 ghost use Rattle.sample_network.specs.SampleTexts.{sample_text};
 ghost use Rattle.migrate_words.specs.Asked.{IsInRange};
-ghost use Rattle.migrate_cli.specs.CommandFiles.{NeedsStart, config_texts, files_of, own_files, own_texts, text_names, given_texts};
+ghost use Rattle.migrate_cli.specs.CommandFiles.{NeedsStart, OverNetworks, config_texts, files_of, given_texts, groups_of};
+ghost use Rattle.migrate_cli.specs.CommandFiles.{own_files, own_texts, text_names};
 ghost use Rattle.migrate_cli.specs.steps.FilesRead.{ReadsFiles};
-ghost use Rattle.migrate_cli.specs.Configurations.{GiveNetwork, IsAtStart};
+ghost use Rattle.migrate_cli.specs.Configurations.{GiveNetwork, GiveNetworks, IsAtStart};
 ghost use Rattle.migrate_cli.specs.Reading.{AreShort};
 ghost use Rattle.migrate_cli.specs.steps.Unread.{RefusesUnread};
 ghost use Rattle.migrate_cli.specs.Outcomes.{IsOutcome};
 
 use crate::OutOfMemory;
-use crate::commands::{judge_command, needs_start};
-use crate::configurations::{Unread, read_all};
+use crate::commands::{judge_command, judge_pair, needs_start, over_networks};
+use crate::configurations::{Unread, read_all, read_two};
 use crate::files::{FILE_MOST, name_bytes, text_names};
 use migrate_words::{Command, CommandKind};
-use migration_report::{Outcome, Refusal};
+use migration_report::{Decision, Outcome, Refusal};
 use net_addr::{Bytes, Name};
 use net_model::{Net, NetRefusal};
+use ospf_pair::{PairNet, PairRefusal, pair_or_refusal};
 use sample_network::sample_text;
 use std::alloc::{AllocError, Global};
 
@@ -55,16 +59,21 @@ fn judge_read(alloc: Global, command: &Command<'_>, texts: &[Bytes]) -> Result<O
 {
     let number = text_names(command).len();
     let (own, configs) = texts.split_at(texts.len() - number);
-    judge_texts(alloc, command, own, configs)
+    if over_networks(command.kind) {
+        judge_networks(alloc, command, own, configs)
+    } else {
+        judge_texts(alloc, command, own, configs)
+    }
 }
 
-/// What a command comes to on the texts of its own files and those of configurations.
+/// What a command over one network comes to on the texts of its own files and those of configurations.
 fn judge_texts(
     alloc: Global,
     command: &Command<'_>,
     own: &[Bytes],
     texts: &[Bytes],
 ) -> Result<Outcome, OutOfMemory>
+    requires one { OverNetworks command.now.kind → ⊥ }
     requires range { IsInRange command.now }
     requires own { AreShort (own_files command.now) own.now }
     requires each { length (text_names command.now) ≡ length texts.now }
@@ -79,6 +88,79 @@ fn judge_texts(
         Ok(net) => judge_network(alloc, command, own, texts, net),
         Err(refusal) => refuse_network(refusal),
     }
+}
+
+/// What a command over two networks comes to on the texts of its own files and those of configurations.
+fn judge_networks(
+    alloc: Global,
+    command: &Command<'_>,
+    own: &[Bytes],
+    texts: &[Bytes],
+) -> Result<Outcome, OutOfMemory>
+    requires over { OverNetworks command.now.kind }
+    requires range { IsInRange command.now }
+    requires own { AreShort (own_files command.now) own.now }
+    requires each { length (text_names command.now) ≡ length texts.now }
+    requires short { All (λ text. length text ≤ FILE_MOST) texts.now }
+    ensures { IfOk result (IsOutcome command.now (given_texts own.now texts.now)) }
+{
+    let (old, new) = match read_two(alloc, text_names(command), texts) {
+        Ok(both) => both,
+        Err(unread) => return refuse_unread(alloc, unread),
+    };
+    let old = match Net::build(alloc, old) {
+        Ok(old) => old,
+        Err(refusal) => return refuse_network(refusal),
+    };
+    match Net::build(alloc, new) {
+        Ok(new) => judge_two(alloc, command, own, texts, (old, new)),
+        Err(refusal) => refuse_network(refusal),
+    }
+}
+
+/// What a command over two networks comes to on the texts of its own files and the two networks.
+fn judge_two(
+    alloc: Global,
+    command: &Command<'_>,
+    own: &[Bytes],
+    configs: &[Bytes],
+    nets: (Net, Net),
+) -> Result<Outcome, OutOfMemory>
+    requires over { OverNetworks command.now.kind }
+    requires range { IsInRange command.now }
+    requires some { 0 < length nets.0 }
+    requires own { AreShort (own_files command.now) own.now }
+    ensures { IfOk result (λ outcome. GiveNetworks (groups_of command.now.kind configs.now) (nets.0 ∷ nets.1 ∷ []) →
+        IsOutcome command.now (given_texts own.now configs.now) outcome) }
+{
+    let (old, new) = nets;
+    if let Some(router) = off_start(command, &old) {
+        return refuse_start(alloc, &old, router);
+    }
+    match pair_or_refusal(alloc, &old, &new) {
+        Ok(()) => {
+            let pair = PairNet::new(old, new);
+            let decision = judge_pair(alloc, command, own, &pair)?;
+            let net = pair.into_old();
+            Ok(Outcome::Decided { net, decision })
+        }
+        Err(PairRefusal::OutOfMemory) => Err(AllocError),
+        Err(refusal) => {
+            let decision = Decision::BadPair { refusal };
+            Ok(Outcome::Decided { net: old, decision })
+        }
+    }
+}
+
+/// What a call comes to of which a router isn't where a migration starts.
+fn refuse_start(alloc: Global, net: &Net, router: u32) -> Result<Outcome, OutOfMemory>
+    requires { router < length net.now }
+    ensures { IfOk result (λ outcome. (config : Configuration) → HasConfiguration net.now router config →
+        outcome ≡ Outcome.Refused (Refusal.OffStart config.name)) }
+{
+    let name = copied_name(alloc, &net.config(router).name)?;
+    let refusal = Refusal::OffStart { name };
+    Ok(Outcome::Refused { refusal })
 }
 
 /// What a call comes to whose configurations make no network.
@@ -120,14 +202,13 @@ fn judge_network(
     requires range { IsInRange command.now }
     requires some { 0 < length net }
     requires own { AreShort (own_files command.now) own.now }
+    requires one { OverNetworks command.now.kind → ⊥ }
     requires configs { All (λ text. length text ≤ FILE_MOST) configs.now }
     ensures { IfOk result (λ outcome. GiveNetwork configs.now net →
         IsOutcome command.now (given_texts own.now configs.now) outcome) }
 {
     if let Some(router) = off_start(command, &net) {
-        let name = copied_name(alloc, &net.config(router).name)?;
-        let refusal = Refusal::OffStart { name };
-        return Ok(Outcome::Refused { refusal });
+        return refuse_start(alloc, &net, router);
     }
     let decision = judge_command(alloc, command, own, configs, &net)?;
     Ok(Outcome::Decided { net, decision })

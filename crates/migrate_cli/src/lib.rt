@@ -29,12 +29,14 @@ mod commands;
 mod configurations;
 mod files;
 mod judging;
+mod moves;
 mod reading;
 mod tables;
 
 // what each command decides
 mod check;
 mod plan;
+mod pair;
 mod prepare;
 mod refute;
 mod replay;

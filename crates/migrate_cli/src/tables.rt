@@ -1,48 +1,103 @@
 ghost use Rattle.std.specs.Prelude.{◌≡◌, IfOk};
-ghost use Rattle.migrate_cli.specs.steps.Tables.{MixesTables};
+ghost use Rattle.migrate_cli.specs.steps.Tables.{AreNewRoutes, MixesTables};
 
 use crate::OutOfMemory;
+use crate::moves::Move;
 use isis_routes::IsisRoutes;
 use net_model::Net;
 use ospf_routes::OspfRoutes;
 use rib_mix::Mixed;
+use route_core::{RouteSource, Table};
 use std::alloc::Global;
 use std::marker::Model;
 
-/// The tables of both protocols of a network. Seen as the network.
+/// The tables that take over: those of IS-IS, or of a second OSPF process.
+#[derive(Drop)]
+pub(crate) enum NewRoutes {
+    /// Of IS-IS.
+    Isis(IsisRoutes),
+    /// Of a second OSPF process.
+    Ospf(OspfRoutes),
+}
+
+impl NewRoutes {
+    /// The tables that take over in a migration.
+    fn of(alloc: Global, of: &Move<'_>) -> Result<NewRoutes, OutOfMemory>
+        ensures { IfOk result (AreNewRoutes of.now) }
+    {
+        match of.redesign() {
+            None => Ok(NewRoutes::Isis(IsisRoutes::build(alloc, of.net())?)),
+            Some(net) => Ok(NewRoutes::Ospf(OspfRoutes::build(alloc, net)?)),
+        }
+    }
+}
+
+impl RouteSource for NewRoutes {
+    ghost use Rattle.migrate_cli.specs.steps.Tables.{new_table, routes_of};
+    ghost use Rattle.ospf_routes.specs.RouteTables.{AreLinked, router_count};
+
+    ghost routers = { λ new. router_count (routes_of new) };
+
+    ghost table = { new_table };
+
+    ghost prefixes = { λ new. (routes_of new).prefixes };
+
+    ghost linked = { λ new u v. AreLinked (routes_of new) u v };
+
+    fn routers(&self) -> u32 {
+        match self {
+            NewRoutes::Isis(routes) => routes.routers(),
+            NewRoutes::Ospf(routes) => routes.routers(),
+        }
+    }
+
+    fn table(&self, router: u32) -> &Table {
+        match self {
+            NewRoutes::Isis(routes) => routes.table(router),
+            NewRoutes::Ospf(routes) => routes.table(router),
+        }
+    }
+
+    fn linked(&self, u: u32, v: u32) -> bool {
+        match self {
+            NewRoutes::Isis(routes) => routes.linked(u, v),
+            NewRoutes::Ospf(routes) => routes.linked(u, v),
+        }
+    }
+}
+
+/// The tables before and after a migration. Seen as the migration.
 #[derive(Drop)]
 pub(crate) struct Tables<'a> {
-    net: &'a Net,
+    of: &'a Move<'a>,
     old: OspfRoutes,
-    new: IsisRoutes,
+    new: NewRoutes,
 }
 
 impl<'a> Model for Tables<'a> {
-    ghost use Rattle.net_model.specs.Network.{Network};
+    ghost use Rattle.migrate_cli.specs.steps.Tables.{AreBothTables, NetworkMove};
 
-    ghost Value = { Network };
+    ghost Value = { NetworkMove };
 
-    ghost use Rattle.migrate_cli.specs.steps.Tables.{AreBothTables};
+    ghost view = { λ x. x.of.now };
 
-    ghost view = { λ x. x.net.now };
-
-    ghost invariant = { λ x. AreBothTables x.net.now x.old x.new };
+    ghost invariant = { λ x. AreBothTables x.of.now x.old x.new };
 }
 
 impl<'a> Tables<'a> {
-    /// The tables of a network: the old ones of OSPF, and the new ones of IS-IS.
-    pub fn of(alloc: Global, net: &'a Net) -> Result<Tables<'a>, OutOfMemory>
-        ensures { IfOk result (λ tables. tables ≡ net.now) }
+    /// The tables of a migration.
+    pub fn of(alloc: Global, of: &'a Move<'a>) -> Result<Tables<'a>, OutOfMemory>
+        ensures { IfOk result (λ tables. tables ≡ of.now) }
     {
-        let old = OspfRoutes::build(alloc, net)?;
-        let new = IsisRoutes::build(alloc, net)?;
-        Ok(Tables { net, old, new })
+        let old = OspfRoutes::build(alloc, of.net())?;
+        let new = NewRoutes::of(alloc, of)?;
+        Ok(Tables { of, old, new })
     }
 
     /// Mixed forwarding over them.
-    pub fn mix(&self, alloc: Global) -> Result<Mixed<'_, OspfRoutes, IsisRoutes>, OutOfMemory>
+    pub fn mix(&self, alloc: Global) -> Result<Mixed<'_, OspfRoutes, NewRoutes>, OutOfMemory>
         ensures { IfOk result (MixesTables self.now) }
     {
-        Mixed::build(alloc, self.net, &self.old, &self.new)
+        Mixed::build(alloc, self.of.net(), &self.old, &self.new)
     }
 }

@@ -14,8 +14,10 @@ use Rattle.clap.specs.Faults.{level_fault}
 use Rattle.migrate_words.specs.Asked.{AreTaken, Enters}
 use Rattle.migrate_words.specs.CommandLine.{budget_option, command_line, config_files, config_rules, number_rules, one_text}
 use Rattle.migrate_words.specs.CommandLine.{rules_of}
-use Rattle.migrate_words.specs.Usages.{Usage, kinds, usage_of}
+use Rattle.migrate_words.specs.Usages.{Usage, kinds, network_names, usage_of}
 use Rattle.migrate_words.specs.declared.command.CommandKind.{CommandKind}
+use Rattle.migrate_words.specs.declared.subcommands.ConfigFiles.{ConfigFiles}
+use Rattle.migrate_words.specs.declared.subcommands.ConfigFiles.TheVariants.{NoConfigs, Several, Networks}
 use Rattle.migrate_words.specs.declared.subcommands.NumberTaken.{NumberTaken}
 use Rattle.migrate_words.specs.declared.subcommands.NumberTaken.TheVariants.{NoNumber, Budget, Routers}
 use Rattle.migrate_words.proofs.RowFacts.{some_is}
@@ -74,9 +76,10 @@ each_number P of NoNumber = tt
 each_number P of Budget = (of.budget, tt)
 each_number P of Routers = (of.text (codes "N"), tt)
 
-each_config : (P : Rule → Type 0) → OfArguments P → (configs : Bool) → EachFilled P (config_rules configs)
-each_config P of true = (of.files, tt)
-each_config P of false = tt
+each_config : (P : Rule → Type 0) → OfArguments P → (configs : ConfigFiles) → EachFilled P (config_rules configs)
+each_config P of NoConfigs = tt
+each_config P of Several = (of.files, tt)
+each_config P of Networks = each_text P of network_names
 
 -- so it holds of each argument of a line
 pub each_of_line : (P : Rule → Type 0) → OfArguments P → (usage : Usage) → Each P (built_line usage).rules

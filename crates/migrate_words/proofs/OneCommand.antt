@@ -3,9 +3,11 @@ use Rattle.std.proofs.Common.{◌≡◌, ◌∙◌, ℕ, Bool, true, false, List
 use Rattle.clap.specs.Words.{Row, Text, all_of, first_of}
 use Rattle.migrate_words.specs.Asked.{Gives, HasConfigs, HaveTexts, IsGivenNumber, IsNumberIn}
 use Rattle.migrate_words.specs.Laws.{OneCommandLaw}
-use Rattle.migrate_words.specs.Usages.{usage_of}
+use Rattle.migrate_words.specs.Usages.{network_names, usage_of}
 use Rattle.migrate_words.specs.declared.command.Command.{Command}
 use Rattle.migrate_words.specs.declared.command.CommandKind.{CommandKind}
+use Rattle.migrate_words.specs.declared.subcommands.ConfigFiles.{ConfigFiles}
+use Rattle.migrate_words.specs.declared.subcommands.ConfigFiles.TheVariants.{NoConfigs, Several, Networks}
 use Rattle.migrate_words.specs.declared.subcommands.NumberTaken.{NumberTaken}
 use Rattle.migrate_words.specs.declared.subcommands.NumberTaken.TheVariants.{NoNumber, Budget, Routers}
 use Rattle.migrate_words.proofs.Entries.{same_kind}
@@ -32,10 +34,11 @@ same_texts rows (id ∷ ids) (text ∷ texts) [] one two = absurd two
 same_texts rows (id ∷ ids) (text ∷ texts) (other ∷ others) one two =
     ap₂ (λ t ts. t ∷ ts) (one_value (first_of id rows) text other one.0 two.0) (same_texts rows ids texts others one.1 two.1)
 
-same_configs : (configs : Bool) (rows : List Row) (names others : List Text) → HasConfigs configs rows names
+same_configs : (configs : ConfigFiles) (rows : List Row) (names others : List Text) → HasConfigs configs rows names
     → HasConfigs configs rows others → names ≡ others
-same_configs true rows names others one two = one_value (all_of (codes "CONFIG") rows) names others one two
-same_configs false rows names others one two = one ∙ sym two
+same_configs Several rows names others one two = one_value (all_of (codes "CONFIG") rows) names others one two
+same_configs NoConfigs rows names others one two = one ∙ sym two
+same_configs Networks rows names others one two = same_texts rows network_names names others one two
 
 abbrev command_of : CommandKind → List Text → List Text → ℕ → Command
 command_of kind own configs number = record { kind = kind; own = own; configs = configs; number = number }

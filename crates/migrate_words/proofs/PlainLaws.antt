@@ -27,15 +27,17 @@ use Rattle.migrate_words.specs.Asked.{Asks, HasConfigs, HaveTexts, IsGivenNumber
 use Rattle.migrate_words.specs.CommandLine.{budget_option, command_line, config_rules, number_rules, one_text, rules_of}
 use Rattle.migrate_words.specs.Laws.{PlainWordsLaw}
 use Rattle.migrate_words.specs.PlainWords.{ArePlainConfigs, IsPlainName, WritesNumber, no_number, usual_budget, budget, routers}
-use Rattle.migrate_words.specs.Usages.{Usage, usage, usage_of}
+use Rattle.migrate_words.specs.Usages.{Usage, network_names, usage, usage_of}
 use Rattle.migrate_words.specs.declared.command.CommandKind.{CommandKind}
 use Rattle.migrate_words.specs.declared.command.CommandKind.TheVariants.{Check}
+use Rattle.migrate_words.specs.declared.subcommands.ConfigFiles.{ConfigFiles}
+use Rattle.migrate_words.specs.declared.subcommands.ConfigFiles.TheVariants.{NoConfigs, Several, Networks}
 use Rattle.migrate_words.specs.declared.subcommands.NumberTaken.{NumberTaken}
 use Rattle.migrate_words.specs.declared.subcommands.NumberTaken.TheVariants.{Budget, Routers}
 use Rattle.migrate_words.proofs.BuiltLines.{Each, OfArguments, built_line, built_of, each_of_line}
 use Rattle.migrate_words.proofs.Entering.{NamesLine, Takes, entered_by, taken_by, takes_rows, takes_words}
-use Rattle.migrate_words.proofs.PlainRows.{Behind, adds, are_new, are_new_append, config_ids, configs_stand, is_new, no_row}
-use Rattle.migrate_words.proofs.PlainRows.{place_after, row_ids}
+use Rattle.migrate_words.proofs.PlainRows.{Behind, added, adds, are_new, are_new_append, config_ids, configs_stand, is_new, no_row}
+use Rattle.migrate_words.proofs.PlainRows.{place_after, place_below, row_ids}
 use Rattle.migrate_words.proofs.PlainRows.{takes_budget, takes_text, text_at, text_row, text_rows, texts_stand}
 use Rattle.migrate_words.proofs.PlainWalk.{Ends, Settles, before, configs_walk, ends_after, ends_after_word, held_text, no_fault}
 use Rattle.migrate_words.proofs.PlainWalk.{other_plain, text_settles}
@@ -139,18 +141,22 @@ texts_given final front (id ∷ ids) (text ∷ texts) after are new long =
       ap₂ (λ a b. a || b) (given_of id final (text ∷ []) found) rest.1,
     )
 
-configs_given : (configs : Bool) (rows : List Row) (names : List Text) → are_new (row_ids rows) (config_ids configs) ≡ true
+configs_given : (configs : ConfigFiles) (rows : List Row) (names : List Text) → are_new (row_ids rows) (config_ids configs) ≡ true
     → ArePlainConfigs configs names
-    → HasConfigs configs (adds rows names) names × (list_any (lacks (adds rows names)) (config_rules configs) ≡ false)
-configs_given true rows [] new plain = absurd (plain.some refl)
-configs_given true rows (first ∷ others) new plain =
+    → HasConfigs configs (added configs rows names) names
+    × (list_any (lacks (added configs rows names)) (config_rules configs) ≡ false)
+configs_given Several rows [] new plain = absurd (plain.some refl)
+configs_given Several rows (first ∷ others) new plain =
     let names = first ∷ others in
     let none = no_row (codes "CONFIG") rows (both (is_new (row_ids rows) (codes "CONFIG")) true new).0 in
     let found = row_found (adds rows names) rows [] (codes "CONFIG") names refl none in (
       ap (λ (o : Option Row). option_map (λ r. r.values) o) found,
       ap (λ (b : Bool). b || false) (given_of (codes "CONFIG") (adds rows names) names found),
     )
-configs_given false rows names new plain = (plain, refl)
+configs_given NoConfigs rows names new plain = (plain, refl)
+configs_given Networks rows names new plain =
+    texts_given (added Networks rows names) rows network_names names []
+    (ap (λ (more : List Row). rows ++ more) (sym (append-nil (text_rows network_names names)))) new plain.two
 
 -- ---- the number
 
@@ -174,7 +180,7 @@ record NumberWalk (line : Usage) (words : List Text) (n : ℕ) : Type 0 where
       × (list_any (lacks (rows ++ more)) (number_rules line.number) ≡ false)
 
 -- the rules of a line, behind that for its number
-rules_behind : (own : List Text) (configs : Bool)
+rules_behind : (own : List Text) (configs : ConfigFiles)
     → (map one_text own ++ config_rules configs) ++ help_rule ∷ [] ≡ map one_text own ++ (config_rules configs ++ help_rule ∷ [])
 rules_behind own configs = append_assoc (map one_text own) (config_rules configs) (help_rule ∷ [])
 
@@ -191,7 +197,7 @@ after_budget = record {
   stopped = None;
 }
 
-module _ (word : Text) (own : List Text) (configs : Bool) where
+module _ (word : Text) (own : List Text) (configs : ConfigFiles) where
   with_budget : Shape
   with_budget = built_line (usage word Budget own configs)
 
@@ -218,7 +224,7 @@ numeral_plain : (word : Text) (n : ℕ) → IsNumeral word n → IsPlainName wor
 numeral_plain [] n numeral = absurd (omega (arith, numeral.some))
 numeral_plain (x ∷ xs) n numeral = λ hyphen. let digit = All-head IsAsciiDigit x xs numeral.digits in omega (arith, digit, hyphen)
 
-number_walk : (word : Text) (number : NumberTaken) (own : List Text) (configs : Bool) (words : List Text) (n : ℕ)
+number_walk : (word : Text) (number : NumberTaken) (own : List Text) (configs : ConfigFiles) (words : List Text) (n : ℕ)
     → WritesNumber number words n
     → AreApart (usage word number own configs) → NumberWalk (usage word number own configs) words n
 unfolding with_budget
@@ -315,19 +321,31 @@ text_ids (id ∷ ids) [] long = absurd (omega (arith, long))
 text_ids (id ∷ ids) (text ∷ texts) long = ap (λ (names : List Text). id ∷ names) (text_ids ids texts (omega (arith, long)))
 
 -- the row of the configuration files, if there are any
-abbrev config_rows : List Text → List Row
-config_rows [] = []
-config_rows (first ∷ others) = text_row (codes "CONFIG") (first ∷ others) ∷ []
+abbrev file_rows : List Text → List Row
+file_rows [] = []
+file_rows (first ∷ others) = text_row (codes "CONFIG") (first ∷ others) ∷ []
 
-adds_rows : (rows : List Row) (names : List Text) → adds rows names ≡ rows ++ config_rows names
+-- the rows of the configuration files of a command
+abbrev config_rows : ConfigFiles → List Text → List Row
+config_rows NoConfigs names = file_rows names
+config_rows Several names = file_rows names
+config_rows Networks names = text_rows network_names names
+
+adds_rows : (rows : List Row) (names : List Text) → adds rows names ≡ rows ++ file_rows names
 adds_rows rows [] = sym (append-nil rows)
 adds_rows rows (first ∷ others) = refl
 
-config_names : (configs : Bool) (names : List Text) → ArePlainConfigs configs names
-    → row_ids (config_rows names) ≡ config_ids configs
-config_names true [] plain = absurd (plain.some refl)
-config_names true (first ∷ others) plain = refl
-config_names false names plain = ap (λ (all : List Text). row_ids (config_rows all)) plain
+added_rows : (configs : ConfigFiles) (rows : List Row) (names : List Text) → added configs rows names ≡ rows ++ config_rows configs names
+added_rows NoConfigs rows names = adds_rows rows names
+added_rows Several rows names = adds_rows rows names
+added_rows Networks rows names = refl
+
+config_names : (configs : ConfigFiles) (names : List Text) → ArePlainConfigs configs names
+    → row_ids (config_rows configs names) ≡ config_ids configs
+config_names NoConfigs names plain = ap (λ (all : List Text). row_ids (file_rows all)) plain
+config_names Several [] plain = absurd (plain.some refl)
+config_names Several (first ∷ others) plain = refl
+config_names Networks names plain = text_ids network_names names plain.two
 
 -- no required argument is missing
 none_missing : (line : Usage) (rows : List Row) → list_any (lacks rows) (number_rules line.number) ≡ false
@@ -357,19 +375,21 @@ plain_line line number_words own configs n are number long plain plain_configs =
     let s : Shape = built_line line in
     let texts : List Row = text_rows line.own own in
     let front : List Row = number.rows ++ texts in
-    let final : List Row = adds front configs in
+    let final : List Row = added line.configs front configs in
     let new = are_new_append (row_ids number.rows) line.own (config_ids line.configs) number.new in
     let apart_names = are_new_append number.seen line.own (config_ids line.configs) number.apart in
-    let few : number.place + length line.own < 1000 = omega (arith, number.small, are.few) in
-    let stand = texts_stand s.rules line.own number.seen number.place (others_of line) number.behind apart_names.0 few in
+    let few : number.place + length line.own < 910 = omega (arith, number.small, are.few) in
+    let there = place_below number.place line.own in
+    let stand = texts_stand s.rules line.own number.seen number.place (others_of line) number.behind apart_names.0 (omega (arith, few)) in
     let stand_configs = configs_stand s.rules (number.seen ++ line.own) (place_after number.place line.own) line.configs
-    (help_rule ∷ []) stand.1 apart_names.1 in
+    (help_rule ∷ []) (omega (arith, few, there)) stand.1 apart_names.1 in
     let ids = map-append (λ (r : Row). r.id) number.rows texts
     ∙ ap (λ (names : List Text). row_ids number.rows ++ names) (text_ids line.own own long) in
     let new_configs = subst (λ (names : List Text). are_new names (config_ids line.configs) ≡ true) (sym ids) new.1 in
-    let more : List Row = texts ++ config_rows configs in
-    let final_is = adds_rows front configs ∙ append_assoc number.rows texts (config_rows configs) in
-    let more_ids = map-append (λ (r : Row). r.id) texts (config_rows configs)
+    let behind : List Row = config_rows line.configs configs in
+    let more : List Row = texts ++ behind in
+    let final_is = added_rows line.configs front configs ∙ append_assoc number.rows texts behind in
+    let more_ids = map-append (λ (r : Row). r.id) texts behind
     ∙ ap₂ (λ (a b : List Text). a ++ b) (text_ids line.own own long) (config_names line.configs configs plain_configs) in
     let no_number = no_row (codes "N") more
     (subst (λ (names : List Text). is_new names (codes "N") ≡ true) (sym more_ids) are.no_number) in
@@ -377,7 +397,7 @@ plain_line line number_words own configs n are number long plain plain_configs =
     (λ (rows : List Row). IsGivenNumber line.number
     (first_of (codes "N") rows) n × (list_any (lacks rows) (number_rules line.number) ≡ false))
     (sym final_is) (number.given more no_number) in
-    let own_given = texts_given final number.rows line.own own (config_rows configs) final_is new.0 long in
+    let own_given = texts_given final number.rows line.own own behind final_is new.0 long in
     let configs_are = configs_given line.configs front configs new_configs plain_configs in
     let none = each_of_line (λ a. a.defaults ≡ []) no_defaults line in
     record {
@@ -386,7 +406,7 @@ plain_line line number_words own configs n are number long plain plain_configs =
         ends = number.walk (own ++ configs) final
             (λ h settles. texts_walk s line.own own h number.rows number.place configs final refl settles stand.0 new.0 long plain
             (λ after settled. configs_walk s line.configs configs after front
-            (place_after number.place line.own) settled stand_configs new_configs plain_configs));
+            (place_after number.place line.own) refl settled stand_configs new_configs plain_configs));
         quiet = ap₂ or_else (defaults_quiet s.rules final none)
             (ap (λ (rows : List Row). check_fault s rows false) (defaults_stay s.rules final none)
             ∙ none_missing line final given.1 own_given.1 configs_are.1);

@@ -21,6 +21,9 @@ use Rattle.clap.specs.declared.error.kind.ErrorKind.TheVariants as kind
 use Rattle.clap.specs.declared.builder.value_parser.Reading.TheVariants.{AsWritten}
 use Rattle.clap.specs.declared.parser.matches.ValueSource.TheVariants.{CommandLine}
 use Rattle.migrate_words.specs.CommandLine.{budget_option, config_files, config_rules, one_text}
+use Rattle.migrate_words.specs.Usages.{network_names}
+use Rattle.migrate_words.specs.declared.subcommands.ConfigFiles.{ConfigFiles}
+use Rattle.migrate_words.specs.declared.subcommands.ConfigFiles.TheVariants.{NoConfigs, Several, Networks}
 use Rattle.migrate_words.proofs.RowFacts.{find_none}
 
 -- ---- names
@@ -115,6 +118,12 @@ abbrev pub adds : List Row → List Text → List Row
 adds rows [] = rows
 adds rows (v ∷ vs) = rows ++ text_row (codes "CONFIG") (v ∷ vs) ∷ []
 
+-- the rows with those of the configuration files of a command
+abbrev pub added : ConfigFiles → List Row → List Text → List Row
+added NoConfigs rows names = adds rows names
+added Several rows names = adds rows names
+added Networks rows names = rows ++ text_rows network_names names
+
 -- one more file
 pub one_more_config : (place : ℕ) (rows : List Row) (seen : List Text) (v : Text) → has_row (codes "CONFIG") rows ≡ false
     → used (files_at place) (v ∷ []) (adds rows seen) ≡ adds rows (seen ++ v ∷ [])
@@ -198,6 +207,13 @@ abbrev pub place_after : ℕ → List Text → ℕ
 place_after place [] = place
 place_after place (id ∷ ids) = place_after (min (place + 1) usize_max) ids
 
+pub place_below : (place : ℕ) (ids : List Text) → place_after place ids ≤ place + length ids
+place_below place [] = omega arith
+place_below place (id ∷ ids) =
+    let rest = place_below (min (place + 1) usize_max) ids in
+    let next : min (place + 1) usize_max ≤ place + 1 = omega arith in
+    omega (arith, rest, next)
+
 -- the arguments of these names stand at their places
 abbrev pub AllStand : List Rule → ℕ → List Text → Type 0
 AllStand rules place [] = Unit {0}
@@ -244,23 +260,27 @@ texts_stand rules (id ∷ ids) seen place others behind new few =
     )
 
 -- where configuration files come next, they stand there
-abbrev pub ConfigsStand : List Rule → ℕ → Bool → Type 0
-ConfigsStand rules place true = StandsAt rules place (files_at place)
-ConfigsStand rules place false = Unit {0}
+abbrev pub ConfigsStand : List Rule → ℕ → ConfigFiles → Type 0
+ConfigsStand rules place NoConfigs = Unit {0}
+ConfigsStand rules place Several = StandsAt rules place (files_at place)
+ConfigsStand rules place Networks = AllStand rules place network_names
 
-abbrev pub config_ids : Bool → List Text
-config_ids true = codes "CONFIG" ∷ []
-config_ids false = []
+abbrev pub config_ids : ConfigFiles → List Text
+config_ids NoConfigs = []
+config_ids Several = codes "CONFIG" ∷ []
+config_ids Networks = network_names
 
-pub configs_stand : (rules : List Rule) (seen : List Text) (place : ℕ) (configs : Bool) (others : List Rule)
+pub configs_stand : (rules : List Rule) (seen : List Text) (place : ℕ) (configs : ConfigFiles) (others : List Rule) → place < 990
     → Behind rules place seen (config_rules configs ++ others)
     → are_new seen (config_ids configs) ≡ true → ConfigsStand rules place configs
-configs_stand rules seen place true others behind new =
+configs_stand rules seen place Several others few behind new =
     stands_at rules behind.front (filled_from (min (place + 1) usize_max) others) place
     (files_at place) behind.rules_are refl behind.under
     (subst (λ (names : List Text). is_new names (codes "CONFIG") ≡ true) (sym behind.names)
     (both (is_new seen (codes "CONFIG")) true new).0)
-configs_stand rules seen place false others behind new = tt
+configs_stand rules seen place NoConfigs others few behind new = tt
+configs_stand rules seen place Networks others few behind new =
+    (texts_stand rules network_names seen place others behind new (omega (arith, few))).0
 
 -- names that are new one after another
 pub are_new_append : (seen ids more : List Text) → are_new seen (ids ++ more) ≡ true

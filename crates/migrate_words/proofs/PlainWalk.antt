@@ -23,7 +23,10 @@ use Rattle.clap.specs.Faults.{bundle_fault, flag_word_fault, other_fault, positi
 use Rattle.clap.specs.Faults.{turn_fault}
 use Rattle.clap.specs.Faults.{use_fault, walk_fault, word_fault}
 use Rattle.migrate_words.specs.PlainWords.{ArePlainConfigs, IsPlainName}
-use Rattle.migrate_words.proofs.PlainRows.{AllStand, ConfigsStand, StandsAt, TakesText, adds, are_new, config_ids, files_at}
+use Rattle.migrate_words.specs.declared.subcommands.ConfigFiles.{ConfigFiles}
+use Rattle.migrate_words.specs.declared.subcommands.ConfigFiles.TheVariants.{NoConfigs, Several, Networks}
+use Rattle.migrate_words.specs.Usages.{network_names}
+use Rattle.migrate_words.proofs.PlainRows.{AllStand, ConfigsStand, StandsAt, TakesText, adds, are_new, added, config_ids, files_at}
 use Rattle.migrate_words.proofs.PlainRows.{is_new, no_row, one_more_config}
 use Rattle.migrate_words.proofs.PlainRows.{place_after, row_ids, takes_text, text_at, text_row, text_rows}
 
@@ -235,16 +238,21 @@ files_end s place rows stand none seen last ((x ∷ xs) ∷ rest) plain =
     (files_end s place rows stand none (seen ++ last ∷ []) (x ∷ xs) rest (All-tail IsPlainName (x ∷ xs) rest plain)))
 
 -- plain words for the configuration files, if any are taken
-pub configs_walk : (s : Shape) (configs : Bool) (names : List Text) (h : Held) (rows : List Row) (place : ℕ) → Settles s h rows
+pub configs_walk : (s : Shape) (configs : ConfigFiles) (names : List Text) (h : Held) (rows : List Row) (place : ℕ)
+    → s.args_override_self ≡ false → Settles s h rows
     → ConfigsStand s.rules place configs → are_new (row_ids rows) (config_ids configs) ≡ true → ArePlainConfigs configs names
-    → Ends s (before h false place) names (adds rows names)
-configs_walk s false names h rows place settles stand new plain =
+    → Ends s (before h false place) names (added configs rows names)
+configs_walk s NoConfigs names h rows place once settles stand new plain =
     subst (λ (all : List Text). Ends s (before h false place) all (adds rows all)) (sym plain)
     (ends_now s h false place rows settles)
-configs_walk s true [] h rows place settles stand new plain = absurd (plain.some refl)
-configs_walk s true ([] ∷ rest) h rows place settles stand new plain = absurd (All-head IsPlainName [] rest plain.plain)
-configs_walk s true ((x ∷ xs) ∷ rest) h rows place settles stand new plain =
+configs_walk s Several [] h rows place once settles stand new plain = absurd (plain.some refl)
+configs_walk s Several ([] ∷ rest) h rows place once settles stand new plain = absurd (All-head IsPlainName [] rest plain.plain)
+configs_walk s Several ((x ∷ xs) ∷ rest) h rows place once settles stand new plain =
     let none = no_row (codes "CONFIG") rows (both (is_new (row_ids rows) (codes "CONFIG")) true new).0 in
     ends_after_word s h rows false place (files_at place) x xs rest _ settles
     (ne_eqb x 45 (All-head IsPlainName (x ∷ xs) rest plain.plain)) stand.by_index refl refl
     (files_end s place rows stand none [] (x ∷ xs) rest (All-tail IsPlainName (x ∷ xs) rest plain.plain))
+configs_walk s Networks names h rows place once settles stand new plain =
+    subst (λ (words : List Text). Ends s (before h false place) words (rows ++ text_rows network_names names)) (append-nil names)
+    (texts_walk s network_names names h rows place [] (rows ++ text_rows network_names names) once settles stand new plain.two
+    plain.plain (λ after settled. ends_now s after false (place_after place network_names) _ settled))

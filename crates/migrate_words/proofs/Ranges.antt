@@ -8,7 +8,9 @@ use Rattle.clap.specs.Words.{Row, Text, all_of, first_of}
 use Rattle.clap.specs.Walk.{rows_after}
 use Rattle.migrate_words.specs.Asked.{AreConfigsInRange, HasConfigs, HasText, IsGivenNumber, IsNumberInRange}
 use Rattle.migrate_words.specs.Laws.{RangesLaw}
-use Rattle.migrate_words.specs.Usages.{usage_of}
+use Rattle.migrate_words.specs.Usages.{network_names, usage_of}
+use Rattle.migrate_words.specs.declared.subcommands.ConfigFiles.{ConfigFiles}
+use Rattle.migrate_words.specs.declared.subcommands.ConfigFiles.TheVariants.{NoConfigs, Several, Networks}
 use Rattle.migrate_words.specs.declared.subcommands.NumberTaken.{NumberTaken}
 use Rattle.migrate_words.specs.declared.subcommands.NumberTaken.TheVariants.{NoNumber, Budget, Routers}
 use Rattle.migrate_words.proofs.FullRows.{Full, HasSome}
@@ -38,10 +40,11 @@ number_in_range Budget (Some word) n is = (is.above, is.numeral.within)
 number_in_range Routers None n is = absurd is
 number_in_range Routers (Some word) n is = (is.above, is.numeral.within)
 
-configs_in_range : (configs : Bool) (rows : List Row) (names : List Text) → Full rows → HasConfigs configs rows names
+configs_in_range : (configs : ConfigFiles) (rows : List Row) (names : List Text) → Full rows → HasConfigs configs rows names
     → AreConfigsInRange configs names
-configs_in_range true rows names full has = some_values (codes "CONFIG") rows names full has
-configs_in_range false rows names full has = has
+configs_in_range Several rows names full has = some_values (codes "CONFIG") rows names full has
+configs_in_range NoConfigs rows names full has = has
+configs_in_range Networks rows names full has = sym (length_all_zip (HasText rows) network_names names has)
 
 pub ranges : RangesLaw
 ranges words command asks =

@@ -17,9 +17,11 @@ use Rattle.clap.specs.declared.error.kind.ErrorKind.{ErrorKind}
 use Rattle.migrate_words.specs.CommandLine.{config_rules, number_rules, one_text, rules_of}
 use Rattle.migrate_words.specs.Asked.{AreTaken, Asks, HasConfigs, HasNumberOff, HasText, HaveTexts, IsGivenNumber}
 use Rattle.migrate_words.specs.Laws.{NumbersLaw}
-use Rattle.migrate_words.specs.Usages.{Usage, usage_of}
+use Rattle.migrate_words.specs.Usages.{Usage, network_names, usage_of}
 use Rattle.migrate_words.specs.declared.command.Command.{Command}
 use Rattle.migrate_words.specs.declared.command.CommandKind.{CommandKind}
+use Rattle.migrate_words.specs.declared.subcommands.ConfigFiles.{ConfigFiles}
+use Rattle.migrate_words.specs.declared.subcommands.ConfigFiles.TheVariants.{NoConfigs, Several, Networks}
 use Rattle.migrate_words.specs.declared.subcommands.NumberTaken.{NumberTaken}
 use Rattle.migrate_words.specs.declared.subcommands.NumberTaken.TheVariants.{NoNumber, Budget, Routers}
 use Rattle.migrate_words.proofs.Entries.{same_kind}
@@ -117,12 +119,13 @@ have_texts rows full (id ∷ ids) none =
     let rest = have_texts rows full ids (or_right (not (is_given id rows)) _ none) in
     (first.0 ∷ rest.0, (first.1, rest.1))
 
-has_configs : (configs : Bool) (rows : List Row) → list_any (lacks rows) (config_rules configs) ≡ false
+has_configs : (configs : ConfigFiles) (rows : List Row) → Full rows → list_any (lacks rows) (config_rules configs) ≡ false
     → (names : List Text) × HasConfigs configs rows names
-has_configs true rows none =
+has_configs Several rows full none =
     let row = given_row (codes "CONFIG") rows (not-false _ (or_left _ _ none)) in
     (row.0.values, ap (λ (o : Option Row). option_map (λ r. r.values) o) row.1)
-has_configs false rows none = ([], refl)
+has_configs NoConfigs rows full none = ([], refl)
+has_configs Networks rows full none = have_texts rows full network_names none
 
 -- each argument wants a value
 pub all_want : OfArguments WantsValue
@@ -165,7 +168,7 @@ number_off words taken nothing =
     let full = line_full usage line.rest line.takes in
     let lacking = none_lacks usage line.rest line.takes in
     let own = have_texts rows full usage.own lacking.own in
-    let configs = has_configs usage.configs rows lacking.configs in
+    let configs = has_configs usage.configs rows full lacking.configs in
     let off = number_is_off usage.number rows full lacking.number
     (λ n is. nothing (record { kind = line.kind; own = own.0; configs = configs.0; number = n })
     (record {

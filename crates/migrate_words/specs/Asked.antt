@@ -1,13 +1,15 @@
 -- Which words of a call, those after the program's name, ask for what.
-use Rattle.std.specs.Prelude.{◌≡◌, ◌<◌, ◌≤◌, ℕ, List, [], Bool, true, false, Option, Some, None, codes, length}
+use Rattle.std.specs.Prelude.{◌≡◌, ◌<◌, ◌≤◌, ℕ, List, [], Option, Some, None, codes, length}
 use Rattle.std.specs.List.{AllZip}
 use Rattle.net_addr.specs.Numerals.{IsNumeralUpTo}
 use Rattle.clap.specs.Words.{Row, Text, all_of, fault_of, first_of, subcommand_of}
 use Rattle.migrate_words.specs.CommandLine.{command_line}
-use Rattle.migrate_words.specs.Usages.{usage_of}
+use Rattle.migrate_words.specs.Usages.{network_names, usage_of}
 use Rattle.migrate_words.specs.declared.command.Command.{Command}
 use Rattle.migrate_words.specs.declared.command.CommandKind.{CommandKind}
 use Rattle.migrate_words.specs.declared.command.TheConstants.{LEAST_BUDGET, MOST_BUDGET, USUAL_BUDGET, LEAST_SAMPLE, MOST_SAMPLE}
+use Rattle.migrate_words.specs.declared.subcommands.ConfigFiles.{ConfigFiles}
+use Rattle.migrate_words.specs.declared.subcommands.ConfigFiles.TheVariants.{NoConfigs, Several, Networks}
 use Rattle.migrate_words.specs.declared.subcommands.NumberTaken.{NumberTaken}
 use Rattle.migrate_words.specs.declared.subcommands.NumberTaken.TheVariants.{NoNumber, Budget, Routers}
 
@@ -32,10 +34,11 @@ HasText rows argument text = first_of argument rows ≡ Some text
 abbrev pub HaveTexts : List Row → List Text → List Text → Type 0
 HaveTexts rows arguments texts = AllZip (HasText rows) arguments texts
 
--- the configuration files are these, and none where none are taken
-abbrev pub HasConfigs : Bool → List Row → List Text → Type 0
-HasConfigs true rows configs = all_of (codes "CONFIG") rows ≡ Some configs
-HasConfigs false rows configs = configs ≡ []
+-- the configuration files are these: none where none are taken, and one of each network where two networks are
+abbrev pub HasConfigs : ConfigFiles → List Row → List Text → Type 0
+HasConfigs Several rows configs = all_of (codes "CONFIG") rows ≡ Some configs
+HasConfigs NoConfigs rows configs = configs ≡ []
+HasConfigs Networks rows configs = HaveTexts rows network_names configs
 
 -- the arguments of the subcommand have the values of the command
 pub record Gives (rows : List Row) (command : Command) : Type 0 where
@@ -73,10 +76,11 @@ IsNumberInRange NoNumber n = n ≡ 0
 IsNumberInRange Budget n = (LEAST_BUDGET ≤ n) × (n ≤ MOST_BUDGET)
 IsNumberInRange Routers n = (LEAST_SAMPLE ≤ n) × (n ≤ MOST_SAMPLE)
 
--- there is a configuration file, and none where none are taken
-abbrev pub AreConfigsInRange : Bool → List Text → Type 0
-AreConfigsInRange true configs = 0 < length configs
-AreConfigsInRange false configs = configs ≡ []
+-- there is a configuration file, none where none are taken, or one of each of two networks
+abbrev pub AreConfigsInRange : ConfigFiles → List Text → Type 0
+AreConfigsInRange Several configs = 0 < length configs
+AreConfigsInRange NoConfigs configs = configs ≡ []
+AreConfigsInRange Networks configs = length configs ≡ 2
 
 -- a command is as its usage line has it: its number is in its range, it names as many files of its own as it takes, and at least
 -- one configuration where it takes any

@@ -1,10 +1,12 @@
 -- The command line of `migrate` in the terms of `clap`: a subcommand for each command, of which one is required.
-use Rattle.std.specs.Prelude.{Some, true, false, Bool, [], ◌∷◌, ◌++◌, codes, List, map}
+use Rattle.std.specs.Prelude.{Some, true, false, [], ◌∷◌, ◌++◌, codes, List, map}
 use Rattle.clap.specs.declared.builder.action.ArgAction.TheVariants.{Append}
 use Rattle.clap.specs.Words.{App, Rule, Shape, Text, new_rule}
 use Rattle.clap.specs.Simple.{new_shape}
-use Rattle.migrate_words.specs.Usages.{Usage, kinds, usage_of}
+use Rattle.migrate_words.specs.Usages.{Usage, kinds, network_names, usage_of}
 use Rattle.migrate_words.specs.declared.command.CommandKind.{CommandKind}
+use Rattle.migrate_words.specs.declared.subcommands.ConfigFiles.{ConfigFiles}
+use Rattle.migrate_words.specs.declared.subcommands.ConfigFiles.TheVariants.{NoConfigs, Several, Networks}
 use Rattle.migrate_words.specs.declared.subcommands.NumberTaken.{NumberTaken}
 use Rattle.migrate_words.specs.declared.subcommands.NumberTaken.TheVariants.{NoNumber, Budget, Routers}
 
@@ -26,10 +28,11 @@ number_rules NoNumber = []
 number_rules Budget = budget_option ∷ []
 number_rules Routers = one_text (codes "N") ∷ []
 
--- the argument for configuration files
-abbrev pub config_rules : Bool → List Rule
-config_rules true = config_files ∷ []
-config_rules false = []
+-- the arguments for configuration files
+abbrev pub config_rules : ConfigFiles → List Rule
+config_rules Several = config_files ∷ []
+config_rules NoConfigs = []
+config_rules Networks = map one_text network_names
 
 -- the arguments of a usage line, in their order
 abbrev pub rules_of : Usage → List Rule

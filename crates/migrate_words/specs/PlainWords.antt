@@ -1,10 +1,12 @@
 -- Plain words: those of the program's page, as they are written where no word begins with a hyphen but `--budget`.
-use Rattle.std.specs.Prelude.{◌≡◌, ◌≢◌, ℕ, List, [], ◌∷◌, ◌++◌, All, Bool, true, false, codes, length}
+use Rattle.std.specs.Prelude.{◌≡◌, ◌≢◌, ℕ, List, [], ◌∷◌, ◌++◌, All, codes, length}
 use Rattle.clap.specs.Words.{Text}
 use Rattle.migrate_words.specs.Asked.{IsNumberIn}
 use Rattle.migrate_words.specs.Usages.{usage_of}
 use Rattle.migrate_words.specs.declared.command.Command.{Command}
 use Rattle.migrate_words.specs.declared.command.TheConstants.{LEAST_BUDGET, MOST_BUDGET, USUAL_BUDGET, LEAST_SAMPLE, MOST_SAMPLE}
+use Rattle.migrate_words.specs.declared.subcommands.ConfigFiles.{ConfigFiles}
+use Rattle.migrate_words.specs.declared.subcommands.ConfigFiles.TheVariants.{NoConfigs, Several, Networks}
 use Rattle.migrate_words.specs.declared.subcommands.NumberTaken.{NumberTaken}
 use Rattle.migrate_words.specs.declared.subcommands.NumberTaken.TheVariants.{NoNumber, Budget, Routers}
 
@@ -26,10 +28,16 @@ pub data WritesNumber : NumberTaken → List Text → ℕ → Type 0 where
       → WritesNumber Budget (codes "--budget" ∷ word ∷ []) n
   routers : (word : Text) (n : ℕ) → IsNumberIn LEAST_SAMPLE MOST_SAMPLE word n → WritesNumber Routers (word ∷ []) n
 
--- plain names of configurations, and none where none are taken
-abbrev pub ArePlainConfigs : Bool → List Text → Type 0
-ArePlainConfigs true configs = ArePlainNames configs
-ArePlainConfigs false configs = configs ≡ []
+-- two plain names
+pub record AreTwoNames (names : List Text) : Type 0 where
+  pub two : length names ≡ 2
+  pub plain : All IsPlainName names
+
+-- plain names of configurations: none where none are taken, and two where those of two networks are
+abbrev pub ArePlainConfigs : ConfigFiles → List Text → Type 0
+ArePlainConfigs Several configs = ArePlainNames configs
+ArePlainConfigs NoConfigs configs = configs ≡ []
+ArePlainConfigs Networks configs = AreTwoNames configs
 
 -- the words are plain, and this is what they ask for: the word of the command, its number, the files of its own, as many as it
 -- takes, and its configurations

@@ -1,11 +1,12 @@
 ghost use Rattle.std.specs.Prelude.{codes};
 ghost use Rattle.clap.specs.Words.{first_of, found_of, rows_of};
 ghost use Rattle.migrate_words.specs.Asked.{HasConfigs, HasText, HaveTexts, IsGivenNumber, IsNumberIn};
+ghost use Rattle.migrate_words.specs.declared.subcommands.ConfigFiles.TheVariants.{Several};
 ghost use Rattle.migrate_words.specs.steps.Reading.{ReadsAs};
 ghost use Rattle.migrate_words.specs.steps.Seen.{argument_names};
 
 use crate::command::{LEAST_BUDGET, LEAST_SAMPLE, MOST_BUDGET, MOST_SAMPLE, USUAL_BUDGET};
-use crate::subcommands::{NumberTaken, OwnFile};
+use crate::subcommands::{ConfigFiles, NumberTaken, OwnFile, networks};
 use crate::{FileNames, WordsRefused};
 use clap::ArgMatches;
 use net_addr::read_number;
@@ -43,14 +44,22 @@ fn text_of<'a>(given: &ArgMatches<'a>, argument: &str) -> Result<&'a str, WordsR
 pub(crate) fn configs_of<'a>(
     alloc: Global,
     given: &ArgMatches<'a>,
-    configs: bool,
+    configs: ConfigFiles,
 ) -> Result<FileNames<'a>, WordsRefused>
     ensures { ReadsAs (λ names. names) (HasConfigs configs (rows_of (found_of given.now))) result }
 {
-    let mut all = Vec::new(alloc);
-    if !configs {
-        return Ok(FileNames::from_vec(all));
+    match configs {
+        ConfigFiles::NoConfigs => Ok(FileNames::from_vec(Vec::new(alloc))),
+        ConfigFiles::Several => several_of(alloc, given),
+        ConfigFiles::Networks => own_of(alloc, given, networks()),
     }
+}
+
+/// The configuration files of one network.
+fn several_of<'a>(alloc: Global, given: &ArgMatches<'a>) -> Result<FileNames<'a>, WordsRefused>
+    ensures { ReadsAs (λ names. names) (HasConfigs Several (rows_of (found_of given.now))) result }
+{
+    let mut all = Vec::new(alloc);
     let Some(names) = given.get_strs("CONFIG") else {
         return Err(WordsRefused::Number);
     };

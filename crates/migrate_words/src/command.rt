@@ -32,6 +32,14 @@ pub enum CommandKind {
     Replay,
     /// `sample N`: a summary of planning the made network of some routers.
     Sample,
+    /// `pair [--budget N] OLD NEW`: waves that lead safely from a network to its redesign by a second OSPF process.
+    Pair,
+    /// `pairscripts ORDER OLD NEW`: the lines of every change between the two processes.
+    PairScripts,
+    /// `paircheck ORDER OLD NEW`: the verdict on an order between the two networks, or on a list of waves.
+    PairCheck,
+    /// `pairrefute TREE OLD NEW`: the verdict on a tree that is to show that no order between the two networks is safe.
+    PairRefute,
 }
 
 /// What a call asks for. Names of files are as they were given.
@@ -41,7 +49,7 @@ pub struct Command<'a> {
     pub kind: CommandKind,
     /// The files of its own, in the order of its usage line.
     pub own: FileNames<'a>,
-    /// The configurations, at least one where the command takes any.
+    /// The configurations: one file or more, or one of each of two networks, where the command takes any.
     pub configs: FileNames<'a>,
     /// The budget of branches or the number of routers, 0 where the command takes no number.
     pub number: u32,

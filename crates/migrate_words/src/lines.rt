@@ -6,7 +6,7 @@ ghost use Rattle.migrate_words.specs.CommandLine.{number_rules, one_text, shape_
 ghost use Rattle.migrate_words.specs.steps.LineSteps.{IsLine, IsRule, IsWhole, bare_line, with_arguments};
 ghost use Rattle.migrate_words.specs.steps.Seen.{argument_names, usage_seen};
 
-use crate::subcommands::{NumberTaken, OwnFile, Subcommand, subcommands};
+use crate::subcommands::{ConfigFiles, NumberTaken, OwnFile, Subcommand, networks, subcommands};
 use crate::version::VERSION;
 use clap::{Arg, ArgAction, Command};
 use std::alloc::{AllocError, Global};
@@ -96,19 +96,19 @@ fn with_files<'a>(
     Ok(line)
 }
 
-/// A subcommand with the argument for configuration files, where it takes any.
+/// A subcommand with the arguments for configuration files, where it takes any.
 fn with_configs<'a>(
     alloc: Global,
     line: Command<'a>,
-    configs: bool,
+    configs: ConfigFiles,
 ) -> Result<Command<'a>, AllocError>
     ensures { IfOk result (λ r. (shape : Shape) → IsLine shape line.entry
         → IsLine (with_arguments shape (config_rules configs)) r) }
 {
-    if configs {
-        with_argument(line, config_files(alloc))
-    } else {
-        Ok(line)
+    match configs {
+        ConfigFiles::NoConfigs => Ok(line),
+        ConfigFiles::Several => with_argument(line, config_files(alloc)),
+        ConfigFiles::Networks => with_files(alloc, line, networks()),
     }
 }
 

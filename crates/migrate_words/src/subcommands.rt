@@ -1,6 +1,6 @@
 ghost use Rattle.std.specs.Prelude.{◌≡◌, map};
-ghost use Rattle.migrate_words.specs.Usages.{kinds, usage_of};
-ghost use Rattle.migrate_words.specs.steps.Seen.{kind_of_entry, usage_seen};
+ghost use Rattle.migrate_words.specs.Usages.{kinds, network_names, usage_of};
+ghost use Rattle.migrate_words.specs.steps.Seen.{argument_names, kind_of_entry, usage_seen};
 
 use crate::CommandKind;
 
@@ -13,6 +13,17 @@ pub(crate) enum NumberTaken {
     Budget,
     /// `N`: the number of routers of a network.
     Routers,
+}
+
+/// The configuration files that a command takes.
+#[derive(Clone, Copy, Debug, PartialEq, Eq)]
+pub(crate) enum ConfigFiles {
+    /// None.
+    NoConfigs,
+    /// `CONFIG...`: those of one network, one file or more.
+    Several,
+    /// `OLD NEW`: those of two networks, one file each.
+    Networks,
 }
 
 /// A file that a command takes: its name in the usage line, and what it is.
@@ -29,7 +40,7 @@ pub(crate) struct Subcommand {
     pub usage: &'static str,
     pub number: NumberTaken,
     pub own: &'static [OwnFile],
-    pub configs: bool,
+    pub configs: ConfigFiles,
 }
 
 const ORDER: OwnFile = OwnFile {
@@ -37,7 +48,30 @@ const ORDER: OwnFile = OwnFile {
     help: "The order file: routers in the order of their changes, or waves of routers",
 };
 
-static SUBCOMMANDS: [Subcommand; 7] = [
+const TREE: OwnFile = OwnFile {
+    name: "TREE",
+    help: "The tree file, as it was printed",
+};
+
+static NETWORKS: [OwnFile; 2] = [
+    OwnFile {
+        name: "OLD",
+        help: "The configurations of the network as it is",
+    },
+    OwnFile {
+        name: "NEW",
+        help: "The configurations of the network as it is to be",
+    },
+];
+
+/// The files of two networks.
+pub(crate) fn networks() -> &'static [OwnFile]
+    ensures { argument_names result.now ≡ network_names }
+{
+    &NETWORKS
+}
+
+static SUBCOMMANDS: [Subcommand; 11] = [
     Subcommand {
         kind: CommandKind::Check,
         word: "check",
@@ -45,7 +79,7 @@ static SUBCOMMANDS: [Subcommand; 7] = [
         usage: "migrate check ORDER CONFIG...",
         number: NumberTaken::NoNumber,
         own: &[ORDER],
-        configs: true,
+        configs: ConfigFiles::Several,
     },
     Subcommand {
         kind: CommandKind::Prepare,
@@ -57,7 +91,7 @@ static SUBCOMMANDS: [Subcommand; 7] = [
             name: "DESIGN",
             help: "The design file, in TOML",
         }],
-        configs: true,
+        configs: ConfigFiles::Several,
     },
     Subcommand {
         kind: CommandKind::Plan,
@@ -66,7 +100,7 @@ static SUBCOMMANDS: [Subcommand; 7] = [
         usage: "migrate plan [--budget N] CONFIG...",
         number: NumberTaken::Budget,
         own: &[],
-        configs: true,
+        configs: ConfigFiles::Several,
     },
     Subcommand {
         kind: CommandKind::Refute,
@@ -74,11 +108,8 @@ static SUBCOMMANDS: [Subcommand; 7] = [
         about: "Judges a tree: does it show that neither waves nor an order are safe?",
         usage: "migrate refute TREE CONFIG...",
         number: NumberTaken::NoNumber,
-        own: &[OwnFile {
-            name: "TREE",
-            help: "The tree file, as `plan` prints it",
-        }],
-        configs: true,
+        own: &[TREE],
+        configs: ConfigFiles::Several,
     },
     Subcommand {
         kind: CommandKind::Scripts,
@@ -87,7 +118,7 @@ static SUBCOMMANDS: [Subcommand; 7] = [
         usage: "migrate scripts ORDER CONFIG...",
         number: NumberTaken::NoNumber,
         own: &[ORDER],
-        configs: true,
+        configs: ConfigFiles::Several,
     },
     Subcommand {
         kind: CommandKind::Replay,
@@ -102,7 +133,7 @@ static SUBCOMMANDS: [Subcommand; 7] = [
                 help: "The journal file: the changes that are done, one a line",
             },
         ],
-        configs: true,
+        configs: ConfigFiles::Several,
     },
     Subcommand {
         kind: CommandKind::Sample,
@@ -111,7 +142,43 @@ static SUBCOMMANDS: [Subcommand; 7] = [
         usage: "migrate sample N",
         number: NumberTaken::Routers,
         own: &[],
-        configs: false,
+        configs: ConfigFiles::NoConfigs,
+    },
+    Subcommand {
+        kind: CommandKind::Pair,
+        word: "pair",
+        about: "Finds waves that are safe from a network to its redesign by a second OSPF process, or a tree",
+        usage: "migrate pair [--budget N] OLD NEW",
+        number: NumberTaken::Budget,
+        own: &[],
+        configs: ConfigFiles::Networks,
+    },
+    Subcommand {
+        kind: CommandKind::PairScripts,
+        word: "pairscripts",
+        about: "Writes the lines to type for each change from one OSPF process to the other, wave by wave",
+        usage: "migrate pairscripts ORDER OLD NEW",
+        number: NumberTaken::NoNumber,
+        own: &[ORDER],
+        configs: ConfigFiles::Networks,
+    },
+    Subcommand {
+        kind: CommandKind::PairCheck,
+        word: "paircheck",
+        about: "Judges an order or a list of waves between two networks of OSPF",
+        usage: "migrate paircheck ORDER OLD NEW",
+        number: NumberTaken::NoNumber,
+        own: &[ORDER],
+        configs: ConfigFiles::Networks,
+    },
+    Subcommand {
+        kind: CommandKind::PairRefute,
+        word: "pairrefute",
+        about: "Judges a tree between two networks of OSPF",
+        usage: "migrate pairrefute TREE OLD NEW",
+        number: NumberTaken::NoNumber,
+        own: &[TREE],
+        configs: ConfigFiles::Networks,
     },
 ];
 

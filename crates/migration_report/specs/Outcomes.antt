@@ -1,11 +1,13 @@
 -- What a call may come to, and the status and the text that tell it.
-use Rattle.std.specs.Prelude.{◌≡◌, ℕ, ◌*◌, List, ◌++◌, length}
+use Rattle.std.specs.Prelude.{◌≡◌, ◌≢◌, ℕ, ◌*◌, List, ◌++◌, length}
 use Rattle.net_model.specs.Network.{Network}
 use Rattle.net_model.specs.RouterNames.{names_of}
 use Rattle.net_model.specs.declared.refusal.NetRefusal.{NetRefusal}
 use Rattle.net_model.specs.declared.refusal.NetRefusal.TheVariants.{Limit as TooMany}
 use Rattle.order_search.specs.declared.found.Found.{Found}
 use Rattle.order_search.specs.declared.found.Found.TheVariants.{Waves, Refuted, Spent as SpentTree}
+use Rattle.ospf_pair.specs.PairTexts.{pair_refusal_text}
+use Rattle.ospf_pair.specs.declared.refusal.PairRefusal.TheVariants.{OutOfMemory as NoPairMemory}
 use Rattle.plan_theory.specs.Plans.{fault_told}
 use Rattle.plan_theory.specs.declared.planned.Planned.{Planned}
 use Rattle.plan_theory.specs.declared.planned.Planned.TheVariants.{UnsoundOld, UnsoundNew, Searched}
@@ -23,7 +25,7 @@ use Rattle.migration_report.specs.Texts.{read_fault_text, safe_text, unsafe_text
 use Rattle.migration_report.specs.TreeVerdictTexts.{verdict_text}
 use Rattle.migration_report.specs.declared.decision.Decision.{Decision}
 use Rattle.migration_report.specs.declared.decision.Decision.TheVariants.{Safe, SafeWaves, Unsafe, UnsafeWave, Plan, Summary, Tree, Script}
-use Rattle.migration_report.specs.declared.decision.Decision.TheVariants.{Reached, Departs, Prepared, BadOrder, BadDesign}
+use Rattle.migration_report.specs.declared.decision.Decision.TheVariants.{Reached, Departs, Prepared, PairScript, BadPair, BadOrder, BadDesign}
 use Rattle.migration_report.specs.declared.ends.End.TheVariants.{Old, New}
 use Rattle.migration_report.specs.declared.outcome.Outcome.{Outcome}
 use Rattle.migration_report.specs.declared.outcome.Outcome.TheVariants.{Refused, Decided}
@@ -96,6 +98,8 @@ decision_status (Script version waves) = status.Done
 decision_status (Reached made nexts) = status.Done
 decision_status (Departs line) = status.Negative
 decision_status (Prepared text) = status.Done
+decision_status (PairScript text) = status.Done
+decision_status (BadPair refusal) = status.Refused
 decision_status (BadOrder file line kind) = status.Refused
 decision_status (BadDesign file path kind) = status.Refused
 
@@ -112,6 +116,8 @@ decision_text net (Script version waves) = script_text version net waves
 decision_text net (Reached made nexts) = reached_text (names_of net) made nexts (length net)
 decision_text net (Departs line) = departs_text line
 decision_text net (Prepared text) = text
+decision_text net (PairScript text) = text
+decision_text net (BadPair refusal) = pair_refusal_text refusal
 decision_text net (BadOrder file line kind) = faulty_text file line (order_kind_name kind)
 decision_text net (BadDesign file path kind) = refused_design_text file path kind
 
@@ -121,7 +127,7 @@ IsPlanTellable net (UnsoundOld fault) = EndFaultBelow (length net) fault
 IsPlanTellable net (UnsoundNew fault) = EndFaultBelow (length net) fault
 IsPlanTellable net (Searched found) = IsPrintable net found
 
--- a decision has a text: it is of the routers of the network
+-- a decision has a text: it is of the routers of the network, and no want of memory is told
 abbrev pub IsTellable : Network → Decision → Type 0
 IsTellable net (Unsafe state fault) = EndFaultBelow (length net) fault
 IsTellable net (UnsafeWave wave fault) = EndFaultBelow (length net) fault
@@ -129,6 +135,7 @@ IsTellable net (Plan planned) = IsPlanTellable net planned
 IsTellable net (Summary counts waves) = length waves ≡ length net
 IsTellable net (Script version waves) = length waves ≡ length net
 IsTellable net (Reached made nexts) = length nexts ≡ length net
+IsTellable net (BadPair refusal) = refusal ≢ NoPairMemory
 IsTellable net _ = Unit {0}
 
 -- how a call ends that comes to this and writes its text whole

@@ -17,6 +17,7 @@ use net_addr::{Bytes, Name};
 use net_model::Net;
 use order_core::Waves;
 use order_search::Found;
+use ospf_pair::{PairRefusal, pair_refusal_text};
 use plan_theory::{EndFault, Planned};
 use planned_texts::planned_text;
 use refutation_check::Verdict;
@@ -88,6 +89,16 @@ pub enum Decision {
         /// One after the other.
         text: Bytes,
     },
+    /// The lines to type for each change between two OSPF processes.
+    PairScript {
+        /// All of them.
+        text: Bytes,
+    },
+    /// Two networks make no pair.
+    BadPair {
+        /// Why.
+        refusal: PairRefusal,
+    },
     /// A line of an order file is faulty.
     BadOrder {
         /// The name of the file.
@@ -124,6 +135,8 @@ pub(crate) fn decision_status(decision: &Decision) -> Status
         Decision::Reached { .. } => Status::Done,
         Decision::Departs { .. } => Status::Negative,
         Decision::Prepared { .. } => Status::Done,
+        Decision::PairScript { .. } => Status::Done,
+        Decision::BadPair { .. } => Status::Refused,
         Decision::BadOrder { .. } => Status::Refused,
         Decision::BadDesign { .. } => Status::Refused,
     }
@@ -183,6 +196,8 @@ pub(crate) fn decision_text(
         Decision::Reached { made, nexts } => reached_text(alloc, net, made, nexts.as_slice()),
         Decision::Departs { line } => departs_text(alloc, line),
         Decision::Prepared { text } => Ok(text),
+        Decision::PairScript { text } => Ok(text),
+        Decision::BadPair { refusal } => pair_refusal_text(alloc, &refusal),
         Decision::BadOrder { file, line, kind } => {
             faulty_line(alloc, file.as_slice(), line, order_kind_name(kind))
         }

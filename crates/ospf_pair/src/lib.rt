@@ -29,7 +29,7 @@ mod texts;
 mod laws;
 
 pub use laws::pair_laws;
-pub use pair_net::PairNet;
+pub use pair_net::{PairNet, pair_or_refusal};
 pub use refusal::PairRefusal;
 pub use scripts::pair_scripts;
 pub use std::alloc::AllocError as OutOfMemory;

@@ -1,4 +1,4 @@
-ghost use Rattle.std.specs.Prelude.{◌≡◌, IfErr, IfOk};
+ghost use Rattle.std.specs.Prelude.{◌≡◌, IfErr, IfOk, OnOk};
 ghost use Rattle.ospf_pair.specs.NetworkPairs.{network_pair};
 ghost use Rattle.ospf_pair.specs.PairRefusals.{MakePair, RefusesPair};
 
@@ -39,22 +39,25 @@ impl PairNet {
         ensures ok { IfOk result MakePair }
         ensures err { IfErr result (λ refusal. RefusesPair refusal (network_pair old new)) }
     {
-        if let Some(name) = least_missing(alloc, &old, &new)? {
-            return Err(PairRefusal::RouterMissing { name });
+        match pair_or_refusal(alloc, &old, &new) {
+            Ok(()) => Ok(PairNet { old, new }),
+            Err(refusal) => Err(refusal),
         }
-        if let Some(name) = least_meeting::<OtherInterfaces>(alloc, &old, &new)? {
-            return Err(PairRefusal::InterfacesDiffer { name });
-        }
-        if let Some(name) = least_meeting::<IsisRun>(alloc, &old, &new)? {
-            return Err(PairRefusal::HasIsis { name });
-        }
-        if let Some(name) = least_meeting::<ProcessesClash>(alloc, &old, &new)? {
-            return Err(PairRefusal::ProcessClash { name });
-        }
-        if let Some(name) = least_meeting::<LiveProcess>(alloc, &old, &new)? {
-            return Err(PairRefusal::NotIdle { name });
-        }
-        Ok(PairNet { old, new })
+    }
+
+    /// The pair of two networks that make one.
+    pub fn new(old: Net, new: Net) -> PairNet
+        requires { MakePair (network_pair old new) }
+        ensures { result ≡ network_pair old new }
+    {
+        PairNet { old, new }
+    }
+
+    /// The network as it is, out of the pair.
+    pub fn into_old(self) -> Net
+        ensures { result ≡ self.old }
+    {
+        self.old
     }
 
     /// The network as it is.
@@ -72,4 +75,29 @@ impl PairNet {
     {
         &self.new
     }
+}
+
+/// That two networks make a pair, or the first refusal that stands.
+///
+/// It compares the up interfaces of each router with each other.
+pub fn pair_or_refusal(alloc: Global, old: &Net, new: &Net) -> Result<(), PairRefusal>
+    ensures ok { OnOk result (MakePair (network_pair old.now new.now)) }
+    ensures err { IfErr result (λ refusal. RefusesPair refusal (network_pair old.now new.now)) }
+{
+    if let Some(name) = least_missing(alloc, old, new)? {
+        return Err(PairRefusal::RouterMissing { name });
+    }
+    if let Some(name) = least_meeting::<OtherInterfaces>(alloc, old, new)? {
+        return Err(PairRefusal::InterfacesDiffer { name });
+    }
+    if let Some(name) = least_meeting::<IsisRun>(alloc, old, new)? {
+        return Err(PairRefusal::HasIsis { name });
+    }
+    if let Some(name) = least_meeting::<ProcessesClash>(alloc, old, new)? {
+        return Err(PairRefusal::ProcessClash { name });
+    }
+    if let Some(name) = least_meeting::<LiveProcess>(alloc, old, new)? {
+        return Err(PairRefusal::NotIdle { name });
+    }
+    Ok(())
 }

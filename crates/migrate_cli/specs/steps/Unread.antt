@@ -1,6 +1,7 @@
 -- Why the configurations of some files aren't read.
-use Rattle.std.specs.Prelude.{◌≡◌, ℕ, List}
-use Rattle.ios_reader.specs.Texts.{IsRefusedText}
+use Rattle.std.specs.Prelude.{◌≡◌, ℕ, List, [], ◌∷◌}
+use Rattle.ios_reader.specs.Texts.{IsRefusedText, ReadsText}
+use Rattle.net_model.specs.Configuration.{Configuration}
 use Rattle.migrate_cli.specs.Configurations.{IsFirstRefused, line_fault}
 use Rattle.migrate_cli.specs.declared.configurations.Unread.{Unread}
 use Rattle.migrate_cli.specs.declared.configurations.Unread.TheVariants.{Bad, OutOfMemory}
@@ -17,6 +18,14 @@ IsUnreadText name text OutOfMemory = Unit {0}
 abbrev pub IsUnread : List (List ℕ) → List (List ℕ) → Unread → Type 0
 IsUnread names texts (Bad file line kind) = IsFirstRefused (line_fault line kind) names texts file.now
 IsUnread names texts OutOfMemory = Unit {0}
+
+-- these are two texts, which are read as these configurations
+pub record ReadsBoth (texts : List (List ℕ)) (olds news : List Configuration) : Type 0 where
+  pub old : List ℕ
+  pub new : List ℕ
+  pub texts_are : texts ≡ old ∷ new ∷ []
+  pub reads_old : ReadsText old olds
+  pub reads_new : ReadsText new news
 
 -- what a call comes to where some files aren't read
 abbrev pub RefusesUnread : Unread → Outcome → Type 0

@@ -1,5 +1,4 @@
 use Rattle.std.proofs.Common.{◌∙◌, ◌≡◌, ap, length, refl, subst, sym}
-use Rattle.igp_theory.specs.Migrations.{ospf_to_isis}
 use Rattle.igp_theory.specs.WaveFaults.{IsWavesFault}
 use Rattle.igp_theory.specs.Waves.{AreSeamlessWaves}
 use Rattle.igp_theory.proofs.WaveFaultLaws.{waves_fault_unsound}
@@ -10,6 +9,7 @@ use Rattle.rib_mix.specs.Mixture.{migration_of}
 use Rattle.migration_report.specs.declared.decision.Decision.TheVariants.{SafeWaves, UnsafeWave}
 use Rattle.migrate_cli.specs.CheckDecision.{IsWavesDecision}
 use Rattle.migrate_cli.specs.CheckDecision.IsWavesDecision.{safe_waves, unsafe_wave}
+use Rattle.migrate_cli.specs.steps.Tables.{move_of, new_table}
 use Rattle.migrate_cli.proofs.TableFacts.{seamless_waves, waves_fault}
 use Rattle.migrate_cli.proofs.check.judge_mixed_waves.Goals as goal
 
@@ -21,24 +21,24 @@ waves_fault-requires c =
     (subst (λ n. IsRanking n c.args.waves.now) each c.ranks.ensures.ranking)
 
 pub returns-in-None : goal.returns-in-None
-returns-in-None c = λ net mixes.
+returns-in-None c = λ of mixes.
     let ranks = c.args.waves.now in
-    let seamless = subst (λ m. AreSeamlessWaves (migration_of table_at table_at m) ranks) c.in_ok-finder.ensures.mixture
-    (subst (AreSeamlessWaves (migration_of table_at table_at c.in_ok-finder.finder.mixture)) c.ranks.ensures.ranks (c.in-None.ensures.seamless.0 refl)) in
-    subst (λ n. IsWavesDecision (ospf_to_isis net) ranks (SafeWaves n)) (sym c.count.ensures)
-    (safe_waves (seamless_waves net c.args.mixed.now mixes ranks seamless))
+    let seamless = subst (λ m. AreSeamlessWaves (migration_of table_at new_table m) ranks) c.in_ok-finder.ensures.mixture
+    (subst (AreSeamlessWaves (migration_of table_at new_table c.in_ok-finder.finder.mixture)) c.ranks.ensures.ranks (c.in-None.ensures.seamless.0 refl)) in
+    subst (λ n. IsWavesDecision (move_of of) ranks (SafeWaves n)) (sym c.count.ensures)
+    (safe_waves (seamless_waves of c.args.mixed.now mixes ranks seamless))
 
 pub returns : goal.returns
-returns c = λ net mixes.
+returns c = λ of mixes.
     let ranks = c.args.waves.now in
-    let move = ospf_to_isis net in
+    let move = move_of of in
     let found = c.in-Some.ensures.fault in
     let told = told_fault c.in-Some.fault c.waves_fault.new.self.ring in
-    let first = subst (λ some. IsWavesFault (migration_of table_at table_at c.args.mixed.now) some found.wave told) c.ranks.ensures.ranks
-    (subst (λ m. IsWavesFault (migration_of table_at table_at m) c.ranks.result.now found.wave told) c.in_ok-finder.ensures.mixture found.is_fault) in
+    let first = subst (λ some. IsWavesFault (migration_of table_at new_table c.args.mixed.now) some found.wave told) c.ranks.ensures.ranks
+    (subst (λ m. IsWavesFault (migration_of table_at new_table m) c.ranks.result.now found.wave told) c.in_ok-finder.ensures.mixture found.is_fault) in
     let whole = c.in_ok-fault-in-Some.fault in
     let fault = subst (IsWavesFault move ranks found.wave)
     (sym (c.in_ok-fault-in-Some.ensures ∙ ap (told_fault c.in-Some.fault) c.ring.ensures))
-    (waves_fault net c.args.mixed.now mixes ranks found.wave told first) in
+    (waves_fault of c.args.mixed.now mixes ranks found.wave told first) in
     subst (λ n. IsWavesDecision move ranks (UnsafeWave n whole)) (sym found.number_is)
     (unsafe_wave found.wave whole (λ seamless. waves_fault_unsound move ranks found.wave _ fault seamless) fault)

@@ -1,19 +1,20 @@
-use Rattle.std.proofs.Common.{◌∙◌, [], ap, sym, subst}
-use Rattle.net_model.specs.Configuration.{Configuration}
-use Rattle.migration_report.specs.declared.outcome.Outcome.TheVariants.{Refused}
-use Rattle.migration_report.specs.declared.refusal.Refusal.TheVariants.{OffStart}
-use Rattle.migrate_cli.specs.CommandFiles.{given_texts}
+use Rattle.std.proofs.Common.{◌≡◌, IfOk, List, [], ◌∷◌, ℕ, sym, subst}
+use Rattle.std.proofs.lemmas.Result.{IfOk-weaker}
+use Rattle.migrate_cli.specs.CommandFiles.{given_texts, groups_of}
+use Rattle.migrate_cli.specs.Configurations.{GiveNetwork, GiveNetworks}
 use Rattle.migrate_cli.specs.Outcomes.{IsOutcome}
-use Rattle.migrate_cli.specs.Outcomes.IsOutcome.{off_start, decided}
+use Rattle.migrate_cli.specs.Outcomes.IsOutcome.{decided}
+use Rattle.migrate_cli.proofs.AnswerFacts.{start_refused, under_premise}
+use Rattle.migrate_cli.proofs.GroupLaws.{gives_one}
 use Rattle.migrate_cli.proofs.judging.judge_network.Goals as goal
 
 pub returns-in-Some : goal.returns-in-Some
-returns-in-Some c = λ gives.
-    let net = c.args.net in
+returns-in-Some c =
+    let command = c.args.command.now in
     let texts = given_texts c.args.own.now c.args.configs.now in
-    let same = c.in_ok-name.ensures ∙ ap (λ (some : Configuration). some.name) c.behind-net.view_is in
-    subst (λ name. IsOutcome c.args.command.now texts (Refused (OffStart name))) (sym same)
-    (off_start net [] c.in-Some.router c.config.result.now (gives, tt) c.in-Some.ensures.0 c.in-Some.ensures.1 c.config.ensures.router)
+    under_premise c.refuse_start.result (λ gives. start_refused command texts c.args.net [] c.in-Some.router c.refuse_start.result
+    (gives_one command.kind c.args.configs.now c.args.net c.requires.one gives) c.in-Some.ensures.0 c.in-Some.ensures.1 c.refuse_start.ensures)
 
 pub returns : goal.returns
-returns c = λ gives. decided c.args.net [] c.in_ok-decision.decision (gives, tt) c.in_default.ensures c.in_ok-decision.ensures
+returns c = λ gives. decided c.args.net [] c.in_ok-decision.decision
+    (gives_one c.args.command.now.kind c.args.configs.now c.args.net c.requires.one gives) c.in_default.ensures c.in_ok-decision.ensures

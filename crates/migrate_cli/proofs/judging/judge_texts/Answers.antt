@@ -2,11 +2,13 @@ use Rattle.std.proofs.Common.{◌∙◌, ap, sym, subst, ℕ, List, length}
 use Rattle.std.specs.Borrow.{Bor}
 use Rattle.std.proofs.lemmas.List.{length-map}
 use Rattle.std.proofs.lemmas.Result.{IfOk-weaker}
-use Rattle.migrate_cli.specs.CommandFiles.{given_texts}
-use Rattle.migrate_cli.specs.Configurations.{GiveNetwork}
+use Rattle.migrate_cli.specs.CommandFiles.{given_texts, groups_of}
+use Rattle.migrate_cli.specs.Configurations.{GiveNetwork, RefusesFirst}
+use Rattle.migrate_cli.specs.Configurations.RefusesFirst.{here}
 use Rattle.migrate_cli.specs.steps.Unread.{IsUnread}
 use Rattle.migrate_cli.specs.Outcomes.{IsOutcome}
 use Rattle.migrate_cli.proofs.AnswerFacts.{refused_network, unread_outcome}
+use Rattle.migrate_cli.proofs.GroupLaws.{one_group}
 use Rattle.migrate_cli.proofs.NetworkFacts.{net_has_router}
 use Rattle.migrate_cli.proofs.judging.judge_texts.Goals as goal
 
@@ -39,5 +41,10 @@ returns-in-Ok-build c =
 
 pub returns-in-Err-build : goal.returns-in-Err-build
 returns-in-Err-build c =
-    refused_network c.args.command.now (given_texts c.args.own.now c.args.texts.now) c.in-Ok.configs c.in-Err-build.refusal c.refuse_network.result
-    c.in-Ok.ensures.ok c.in-Err-build.ensures.err c.refuse_network.ensures.told c.refuse_network.ensures.outcome
+    let command = c.args.command.now in
+    let texts = c.args.texts.now in
+    let refusal = c.in-Err-build.refusal in
+    let first : RefusesFirst refusal (groups_of command.kind texts) = subst (RefusesFirst refusal) (sym (one_group command.kind texts c.requires.one))
+    (here c.in-Ok.configs c.in-Ok.ensures.ok c.in-Err-build.ensures.err) in
+    refused_network command (given_texts c.args.own.now texts) c.in-Ok.configs refusal c.refuse_network.result
+    c.in-Ok.ensures.ok first c.refuse_network.ensures.told c.refuse_network.ensures.outcome

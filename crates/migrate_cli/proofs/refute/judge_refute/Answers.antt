@@ -1,23 +1,8 @@
-use Rattle.std.proofs.Common.{◌∙◌, ℕ, List, subst}
-use Rattle.net_model.specs.Network.{Network}
-use Rattle.net_model.specs.Refusals.{IsNetwork}
-use Rattle.igp_theory.specs.Migrations.{ospf_to_isis}
-use Rattle.refutation_check.specs.Verdicts.{IsTextVerdict, RefutesWhereClosed}
-use Rattle.migrate_cli.specs.RefuteDecision.IsTreeDecision.{judged_tree}
-use Rattle.migrate_cli.proofs.TableFacts.{refutes_where_closed, text_verdict}
+use Rattle.std.proofs.Common.{IfOk, subst}
+use Rattle.migrate_cli.specs.RefuteDecision.{IsTreeDecision}
+use Rattle.migrate_cli.specs.steps.Tables.{NetworkMove, move_of}
 use Rattle.migrate_cli.proofs.refute.judge_refute.Goals as goal
 
 pub returns : goal.returns
 returns c =
-    let net = c.args.net.now in
-    let tables = c.in_ok-tables.tables in
-    let mixed = c.in_ok-mixed.mixed in
-    let mixes = c.in_ok-mixed.ensures in
-    let found = c.in_ok-verdict.verdict in
-    let text = c.as_slice.result.now in
-    let is = subst (λ (n : Network). IsTextVerdict (ospf_to_isis n) text found) c.in_ok-tables.ensures
-    (text_verdict tables mixed mixes text found c.in_ok-verdict.ensures.verdict) in
-    let means = subst (λ (n : Network). RefutesWhereClosed (ospf_to_isis n) found) c.in_ok-tables.ensures
-    (refutes_where_closed tables mixed mixes found c.in_ok-verdict.ensures.refutes) in
-    judged_tree found (subst IsNetwork (mixes.net_is ∙ c.in_ok-tables.ensures) c.verify.ensures.network)
-    (subst (λ (t : List ℕ). IsTextVerdict (ospf_to_isis net) t found) c.as_slice.ensures is) means
+    subst (λ (of : NetworkMove). IfOk c.refute_over.result (IsTreeDecision (move_of of) c.args.tree.now)) c.to_isis.ensures c.refute_over.ensures

@@ -5,6 +5,6 @@ use Rattle.migrate_cli.proofs.tables.Tables.mix.Goals as goal
 
 pub returns : goal.returns
 returns c =
-    subst (λ net. IfOk c.build.result (MixesTables net)) c.self.view_is
-    (mixed_tables c.self.inside.net.now c.self.inside.old c.self.inside.new c.self.invariant c.build.result c.build.ensures.net c.build.ensures.old
+    subst (λ of. IfOk c.build.result (MixesTables of)) c.self.view_is
+    (mixed_tables c.self.inside.of.now c.self.inside.old c.self.inside.new c.self.invariant c.build.result c.build.ensures.net c.build.ensures.old
     c.build.ensures.new)

@@ -1,0 +1,36 @@
+use Rattle.std.proofs.Common.{◌≡◌, ◌∙◌, ◌<◌, ap, arith, sym, subst, ℕ, List, [], ◌∷◌, length, map}
+use Rattle.std.specs.Borrow.{Bor}
+use Rattle.std.proofs.lemmas.List.{length-map}
+use Rattle.std.proofs.lemmas.Result.{IfOk-weaker}
+use Rattle.migrate_cli.specs.CommandFiles.{given_texts, groups_of}
+use Rattle.migrate_cli.specs.Configurations.{GiveNetworks, RefusesFirst}
+use Rattle.migrate_cli.specs.Outcomes.{IsOutcome}
+use Rattle.migrate_cli.specs.steps.Unread.{IsUnread}
+use Rattle.migrate_cli.proofs.AnswerFacts.{refused_network, unread_outcome}
+use Rattle.migrate_cli.proofs.GroupLaws.{both_read, first_refuses, gives_two, second_refuses}
+use Rattle.migrate_cli.proofs.NetworkFacts.{names_two, nets_have_router}
+use Rattle.migrate_cli.proofs.judging.judge_networks.Goals as goal
+
+pub read_two-requires-clause-names : goal.read_two-requires-clause-names
+read_two-requires-clause-names c =
+    let bytes : Bor (List ℕ) → List ℕ = λ name. name.now in
+    sym (length-map c.text_names.result.now bytes) ∙ ap length c.text_names.ensures ∙ names_two c.args.command.now c.requires.over c.requires.range
+
+pub read_two-requires-clause-texts : goal.read_two-requires-clause-texts
+read_two-requires-clause-texts c = sym c.requires.each ∙ names_two c.args.command.now c.requires.over c.requires.range
+
+pub returns-in-Err : goal.returns-in-Err
+returns-in-Err c =
+    let command = c.args.command.now in
+    let texts = c.args.texts.now in
+    unread_outcome command (given_texts c.args.own.now texts) c.in-Err.unread c.refuse_unread.result
+    (subst (λ names. IsUnread names texts c.in-Err.unread) c.text_names.ensures c.in-Err.ensures.err) c.refuse_unread.ensures
+
+pub returns-in-Err-build : goal.returns-in-Err-build
+returns-in-Err-build c =
+    let command = c.args.command.now in
+    let texts = c.args.texts.now in
+    refused_network command (given_texts c.args.own.now texts) _ c.in-Err-build.refusal c.refuse_network.result
+    (both_read texts _ _ c.in-Ok.ensures.ok)
+    (first_refuses texts _ _ c.in-Ok.ensures.ok command.kind c.requires.over c.in-Err-build.refusal c.in-Err-build.ensures.err)
+    c.refuse_network.ensures.told c.refuse_network.ensures.outcome
