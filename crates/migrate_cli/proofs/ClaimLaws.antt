@@ -73,9 +73,9 @@ module _ (call : Call) (before after : Outside) where
   wrote_so : {asked : List (List ℕ)} {status : Status} (Q R : Status → Type 0) → (Q WriteFault → ⊥) → (Q Memory → ⊥) →
       ((outcome : Outcome) → IsAnswer call asked outcome → AddsBytes before.written after.written (outcome_text outcome) → Q (status_of outcome) →
       R (status_of outcome)) → Ends call asked (course before after) status → Q status → R status
-  wrote_so Q R unwritten unkept means (whole outcome is _ adds) q = means outcome is adds q
-  wrote_so Q R unwritten unkept means (cut _ _ _ _) q = absurd (unwritten q)
-  wrote_so Q R unwritten unkept means (no_memory _ _ _) q = absurd (unkept q)
+  wrote_so Q R uncut kept means (whole outcome is _ adds) q = means outcome is adds q
+  wrote_so Q R uncut kept means (cut _ _ _ _) q = absurd (uncut q)
+  wrote_so Q R uncut kept means (no_memory _ _ _) q = absurd (kept q)
 
   -- so it keeps all of its promises
   pub claim : (status : Status) → Answers call before after status → Fails status →

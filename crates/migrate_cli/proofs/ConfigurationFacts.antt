@@ -19,7 +19,7 @@ pub ReadsTexts-next : (texts : List (List ℕ)) (i : ℕ) (text : List ℕ) (con
 ReadsTexts-next texts i text configs more within at first reads =
     let e : take i texts ++ text ∷ [] ≡ take (i + 1) texts = ap (λ t. take i texts ++ t ∷ []) at ∙ sym (take_more texts i text within) in
     let one : ReadsTexts (text ∷ []) more = record { one = more; others = []; reads = reads; rest = refl; all = sym (append-nil more) } in
-    subst (λ some. ReadsTexts some (configs ++ more)) e (reads_append (take i texts) (text ∷ []) first one)
+    subst (λ some. ReadsTexts some (configs ++ more)) e (reads_append (take i texts) (text ∷ []) configs more first one)
 
 -- after texts that were read the first faulty one
 pub first_refused : (names texts : List (List ℕ)) (i : ℕ) (name text : List ℕ) (configs : List Configuration) (line : ℕ) (kind : ReadKind) →

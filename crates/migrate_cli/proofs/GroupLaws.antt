@@ -74,14 +74,14 @@ two_groups PairRefute old new over = refl
 two_groups _ old new over = absurd over
 
 -- texts and more texts are read
-pub reads_append : (texts more : List (List ℕ)) {one other : List Configuration} → ReadsTexts texts one → ReadsTexts more other →
+pub reads_append : (texts more : List (List ℕ)) (one other : List Configuration) → ReadsTexts texts one → ReadsTexts more other →
     ReadsTexts (texts ++ more) (one ++ other)
-reads_append [] more {other = other} none reads = subst (λ (some : List Configuration). ReadsTexts more (some ++ other)) (sym none) reads
-reads_append (text ∷ texts) more {other = other} first reads = record {
+reads_append [] more one other none reads = subst (λ (some : List Configuration). ReadsTexts more (some ++ other)) (sym none) reads
+reads_append (text ∷ texts) more one other first reads = record {
   one = first.one;
   others = first.others ++ other;
   reads = first.reads;
-  rest = reads_append texts more first.rest reads;
+  rest = reads_append texts more first.others other first.rest reads;
   all = ap (λ some. some ++ other) first.all ∙ append_assoc first.one first.others other;
 }
 
@@ -92,7 +92,7 @@ all_read [] [] gives = ([], refl)
 all_read [] (net ∷ nets) gives = absurd gives
 all_read (texts ∷ groups) [] gives = absurd gives
 all_read (texts ∷ groups) (net ∷ nets) gives =
-    let rest = all_read groups nets gives.1 in (gives.0.configs ++ rest.0, reads_append texts (joined groups) gives.0.read rest.1)
+    let rest = all_read groups nets gives.1 in (gives.0.configs ++ rest.0, reads_append texts (joined groups) gives.0.configs rest.0 gives.0.read rest.1)
 
 -- so none is refused
 pub given_unrefused : (kind : CommandKind) (texts : List (List ℕ)) (nets : List Network) {names : List (List ℕ)} {file : List ℕ} {line : ℕ}
@@ -113,10 +113,10 @@ same_networks (texts ∷ groups) (net ∷ nets) (other ∷ others) one two =
     ap₂ (λ n ns. n ∷ ns) (one_network texts net other one.0 two.0) (same_networks groups nets others one.1 two.1)
 
 -- the names of the first network ascend
-pub first_ascends : (groups : List (List (List ℕ))) {net : Network} {others : List Network} → GiveNetworks groups (net ∷ others) →
+pub first_ascends : (groups : List (List (List ℕ))) (net : Network) (others : List Network) → GiveNetworks groups (net ∷ others) →
     NamesAscend net
-first_ascends [] gives = absurd gives
-first_ascends (texts ∷ groups) gives = gives.0.make.network.ascending
+first_ascends [] net others gives = absurd gives
+first_ascends (texts ∷ groups) net others gives = gives.0.make.network.ascending
 
 -- where they give networks none is refused
 pub none_refuses : {refusal : NetRefusal} {groups : List (List (List ℕ))} (nets : List Network) → GiveNetworks groups nets →

@@ -67,7 +67,7 @@ module _ (command : Command) (texts : GivenTexts) where
   one_outcome (decided net others one gives _ is) (decided other more again give _ its) =
       let same : net ∷ others ≡ other ∷ more = one_first gives give in
       let back = sym same in
-      let decision : one ≡ again = one_decision command.kind (input_of command texts net others) (first_ascends (groups_of command.kind texts.configs) gives) is
+      let decision : one ≡ again = one_decision command.kind (input_of command texts net others) (first_ascends (groups_of command.kind texts.configs) net others gives) is
       (subst (λ (all : List Network). IsDecision command.kind (input_of command texts (get_or all 0 net) (drop 1 all)) again) back its) in
       λ i. Decided (first_of same i) (decision i)
 
