@@ -13,7 +13,10 @@ use Rattle.migrate_words.specs.declared.refusal.WordsRefused.{WordsRefused}
 use Rattle.migrate_words.specs.declared.refusal.WordsRefused.TheVariants.{Words as NotTaken, Number, OutOfMemory as NoMemoryForWords}
 use Rattle.migration_report.specs.Outcomes.{HasOutcomeText, network_status, status_of}
 use Rattle.migration_report.specs.declared.outcome.Outcome.{Outcome}
-use Rattle.migration_report.specs.declared.outcome.Outcome.TheVariants.{Refused}
+use Rattle.migration_report.specs.declared.outcome.Outcome.TheVariants.{Refused, Decided}
+use Rattle.migration_report.specs.declared.decision.Decision.TheVariants.{BadPair}
+use Rattle.ospf_pair.specs.declared.refusal.PairRefusal.{PairRefusal}
+use Rattle.ospf_pair.specs.declared.refusal.PairRefusal.TheVariants.{OutOfMemory as NoPairMemory}
 use Rattle.migration_report.specs.declared.refusal.Refusal.TheVariants.{Read, Length, Network as NoNetwork, OffStart}
 use Rattle.migration_report.specs.declared.status.Status.TheVariants.{ReadFault, WriteFault}
 use Rattle.store_edge.specs.Files.{ReadsSoFar}
@@ -24,7 +27,8 @@ use Rattle.migrate_cli.specs.Answers.MayFail.{last_failed, none_failed}
 use Rattle.migrate_cli.specs.Calls.{Call}
 use Rattle.migrate_cli.specs.CallWords.AreRefused.{not_taken, number_off}
 use Rattle.migrate_cli.specs.CommandFiles.{GivenTexts, NeedsStart, config_texts, files_of, given_texts, groups_of, own_texts, text_names}
-use Rattle.migrate_cli.specs.Configurations.{GiveNetworks, RefusesFirst}
+use Rattle.migrate_cli.specs.Configurations.{GiveNetworks, IsAtStart, RefusesFirst}
+use Rattle.migrate_cli.specs.Decisions.{IsDecision, input_of}
 use Rattle.migrate_cli.specs.Outcomes.{IsOutcome}
 use Rattle.migrate_cli.specs.Outcomes.IsOutcome.{faulty_configuration, no_network, off_start, decided}
 use Rattle.migrate_cli.specs.Reading.{AreRead, AreWithin, NoneFailed, file_names, to_read}
@@ -46,9 +50,9 @@ from_equal (Ok t) value P same holds = subst P (sym same) holds
 from_equal (Err e) value P same holds = tt
 
 -- what holds of a result under a premise holds of what it has
-pub under_premise : {T E G : Type 0} {P : T → Type 0} (r : Result T E) → (G → IfOk r P) → IfOk r (λ t. G → P t)
-under_premise (Ok t) holds = λ g. holds g
-under_premise (Err e) holds = tt
+pub under_premise : {T E G : Type 0} (P : T → Type 0) (r : Result T E) → (G → IfOk r P) → IfOk r (λ t. G → P t)
+under_premise P (Ok t) holds = λ g. holds g
+under_premise P (Err e) holds = tt
 
 -- an answer after these names were asked for
 pub answered : (call : Call) (before after asked : List (List ℕ)) (r : Result Outcome AllocError) → after ≡ before ++ asked
@@ -233,3 +237,12 @@ start_refused command texts net others router (Ok outcome) gives needs lowest so
     let off = lowest.holds in
     subst (IsOutcome command texts) (sym (so off.config off.router)) (off_start net others router off.config gives needs lowest off.router)
 start_refused command texts net others router (Err e) gives needs lowest so = tt
+
+-- and that two networks make no pair
+pub pair_refused : (command : Command) (texts : GivenTexts) (old new : Network) (refusal : PairRefusal) (r : Result Outcome AllocError) →
+    GiveNetworks (groups_of command.kind texts.configs) (old ∷ new ∷ []) → (NeedsStart command.kind → IsAtStart old) →
+    (refusal ≢ NoPairMemory → IsDecision command.kind (input_of command texts old (new ∷ [])) (BadPair refusal)) →
+    OnOk r (refusal ≢ NoPairMemory) → IfOk r (λ outcome. outcome ≡ Decided old (BadPair refusal)) → IfOk r (IsOutcome command texts)
+pair_refused command texts old new refusal (Ok outcome) gives start is told so =
+    subst (IsOutcome command texts) (sym so) (decided old (new ∷ []) (BadPair refusal) gives start (is told))
+pair_refused command texts old new refusal (Err e) gives start is told so = tt

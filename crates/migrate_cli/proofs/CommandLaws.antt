@@ -34,7 +34,7 @@ moved {one = one} {other = other} P first second holds =
     subst P (sym same) holds
 
 -- and of one redesign of the other one
-redesigned : {others : List Network} {one other : Network} (P : Network → Type 0) → others ≡ one ∷ [] → others ≡ other ∷ [] → P other → P one
+pub redesigned : {others : List Network} {one other : Network} (P : Network → Type 0) → others ≡ one ∷ [] → others ≡ other ∷ [] → P other → P one
 redesigned {one = one} P first second holds =
     subst P (sym (ap (λ (nets : List Network). get_or nets 0 one) (sym first ∙ second))) holds
 

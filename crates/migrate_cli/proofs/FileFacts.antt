@@ -1,6 +1,7 @@
 -- The files of a command, and their texts.
-use Rattle.std.proofs.Common.{◌≡◌, ◌∙◌, ℕ, ◌+◌, ◌<◌, ◌≤◌, List, [], ◌∷◌, ◌++◌, length, map, take, drop, All, codes, lit≤, refl, sym, ap, subst, arith}
+use Rattle.std.proofs.Common.{◌≡◌, ◌∙◌, ℕ, ◌+◌, ◌-◌, ◌<◌, ◌≤◌, List, [], ◌∷◌, ◌++◌, length, map, take, drop, All, codes, lit≤, refl, sym, ap, subst, arith}
 use Rattle.std.proofs.lemmas.List.{length-map, get_or-map}
+use Rattle.std.specs.Borrow.{Bor}
 use Rattle.std.proofs.lemmas.List.Elements.{All-cons, All-append}
 use Rattle.sample_network.specs.SampleTexts.{sample_text}
 use Rattle.migrate_words.specs.Asked.{IsInRange, IsNumberInRange}
@@ -128,6 +129,15 @@ module _ (command : Command) (texts : List (List ℕ)) (reads : ReadsFiles comma
         configs_short =
             subst (All (λ (text : List ℕ). length text ≤ 16777216)) (sym configs_are) (short_configs names (config_texts command texts) behind);
       }
+
+  -- where they are split by the count of these names
+  pub split_names : (names : List (Bor (List ℕ))) (own configs : List (List ℕ)) → map (λ (name : Bor (List ℕ)). name.now) names ≡ text_names command →
+      own ≡ take (length texts - length names) texts → configs ≡ drop (length texts - length names) texts → AreSplit command texts own configs
+  split_names names own configs are front rest =
+      let bytes : Bor (List ℕ) → List ℕ = λ name. name.now in
+      let count : length names ≡ length (text_names command) = sym (length-map names bytes) ∙ ap length are in
+      let all = split_count in
+      split_texts own configs (length texts - length names) (omega (arith, all, count)) front rest
 
 -- ---- `sample` names no file ----
 

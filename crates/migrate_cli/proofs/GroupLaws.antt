@@ -147,7 +147,7 @@ module _ (texts : List (List ℕ)) (olds news : List Configuration) (both : Read
   pub both_read : ReadsTexts texts (olds ++ news)
   both_read =
       subst (λ (some : List (List ℕ)). ReadsTexts some (olds ++ news)) (sym both.texts_are)
-      (reads_append (alone both.old) (alone both.new) (one_read both.old olds both.reads_old) (one_read both.new news both.reads_new))
+      (reads_append (alone both.old) (alone both.new) olds news (one_read both.old olds both.reads_old) (one_read both.new news both.reads_new))
 
   module _ (kind : CommandKind) (over : OverNetworks kind) where
     groups_are : groups_of kind texts ≡ alone both.old ∷ alone both.new ∷ []

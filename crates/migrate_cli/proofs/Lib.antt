@@ -17,8 +17,8 @@ mod PlanLaws
 mod RefuteLaws
 mod ReplayLaws
 mod ScriptsLaws
-mod PairLaws
 mod CommandFacts
+mod PairLaws
 mod CommandLaws
 mod OutcomeLaws
 mod AnswerFacts

@@ -3,6 +3,7 @@ use Rattle.std.proofs.Common.{◌≡◌, ◌∙◌, ℕ, ◌+◌, ◌<◌, List,
 use Rattle.std.proofs.lemmas.List.{length-append}
 use Rattle.std.proofs.lemmas.List.Sorted.{length_permutation}
 use Rattle.ios_reader.proofs.InsertedFacts.{some_configuration}
+use Rattle.ios_reader.specs.Texts.{ReadsText}
 use Rattle.net_model.specs.Configuration.{Configuration}
 use Rattle.net_model.specs.Network.{Network}
 use Rattle.net_model.specs.Refusals.{MakeNetwork}
@@ -36,6 +37,14 @@ pub net_has_router : (command : Command) (texts : List (List ℕ)) (configs : Li
 net_has_router command texts configs net range each read make =
     let names = names_some command.kind command.configs range.configs in
     let some = configs_some texts configs (omega (arith, names, each)) read in
+    let same = length_permutation configs net make.network.same in
+    omega (arith, some, same)
+
+-- so has that of a text
+pub first_has_router : (text : List ℕ) (configs : List Configuration) (net : Network) → ReadsText text configs → MakeNetwork configs net →
+    0 < length net
+first_has_router text configs net reads make =
+    let some = some_configuration text configs reads in
     let same = length_permutation configs net make.network.same in
     omega (arith, some, same)
 

@@ -99,7 +99,7 @@ pub pair_check_decides : (call : Call) → (it : AcceptsPairCheck call) → (ask
     status_of outcome ≢ ReadFault → IsAnswer call asked outcome → Decides (status_of outcome)
 pair_check_decides call it =
     ends_decided call (command_of PairCheck (it.file ∷ []) it.configs 0) it.texts it.old (it.new ∷ []) it.accepted Decides
-    (λ decision is. check_of_waves (first_ascends _ it.accepted.gives)
+    (λ decision is. check_of_waves (first_ascends _ it.old (it.new ∷ []) it.accepted.gives)
     (said_of it.file (λ t. NamesWaves it.old t it.version it.ranks) it.text_is is.3 it.names)
     (of_made it.pair (redesigned (λ new. IsPairCheck (network_pair it.old new) is.2 decision) refl is.1 is.4)))
 
@@ -124,6 +124,6 @@ pub pair_scripts_write : (call : Call) → (it : AcceptsPairScripts call) → (a
     status_of outcome ≢ ReadFault → IsAnswer call asked outcome → Writes (status_of outcome)
 pair_scripts_write call it =
     ends_decided call (command_of PairScripts (it.file ∷ []) it.configs 0) it.texts it.old (it.new ∷ []) it.accepted Writes
-    (λ decision is. script_of_names {nets = network_pair it.old it.new} {order = is.2} (first_ascends _ it.accepted.gives)
+    (λ decision is. script_of_names {nets = network_pair it.old it.new} {order = is.2} (first_ascends _ it.old (it.new ∷ []) it.accepted.gives)
     (said_of it.file (λ t. NamesWaves it.old t it.version it.ranks) it.text_is is.3 it.names)
     (of_made it.pair (redesigned (λ new. IsPairScripts (network_pair it.old new) is.2 decision) refl is.1 is.4)))

@@ -1,5 +1,5 @@
 -- What is found over the tables before and after a migration holds of it.
-use Rattle.std.proofs.Common.{◌≡◌, ◌∙◌, ◌<◌, ℕ, List, Result, Ok, Err, IfOk, Some, arith, length, subst, sym}
+use Rattle.std.proofs.Common.{◌≡◌, ◌∙◌, ◌<◌, ℕ, List, Result, Ok, Err, IfOk, None, Some, arith, length, subst, sym}
 use Rattle.igp_theory.specs.Laws.{HaveSameTables}
 use Rattle.igp_theory.specs.Loops.{Fault, IsFirstFault}
 use Rattle.igp_theory.specs.Migrations.{Migration, listed_migration, migration}
@@ -10,6 +10,7 @@ use Rattle.igp_theory.specs.WaveFaults.{IsWavesFault}
 use Rattle.igp_theory.specs.Waves.{AreSeamlessWaves, HasNoneSeamless}
 use Rattle.igp_theory.proofs.SameTables.{first_fault_over, seamless_over}
 use Rattle.igp_theory.proofs.WaveFaultLaws.{seamless_waves_over, waves_fault_over}
+use Rattle.isis_routes.specs.RouteTables.{AreIsisRoutes}
 use Rattle.net_model.specs.Network.{Network}
 use Rattle.ospf_routes.specs.RouteTables.{AreOspfRoutes, table_at}
 use Rattle.ospf_routes.specs.declared.source.OspfRoutes.{OspfRoutes}
@@ -23,7 +24,7 @@ use Rattle.rib_mix.specs.Mixture.{Mixture, migration_of}
 use Rattle.route_core.specs.Tables.{HasEntry}
 use Rattle.route_tables.specs.Tables.{Routes}
 use Rattle.migrate_cli.specs.declared.tables.NewRoutes.{NewRoutes}
-use Rattle.migrate_cli.specs.declared.tables.NewRoutes.TheVariants.{Ospf}
+use Rattle.migrate_cli.specs.declared.tables.NewRoutes.TheVariants.{Isis, Ospf}
 use Rattle.migrate_cli.specs.steps.Tables.{AreBothTables, AreNewRoutes, MixesTables, NetworkMove, move_of, network_move, new_entries, new_table}
 use Rattle.plan_theory.proofs.PlanTables.{planned_over}
 
@@ -100,3 +101,7 @@ redesign_tables net new routes same are = record {
   routers = are.routers ∙ same;
   entries = λ u p e below. are.entries u p e (omega (arith, below, same));
 }
+
+-- and those of IS-IS of as many
+pub isis_tables : (net : Network) (routes : Routes) → AreIsisRoutes net routes → AreNewRoutes (network_move net None) (Isis routes)
+isis_tables net routes are = record { routers = are.routers; entries = are.entries }

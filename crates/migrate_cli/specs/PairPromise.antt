@@ -1,5 +1,5 @@
 -- What calls of the commands over two networks promise.
-use Rattle.std.specs.Prelude.{ℕ, List, [], ◌∷◌}
+use Rattle.std.specs.Prelude.{◌≡◌, ℕ, List, [], ◌∷◌}
 use Rattle.net_model.specs.Network.{Network}
 use Rattle.ospf_pair.specs.NetworkPairs.{network_pair}
 use Rattle.ospf_pair.specs.PairMigrations.{ospf_to_ospf}

@@ -1,7 +1,8 @@
 ghost use Rattle.std.specs.Prelude.{◌≡◌, ◌<◌, ◌≤◌, IfOk, length};
 ghost use Rattle.order_core.specs.Orders.{IsOrder};
 ghost use Rattle.migrate_cli.specs.CheckDecision.{IsCheckDecision, IsCheckOver, IsOrderDecision, IsWavesDecision};
-ghost use Rattle.migrate_cli.specs.Reading.{named_text};
+ghost use Rattle.step_scripts.specs.WaveFiles.{NamesWaves};
+ghost use Rattle.migrate_cli.specs.Reading.{NamedText, named_text};
 ghost use Rattle.migrate_cli.specs.steps.Tables.{MixesTables, NetworkMove, move_of};
 
 use crate::OutOfMemory;
@@ -16,7 +17,7 @@ use order_core::Waves;
 use ospf_routes::OspfRoutes;
 use rib_mix::Mixed;
 use std::alloc::{AllocError, Global};
-use step_scripts::{OrderRefusal, Version, read_waves};
+use step_scripts::{OrderRefusal, Version, WaveFile, read_waves};
 use wave_oracle::whole_fault;
 
 /// What is decided of the text of an order file and a network with a router, by the tables of OSPF and of IS-IS.
@@ -44,11 +45,19 @@ pub(crate) fn check_over(
     requires some { 0 < length of.now.net }
     ensures { IfOk result (IsCheckOver (move_of of.now) (named_text file.now text.now)) }
 {
-    let read = match read_waves(alloc, of.net(), text.as_slice()) {
-        Ok(read) => read,
-        Err(OrderRefusal::OutOfMemory) => return Err(AllocError),
-        Err(OrderRefusal::Bad { line, kind }) => return bad_order(alloc, file, line, kind),
-    };
+    match read_waves(alloc, of.net(), text.as_slice()) {
+        Ok(read) => check_read(alloc, &read, of),
+        Err(OrderRefusal::OutOfMemory) => Err(AllocError),
+        Err(OrderRefusal::Bad { line, kind }) => bad_order(alloc, file, line, kind),
+    }
+}
+
+/// What is decided of the waves of an order file.
+fn check_read(alloc: Global, read: &WaveFile, of: &Move<'_>) -> Result<Decision, OutOfMemory>
+    requires { length read.now.waves ≡ length of.now.net }
+    ensures { (order : NamedText) → NamesWaves of.now.net order.text read.now.version read.now.waves →
+        IfOk result (IsCheckOver (move_of of.now) order) }
+{
     let tables = Tables::of(alloc, of)?;
     match read.version {
         Version::One => judge_order(alloc, &tables, read.waves.flat()),

@@ -1,15 +1,18 @@
-ghost use Rattle.std.specs.Prelude.{◌≡◌, ◌≤◌, ◌<◌, ◌↔◌, [], All, IfOk, IsTrue, length, slice_index_or};
+ghost use Rattle.std.specs.Prelude.{◌≡◌, ◌≤◌, ◌<◌, ◌↔◌, ℕ, List, [], ◌∷◌, All, IfOk, IsTrue, length, slice_index_or};
 ghost use Rattle.migrate_words.specs.Asked.{IsInRange};
-ghost use Rattle.migrate_cli.specs.CommandFiles.{NeedsStart, given_texts, own_files};
+ghost use Rattle.ospf_pair.specs.PairRefusals.{MakePair};
+ghost use Rattle.migrate_cli.specs.CommandFiles.{NeedsStart, OverNetworks, given_texts, own_files};
 ghost use Rattle.migrate_cli.specs.Decisions.{IsDecision, input_of};
 ghost use Rattle.migrate_cli.specs.Reading.{AreShort};
 
 use crate::OutOfMemory;
-use crate::check::judge_check;
+use crate::check::{check_over, judge_check};
 use crate::files::FILE_MOST;
-use crate::plan::judge_plan;
+use crate::moves::Move;
+use crate::pair::judge_pair_scripts;
+use crate::plan::{judge_plan, plan_over};
 use crate::prepare::judge_prepare;
-use crate::refute::judge_refute;
+use crate::refute::{judge_refute, refute_over};
 use crate::replay::judge_replay;
 use crate::sample::judge_sample;
 use crate::scripts::judge_scripts;
@@ -17,6 +20,7 @@ use migrate_words::{Command, CommandKind};
 use migration_report::Decision;
 use net_addr::Bytes;
 use net_model::Net;
+use ospf_pair::PairNet;
 use std::alloc::Global;
 
 /// Whether a command asks that every router is where a migration starts.
@@ -61,7 +65,8 @@ pub(crate) fn judge_command(
             let (file, order) = first_own(command, own);
             judge_replay(alloc, file, order, journal, net)
         }
-        _ => judge_sample(alloc, command.number, net),
+        CommandKind::Sample => judge_sample(alloc, command.number, net),
+        _ => unreachable!(),
     }
 }
 
@@ -85,6 +90,7 @@ pub(crate) fn judge_pair(
     own: &[Bytes],
     pair: &PairNet,
 ) -> Result<Decision, OutOfMemory>
+    requires make { MakePair pair.now }
     requires over { OverNetworks command.now.kind }
     requires range { IsInRange command.now }
     requires some { 0 < length pair.now.old }
@@ -103,7 +109,8 @@ pub(crate) fn judge_pair(
             check_over(alloc, file, order, &of)
         }
         CommandKind::PairRefute => refute_over(alloc, &own[0], &of),
-        _ => plan_over(alloc, command.number, &of),
+        CommandKind::Pair => plan_over(alloc, command.number, &of),
+        _ => unreachable!(),
     }
 }
 

@@ -60,8 +60,14 @@ pub(crate) fn read_two<'a>(
     ensures ok { IfOk result (λ both. ReadsBoth texts.now both.0 both.1) }
     ensures err { IfErr result (IsUnread (map (λ name. name.now) names.now) texts.now) }
 {
-    let old = read_one(alloc, names[0], &texts[0])?;
-    let new = read_one(alloc, names[1], &texts[1])?;
+    let old = match read_one(alloc, names[0], &texts[0]) {
+        Ok(old) => old,
+        Err(unread) => return Err(unread),
+    };
+    let new = match read_one(alloc, names[1], &texts[1]) {
+        Ok(new) => new,
+        Err(unread) => return Err(unread),
+    };
     Ok((Configs::from_vec(old), Configs::from_vec(new)))
 }
 

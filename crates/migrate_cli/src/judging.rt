@@ -144,10 +144,20 @@ fn judge_two(
             let net = pair.into_old();
             Ok(Outcome::Decided { net, decision })
         }
-        Err(PairRefusal::OutOfMemory) => Err(AllocError),
-        Err(refusal) => {
+        Err(refusal) => refuse_pair(old, refusal),
+    }
+}
+
+/// What a call comes to whose networks make no pair.
+fn refuse_pair(net: Net, refusal: PairRefusal) -> Result<Outcome, OutOfMemory>
+    ensures told { OnOk result (refusal ≢ PairRefusal.OutOfMemory) }
+    ensures outcome { IfOk result (λ outcome. outcome ≡ Outcome.Decided net (Decision.BadPair refusal)) }
+{
+    match refusal {
+        PairRefusal::OutOfMemory => Err(AllocError),
+        refusal => {
             let decision = Decision::BadPair { refusal };
-            Ok(Outcome::Decided { net: old, decision })
+            Ok(Outcome::Decided { net, decision })
         }
     }
 }

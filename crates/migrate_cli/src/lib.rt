@@ -35,8 +35,8 @@ mod tables;
 
 // what each command decides
 mod check;
-mod plan;
 mod pair;
+mod plan;
 mod prepare;
 mod refute;
 mod replay;

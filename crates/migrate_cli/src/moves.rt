@@ -6,6 +6,7 @@ use ospf_pair::PairNet;
 use std::marker::Model;
 
 /// What is migrated: a network from OSPF to IS-IS, or to its redesign by a second OSPF process.
+#[derive(Drop)]
 pub(crate) struct Move<'a> {
     net: &'a Net,
     redesign: Option<&'a Net>,

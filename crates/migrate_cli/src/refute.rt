@@ -22,7 +22,11 @@ pub(crate) fn judge_refute(alloc: Global, tree: &Bytes, net: &Net) -> Result<Dec
 }
 
 /// What is decided of the text of a tree file and a migration, by the tables before and after.
-pub(crate) fn refute_over(alloc: Global, tree: &Bytes, of: &Move<'_>) -> Result<Decision, OutOfMemory>
+pub(crate) fn refute_over(
+    alloc: Global,
+    tree: &Bytes,
+    of: &Move<'_>,
+) -> Result<Decision, OutOfMemory>
     requires { length tree.now ≤ FILE_MOST }
     ensures { IfOk result (IsTreeDecision (move_of of.now) tree.now) }
 {

@@ -8,7 +8,7 @@ use Rattle.migrate_cli.specs.Outcomes.{IsOutcome}
 use Rattle.migrate_cli.specs.steps.Unread.{IsUnread}
 use Rattle.migrate_cli.proofs.AnswerFacts.{refused_network, unread_outcome}
 use Rattle.migrate_cli.proofs.GroupLaws.{both_read, first_refuses, gives_two, second_refuses}
-use Rattle.migrate_cli.proofs.NetworkFacts.{names_two, nets_have_router}
+use Rattle.migrate_cli.proofs.NetworkFacts.{first_has_router, names_two}
 use Rattle.migrate_cli.proofs.judging.judge_networks.Goals as goal
 
 pub read_two-requires-clause-names : goal.read_two-requires-clause-names
@@ -34,3 +34,16 @@ returns-in-Err-build c =
     (both_read texts _ _ c.in-Ok.ensures.ok)
     (first_refuses texts _ _ c.in-Ok.ensures.ok command.kind c.requires.over c.in-Err-build.refusal c.in-Err-build.ensures.err)
     c.refuse_network.ensures.told c.refuse_network.ensures.outcome
+
+pub returns-in-Err-build-2 : goal.returns-in-Err-build-2
+returns-in-Err-build-2 c =
+    let command = c.args.command.now in
+    let texts = c.args.texts.now in
+    refused_network command (given_texts c.args.own.now texts) _ c.in-Err-build-2.refusal c.refuse_network-in-Err-build-2.result
+    (both_read texts _ _ c.in-Ok.ensures.ok)
+    (second_refuses texts _ _ c.in-Ok.ensures.ok command.kind c.requires.over c.in-Ok-build.old c.in-Err-build-2.refusal c.in-Ok-build.ensures.ok
+    c.in-Err-build-2.ensures.err)
+    c.refuse_network-in-Err-build-2.ensures.told c.refuse_network-in-Err-build-2.ensures.outcome
+
+pub judge_two-requires-clause-some : goal.judge_two-requires-clause-some
+judge_two-requires-clause-some c = first_has_router c.in-Ok.ensures.ok.old c.in-Ok.both.0 c.in-Ok-build.old c.in-Ok.ensures.ok.reads_old c.in-Ok-build.ensures.ok

@@ -13,8 +13,8 @@ plan_mixed-requires-clause-some c =
 pub plan_mixed-requires-clause-few : goal.plan_mixed-requires-clause-few
 plan_mixed-requires-clause-few c =
     let same : c.in_ok-mixed.mixed.net ≡ c.args.of.now.net = c.in_ok-mixed.ensures.net_is ∙ ap (λ (m : NetworkMove). m.net) c.in_ok-tables.ensures in
-    let few : length c.net-routers.result.now ≤ 200 = c.routers-routers.ensures.network.limits.routers in
-    let many : length c.args.of.now.net ≤ 200 = subst (λ (net : Network). length net ≤ 200) c.net-routers.ensures few in
+    let many : length c.args.of.now.net ≤ 200 =
+    subst (λ (net : Network). length net ≤ 200) c.net.ensures c.routers-routers.ensures.network.limits.routers in
     subst (λ (net : Network). length net ≤ 1000) (sym same) (omega (arith, many))
 
 pub returns-clause-planned : goal.returns-clause-planned
