@@ -6,3 +6,6 @@ pub mod PairFacts
 pub mod UnlikeFacts
 pub mod ReachFacts
 pub mod CountFacts
+pub mod KeptFacts
+pub mod StandFacts
+pub mod SurveyedFacts

@@ -4,5 +4,6 @@ pub mod Interfaces
 pub mod Counts
 pub mod Pairs
 pub mod Joined
+pub mod AllRefusals
 pub mod Routers
 pub mod steps

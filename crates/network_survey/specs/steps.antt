@@ -4,3 +4,4 @@ pub mod RouterLists
 pub mod Partners
 pub mod Subnets
 pub mod Reached
+pub mod Kept
