@@ -17,3 +17,9 @@ pub mod WaveFaultLaws
 pub mod Rings
 pub mod LoopLaws
 pub mod LoopWaves
+pub mod Phases
+pub mod Timetables
+pub mod SortedChanges
+pub mod TimetableStates
+pub mod Switches
+pub mod WaveLoops

@@ -19,7 +19,7 @@ use Rattle.igp_theory.specs.WaveFaults.{StepsInSome, IsUnsoundInSome, IsFaultOve
 use Rattle.igp_theory.specs.WaveLaws.{IsStateOfSomeWave}
 use Rattle.igp_theory.specs.Waves.{IsWavesState, AreSeamlessWaves, IsStateOfWave}
 use Rattle.igp_theory.specs.declared.phase.Phase.{Phase}
-use Rattle.igp_theory.specs.declared.phase.Phase.TheVariants.{Old, Middle, New}
+use Rattle.igp_theory.specs.declared.phase.Phase.TheVariants.{Old, New}
 use Rattle.igp_theory.proofs.Delivery.{contains_or_not}
 use Rattle.igp_theory.proofs.FlatOrders.{wave_state_is_reached}
 use Rattle.igp_theory.proofs.ForwardingLaws.{later_phase_steps}
@@ -77,15 +77,15 @@ from_old move state begins u below =
     omega (arith, none)
 
 -- one of two phases, by which of two facts holds
-abbrev pick : {P Q : Type 0} → P ⊎ Q → Phase → Phase → Phase
+abbrev pub pick : {P Q : Type 0} → P ⊎ Q → Phase → Phase → Phase
 pick (inl here) one other = one
 pick (inr there) one other = other
 
-pick_first : {P Q : Type 0} (either : P ⊎ Q) (one other : Phase) → (Q → ⊥) → pick either one other ≡ one
+pub pick_first : {P Q : Type 0} (either : P ⊎ Q) (one other : Phase) → (Q → ⊥) → pick either one other ≡ one
 pick_first (inl here) one other not = refl
 pick_first (inr there) one other not = absurd (not there)
 
-pick_second : {P Q : Type 0} (either : P ⊎ Q) (one other : Phase) → (P → ⊥) → pick either one other ≡ other
+pub pick_second : {P Q : Type 0} (either : P ⊎ Q) (one other : Phase) → (P → ⊥) → pick either one other ≡ other
 pick_second (inl here) one other not = absurd (not here)
 pick_second (inr there) one other not = refl
 
@@ -274,10 +274,10 @@ other_first move a first other (r ∷ []) same tags = subst (λ (h : ℕ). IsTag
 other_first move a first other (r ∷ s ∷ rest) same tags = (tags.0, other_first move a first other (s ∷ rest) same tags.1)
 
 -- a ring of turns with their tags, of these routers
-record TaggedRing (move : Migration) (a : ℕ) (routers : List ℕ) : Type 0 where
-  ring : List Turn
-  same : routers_of ring ≡ routers
-  tags : AreTagged move a ring
+pub record TaggedRing (move : Migration) (a : ℕ) (routers : List ℕ) : Type 0 where
+  pub ring : List Turn
+  pub same : routers_of ring ≡ routers
+  pub tags : AreTagged move a ring
 
 close_ring : {move : Migration} {a : ℕ} (u : ℕ) (rest : List ℕ) →
     TaggedTurns move a (record { router = u; tag = tag.Both }) (u ∷ rest) →
@@ -291,7 +291,7 @@ close_ring {move} {a} u rest turns = close turns.turns turns.same turns.tags
         let first : u ≡ t.router = cc in
         record { ring = t ∷ ring; same = same; tags = other_first move a (record { router = u; tag = tag.Both }) t (t ∷ ring) first tags }
 
-tagged_ring : (move : Migration) (state : State) (a u : ℕ) (rest : List ℕ) → IsFromStart move state →
+pub tagged_ring : (move : Migration) (state : State) (a u : ℕ) (rest : List ℕ) → IsFromStart move state →
     AroundRing (StepsIn move state a) (u ∷ rest) → (TaggedRing move a (u ∷ rest) → ⊥) → ⊥
 tagged_ring move state a u rest from goes none =
     tagged_turns move state a (record { router = u; tag = tag.Both }) (u ∷ rest) from goes (λ turns. none (close_ring u rest turns))

@@ -59,7 +59,7 @@ order_has_ones n order lists =
 -- One run
 
 -- two lists of the same elements in one strict order are the same
-same_in_turn : {X : Type 0} (R : X → X → Type 0) (xs ys : List X) → AllPairs R xs → AllPairs R ys →
+pub same_in_turn : {X : Type 0} (R : X → X → Type 0) (xs ys : List X) → AllPairs R xs → AllPairs R ys →
     ((x y : X) → Contains xs x → Contains xs y → R x y → R y x → ⊥) → ((x : X) → Contains xs x → Contains ys x) →
     ((x : X) → Contains ys x → Contains xs x) → xs ≡ ys
 same_in_turn R [] [] one two apart over back = refl

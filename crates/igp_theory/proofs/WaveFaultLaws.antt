@@ -11,8 +11,10 @@ use Rattle.igp_theory.specs.Migrations.{Migration, retabled}
 use Rattle.igp_theory.specs.Routes.{Tables}
 use Rattle.igp_theory.specs.Phases.{State}
 use Rattle.igp_theory.specs.States.{StepsIn, IsSoundAt, IsSound}
-use Rattle.igp_theory.specs.WaveFaults.{StepsInSome, LacksStep, HasStepsInAll, IsLeastUnsound, IsFaultOver, missing_in_one, loop_over_all, IsWavesFault}
+use Rattle.igp_theory.specs.WaveFaults.{StepsInSome, LacksStep, HasStepsInAll, IsLeastUnsound, IsFaultOver, missing_in_one, loop_over_all, IsWavesFault, IsTimesFault}
 use Rattle.igp_theory.specs.WaveLaws.{Delivers}
+use Rattle.igp_theory.specs.Timetables.{Timetable, IsSoundThroughout}
+use Rattle.igp_theory.specs.Timetables as times
 use Rattle.igp_theory.specs.Waves.{AreSeamlessWaves, IsStateOfWave}
 use Rattle.igp_theory.proofs.FaultLaws.{fault_is_unsound}
 use Rattle.igp_theory.proofs.FlatOrders.{wave_state_is_reached}
@@ -20,6 +22,7 @@ use Rattle.igp_theory.proofs.FoundRings.{found_ring_unique}
 use Rattle.igp_theory.proofs.SameTables.{same_tables_sym, steps_over, has_step_over, follows_over, sound_at_over, sound_over, around_ring_over, tag_over}
 use Rattle.igp_theory.proofs.SameTables.{SameHops, found_ring_over}
 use Rattle.igp_theory.proofs.Tags.{AreTagged, same_tagged}
+use Rattle.igp_theory.proofs.TimetableStates.{wave_is_reached}
 
 -- One fault
 
@@ -104,6 +107,30 @@ pub waves_fault_unsound : (move : Migration) (ranks : List ℕ) (w : ℕ) (fault
 waves_fault_unsound move ranks w fault is seamless =
     fault_over_unsound is.here (λ state of_wave. seamless.sound state
     (wave_state_is_reached (length move.net) ranks state seamless.waves (record { wave = w; is_wave = is.is_wave; of_wave = of_wave })))
+
+-- So is it of timetables
+
+same_time : {move : Migration} {time : Timetable} {w v : ℕ} {fault other : Fault} → IsTimesFault move time w fault →
+    IsTimesFault move time v other → w ≡ v
+same_time {w = w} {v = v} one other = elim (cases_order w v) [
+  | inl same ↦ same
+  | inr (inl before) ↦ absurd (fault_over_unsound one.here (other.before w one.from_one before))
+  | inr (inr after) ↦ absurd (fault_over_unsound other.here (one.before v other.from_one after))
+]
+
+pub times_fault_unique : {move : Migration} {time : Timetable} {w v : ℕ} {fault other : Fault} → IsTimesFault move time w fault →
+    IsTimesFault move time v other → (w ≡ v) × (fault ≡ other)
+times_fault_unique {move} {time} {w} {v} {fault} {other} one two =
+    let wave : w ≡ v = same_time one two in
+    let here : IsFaultOver move (times.IsStateOfWave (length move.net) time w) other =
+    subst (λ (x : ℕ). IsFaultOver move (times.IsStateOfWave (length move.net) time x) other) (sym wave) two.here in
+    (wave, fault_over_unique one.here here)
+
+pub times_fault_unsound : (move : Migration) (time : Timetable) (w : ℕ) (fault : Fault) → IsTimesFault move time w fault →
+    IsSoundThroughout move time → ⊥
+times_fault_unsound move time w fault is sound =
+    fault_over_unsound is.here (λ state of_wave. sound.sound state
+    (wave_is_reached sound.table state (record { wave = w; from_one = is.from_one; of_wave = of_wave })))
 
 -- A single state
 
@@ -207,5 +234,13 @@ pub waves_fault_over : {move : Migration} {old' new' : Tables} {ranks : List ℕ
 waves_fault_over same is = record {
   is_wave = is.is_wave;
   before = λ v less state of_wave. sound_over same (is.before v less state of_wave);
+  here = fault_over_tables same is.here;
+}
+
+pub times_fault_over : {move : Migration} {old' new' : Tables} {time : Timetable} {w : ℕ} {fault : Fault} → HaveSameTables move old' new' →
+    IsTimesFault move time w fault → IsTimesFault (retabled move old' new') time w fault
+times_fault_over same is = record {
+  from_one = is.from_one;
+  before = λ v from less state of_wave. sound_over same (is.before v from less state of_wave);
   here = fault_over_tables same is.here;
 }

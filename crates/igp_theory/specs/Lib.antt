@@ -16,9 +16,11 @@ pub mod Forwarding
 pub mod States
 pub mod Loops
 pub mod Waves
+pub mod Timetables
 pub mod WaveFaults
 pub mod WaveLaws
 pub mod WaveFaultLaws
 pub mod LoopLaws
+pub mod TimetableLaws
 pub mod MiddleLaws
 pub mod Laws
