@@ -5,7 +5,7 @@ use Rattle.igp_theory.specs.Migrations.{Migration}
 use Rattle.igp_theory.specs.Phases.{made_in}
 use Rattle.igp_theory.specs.States.{phase_after}
 use Rattle.igp_theory.specs.Timetables.{IsBetweenPhases, is_made}
-use Rattle.igp_theory.specs.Waves.{first, second}
+use Rattle.igp_theory.specs.Changes.{first, second}
 use Rattle.igp_theory.specs.declared.phase.Phase.{Phase}
 use Rattle.igp_theory.specs.declared.phase.Phase.TheVariants.{Old, Middle, New}
 use Rattle.igp_theory.proofs.LoopLaws.{old_or_new_step}

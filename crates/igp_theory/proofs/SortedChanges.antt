@@ -4,7 +4,7 @@ use Rattle.std.proofs.Common.{arith, refl, sym, ap, ◌∙◌, subst}
 use Rattle.std.specs.List.{AllPairs}
 use Rattle.std.proofs.lemmas.Bool.{cases_lt, cases_eq, false≢true}
 use Rattle.igp_theory.specs.Timetables.{Timetable, MayPrecede}
-use Rattle.igp_theory.specs.Waves.{Change, first, second, changed}
+use Rattle.igp_theory.specs.Changes.{Change, first, second, changed}
 use Rattle.net_model.proofs.Members.{Contains-none, Contains-first, Contains-rest, Contains-cases}
 use Rattle.igp_theory.proofs.OrderedLists.{pairs_none, pairs_more, pairs_first, pairs_rest}
 

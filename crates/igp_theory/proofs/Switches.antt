@@ -9,7 +9,7 @@ use Rattle.igp_theory.specs.Migrations.{Migration}
 use Rattle.igp_theory.specs.Phases.{State}
 use Rattle.igp_theory.specs.TimetableLaws.{SwitchesIn, IsSwitch, at_first, at_second}
 use Rattle.igp_theory.specs.Timetables.{Timetable, IsTimetable, is_made, state_before, router_times, change_times}
-use Rattle.igp_theory.specs.Waves.{Change, first, second}
+use Rattle.igp_theory.specs.Changes.{Change, first, second}
 use Rattle.igp_theory.specs.declared.phase.Phase.{Phase}
 use Rattle.igp_theory.specs.declared.phase.Phase.TheVariants.{Old, Middle, New}
 use Rattle.igp_theory.proofs.Timetables.{before_new, before_middle, before_old}

@@ -9,101 +9,13 @@ use Rattle.igp_theory.specs.Phases.{State, made_in}
 use Rattle.igp_theory.specs.States.{changes_on, phase_after}
 use Rattle.igp_theory.specs.Timetables.{Timetable, IsTimetable, MayPrecede, IsLeft, IsRun, IsStateOf, IsStateOfWave, is_made, state_after}
 use Rattle.igp_theory.specs.TimetableLaws.{IsStateOfSomeWave}
-use Rattle.igp_theory.specs.Waves.{Change, first, second, changed}
+use Rattle.igp_theory.specs.Changes.{Change, first, second, changed}
 use Rattle.net_model.proofs.Members.{Contains-none, Contains-first, Contains-rest, Contains-cases}
+use Rattle.igp_theory.proofs.ChangeCounts.{StandsOnce, Counted, counted}
 use Rattle.igp_theory.proofs.OrderedLists.{pairs_append, pairs_across, pairs_first, pairs_rest, pairs_weaker, pairs_front}
 use Rattle.igp_theory.proofs.Phases.{tally, made_after, made_one_by_one, made_in_few, phases_same, second_after_first}
 use Rattle.igp_theory.proofs.SortedChanges.{Listed, Passes, listed_passing}
 use Rattle.igp_theory.proofs.Timetables.{made_at_start, made_before, made_upto, left_from}
-use Rattle.igp_theory.proofs.WaveStates.{count_other, count_own}
-
--- How many changes are made on a router
-
--- a change that stands in a list once or not at all
-record StandsOnce (changes : List Change) (c : Change) (times : ℕ) : Type 0 where
-  either : ((times ≡ 1) × Contains changes c) ⊎ ((times ≡ 0) × (Contains changes c → ⊥))
-
--- what is made on a router: its first change, and its second
-record Counted (u : ℕ) (changes : List Change) : Type 0 where
-  one : ℕ
-  two : ℕ
-  is : changes_on u (map changed changes) ≡ one + two
-  has_one : StandsOnce changes (first u) one
-  has_two : StandsOnce changes (second u) two
-
-stands_later : {c d : Change} {changes : List Change} {times : ℕ} → c ≢ d → StandsOnce changes d times → StandsOnce (c ∷ changes) d times
-stands_later {c} {d} {changes} apart stands = record {
-  either = elim stands.either [
-    | inl there ↦ inl (there.0, Contains-rest c changes d there.1)
-    | inr none ↦ inr (
-      none.0,
-      λ inside. elim (Contains-cases c changes d inside) [
-        | inl same ↦ apart same
-        | inr later ↦ none.1 later
-      ],
-    )
-  ];
-}
-
-stands_first : {c : Change} {changes : List Change} {times : ℕ} → (Contains changes c → ⊥) → StandsOnce changes c times →
-    (times ≡ 0) × StandsOnce (c ∷ changes) c 1
-stands_first {c} {changes} absent stands = (
-  elim stands.either [
-    | inl there ↦ absurd (absent there.1)
-    | inr none ↦ none.0
-  ],
-  record { either = inl (refl, Contains-first c changes) },
-)
-
-counted : (u : ℕ) (changes : List Change) → AllPairs (λ c d. c ≢ d) changes → Counted u changes
-counted u [] distinct = record {
-  one = 0;
-  two = 0;
-  is = omega arith;
-  has_one = record { either = inr (refl, λ inside. Contains-none (first u) inside) };
-  has_two = record { either = inr (refl, λ inside. Contains-none (second u) inside) };
-}
-counted u (c ∷ changes) distinct = by c refl (counted u changes (pairs_rest (λ x y. x ≢ y) c changes distinct))
-  where
-    absent : Contains changes c → ⊥
-    absent inside = pairs_first (λ x y. x ≢ y) c changes distinct c inside refl
-
-    other : (d : Change) → c ≡ d → changed d ≢ u → Counted u changes → Counted u (c ∷ changes)
-    other d is apart rest = record {
-      one = rest.one;
-      two = rest.two;
-      is = count_other u c changes (λ same. apart (ap changed (sym is) ∙ same)) ∙ rest.is;
-      has_one = stands_later (λ same. apart (ap changed (sym is ∙ same))) rest.has_one;
-      has_two = stands_later (λ same. apart (ap changed (sym is ∙ same))) rest.has_two;
-    }
-
-    by : (d : Change) → c ≡ d → Counted u changes → Counted u (c ∷ changes)
-    by (first v) is rest = elim (cases_eq v u) [
-      | inr apart ↦ other (first v) is apart rest
-      | inl same ↦
-          let own : c ≡ first u = is ∙ ap first same in
-          let here = stands_first absent (subst (λ d. StandsOnce changes d rest.one) (sym own) rest.has_one) in
-          record {
-            one = 1;
-            two = rest.two;
-            is = let count = count_own u c changes (ap changed own) in let none = here.0 in let e = rest.is in omega (arith, count, none, e);
-            has_one = subst (λ d. StandsOnce (c ∷ changes) d 1) own here.1;
-            has_two = stands_later (λ clash. let halves : first u ≡ second u = sym own ∙ clash in cc) rest.has_two;
-          }
-    ]
-    by (second v) is rest = elim (cases_eq v u) [
-      | inr apart ↦ other (second v) is apart rest
-      | inl same ↦
-          let own : c ≡ second u = is ∙ ap second same in
-          let here = stands_first absent (subst (λ d. StandsOnce changes d rest.two) (sym own) rest.has_two) in
-          record {
-            one = rest.one;
-            two = 1;
-            is = let count = count_own u c changes (ap changed own) in let none = here.0 in let e = rest.is in omega (arith, count, none, e);
-            has_one = stands_later (λ clash. let halves : second u ≡ first u = sym own ∙ clash in cc) rest.has_one;
-            has_two = subst (λ d. StandsOnce (c ∷ changes) d 1) own here.1;
-          }
-    ]
 
 -- A state of a run is one of a wave
 

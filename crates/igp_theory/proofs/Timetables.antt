@@ -3,7 +3,7 @@ use Rattle.std.proofs.Common.{◌≡◌, ℕ, ◌+◌, ◌-◌, ◌<◌, ◌≤�
 use Rattle.std.proofs.lemmas.Bool.{cases_lt, lt-ltb, le-ltb, false≢true}
 use Rattle.igp_theory.specs.Phases.{State, made_in}
 use Rattle.igp_theory.specs.Timetables.{Timetable, IsBetweenPhases, IsTimetable, IsStateOfWave, is_made, state_before}
-use Rattle.igp_theory.specs.Waves.{Change, first, second, changed}
+use Rattle.igp_theory.specs.Changes.{Change, first, second, changed}
 use Rattle.igp_theory.specs.declared.phase.Phase.{Phase}
 use Rattle.igp_theory.specs.declared.phase.Phase.TheVariants.{Old, Middle, New}
 

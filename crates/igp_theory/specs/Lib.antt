@@ -15,8 +15,9 @@ pub mod Isis
 pub mod Forwarding
 pub mod States
 pub mod Loops
-pub mod Waves
+pub mod Changes
 pub mod Timetables
+pub mod Waves
 pub mod WaveFaults
 pub mod WaveLaws
 pub mod WaveFaultLaws

@@ -1,20 +1,20 @@
 -- What the laws of timetables say (Vanbever et al., SIGCOMM 2011).
-use Rattle.std.specs.Prelude.{◌≡◌, ℕ, ◌+◌, ◌<◌, ◌≤◌, ◌↔◌, ◌⊎◌, List, Contains}
+use Rattle.std.specs.Prelude.{◌≡◌, ℕ, ◌+◌, ◌<◌, ◌≤◌, ◌↔◌, ◌⊎◌, List, ◌∷◌, Contains}
 use Rattle.std.specs.Prelude.{length}
 use Rattle.order_core.specs.Rankings.{rank_of}
 use Rattle.order_core.specs.Turns.{old_routers, new_routers, HasBothTags}
 use Rattle.order_core.specs.declared.turn.Tag.TheVariants as tag
 use Rattle.order_core.specs.declared.turn.Turn.{Turn}
+use Rattle.igp_theory.specs.Changes.{Change, first, second}
 use Rattle.igp_theory.specs.Forwarding.{Steps}
 use Rattle.igp_theory.specs.LoopLaws.{AreSoundEnds}
-use Rattle.igp_theory.specs.Loops.{Fault, IsTag, AroundRing, IsLoop, Arises}
+use Rattle.igp_theory.specs.Loops.{Fault, loop, IsTag, AroundRing, IsLoop, Arises}
 use Rattle.igp_theory.specs.Migrations.{Migration}
 use Rattle.igp_theory.specs.Phases.{State}
-use Rattle.igp_theory.specs.States.{IsSound}
+use Rattle.igp_theory.specs.States.{Follows, IsSound}
 use Rattle.igp_theory.specs.Timetables.{Timetable, IsTimetable, MayPrecede, IsLeft, IsRun, IsStateOf, IsStateOfWave, IsSoundThroughout, state_before}
 use Rattle.igp_theory.specs.Timetables.{router_times, change_times}
-use Rattle.igp_theory.specs.WaveFaults.{IsTimesFault}
-use Rattle.igp_theory.specs.Waves.{Change, first, second}
+use Rattle.igp_theory.specs.WaveFaults.{StepsInSome, IsUnsoundInSome, IsTimesFault}
 use Rattle.igp_theory.specs.declared.phase.Phase.{Phase}
 use Rattle.igp_theory.specs.declared.phase.Phase.TheVariants.{Old, Middle, New}
 
@@ -68,6 +68,15 @@ LoopsAriseInWaves move =
     (time : Timetable) (w a : ℕ) (ring : List Turn) → IsTimetable (length move.net) move.start time → IsLoop move a ring →
     ArisesInWave move time w a ring ↔ GoesRound move time a w ring
 
+-- over the states of a wave a router may have hops of two phases. Where a list of steps over all these hops returns to its
+-- first router, some state of the wave is unsound for the address: the list contains a ring of distinct routers, and each of
+-- them keeps one phase that makes its step
+abbrev pub ReturnsInWavesAreUnsound : Migration → Type 0
+ReturnsInWavesAreUnsound move =
+    (time : Timetable) (w a u h : ℕ) (hops : List ℕ) →
+    Follows (StepsInSome move (IsStateOfWave (length move.net) time w) a) u (h ∷ hops) u →
+    IsUnsoundInSome move (IsStateOfWave (length move.net) time w) a
+
 -- The wave in which a step is switched
 
 -- an Old turn's step to the next router is there in the waves up to k alone, a New turn's from k on alone
@@ -81,6 +90,17 @@ abbrev pub RoutersSwitch : Migration → Type 0
 RoutersSwitch move =
     (ranks : List ℕ) (a : ℕ) (turn : Turn) (next : ℕ) → IsTag move a turn next →
     SwitchesIn move (router_times move.start ranks) a turn next (rank_of ranks turn.router + 1)
+
+-- so where routers are ranked a loop arises in a state of wave w exactly where it stands round it: its routers tagged New
+-- stand in waves up to w, and those tagged Old in waves from w on
+pub record StandsRoundWave (ranks : List ℕ) (w : ℕ) (ring : List Turn) : Type 0 where
+  pub new : (u : ℕ) → Contains (new_routers ring) u → rank_of ranks u + 1 ≤ w
+  pub old : (u : ℕ) → Contains (old_routers ring) u → w ≤ rank_of ranks u + 1
+
+abbrev pub RankedLoopsAriseInWaves : Migration → Type 0
+RankedLoopsAriseInWaves move =
+    (ranks : List ℕ) (w a : ℕ) (ring : List Turn) → 1 ≤ w → IsLoop move a ring →
+    ArisesInWave move (router_times move.start ranks) w a ring ↔ StandsRoundWave ranks w ring
 
 -- a router in Middle steps for an address as in a phase
 abbrev pub MiddleStepsAs : Migration → ℕ → ℕ → Phase → Type 0
@@ -137,13 +157,17 @@ OldFirstIsSound move =
 
 -- Faults
 
--- a timetable has at most one fault
-abbrev pub TimesFaultsAreUnique : Migration → Type 0
-TimesFaultsAreUnique move =
-    (time : Timetable) (w v : ℕ) (fault other : Fault) → IsTimesFault move time w fault → IsTimesFault move time v other →
-    (w ≡ v) × (fault ≡ other)
+-- the fault of a wave is a loop of the network with both tags, and no missing step, and it arises in a state of the wave
+pub record IsLoopOfWave (move : Migration) (time : Timetable) (w : ℕ) (fault : Fault) : Type 0 where
+  pub address : ℕ
+  pub ring : List Turn
+  pub is : fault ≡ loop address ring
+  pub is_loop : IsLoop move address ring
+  pub both : HasBothTags ring
+  pub arises : ArisesInWave move time w address ring
 
--- and where it has one the migration isn't sound throughout
-abbrev pub TimesFaultsAreUnsound : Migration → Type 0
-TimesFaultsAreUnsound move =
-    (time : Timetable) (w : ℕ) (fault : Fault) → IsTimesFault move time w fault → IsSoundThroughout move time → ⊥
+-- between sound ends the fault of a timetable is such a loop
+abbrev pub TimesFaultsBetweenSoundEndsAreLoops : Migration → Type 0
+TimesFaultsBetweenSoundEndsAreLoops move =
+    (time : Timetable) (w : ℕ) (fault : Fault) → AreSoundEnds move → IsTimetable (length move.net) move.start time →
+    IsTimesFault move time w fault → IsLoopOfWave move time w fault

@@ -4,10 +4,10 @@ use Rattle.std.specs.Prelude.{◌≡◌, ◌≢◌, ℕ, ◌+◌, ◌<◌, ◌�
 use Rattle.std.specs.Prelude.{AllPairs}
 use Rattle.std.specs.List.{flat_map}
 use Rattle.order_core.specs.Rankings.{rank_of}
+use Rattle.igp_theory.specs.Changes.{Change, first, second, changed}
 use Rattle.igp_theory.specs.Migrations.{Migration}
 use Rattle.igp_theory.specs.Phases.{State, made_in}
 use Rattle.igp_theory.specs.States.{IsSound, changes_on, phase_after}
-use Rattle.igp_theory.specs.Waves.{Change, first, second, changed}
 use Rattle.igp_theory.specs.declared.phase.Phase.{Phase}
 use Rattle.igp_theory.specs.declared.phase.Phase.TheVariants.{Old, Middle, New}
 

@@ -1,6 +1,5 @@
-ghost use Rattle.igp_theory.specs.TimetableLaws.{StatesAreThoseOfWaves, SoundWaveByWave, TimetablesHaveOneRun, LoopsAriseInWaves, RoutersSwitch};
-ghost use Rattle.igp_theory.specs.TimetableLaws.{ChangesSwitch, OneSwitch, SoundSwitchesOldFirst, OldFirstIsSound, TimesFaultsAreUnique};
-ghost use Rattle.igp_theory.specs.TimetableLaws.{TimesFaultsAreUnsound};
+ghost use Rattle.igp_theory.specs.TimetableLaws.{StatesAreThoseOfWaves, SoundWaveByWave, TimetablesHaveOneRun, RoutersSwitch};
+ghost use Rattle.igp_theory.specs.TimetableLaws.{ChangesSwitch, OneSwitch, SoundSwitchesOldFirst, OldFirstIsSound};
 
 use crate::migration::AnyMigration;
 
@@ -8,7 +7,7 @@ use crate::migration::AnyMigration;
 ///
 /// Every combination of phases of one wave, each router from the phase in which the wave begins for it up to that in
 /// which it ends, is the state after some prefix of some run, and there is no other.
-pub fn timetable_states_are_those_of_waves()
+pub fn states_are_those_of_waves()
     ensures { StatesAreThoseOfWaves }
 {}
 
@@ -20,14 +19,6 @@ pub fn sound_wave_by_wave<T: AnyMigration>()
 /// The law that a timetable has one run where of no two of its changes either may stand before the other.
 pub fn one_run()
     ensures { TimetablesHaveOneRun }
-{}
-
-/// The law of the waves in which loops arise.
-///
-/// A loop arises in a state of a wave exactly where each of its routers steps to the next when the wave begins or when
-/// it ends.
-pub fn loops_arise_round_waves<T: AnyMigration>()
-    ensures { LoopsAriseInWaves T.migration }
 {}
 
 /// The law that, where routers are ranked, a turn of a loop is switched in the wave of its router.
@@ -49,10 +40,4 @@ pub fn changes_switch<T: AnyMigration>()
 pub fn loops_decide<T: AnyMigration>()
     ensures sound { SoundSwitchesOldFirst T.migration }
     ensures enough { OldFirstIsSound T.migration }
-{}
-
-/// The law that a timetable has at most one fault, and that a migration with one isn't sound throughout.
-pub fn times_faults_are_unique<T: AnyMigration>()
-    ensures unique { TimesFaultsAreUnique T.migration }
-    ensures unsound { TimesFaultsAreUnsound T.migration }
 {}

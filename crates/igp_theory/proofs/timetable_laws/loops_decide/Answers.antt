@@ -1,4 +1,4 @@
-use Rattle.igp_theory.proofs.WaveLoops.{sound_switches_old_first, old_first_is_sound}
+use Rattle.igp_theory.proofs.LoopsDecide.{sound_switches_old_first, old_first_is_sound}
 use Rattle.igp_theory.proofs.timetable_laws.loops_decide.Goals as goal
 
 pub returns : goal.returns

@@ -1,5 +1,5 @@
 use Rattle.igp_theory.proofs.WaveFaultLaws.{times_fault_unique, times_fault_unsound}
-use Rattle.igp_theory.proofs.timetable_laws.times_faults_are_unique.Goals as goal
+use Rattle.igp_theory.proofs.wave_fault_laws.times_faults_are_unique.Goals as goal
 
 pub returns : goal.returns
 returns g c = record {
