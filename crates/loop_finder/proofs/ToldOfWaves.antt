@@ -6,7 +6,7 @@ use Rattle.order_core.specs.declared.turn.Turn.{Turn}
 use Rattle.igp_theory.specs.Forwarding.{MustForward}
 use Rattle.igp_theory.specs.Phases.{State}
 use Rattle.igp_theory.specs.WaveFaults.{StepsInSome, LacksStep, HasStepsInAll, IsLeastUnsound, missing_in_one, loop_over_all}
-use Rattle.igp_theory.specs.Waves.{IsStateOfWave}
+use Rattle.igp_theory.specs.Timetables.{IsStateOfWave}
 use Rattle.igp_theory.specs.declared.phase.Phase.{Phase}
 use Rattle.igp_theory.proofs.FoundRings.{found_ring_returns}
 use Rattle.igp_theory.proofs.LoopWaves.{return_is_unsound}

@@ -7,7 +7,7 @@ use Rattle.std.proofs.lemmas.Bool.Decides.{leb_tells}
 use Rattle.std.proofs.lemmas.List.{get_or_past}
 use Rattle.order_core.specs.Rankings.{rank_of}
 use Rattle.igp_theory.specs.Phases.{State, all_old}
-use Rattle.igp_theory.specs.Waves.{IsStateOfWave}
+use Rattle.igp_theory.specs.Timetables.{IsStateOfWave}
 use Rattle.igp_theory.specs.declared.phase.Phase.{Phase}
 use Rattle.igp_theory.specs.declared.phase.Phase.TheVariants.{Old, New}
 use Rattle.igp_theory.proofs.AlikeStates.{sound_at_alike}

@@ -8,7 +8,8 @@ use Rattle.igp_theory.specs.LoopLaws.{BeginsOld}
 use Rattle.igp_theory.specs.Migrations.{Migration}
 use Rattle.igp_theory.specs.Phases.{all_new}
 use Rattle.igp_theory.specs.States.{IsSound}
-use Rattle.igp_theory.specs.Waves.{IsWavesState, AreSeamlessWaves, IsStateOfWave, run_along}
+use Rattle.igp_theory.specs.Timetables.{IsStateOfWave}
+use Rattle.igp_theory.specs.Waves.{IsWavesState, AreSeamlessWaves, run_along}
 use Rattle.igp_theory.proofs.FlatOrders.{flat_is_run, wave_state_is_reached}
 use Rattle.igp_theory.proofs.LoopWaves.{empty_is_sound}
 

@@ -8,10 +8,13 @@ use Rattle.std.proofs.lemmas.List.Elements.{Contains-append_left, Contains-appen
 use Rattle.net_model.proofs.Members.{Contains-first}
 use Rattle.order_core.specs.Rankings.{IsRanking, rank_of, flat_of}
 use Rattle.igp_theory.specs.States.{changes_on}
-use Rattle.igp_theory.specs.Waves.{Change, first, second, changed, MayPrecede, run_along}
+use Rattle.igp_theory.specs.Changes.{Change, first, second, changed}
+use Rattle.igp_theory.specs.Phases.{all_old}
+use Rattle.igp_theory.specs.Timetables.{MayPrecede, router_times}
+use Rattle.igp_theory.specs.Waves.{run_along}
 use Rattle.igp_theory.proofs.FlatOrders.{flat_is_run}
 use Rattle.igp_theory.proofs.OrderedLists.{contains_one, pairs_none, pairs_more, pairs_append, pairs_across}
-use Rattle.igp_theory.proofs.WaveStates.{count_other, count_own, count_append}
+use Rattle.igp_theory.proofs.ChangeCounts.{count_other, count_own, count_append}
 use Rattle.state_replay.specs.Halves.{half_number, change_of}
 use Rattle.state_replay.specs.Journals.{BeginRun, MayComeNext, AreChangeCounts, IsNextOn}
 use Rattle.state_replay.specs.steps.Fitting.{FitsCounts}
@@ -22,12 +25,12 @@ use Rattle.state_replay.proofs.Lines.{changed_is}
 use Rattle.state_replay.proofs.Counting.{none_made, first_made, second_open, both_made, is_none, is_one, is_both}
 
 -- one change more
-one_more : (ranks : List ℕ) (changes : List Change) (d : Change) → AllPairs (MayPrecede ranks) changes →
-    ((c : Change) → Contains changes c → MayPrecede ranks c d) → AllPairs (MayPrecede ranks) (changes ++ d ∷ [])
+one_more : (ranks : List ℕ) (changes : List Change) (d : Change) → AllPairs (MayPrecede (router_times all_old ranks)) changes →
+    ((c : Change) → Contains changes c → MayPrecede (router_times all_old ranks) c d) → AllPairs (MayPrecede (router_times all_old ranks)) (changes ++ d ∷ [])
 one_more ranks changes d pairs each =
-    pairs_append (MayPrecede ranks) changes (d ∷ []) pairs (pairs_more (MayPrecede ranks) d [] (λ c inside. absurd (omega (arith, inside.1)))
-    (pairs_none (MayPrecede ranks)))
-    (λ c e here there. subst (λ (x : Change). MayPrecede ranks c x) (contains_one d e there) (each c here))
+    pairs_append (MayPrecede (router_times all_old ranks)) changes (d ∷ []) pairs (pairs_more (MayPrecede (router_times all_old ranks)) d [] (λ c inside. absurd (omega (arith, inside.1)))
+    (pairs_none (MayPrecede (router_times all_old ranks))))
+    (λ c e here there. subst (λ (x : Change). MayPrecede (router_times all_old ranks) c x) (contains_one d e there) (each c here))
 
 among_more : (changes : List Change) (d c : Change) → Contains (changes ++ d ∷ []) c → d ≢ c → Contains changes c
 among_more changes d c inside apart = elim (Contains-append_cases changes (d ∷ []) c inside) [
@@ -35,8 +38,8 @@ among_more changes d c inside apart = elim (Contains-append_cases changes (d ∷
   | inr there ↦ absurd (apart (contains_one d c there))
 ]
 
-not_yet : (ranks : List ℕ) (changes : List Change) (d : Change) → AllPairs (MayPrecede ranks) (changes ++ d ∷ []) → Contains changes d → ⊥
-not_yet ranks changes d pairs here = (pairs_across (MayPrecede ranks) changes (d ∷ []) pairs d d here (Contains-first d [])).other refl
+not_yet : (ranks : List ℕ) (changes : List Change) (d : Change) → AllPairs (MayPrecede (router_times all_old ranks)) (changes ++ d ∷ []) → Contains changes d → ⊥
+not_yet ranks changes d pairs here = (pairs_across (MayPrecede (router_times all_old ranks)) changes (d ∷ []) pairs d d here (Contains-first d [])).other refl
 
 module _ (n : ℕ) (ranks : List ℕ) (changes : List Change) (front : AreInFront n ranks changes) where
   -- a change that isn't made, where those before it are
@@ -157,4 +160,4 @@ counts_more n ranks changes done u half counts below fits = record {
 
 -- no change begins a run
 pub begin_none : (n : ℕ) (ranks : List ℕ) → IsRanking n ranks → BeginRun n ranks []
-begin_none n ranks ranking = record { rest = run_along (flat_of ranks); is_run = flat_is_run n ranks ranking }
+begin_none n ranks ranking = record { rest = run_along (flat_of ranks); is_run = flat_is_run n all_old ranks ranking }

@@ -4,7 +4,7 @@ use Rattle.igp_theory.specs.Loops.{Fault as WholeFault, AroundRing, IsFoundRing,
 use Rattle.igp_theory.specs.Phases.{State}
 use Rattle.igp_theory.specs.WaveFaults.{IsFaultOver}
 use Rattle.igp_theory.specs.WaveLaws.{IsStateOfSomeWave}
-use Rattle.igp_theory.specs.Waves.{IsStateOfWave}
+use Rattle.igp_theory.specs.Timetables.{IsStateOfWave}
 use Rattle.igp_theory.specs.declared.phase.Phase.{Phase}
 use Rattle.igp_theory.specs.declared.phase.Phase.TheVariants.{Old, New}
 use Rattle.order_core.specs.Turns.{routers_of}
