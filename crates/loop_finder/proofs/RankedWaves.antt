@@ -9,7 +9,7 @@ use Rattle.igp_theory.proofs.Phases.{made_in_few, phases_same}
 use Rattle.igp_theory.proofs.Switches.{router_before, router_after}
 use Rattle.loop_finder.specs.steps.Verdicts.{IsOfWave}
 
-module _ {n : ℕ} {ranks : List ℕ} {w : ℕ} {state : State} where
+module _ {n : ℕ} (ranks : List ℕ) (w : ℕ) {state : State} where
   pub wave_earlier : IsOfWave n ranks w state → (u : ℕ) → u < n → rank_of ranks u < w → state u ≡ New
   wave_earlier of_wave u below before =
       let begins = ap made_in (router_after all_old ranks u (w + 1) Old refl (omega (arith, before))) in

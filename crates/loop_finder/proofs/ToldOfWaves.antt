@@ -33,11 +33,11 @@ pub record AreEnds (n : ℕ) (ranks : List ℕ) (w : ℕ) (first last : List Pha
 
 -- both are states of the wave
 first_of_wave : {n : ℕ} {ranks : List ℕ} {w : ℕ} {first last : List Phase} → AreEnds n ranks w first last → IsOfWave n ranks w (state_in first)
-first_of_wave ends = wave_of (λ u within before. ends.begins.switched u (omega (arith, within, ends.each)) before)
+first_of_wave {ranks = ranks} {w = w} ends = wave_of ranks w (λ u within before. ends.begins.switched u (omega (arith, within, ends.each)) before)
     (λ u within after. ends.begins.others u (omega (arith, within, ends.each)) (omega (arith, after)))
 
 last_of_wave : {n : ℕ} {ranks : List ℕ} {w : ℕ} {first last : List Phase} → AreEnds n ranks w first last → IsOfWave n ranks w (state_in last)
-last_of_wave ends = wave_of (λ u within before. ends.ends.switched u (omega (arith, within, ends.each)) (omega (arith, before)))
+last_of_wave {ranks = ranks} {w = w} ends = wave_of ranks w (λ u within before. ends.ends.switched u (omega (arith, within, ends.each)) (omega (arith, before)))
     (λ u within after. ends.ends.others u (omega (arith, within, ends.each)) (omega (arith, after)))
 
 -- a state of the wave is between them
@@ -48,8 +48,8 @@ wave_between {ranks = ranks} {w = w} state ends of_wave u within = elim (cases_o
     ends.begins.others u (omega (arith, within, ends.each)) (omega (arith, same)),
     ends.ends.switched u (omega (arith, within, ends.each)) (omega (arith, same)),
   )
-  | inr (inl before) ↦ inl (wave_earlier of_wave u within before ∙ sym (ends.begins.switched u (omega (arith, within, ends.each)) before))
-  | inr (inr after) ↦ inl (wave_later of_wave u within after ∙ sym (ends.begins.others u (omega (arith, within, ends.each)) (omega (arith, after))))
+  | inr (inl before) ↦ inl (wave_earlier ranks w of_wave u within before ∙ sym (ends.begins.switched u (omega (arith, within, ends.each)) before))
+  | inr (inr after) ↦ inl (wave_later ranks w of_wave u within after ∙ sym (ends.begins.others u (omega (arith, within, ends.each)) (omega (arith, after))))
 ]
 
 -- the steps of all states of the wave are those of both

@@ -25,9 +25,9 @@ use Rattle.loop_finder.specs.declared.fault.Fault.{Fault}
 use Rattle.loop_finder.proofs.RankedWaves.{wave_earlier, wave_of}
 
 -- the wave with this number from 1, counted from 0
-from_zero : {n : ℕ} {ranks : List ℕ} {state : State} (w : ℕ) → 1 ≤ w → IsStateOfWave n (router_times all_old ranks) w state →
+from_zero : {n : ℕ} (ranks : List ℕ) {state : State} (w : ℕ) → 1 ≤ w → IsStateOfWave n (router_times all_old ranks) w state →
     IsOfWave n ranks (w - 1) state
-from_zero {n} {ranks} {state} w one of_wave =
+from_zero {n} ranks {state} w one of_wave =
     let number : w ≡ w - 1 + 1 = omega (arith, one) in
     subst (λ (v : ℕ). IsStateOfWave n (router_times all_old ranks) v state) number of_wave
 
@@ -35,15 +35,15 @@ from_zero {n} {ranks} {state} w one of_wave =
 sound_past : (m : Mix) (ranks : List ℕ) (w : ℕ) → ((u : ℕ) → u < length m.net → rank_of ranks u < w) → SoundWavesBefore m ranks w → SoundWaves m ranks
 sound_past m ranks w last sound state some =
     let one = some.from_one in
-    let of_wave : IsOfWave (length m.net) ranks (some.wave - 1) state = from_zero some.wave some.from_one some.of_wave in
+    let of_wave : IsOfWave (length m.net) ranks (some.wave - 1) state = from_zero ranks some.wave some.from_one some.of_wave in
     elim (cases_lt (some.wave - 1) w) [
       | inl before ↦ sound (some.wave - 1) before state of_wave
       | inr after ↦ elim (cases_lt 0 (length m.net)) [
         | inr none ↦ empty_is_sound (migration_in m) state none
         | inl routers ↦
             let first = last 0 routers in
-            sound (w - 1) (omega (arith, first)) state (wave_of
-            (λ u within less. let rank = last u within in wave_earlier of_wave u within (omega (arith, rank, after)))
+            sound (w - 1) (omega (arith, first)) state (wave_of ranks (w - 1)
+            (λ u within less. let rank = last u within in wave_earlier ranks (some.wave - 1) of_wave u within (omega (arith, rank, after)))
             (λ u within more. absurd (let rank = last u within in omega (arith, rank, more))))
       ]
     ]
@@ -69,7 +69,7 @@ pub first_fault : (m : Mix) (ranks : List ℕ) (w : ℕ) (fault : WholeFault) �
     FaultyWaves m ranks (w + 1) fault
 first_fault m ranks w fault before here = record {
   from_one = omega arith;
-  before = λ v one less state of_wave. before (v - 1) (omega (arith, one, less)) state (from_zero v one of_wave);
+  before = λ v one less state of_wave. before (v - 1) (omega (arith, one, less)) state (from_zero ranks v one of_wave);
   here = here;
 }
 

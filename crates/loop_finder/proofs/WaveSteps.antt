@@ -51,7 +51,7 @@ mixed_more one other r v apart = elim (cases_lt v r) [
 -- a state between the first and the last one of a wave is one of the wave
 pub state_between : {n : ℕ} {ranks : List ℕ} {w : ℕ} {first last : List Phase} (state : State) → AreEnds n ranks w first last → IsBetween n first last state →
     IsOfWave n ranks w state
-state_between {ranks = ranks} {w = w} {first = first} {last = last} state ends between = wave_of
+state_between {ranks = ranks} {w = w} {first = first} {last = last} state ends between = wave_of ranks w
   (λ u within before.
       let switched : state_in first u ≡ New = ends.begins.switched u (omega (arith, within, ends.each)) before in
       elim (between u within) [ inl same ↦ same ∙ switched | inr both ↦ absurd (let clash : Old ≡ New = sym both.0 ∙ switched in cc) ])
@@ -108,8 +108,8 @@ part_wave_sound m part ranks w first last state is ends moves never begun of_wav
     as_first : (r : ℕ) → r < length m.net → (¬ (rank_of ranks r ≡ w)) → state r ≡ state_in first r
     as_first r within apart = elim (cases_order (rank_of ranks r) w) [
       | inl same ↦ absurd (apart same)
-      | inr (inl before) ↦ wave_earlier of_wave r within before ∙ sym (ends.begins.switched r (omega (arith, within, ends.each)) before)
-      | inr (inr after) ↦ wave_later of_wave r within after ∙ sym (ends.begins.others r (omega (arith, within, ends.each)) (omega (arith, after)))
+      | inr (inl before) ↦ wave_earlier ranks w of_wave r within before ∙ sym (ends.begins.switched r (omega (arith, within, ends.each)) before)
+      | inr (inr after) ↦ wave_later ranks w of_wave r within after ∙ sym (ends.begins.others r (omega (arith, within, ends.each)) (omega (arith, after)))
     ]
 
     unchanged : (r : ℕ) → state r ≡ state_in first r → (v : ℕ) → mixed state (state_in first) r v ≡ mixed state (state_in first) (suc r) v
@@ -135,7 +135,7 @@ pub begins_sound : (m : Mix) (ranks : List ℕ) (w : ℕ) (begun : Bool) → len
     → OnTrue begun (Sound m all_old) → SoundWavesBefore m ranks w → (begun ≡ true) ⊎ (0 < w) → BeginsSound m ranks w
 begins_sound m ranks w begun each first before known phases many switched = elim (cases_lt 0 w) [
   | inl later ↦ before (w - 1) (omega (arith, later)) (state_in phases)
-      (wave_of (λ u within less. switched.switched u (omega (arith, within, each)) (omega (arith, less)))
+      (wave_of ranks (w - 1) (λ u within less. switched.switched u (omega (arith, within, each)) (omega (arith, less)))
       (λ u within more. switched.others u (omega (arith, within, each)) (omega (arith, more))))
   | inr none ↦ elim known [
     | inl known_now ↦ subst (λ (s : State). Sound m s) (same_state all_old (state_in phases) (λ u. sym (is_old none u)))
