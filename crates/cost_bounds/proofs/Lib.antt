@@ -1,0 +1,4 @@
+mod SimpleWalks
+mod ZoneSums
+mod ZoneCosts
+mod OspfBounds
