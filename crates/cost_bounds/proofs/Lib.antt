@@ -2,3 +2,4 @@ mod SimpleWalks
 mod ZoneSums
 mod ZoneCosts
 mod OspfBounds
+mod IsisBounds

@@ -1,6 +1,5 @@
 -- OSPF costs are at most the sum of all OSPF costs.
-use Rattle.std.proofs.Common.{◌≡◌, ◌≢◌, ℕ, suc, ◌+◌, ◌≤◌, List, [], ◌∷◌, get_or, Some, Contains, sym, ap, subst, ◌∙◌, ◌⊎◌, inl, inr, arith}
-use Rattle.std.specs.List.{sum_by}
+use Rattle.std.proofs.Common.{◌≡◌, ◌≢◌, ℕ, suc, ◌+◌, ◌≤◌, List, [], ◌∷◌, sym, ap, subst, ◌∙◌, ◌⊎◌, inl, inr, arith}
 use Rattle.std.proofs.lemmas.Bool.{cases_eq}
 use Rattle.std.proofs.lemmas.Option.{slice_get_within, get_or_from_slice_get}
 use Rattle.net_addr.specs.Addresses.{Block, Covers}
@@ -11,11 +10,11 @@ use Rattle.net_model.specs.declared.area.Range.{Range}
 use Rattle.net_model.specs.declared.area.Stub.{Stub}
 use Rattle.net_model.specs.declared.zone.Zone.TheVariants.{Area}
 use Rattle.walk_core.specs.Walks.{Leg, Walks}
-use Rattle.igp_theory.specs.Ospf.{OffersSubnet, IntraAreaCost, HasRange, IsComponent, RangeCost, stated, least, greatest, SummarizesSubnet, SummarizesRange}
-use Rattle.igp_theory.specs.Ospf.{BackboneSummary, BorderCost, HasStub, AreaSummary, Summary, InterAreaCost, IsActiveRange}
+use Rattle.igp_theory.specs.Ospf.{OffersSubnet, IntraAreaCost, IsComponent, RangeCost, stated, least, greatest, SummarizesSubnet, SummarizesRange}
+use Rattle.igp_theory.specs.Ospf.{BackboneSummary, BorderCost, HasStub, AreaSummary, Summary, into_backbone, into_area, InterAreaCost}
 use Rattle.cost_bounds.specs.OspfCosts.{RangesAgree, OspfCostsAreAtMost}
 use Rattle.cost_bounds.proofs.SimpleWalks.{Reaches, offered_has_best}
-use Rattle.cost_bounds.proofs.ZoneSums.{weights, zone_sum, stated_costs, stated_sum, areas_fit, part_of_sum, interface_weight, area_runs}
+use Rattle.cost_bounds.proofs.ZoneSums.{zone_sum, stated_costs, stated_sum, areas_fit, part_of_sum, interface_weight, area_runs}
 use Rattle.cost_bounds.proofs.ZoneCosts.{ZoneCost, cost_of_best, cost_of_walk, within_zone, both_within_zone}
 
 module _ (net : Network) where
@@ -43,8 +42,12 @@ module _ (net : Network) where
   range_by : (u : ℕ) (r : Range) (c : ℕ) → RangeCost net u r c → (c ≤ stated_sum net) ⊎ ((p : Block) × IsComponent net u r p c)
   range_by u r c (stated says active) =
       let has = active.component.range in
-      inl (omega (arith, ap stated_cost says, part_of_sum (λ (s : Range). stated_cost s.cost) has.config.ranges r has.among,
-      router_states u has.config has.router))
+      inl (omega (
+        arith,
+        ap stated_cost says,
+        part_of_sum (λ (s : Range). stated_cost s.cost) has.config.ranges r has.among,
+        router_states u has.config has.router,
+      ))
   range_by u r c (least none compatible p component lowest) = inr (p, component)
   range_by u r c (greatest none compatible p component highest) = inr (p, component)
 
@@ -53,6 +56,10 @@ module _ (net : Network) where
     | inl line ↦ omega (arith, line)
     | inr one ↦ omega (arith, intra_fits r.area one.0 u c one.1.reached)
   ]
+
+  stub_states : (n b c : ℕ) (s : Stub) → HasStub net b n s → s.default_cost ≡ c → c ≤ stated_sum net
+  stub_states n b c s has costs =
+      omega (arith, costs, part_of_sum (λ (t : Stub). t.default_cost) has.config.stubs s has.among, router_states b has.config has.router)
 
   -- a cost that comes of an area other than n
   record OfOtherArea (n c : ℕ) : Type 0 where
@@ -67,8 +74,8 @@ module _ (net : Network) where
   ranged_fits n p b c s = record { area = s.range.area; other = s.other; most = range_fits b s.range c s.costs }
 
   backbone_fits : (p : Block) (b c : ℕ) → BackboneSummary net p b c → OfOtherArea 0 c
-  backbone_fits p b c (of_subnet s) = subnet_fits 0 p b c s
-  backbone_fits p b c (of_range s) = ranged_fits 0 p b c s
+  backbone_fits p b c (BackboneSummary.of_subnet s) = subnet_fits 0 p b c s
+  backbone_fits p b c (BackboneSummary.of_range s) = ranged_fits 0 p b c s
 
   other_fits : (n c d : ℕ) → OfOtherArea n c → d ≤ area_sum n → d + c ≤ ospf_cost_sum net
   other_fits n c d of walk = omega (arith, of.most, two_areas_fit of.area n of.other)
@@ -78,3 +85,131 @@ module _ (net : Network) where
       let at = costs.best.attained in
       let over = within_zone net (Area 0) costs.best.at at.walk (cost_of_walk net (Area 0) u costs.best.at at.walk at.reached) in
       omega (arith, at.costs, other_fits 0 at.asks at.walk (backbone_fits p costs.best.at at.asks at.offered.offered) over)
+
+  announced_into : (n : ℕ) (p : Block) (b c : ℕ) → AreaSummary net n p b c → c ≤ ospf_cost_sum net
+  announced_into n p b c (AreaSummary.of_subnet some s) = omega (arith, other_fits n c 0 (subnet_fits n p b c s) (omega arith))
+  announced_into n p b c (AreaSummary.of_range some s) = omega (arith, other_fits n c 0 (ranged_fits n p b c s) (omega arith))
+  announced_into n p b c (AreaSummary.of_route some costs) = border_fits p b c costs
+  announced_into n p b c (AreaSummary.of_stub border is s has costs) = omega (arith, stub_states n b c s has costs, two_areas_fit 0 1 (λ e. omega (arith, e)))
+
+  announced_fits : (p : Block) (n b c : ℕ) → Summary net p n b c → c ≤ ospf_cost_sum net
+  announced_fits p n b c (into_backbone s) = omega (arith, other_fits 0 c 0 (backbone_fits p b c s) (omega arith))
+  announced_fits p n b c (into_area some s) = announced_into n p b c s
+
+  -- a walk in an area to another router ends in the area
+  arrives : (n u : ℕ) (legs : List Leg) (b : ℕ) → Walks (Adjacent net (Area n)) u legs b → b ≢ u → InArea net b n
+  arrives n u [] b leads apart = absurd (apart (sym leads))
+  arrives n u (leg ∷ legs) b leads apart = elim (cases_eq leg.to b) [
+    | inl here ↦
+        let last = leads.0 in
+        subst (λ v. InArea net v n) here (record { interface = last.far; up = last.far_up; area = last.far_runs.0 })
+    | inr further ↦ arrives n leg.to legs b leads.1 (λ e. further (sym e))
+  ]
+
+  -- where ranges agree, a range of area n that b lacks has no component that b reaches there
+  module _ (agree : RangesAgree net) (n b : ℕ) (inside : InArea net b n) where
+    component_apart : (p : Block) (c : ℕ) (border : BorderCost net p b c) (at : ℕ) (r : Range) (q : Block) (d : ℕ) → r.dest ≡ p → r.area ≡ n →
+        IsComponent net at r q d → (v asks : ℕ) → OffersSubnet net n q v asks → Reaches (Adjacent net (Area n)) b v → ⊥
+    component_apart p c border at r q d is_dest is_area component v asks offered way =
+        let own = agree at b r component.range border.border (subst (λ m. InArea net b m) (sym is_area) inside) in
+        let own_area : own.range.area ≡ n = own.area_is ∙ is_area in
+        offered_has_best (Adjacent net (Area n)) (OffersSubnet net n q) b v asks way offered
+        (λ cost best.
+        border.no_range (record {
+          range = own.range;
+          active = record {
+            dest = q;
+            cost = cost;
+            component = record {
+              range = own.has;
+              covered = subst (λ (o : Block). Covers o q) (sym own.dest_is) component.covered;
+              reached = subst (λ m. IntraAreaCost net m q b cost) (sym own_area) (record { inside = inside; best = best });
+              longest = λ other has same covers.
+                  let to_r : other.area ≡ r.area = same ∙ own.area_is in
+                  let theirs = agree b at other has component.range.border (subst (λ m. InArea net at m) (sym to_r) component.reached.inside) in
+                  let covers_too = subst (λ (o : Block). Covers o q) (sym theirs.dest_is) covers in
+                  omega (
+                    arith,
+                    component.longest theirs.range theirs.has (theirs.area_is ∙ to_r) covers_too,
+                    ap (λ (o : Block). o.len) theirs.dest_is,
+                    ap (λ (o : Block). o.len) own.dest_is,
+                  );
+            };
+          };
+          dest = own.dest_is ∙ is_dest;
+        }))
+
+    -- a walk in area n to b, one in the backbone, and a cost within an area: of n too, where b doesn't reach what is offered there
+    three_walks : n ≢ 0 → (d e m : ℕ) (q : Block) (at c : ℕ) → m ≢ 0 → ZoneCost net (Area n) b d → e ≤ area_sum 0 → IntraAreaCost net m q at c →
+        (m ≡ n → (v asks : ℕ) → OffersSubnet net n q v asks → Reaches (Adjacent net (Area n)) b v → ⊥) → d + (e + c) ≤ ospf_cost_sum net
+    three_walks far d e m q at c beyond walk over costs apart = elim (cases_eq m n) [
+      | inl same ↦
+          let here : IntraAreaCost net n q at c = subst (λ k. IntraAreaCost net k q at c) same costs in
+          let best = here.best in
+          let both = both_within_zone net (Area n) b d best.at c walk (intra_cost n q at c here) (apart same best.at best.attained.asks best.attained.offered) in
+          omega (arith, both, over, two_areas_fit n 0 far)
+      | inr other ↦
+          omega (
+            arith,
+            within_zone net (Area n) b d walk,
+            over,
+            intra_fits m q at c costs,
+            areas_fit net 0 n m (λ z. far (sym z)) (λ z. beyond (sym z))
+                (λ z. other (sym z)),
+          )
+    ]
+
+    backbone_route : n ≢ 0 → (p : Block) (d e c : ℕ) (border : BorderCost net p b c) (at asks : ℕ) → ZoneCost net (Area n) b d → e ≤ area_sum 0 →
+        BackboneSummary net p at asks → d + (e + asks) ≤ ospf_cost_sum net
+    backbone_route far p d e c border at asks walk over (BackboneSummary.of_subnet s) =
+        three_walks far d e s.area p at asks s.other walk over s.costs
+        (λ same v asked offered way. offered_has_best (Adjacent net (Area n)) (OffersSubnet net n p) b v asked way offered
+        (λ cost best. border.no_intra (record { area = n; cost = cost; costs = record { inside = inside; best = best } })))
+    backbone_route far p d e c border at asks walk over (BackboneSummary.of_range s) = elim (range_by at s.range asks s.costs) [
+      | inl line ↦ omega (arith, within_zone net (Area n) b d walk, over, line, two_areas_fit n 0 far)
+      | inr one ↦ three_walks far d e s.range.area one.0 at asks s.other walk over one.1.reached
+          (λ same. component_apart p c border at s.range one.0 asks s.dest same one.1)
+    ]
+
+    area_route : n ≢ 0 → (p : Block) (d c : ℕ) → ZoneCost net (Area n) b d → AreaSummary net n p b c → d + c ≤ ospf_cost_sum net
+    area_route far p d c walk (AreaSummary.of_subnet some s) = other_fits n c d (subnet_fits n p b c s) (within_zone net (Area n) b d walk)
+    area_route far p d c walk (AreaSummary.of_range some s) = other_fits n c d (ranged_fits n p b c s) (within_zone net (Area n) b d walk)
+    area_route far p d c walk (AreaSummary.of_route some costs) =
+        let at = costs.best.attained in
+        let over = within_zone net (Area 0) costs.best.at at.walk (cost_of_walk net (Area 0) b costs.best.at at.walk at.reached) in
+        omega (arith, at.costs, backbone_route far p d at.walk c costs costs.best.at at.asks walk over at.offered.offered)
+    area_route far p d c walk (AreaSummary.of_stub border is s has costs) =
+        omega (arith, within_zone net (Area n) b d walk, stub_states n b c s has costs, two_areas_fit n 0 far)
+
+  -- the walk of an inter-area cost, by what is announced where it ends
+  summary_fits : RangesAgree net → (n : ℕ) (p : Block) (b d c : ℕ) → InArea net b n → ZoneCost net (Area n) b d → Summary net p n b c →
+      d + c ≤ ospf_cost_sum net
+  summary_fits agree n p b d c inside walk (into_backbone s) = other_fits 0 c d (backbone_fits p b c s) (within_zone net (Area 0) b d walk)
+  summary_fits agree n p b d c inside walk (into_area far s) = area_route agree n b inside far p d c walk s
+
+  inter_fits : RangesAgree net → (p : Block) (u c : ℕ) → InterAreaCost net p u c → c ≤ ospf_cost_sum net
+  inter_fits agree p u c costs =
+      let n = costs.area in
+      let b = costs.best.at in
+      let at = costs.best.attained in
+      let inside = arrives n u at.reached.legs b at.reached.walk.leads at.offered.other in
+      let walk = cost_of_walk net (Area n) u b at.walk at.reached in
+      omega (arith, at.costs, summary_fits agree n p b at.walk at.asks inside walk at.offered.offered)
+
+  -- without that, a walk is at most the sum, and so is what is announced where it ends
+  pub inter_area_twice : (p : Block) (u c : ℕ) → InterAreaCost net p u c → c ≤ ospf_cost_sum net + ospf_cost_sum net
+  inter_area_twice p u c costs =
+      let n = costs.area in
+      let b = costs.best.at in
+      let at = costs.best.attained in
+      let walk = within_zone net (Area n) b at.walk (cost_of_walk net (Area n) u b at.walk at.reached) in
+      omega (arith, at.costs, walk, two_areas_fit n (suc n) (λ e. omega (arith, e)), announced_fits p n b at.asks at.offered.offered)
+
+  pub ospf_costs_at_most : (most : ℕ) → ospf_cost_sum net ≤ most → OspfCostsAreAtMost net most
+  ospf_costs_at_most most fits = record {
+    intra_area = λ n p u c costs. omega (arith, fits, intra_fits n p u c costs, two_areas_fit n (suc n) (λ e. omega (arith, e)));
+    range = λ u r c costs. omega (arith, fits, range_fits u r c costs, two_areas_fit r.area (suc r.area) (λ e. omega (arith, e)));
+    border = λ p u c costs. omega (arith, fits, border_fits p u c costs);
+    announced = λ p n b c announced. omega (arith, fits, announced_fits p n b c announced);
+    inter_area = λ agree p u c costs. omega (arith, fits, inter_fits agree p u c costs);
+  }

@@ -6,7 +6,7 @@ use Rattle.std.proofs.lemmas.Bool.{cases_lt, cases_eq}
 use Rattle.std.proofs.lemmas.List.{get_or_past, set_past}
 use Rattle.std.proofs.lemmas.List.Sums.{sum_by-set}
 use Rattle.walk_core.specs.Walks.{Arcs, Leg, Walks, walk_cost, LeastCost}
-use Rattle.walk_core.specs.Offers.{Offers, OfferCosts, BestCost}
+use Rattle.walk_core.specs.Offers.{Offers, BestCost}
 use Rattle.walk_core.proofs.WalkLaws.{least_cost_at_most, least_cost_from}
 
 -- some walk leads from u to v

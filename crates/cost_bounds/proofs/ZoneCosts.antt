@@ -12,19 +12,22 @@ module _ (net : Network) (z : Zone) where
   abbrev pub ZoneCost : ℕ → ℕ → Type 0
   ZoneCost v c = CostBy (Adjacent net z) (weights net z) v c
 
+  -- a least walk, and what is asked where it ends: at most what that router weighs
+  pub cost_of_offer : (u v d asks : ℕ) → LeastCost (Adjacent net z) u v d → asks ≤ get_or (weights net z) v 0 → ZoneCost v (d + asks)
+  cost_of_offer u v d asks = cost_by (Adjacent net z) (weights net z) (adjacency_has_weights net z) u v d asks
+
   -- the best cost of offers that ask at most what their router weighs
   pub cost_of_best : (offer : Offers) (u c : ℕ) (best : BestCost (Adjacent net z) offer u c) →
       ((at asks : ℕ) → offer at asks → asks ≤ get_or (weights net z) at 0) → ZoneCost best.at c
   cost_of_best offer u c best light =
       let at = best.attained in
-      subst (ZoneCost best.at) at.costs
-      (cost_by (Adjacent net z) (weights net z) (adjacency_has_weights net z) u best.at at.walk at.asks at.reached (light best.at at.asks at.offered))
+      subst (ZoneCost best.at) at.costs (cost_of_offer u best.at at.walk at.asks at.reached (light best.at at.asks at.offered))
 
   -- the least cost of a walk alone
   pub cost_of_walk : (u v d : ℕ) → LeastCost (Adjacent net z) u v d → ZoneCost v d
   cost_of_walk u v d least =
       let same : d + 0 ≡ d = omega arith in
-      subst (ZoneCost v) same (cost_by (Adjacent net z) (weights net z) (adjacency_has_weights net z) u v d 0 least (omega arith))
+      subst (ZoneCost v) same (cost_of_offer u v d 0 least (omega arith))
 
   pub within_zone : (v c : ℕ) → ZoneCost v c → c ≤ zone_sum net z
   within_zone v c by = omega (arith, total_of_zone net z, one_cost (Adjacent net z) (weights net z) v c by)

@@ -1,6 +1,6 @@
 -- What the interfaces of a router weigh in a zone, and that different zones weigh at most the sum of a network.
 use Rattle.std.proofs.Common.{◌≡◌, ◌≢◌, ℕ, ◌+◌, ◌≤◌, Bool, true, false, List, [], ◌∷◌, map, get_or, Option, Some, None, is_some, IsTrue, Contains}
-use Rattle.std.proofs.Common.{if◌then◌else◌, eqb, refl, sym, ap, subst, ◌∙◌, ◌⊎◌, inl, inr, arith, slice_get}
+use Rattle.std.proofs.Common.{if◌then◌else◌, eqb, refl, sym, ap, subst, ◌∙◌, arith, slice_get}
 use Rattle.std.specs.List.{sum_by}
 use Rattle.std.proofs.lemmas.Bool.{eq-eqb, eqb-true}
 use Rattle.std.proofs.lemmas.List.{get_or-map}
@@ -85,30 +85,41 @@ joins_back One c d may = sym may
 joins_back Two c d may = tt
 
 pub adjacency_leads_back : (net : Network) (z : Zone) → LeadBack (Adjacent net z)
-adjacency_leads_back net z x y c adjacent = (cost_in z adjacent.far, record {
-  apart = λ same. adjacent.apart (sym same);
-  subnet = adjacent.subnet;
-  near = adjacent.far;
-  far = adjacent.near;
-  near_up = adjacent.far_up;
-  far_up = adjacent.near_up;
-  near_subnet = adjacent.far_subnet;
-  far_subnet = adjacent.near_subnet;
-  near_link = adjacent.far_link;
-  far_link = adjacent.near_link;
-  near_runs = adjacent.far_runs;
-  far_runs = adjacent.near_runs;
-  joined = joins_back z adjacent.near_up.config adjacent.far_up.config adjacent.joined;
-  costs = refl;
-})
+adjacency_leads_back net z x y c adjacent = (
+  cost_in z adjacent.far,
+  record {
+    apart = λ same. adjacent.apart (sym same);
+    subnet = adjacent.subnet;
+    near = adjacent.far;
+    far = adjacent.near;
+    near_up = adjacent.far_up;
+    far_up = adjacent.near_up;
+    near_subnet = adjacent.far_subnet;
+    far_subnet = adjacent.near_subnet;
+    near_link = adjacent.far_link;
+    far_link = adjacent.near_link;
+    near_runs = adjacent.far_runs;
+    far_runs = adjacent.near_runs;
+    joined = joins_back z adjacent.near_up.config adjacent.far_up.config adjacent.joined;
+    costs = refl;
+  },
+)
 
 -- where three numbers and a fourth are at most one of each element, so are their sums
 sums_of_four : {X : Type 0} (f g h e k : X → ℕ) → ((x : X) → f x + g x + h x + e x ≤ k x) → (xs : List X) →
     sum_by f xs + sum_by g xs + sum_by h xs + sum_by e xs ≤ sum_by k xs
 sums_of_four f g h e k each [] = omega arith
 sums_of_four f g h e k each (x ∷ xs) =
-    omega (arith, each x, sums_of_four f g h e k each xs, sum_by-cons f x xs, sum_by-cons g x xs, sum_by-cons h x xs, sum_by-cons e x xs,
-    sum_by-cons k x xs)
+    omega (
+      arith,
+      each x,
+      sums_of_four f g h e k each xs,
+      sum_by-cons f x xs,
+      sum_by-cons g x xs,
+      sum_by-cons h x xs,
+      sum_by-cons e x xs,
+      sum_by-cons k x xs,
+    )
 
 -- what a router states besides: the costs of its ranges and of its stub areas' defaults
 abbrev pub stated_costs : Configuration → ℕ
@@ -139,8 +150,11 @@ pub areas_fit : (net : Network) (a b c : ℕ) → a ≢ b → a ≢ c → b ≢ 
 areas_fit net a b c ab ac bc =
     sums_of_four (zone_costs (Area a)) (zone_costs (Area b)) (zone_costs (Area c)) stated_costs ospf_costs
     (λ config.
-    omega (arith, sums_of_four (zone_cost (Area a)) (zone_cost (Area b)) (zone_cost (Area c)) (λ i. 0) summed_cost
-    (λ i. three_areas a b c ab ac bc i.up i.area i.cost) config.interfaces))
+    omega (
+      arith,
+      sums_of_four (zone_cost (Area a)) (zone_cost (Area b)) (zone_cost (Area c)) (λ i. 0) summed_cost
+          (λ i. three_areas a b c ab ac bc i.up i.area i.cost) config.interfaces,
+    ))
     net
 
 two_levels : (up one two : Bool) (metric1 metric2 : ℕ) →
@@ -151,6 +165,12 @@ two_levels false one two metric1 metric2 = omega arith
 -- two levels are at most the sum of IS-IS metrics
 pub levels_fit : (net : Network) → zone_sum net One + zone_sum net Two ≤ isis_metric_sum net
 levels_fit net =
-    omega (arith, sums_of_four (zone_costs One) (zone_costs Two) (λ c. 0) (λ c. 0) (λ c. sum_by isis_metric c.interfaces)
-    (λ c. omega (arith, sums_of_four (zone_cost One) (zone_cost Two) (λ i. 0) (λ i. 0) isis_metric
-    (λ i. two_levels i.up i.level1 i.level2 i.metric1 i.metric2) c.interfaces)) net)
+    omega (
+      arith,
+      sums_of_four (zone_costs One) (zone_costs Two) (λ c. 0) (λ c. 0) (λ c. sum_by isis_metric c.interfaces)
+          (λ c. omega (
+            arith,
+            sums_of_four (zone_cost One) (zone_cost Two) (λ i. 0) (λ i. 0) isis_metric
+                (λ i. two_levels i.up i.level1 i.level2 i.metric1 i.metric2) c.interfaces,
+          )) net,
+    )
