@@ -5,8 +5,8 @@ use Rattle.net_model.specs.Conditions.{isis_metric_sum}
 use Rattle.net_model.specs.Network.{Network, Adjacent}
 use Rattle.net_model.specs.declared.zone.Zone.TheVariants.{One, Two}
 use Rattle.walk_core.specs.Walks.{LeastCost}
-use Rattle.igp_theory.specs.Isis.{OffersLevelOne, LevelOneCost, OffersLevelTwo, LevelTwoAnnouncement, own, of_level_one, LevelTwoCost, DownCost}
-use Rattle.igp_theory.specs.Isis.{DownAnnouncement, DefaultCost}
+use Rattle.igp_theory.specs.Isis.{OffersLevelOne, LevelOneCost, OffersLevelTwo, LevelTwoAnnouncement, own, of_level_one}
+use Rattle.igp_theory.specs.Isis.{LevelTwoCost, DownAnnouncement, DownCost, DefaultCost}
 use Rattle.cost_bounds.specs.IsisCosts.{IsisCostsAreAtMost}
 use Rattle.cost_bounds.proofs.SimpleWalks.{Reaches, offered_has_best}
 use Rattle.cost_bounds.proofs.ZoneSums.{weights, zone_sum, levels_fit, interface_weight}
@@ -22,7 +22,8 @@ module _ (net : Network) where
   one_fits p u c costs = within_zone net One costs.best.at c (one_cost p u c costs)
 
   two_offered : (p : Block) (b asks : ℕ) → OffersLevelTwo net p b asks → asks ≤ get_or (weights net Two) b 0
-  two_offered p b asks offered = omega (arith, offered.costs, interface_weight net Two b offered.interface offered.up offered.level)
+  two_offered p b asks offered =
+      omega (arith, offered.costs, interface_weight net Two b offered.interface offered.up offered.level)
 
   -- a level 2 cost that is one of a walk in level 2 and one in level 1 from where it ends
   record OverLevelOne (p : Block) (c : ℕ) : Type 0 where
@@ -39,7 +40,8 @@ module _ (net : Network) where
       by : (b walk asks : ℕ) → LeastCost (Adjacent net Two) u b walk → LevelTwoAnnouncement net p b asks → walk + asks ≡ c →
           (c ≤ zone_sum net Two) ⊎ OverLevelOne p c
       by b walk asks reached (own runs offered) sum =
-          inl (omega (arith, sum, within_zone net Two b (walk + asks) (cost_of_offer net Two u b walk asks reached (two_offered p b asks offered))))
+          let cost = cost_of_offer net Two u b walk asks reached (two_offered p b asks offered) in
+          inl (omega (arith, sum, within_zone net Two b (walk + asks) cost))
       by b walk asks reached (of_level_one runs one) sum = inr (record {
         from = b;
         walk = walk;
@@ -60,10 +62,13 @@ module _ (net : Network) where
   leaked_fits p b d c walk down = elim (two_by p b c down.costs) [
     | inl alone ↦ omega (arith, alone, within_zone net One b d walk, levels_fit net)
     | inr mixed ↦
-        let best = mixed.costs.best in
-        let apart : Reaches (Adjacent net One) b best.at → ⊥ = λ way. offered_has_best (Adjacent net One) (OffersLevelOne net p) b best.at best.attained.asks way best.attained.offered
-        (λ cost here. down.without_level_one (record { cost = cost; costs = record { runs = down.leaks.runs_level_one; best = here } })) in
-        let both = both_within_zone net One b d best.at mixed.rest walk (one_cost p mixed.from mixed.rest mixed.costs) apart in
+        let v = mixed.costs.best.at in
+        let end = mixed.costs.best.attained in
+        let apart : Reaches (Adjacent net One) b v → ⊥ = λ way.
+        offered_has_best (Adjacent net One) (OffersLevelOne net p) b v end.asks way end.offered
+        (λ cost best.
+        down.without_level_one (record { cost = cost; costs = record { runs = down.leaks.runs_level_one; best = best } })) in
+        let both = both_within_zone net One b d v mixed.rest walk (one_cost p mixed.from mixed.rest mixed.costs) apart in
         omega (arith, both, mixed.over, mixed.sum, levels_fit net)
   ]
 

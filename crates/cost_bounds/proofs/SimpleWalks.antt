@@ -1,5 +1,6 @@
 -- Walks that meet each router once, and what they cost by weights of the routers that they meet.
-use Rattle.std.proofs.Common.{◌≡◌, ◌≢◌, ℕ, zero, suc, ◌+◌, ◌<◌, ◌≤◌, List, [], ◌∷◌, get_or, set, length, get_or-set_other, refl, sym, ap, subst, ◌∙◌, arith}
+use Rattle.std.proofs.Common.{◌≡◌, ◌≢◌, ℕ, zero, suc, ◌+◌, ◌<◌, ◌≤◌, List, [], ◌∷◌, get_or, set, length}
+use Rattle.std.proofs.Common.{get_or-set_other, refl, sym, ap, subst, ◌∙◌, arith}
 use Rattle.std.proofs.Common.{◌⊎◌, inl, inr}
 use Rattle.std.specs.List.{sum_by}
 use Rattle.std.proofs.lemmas.Bool.{cases_lt, cases_eq}
@@ -53,10 +54,13 @@ beside ws x n most = elim (cases_lt x (length ws)) [
 weight_of_two : (ws xs ys : List ℕ) → Once xs → Once ys → Each (λ x. Lacks x ys) xs → weight ws xs + weight ws ys ≤ total ws
 weight_of_two ws [] [] one two apart = omega arith
 weight_of_two ws [] (y ∷ ys) one two apart =
-    omega (arith, weight_without ws y ys two.0, beside ws y (0 + weight (set ws y 0) ys) (weight_of_two (set ws y 0) [] ys tt two.1 tt))
+    let less = set ws y 0 in
+    omega (arith, weight_without ws y ys two.0, beside ws y (0 + weight less ys) (weight_of_two less [] ys tt two.1 tt))
 weight_of_two ws (x ∷ xs) ys one two apart =
-    let rest = weight_of_two (set ws x 0) xs ys one.1 two apart.1 in
-    omega (arith, weight_without ws x xs one.0, weight_without ws x ys apart.0, beside ws x (weight (set ws x 0) xs + weight (set ws x 0) ys) rest)
+    let less = set ws x 0 in
+    let rest = weight_of_two less xs ys one.1 two apart.1 in
+    let both = beside ws x (weight less xs + weight less ys) rest in
+    omega (arith, weight_without ws x xs one.0, weight_without ws x ys apart.0, both)
 
 -- the routers that a walk meets
 abbrev pub met : ℕ → List Leg → List ℕ
@@ -108,7 +112,8 @@ module _ (arc : Arcs) where
   cost_by_weight : (ws : List ℕ) → HaveWeights arc ws → (u : ℕ) (legs : List Leg) (v : ℕ) → Walks arc u legs v →
       walk_cost legs + get_or ws v 0 ≤ weight ws (met u legs)
   cost_by_weight ws have u [] v leads = omega (arith, ap (λ n. get_or ws n 0) leads)
-  cost_by_weight ws have u (leg ∷ legs) v leads = omega (arith, have u leg.to leg.cost leads.0, cost_by_weight ws have leg.to legs v leads.1)
+  cost_by_weight ws have u (leg ∷ legs) v leads =
+      omega (arith, have u leg.to leg.cost leads.0, cost_by_weight ws have leg.to legs v leads.1)
 
   -- a cost by weights: it is at most what some routers weigh, each once, that reach v
   pub record CostBy (ws : List ℕ) (v cost : ℕ) : Type 0 where
@@ -118,23 +123,21 @@ module _ (arc : Arcs) where
     pub most : cost ≤ weight ws routers
 
   -- a least walk, and what is asked where it ends: at most the weight there
-  pub cost_by : (ws : List ℕ) → HaveWeights arc ws → (u v d asks : ℕ) → LeastCost arc u v d → asks ≤ get_or ws v 0 → CostBy ws v (d + asks)
+  pub cost_by : (ws : List ℕ) → HaveWeights arc ws → (u v d asks : ℕ) → LeastCost arc u v d → asks ≤ get_or ws v 0 →
+      CostBy ws v (d + asks)
   cost_by ws have u v d asks least light =
       let walk = simple u least.legs v least.walk.leads in
       record {
         routers = met u walk.legs;
         once = walk.once;
         reach = reach_end u walk.legs v walk.leads;
-        most = omega (arith, light, least_cost_at_most least walk.legs walk.leads, cost_by_weight ws have u walk.legs v walk.leads);
+        most =
+            omega (arith, light, least_cost_at_most least walk.legs walk.leads, cost_by_weight ws have u walk.legs v walk.leads);
       }
-
-  none_met : (xs : List ℕ) → Each (λ x. Lacks x []) xs
-  none_met [] = tt
-  none_met (x ∷ xs) = (tt, none_met xs)
 
   -- it is at most the sum of the weights
   pub one_cost : (ws : List ℕ) (v c : ℕ) → CostBy ws v c → c ≤ total ws
-  one_cost ws v c by = omega (arith, by.most, weight_of_two ws by.routers [] by.once tt (none_met by.routers))
+  one_cost ws v c by = omega (arith, by.most, weight_of_two ws [] by.routers tt by.once tt)
 
   joined : (u : ℕ) (legs : List Leg) (v w : ℕ) → Walks arc u legs v → Reaches arc v w → Reaches arc u w
   joined u [] v w leads on = subst (λ n. Reaches arc n w) (sym leads) on
@@ -148,7 +151,8 @@ module _ (arc : Arcs) where
       joined v way.0 leg.to u way.1 (record { to = u; cost = last.0 } ∷ [], (last.1, refl))
 
   -- a router that reaches v isn't one of those that reach w, where v doesn't reach w
-  lacked : LeadBack arc → (v w x : ℕ) → (Reaches arc v w → ⊥) → Reaches arc x v → (ys : List ℕ) → Each (λ y. Reaches arc y w) ys → Lacks x ys
+  lacked : LeadBack arc → (v w x : ℕ) → (Reaches arc v w → ⊥) → Reaches arc x v → (ys : List ℕ) → Each (λ y. Reaches arc y w) ys →
+      Lacks x ys
   lacked back v w x apart to [] reach = tt
   lacked back v w x apart to (y ∷ ys) reach = (
     λ same.
@@ -157,20 +161,22 @@ module _ (arc : Arcs) where
     lacked back v w x apart to ys reach.1,
   )
 
-  all_lacked : LeadBack arc → (v w : ℕ) → (Reaches arc v w → ⊥) → (xs ys : List ℕ) → Each (λ x. Reaches arc x v) xs → Each (λ y. Reaches arc y w) ys →
-      Each (λ x. Lacks x ys) xs
+  all_lacked : LeadBack arc → (v w : ℕ) → (Reaches arc v w → ⊥) → (xs ys : List ℕ) → Each (λ x. Reaches arc x v) xs →
+      Each (λ y. Reaches arc y w) ys → Each (λ x. Lacks x ys) xs
   all_lacked back v w apart [] ys one two = tt
-  all_lacked back v w apart (x ∷ xs) ys one two = (lacked back v w x apart one.0 ys two, all_lacked back v w apart xs ys one.1 two)
+  all_lacked back v w apart (x ∷ xs) ys one two =
+      (lacked back v w x apart one.0 ys two, all_lacked back v w apart xs ys one.1 two)
 
   -- two costs of walks to ends that don't reach each other are at most the sum of the weights
-  pub two_costs : LeadBack arc → (ws : List ℕ) (v c w d : ℕ) → CostBy ws v c → CostBy ws w d → (Reaches arc v w → ⊥) → c + d ≤ total ws
+  pub two_costs : LeadBack arc → (ws : List ℕ) (v c w d : ℕ) → CostBy ws v c → CostBy ws w d → (Reaches arc v w → ⊥) →
+      c + d ≤ total ws
   two_costs back ws v c w d one two apart =
       let apart_all = all_lacked back v w apart one.routers two.routers one.reach two.reach in
       omega (arith, one.most, two.most, weight_of_two ws one.routers two.routers one.once two.once apart_all)
 
   -- where there is no best cost, no walk leads to an offer: the least of them would be the best
-  none_offered : (offer : Offers) (u : ℕ) → ((cost : ℕ) → BestCost arc offer u cost → ⊥) → (n : ℕ) (legs : List Leg) (at asks : ℕ) →
-      Walks arc u legs at → offer at asks → walk_cost legs + asks < n → ⊥
+  none_offered : (offer : Offers) (u : ℕ) → ((cost : ℕ) → BestCost arc offer u cost → ⊥) →
+      (n : ℕ) (legs : List Leg) (at asks : ℕ) → Walks arc u legs at → offer at asks → walk_cost legs + asks < n → ⊥
   none_offered offer u none zero legs at asks leads offered below = omega (arith, below)
   none_offered offer u none (suc n) legs at asks leads offered below =
       none (walk_cost legs + asks) (record {
@@ -194,6 +200,7 @@ module _ (arc : Arcs) where
       under a b not = elim (cases_lt b a) [ inl less ↦ absurd (not less) | inr most ↦ omega (arith, most) ]
 
   -- a walk to an offer, and no best cost: that isn't so
-  pub offered_has_best : (offer : Offers) (u at asks : ℕ) → Reaches arc u at → offer at asks → ((cost : ℕ) → BestCost arc offer u cost → ⊥) → ⊥
+  pub offered_has_best : (offer : Offers) (u at asks : ℕ) → Reaches arc u at → offer at asks →
+      ((cost : ℕ) → BestCost arc offer u cost → ⊥) → ⊥
   offered_has_best offer u at asks way offered none =
       none_offered offer u none (suc (walk_cost way.0 + asks)) way.0 at asks way.1 offered (omega arith)

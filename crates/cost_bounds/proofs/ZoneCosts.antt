@@ -13,7 +13,8 @@ module _ (net : Network) (z : Zone) where
   ZoneCost v c = CostBy (Adjacent net z) (weights net z) v c
 
   -- a least walk, and what is asked where it ends: at most what that router weighs
-  pub cost_of_offer : (u v d asks : ℕ) → LeastCost (Adjacent net z) u v d → asks ≤ get_or (weights net z) v 0 → ZoneCost v (d + asks)
+  pub cost_of_offer : (u v d asks : ℕ) → LeastCost (Adjacent net z) u v d → asks ≤ get_or (weights net z) v 0 →
+      ZoneCost v (d + asks)
   cost_of_offer u v d asks = cost_by (Adjacent net z) (weights net z) (adjacency_has_weights net z) u v d asks
 
   -- the best cost of offers that ask at most what their router weighs
@@ -34,4 +35,5 @@ module _ (net : Network) (z : Zone) where
 
   pub both_within_zone : (v c w d : ℕ) → ZoneCost v c → ZoneCost w d → (Reaches (Adjacent net z) v w → ⊥) → c + d ≤ zone_sum net z
   both_within_zone v c w d one two apart =
-      omega (arith, total_of_zone net z, two_costs (Adjacent net z) (adjacency_leads_back net z) (weights net z) v c w d one two apart)
+      let back = adjacency_leads_back net z in
+      omega (arith, total_of_zone net z, two_costs (Adjacent net z) back (weights net z) v c w d one two apart)

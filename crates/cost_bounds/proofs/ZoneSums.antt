@@ -1,5 +1,6 @@
 -- What the interfaces of a router weigh in a zone, and that different zones weigh at most the sum of a network.
-use Rattle.std.proofs.Common.{◌≡◌, ◌≢◌, ℕ, ◌+◌, ◌≤◌, Bool, true, false, List, [], ◌∷◌, map, get_or, Option, Some, None, is_some, IsTrue, Contains}
+use Rattle.std.proofs.Common.{◌≡◌, ◌≢◌, ℕ, ◌+◌, ◌≤◌, Bool, true, false, List, [], ◌∷◌, map}
+use Rattle.std.proofs.Common.{get_or, Option, Some, None, is_some, IsTrue, Contains}
 use Rattle.std.proofs.Common.{if◌then◌else◌, eqb, refl, sym, ap, subst, ◌∙◌, arith, slice_get}
 use Rattle.std.specs.List.{sum_by}
 use Rattle.std.proofs.lemmas.Bool.{eq-eqb, eqb-true}
@@ -55,15 +56,19 @@ pub part_of_sum : {X : Type 0} (f : X → ℕ) (xs : List X) (x : X) → Contain
 part_of_sum f xs x among = subst (λ y. f y ≤ sum_by f xs) among.2 (get_or-le-sum_by f xs among.0 x among.1)
 
 -- so does the configuration of a router
-pub router_weight : (f : Configuration → ℕ) (net : Network) (u : ℕ) (c : Configuration) → slice_get net u ≡ Some c → get_or (map f net) u 0 ≡ f c
+pub router_weight : (f : Configuration → ℕ) (net : Network) (u : ℕ) (c : Configuration) → slice_get net u ≡ Some c →
+    get_or (map f net) u 0 ≡ f c
 router_weight f net u c is =
     get_or-map f net u c 0 (slice_get_within net u c is) ∙ ap f (get_or_from_slice_get net u c c is)
 
 -- an up interface that runs in a zone costs at most what its router weighs there
-pub interface_weight : (net : Network) (z : Zone) (u : ℕ) (i : Interface) → UpInterface net u i → IsTrue (runs z i) → cost_in z i ≤ get_or (weights net z) u 0
+pub interface_weight : (net : Network) (z : Zone) (u : ℕ) (i : Interface) → UpInterface net u i → IsTrue (runs z i) →
+    cost_in z i ≤ get_or (weights net z) u 0
 interface_weight net z u i up in_zone =
-    let is : zone_cost z i ≡ cost_in z i = ap (λ b. counted b (runs z i) (cost_in z i)) up.up ∙ ap (λ b. counted true b (cost_in z i)) in_zone in
-    omega (arith, is, part_of_sum (zone_cost z) up.config.interfaces i up.among, router_weight (zone_costs z) net u up.config up.router)
+    let counts = ap (λ b. counted b (runs z i) (cost_in z i)) up.up in
+    let is : zone_cost z i ≡ cost_in z i = counts ∙ ap (λ b. counted true b (cost_in z i)) in_zone in
+    let config = up.config in
+    omega (arith, is, part_of_sum (zone_cost z) config.interfaces i up.among, router_weight (zone_costs z) net u config up.router)
 
 -- one that forms adjacencies in a zone runs there
 pub area_runs : (n : ℕ) (i : Interface) → i.area ≡ Some n → IsTrue (runs (Area n) i)
@@ -76,7 +81,8 @@ zone_runs Two i is = is.0
 
 pub adjacency_has_weights : (net : Network) (z : Zone) → HaveWeights (Adjacent net z) (weights net z)
 adjacency_has_weights net z x y c adjacent =
-    omega (arith, adjacent.costs, interface_weight net z x adjacent.near adjacent.near_up (zone_runs z adjacent.near adjacent.near_runs))
+    let near = adjacent.near in
+    omega (arith, adjacent.costs, interface_weight net z x near adjacent.near_up (zone_runs z near adjacent.near_runs))
 
 -- adjacency leads both ways
 joins_back : (z : Zone) (c d : Configuration) → MayJoin z c d → MayJoin z d c
@@ -129,20 +135,11 @@ abbrev pub stated_sum : Network → ℕ
 stated_sum net = sum_by stated_costs net
 
 three_areas : (a b c : ℕ) → a ≢ b → a ≢ c → b ≢ c → (up : Bool) (area : Option ℕ) (cost : ℕ) →
-    counted up (is_area a area) cost + counted up (is_area b area) cost + counted up (is_area c area) cost + 0 ≤ counted up (is_some area) cost
+    counted up (is_area a area) cost + counted up (is_area b area) cost + counted up (is_area c area) cost + 0
+    ≤ counted up (is_some area) cost
 three_areas a b c ab ac bc false area cost = omega arith
 three_areas a b c ab ac bc true None cost = omega arith
-three_areas a b c ab ac bc true (Some m) cost = by (eqb m a) (eqb m b) (eqb m c) refl refl refl
-  where
-    by : (x y z : Bool) → eqb m a ≡ x → eqb m b ≡ y → eqb m c ≡ z →
-        counted true (eqb m a) cost + counted true (eqb m b) cost + counted true (eqb m c) cost + 0 ≤ cost
-    by true true z ea eb ec = absurd (ab (sym (eqb-true m a ea) ∙ eqb-true m b eb))
-    by true false true ea eb ec = absurd (ac (sym (eqb-true m a ea) ∙ eqb-true m c ec))
-    by false true true ea eb ec = absurd (bc (sym (eqb-true m b eb) ∙ eqb-true m c ec))
-    by true false false ea eb ec = rw (ea, eb, ec) (omega arith)
-    by false true false ea eb ec = rw (ea, eb, ec) (omega arith)
-    by false false true ea eb ec = rw (ea, eb, ec) (omega arith)
-    by false false false ea eb ec = rw (ea, eb, ec) (omega arith)
+three_areas a b c ab ac bc true (Some m) cost = grind (arith, eqb-true)
 
 -- three areas, and what is stated besides, are at most the sum of OSPF costs
 pub areas_fit : (net : Network) (a b c : ℕ) → a ≢ b → a ≢ c → b ≢ c →
@@ -158,7 +155,8 @@ areas_fit net a b c ab ac bc =
     net
 
 two_levels : (up one two : Bool) (metric1 metric2 : ℕ) →
-    counted up one metric1 + counted up two metric2 + 0 + 0 ≤ (if up then (if one then metric1 else 0) + (if two then metric2 else 0) else 0)
+    counted up one metric1 + counted up two metric2 + 0 + 0
+    ≤ (if up then (if one then metric1 else 0) + (if two then metric2 else 0) else 0)
 two_levels true one two metric1 metric2 = omega arith
 two_levels false one two metric1 metric2 = omega arith
 

@@ -21,4 +21,5 @@ IsisCostsAreAtMostSum = (net : Network) → IsisCostsAreAtMost net (isis_metric_
 
 -- in a network that configurations make no cost is above the greatest metric of a path (RFC 5305, section 3)
 abbrev pub IsisCostsArePathMetrics : Type 0
-IsisCostsArePathMetrics = (configs : List Configuration) (net : Network) → MakeNetwork configs net → IsisCostsAreAtMost net MOST_PATH_METRIC
+IsisCostsArePathMetrics =
+    (configs : List Configuration) (net : Network) → MakeNetwork configs net → IsisCostsAreAtMost net MOST_PATH_METRIC

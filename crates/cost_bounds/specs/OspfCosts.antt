@@ -10,7 +10,7 @@ use Rattle.net_model.specs.declared.bounds.TheConstants.{MOST_COST}
 use Rattle.igp_theory.specs.Ospf.{IntraAreaCost, HasRange, RangeCost, BorderCost, Summary, InterAreaCost}
 
 -- router u has a range of this area and this prefix, whatever else its line says
-pub record HasRangeOf (net : Network) (u area : ℕ) (dest : Block) : Type 0 where
+pub record HasRangeOfPrefix (net : Network) (u area : ℕ) (dest : Block) : Type 0 where
   pub range : Range
   pub has : HasRange net u range
   pub area_is : range.area ≡ area
@@ -20,7 +20,7 @@ pub record HasRangeOf (net : Network) (u area : ℕ) (dest : Block) : Type 0 whe
 -- on its list of address ranges)
 abbrev pub RangesAgree : Network → Type 0
 RangesAgree net =
-    (u v : ℕ) (r : Range) → HasRange net u r → IsBorderRouter net v → InArea net v r.area → HasRangeOf net v r.area r.dest
+    (u v : ℕ) (r : Range) → HasRange net u r → IsBorderRouter net v → InArea net v r.area → HasRangeOfPrefix net v r.area r.dest
 
 -- no cost of OSPF is above this one: neither within an area, nor what a range costs, nor what a border router has over the
 -- backbone, nor what is announced into an area, nor, where ranges agree, between areas
@@ -37,7 +37,8 @@ OspfCostsAreAtMostSum = (net : Network) → OspfCostsAreAtMost net (ospf_cost_su
 
 -- in a network that configurations make every cost is below the one that stands for unreachable (RFC 2328, appendix B)
 abbrev pub OspfCostsAreReachable : Type 0
-OspfCostsAreReachable = (configs : List Configuration) (net : Network) → MakeNetwork configs net → OspfCostsAreAtMost net MOST_COST
+OspfCostsAreReachable =
+    (configs : List Configuration) (net : Network) → MakeNetwork configs net → OspfCostsAreAtMost net MOST_COST
 
 -- in any network, whether ranges agree or not, a cost between areas is at most twice the sum: a walk may lead through the area
 -- to a border router that hears over the backbone of a range of this area, and from there into the area again
