@@ -1,5 +1,5 @@
 -- The flat order of a wave list, and its run.
-use Rattle.std.proofs.Common.{◌≡◌, ◌≢◌, ℕ, zero, suc, ◌+◌, ◌*◌, ◌<◌, ◌≤◌, ◌↔◌, inl, inr, if◌then◌else◌, Bool, true, false, List, [], ◌∷◌, length, map, take}
+use Rattle.std.proofs.Common.{◌≡◌, ◌≢◌, ℕ, ◌+◌, ◌*◌, ◌<◌, ◌≤◌, ◌↔◌, inl, inr, if◌then◌else◌, Bool, true, false, List, [], ◌∷◌, length, map, take}
 use Rattle.std.proofs.Common.{Contains, arith, refl, sym, ap, ◌∙◌, subst}
 use Rattle.std.specs.List.{AllPairs, flat_map}
 use Rattle.std.proofs.lemmas.Bool.{false≢true}
@@ -13,7 +13,7 @@ use Rattle.igp_theory.specs.LoopLaws.{BeginsOld}
 use Rattle.igp_theory.specs.Migrations.{Migration}
 use Rattle.igp_theory.specs.Phases.{State, made_in, all_old}
 use Rattle.igp_theory.specs.States.{IsSeamless, changes_of, changes_on, phase_after, state_of}
-use Rattle.igp_theory.specs.Timetables.{MayPrecede, IsRun, IsLeft, is_made, left_in, router_times, run_from, state_after}
+use Rattle.igp_theory.specs.Timetables.{MayPrecede, IsRun, is_made, left_in, router_times, run_from, state_after}
 use Rattle.igp_theory.specs.Waves.{AreSeamlessWaves, run_along}
 use Rattle.igp_theory.specs.declared.phase.Phase.{Phase}
 use Rattle.igp_theory.specs.declared.phase.Phase.TheVariants.{Old, Middle, New}

@@ -1,31 +1,24 @@
 -- Loops decide whether a migration is sound throughout, and which wave lists are seamless.
-use Rattle.std.proofs.Common.{◌≡◌, ◌≢◌, ℕ, ◌+◌, ◌^◌, ◌<◌, ◌≤◌, ◌⊎◌, inl, inr, List, [], ◌∷◌, length, Contains, AllPairs, refl, sym, ap, ◌∙◌, subst, arith}
-use Rattle.std.proofs.lemmas.Bool.{cases_lt, cases_eq}
+use Rattle.std.proofs.Common.{◌≡◌, ℕ, ◌+◌, ◌^◌, ◌<◌, ◌≤◌, ◌⊎◌, inl, inr, List, [], ◌∷◌, length, Contains, refl, sym, ap, subst, arith}
+use Rattle.std.proofs.lemmas.Bool.{cases_lt}
 use Rattle.order_core.specs.Orders.{AreDistinct}
 use Rattle.order_core.specs.Turns.{routers_of, old_routers, new_routers, HasBothTags}
-use Rattle.order_core.specs.declared.turn.Tag.{Tag}
-use Rattle.order_core.specs.declared.turn.Tag.TheVariants as tag
 use Rattle.order_core.specs.declared.turn.Turn.{Turn}
-use Rattle.igp_theory.specs.Forwarding.{Steps}
 use Rattle.igp_theory.specs.LoopLaws.{IsFromStart, AreSoundEnds, IsLoopOfState}
-use Rattle.igp_theory.specs.Loops.{IsTagOf, IsTag, EachToNext, AroundRing, IsLoop, Arises}
+use Rattle.igp_theory.specs.Loops.{IsTag, AroundRing, IsLoop, Arises}
 use Rattle.igp_theory.specs.Migrations.{Migration}
 use Rattle.igp_theory.specs.Phases.{State}
-use Rattle.igp_theory.specs.States.{StepsIn, Follows, IsSound}
+use Rattle.igp_theory.specs.States.{StepsIn, IsSound}
 use Rattle.igp_theory.specs.TimetableLaws.{StepsRound, GoesRound, ArisesInWave, SwitchesIn, AreSwitched, SwitchesSomeOldFirst, IsBroken}
-use Rattle.igp_theory.specs.Timetables.{Timetable, IsTimetable, IsBetweenPhases, IsStateOfWave, IsSoundThroughout, state_before}
-use Rattle.igp_theory.specs.WaveFaults.{StepsInSome, IsUnsoundInSome}
-use Rattle.igp_theory.specs.declared.phase.Phase.{Phase}
-use Rattle.igp_theory.specs.declared.phase.Phase.TheVariants.{New}
-use Rattle.net_model.proofs.Members.{Contains-none, Contains-first, Contains-rest, Contains-cases, Contains-map}
+use Rattle.igp_theory.specs.Timetables.{Timetable, IsTimetable, IsStateOfWave, IsSoundThroughout, state_before}
+use Rattle.igp_theory.specs.WaveFaults.{StepsInSome}
+use Rattle.net_model.proofs.Members.{Contains-none, Contains-first, Contains-rest, Contains-cases}
 use Rattle.igp_theory.proofs.ForwardingLaws.{later_phase_steps}
-use Rattle.igp_theory.proofs.LoopLaws.{old_turn, new_turn, old_listed, new_listed, later_step, arising_is_unsound, ring_between_ends}
-use Rattle.igp_theory.proofs.OrderedLists.{pairs_none, pairs_more, pairs_first, pairs_rest}
-use Rattle.igp_theory.proofs.Phases.{step_of_ends}
-use Rattle.igp_theory.proofs.Rings.{each_to_routers, each_inside, around_inside, around_both, around_at, ring_returns, StepRing, ring_of_return, around_of_routers, turns_distinct, some_turn}
+use Rattle.igp_theory.proofs.LoopLaws.{old_turn, new_turn, old_listed, new_listed, arising_is_unsound, ring_between_ends}
+use Rattle.igp_theory.proofs.Rings.{around_inside, around_both, around_at, StepRing, ring_of_return, around_of_routers, turns_distinct, some_turn}
 use Rattle.igp_theory.proofs.Tags.{IsTagTo, AreTagged}
 use Rattle.igp_theory.proofs.TimetableStates.{state_of_wave, wave_is_reached}
-use Rattle.igp_theory.proofs.Timetables.{first_of_wave, last_of_wave, start_first}
+use Rattle.igp_theory.proofs.Timetables.{first_of_wave, start_first}
 use Rattle.std.proofs.Common.{◌^◌, ◌<◌, length}
 use Rattle.order_core.specs.Rankings.{IsRanking, rank_of}
 use Rattle.order_core.specs.Turns.{HasBothTags, RanksSomeOldFirst}

@@ -1,6 +1,6 @@
 -- An order as a wave list of ones: it has its ranks, and one run.
 use Rattle.std.proofs.Common.{◌≡◌, ◌≢◌, ℕ, zero, suc, ◌+◌, ◌<◌, ◌⊎◌, inl, inr, ◌==◌, if◌then◌else◌, Bool, List, []}
-use Rattle.std.proofs.Common.{◌∷◌, length, map, take, min, get_or, Contains, ◌*◌, ◌≤◌, true, false, refl, sym, ap, ◌∙◌, subst, arith}
+use Rattle.std.proofs.Common.{◌∷◌, length, map, take, min, get_or, Contains, ◌*◌, false, refl, sym, ap, ◌∙◌, subst, arith}
 use Rattle.std.specs.List.{AllPairs}
 use Rattle.std.proofs.lemmas.Bool.Decides.{eqb_tells}
 use Rattle.std.proofs.lemmas.List.{get_or-map, length-map, take_min}
@@ -15,7 +15,7 @@ use Rattle.igp_theory.specs.LoopLaws.{BeginsOld}
 use Rattle.igp_theory.specs.Phases.{State}
 use Rattle.igp_theory.specs.States.{IsSeamless}
 use Rattle.igp_theory.specs.Timetables.{Timetable, MayPrecede, IsRun, is_made, router_times, run_from, state_after}
-use Rattle.igp_theory.specs.Waves.{AreSeamlessWaves, HasNoneSeamless, AreOnes, run_along}
+use Rattle.igp_theory.specs.Waves.{AreSeamlessWaves, HasNoneSeamless, AreOnes}
 use Rattle.igp_theory.proofs.AlikeStates.{sound_alike}
 use Rattle.igp_theory.proofs.FlatOrders.{along_is_run, left_time, left_where, states_from, run_from_old, run_length}
 use Rattle.igp_theory.proofs.OnesWaves.{ones_are_waves, ones_in_turn, rank_tells}

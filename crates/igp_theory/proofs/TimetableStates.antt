@@ -2,7 +2,7 @@
 use Rattle.std.proofs.Common.{◌≡◌, ◌≢◌, ℕ, ◌+◌, ◌-◌, ◌<◌, ◌≤◌, ◌⊎◌, ◌↔◌, inl, inr, Bool, true, false, not, ◌&&◌, ltb, min}
 use Rattle.std.proofs.Common.{List, [], ◌∷◌, ◌++◌, length, map, take, drop, Contains, arith, refl, sym, ap, ◌∙◌, subst}
 use Rattle.std.specs.List.{AllPairs}
-use Rattle.std.proofs.lemmas.Bool.{cases_lt, cases_eq, lt-ltb, ltb-true, false≢true, not-true, and_parts, and_from}
+use Rattle.std.proofs.lemmas.Bool.{cases_lt, lt-ltb, ltb-true, false≢true, not-true, and_parts, and_from}
 use Rattle.std.proofs.lemmas.List.{take-append-drop, take_at}
 use Rattle.std.proofs.lemmas.List.Elements.{Contains-append_left, Contains-append_right, Contains-append_cases}
 use Rattle.igp_theory.specs.Phases.{State, made_in}
@@ -12,7 +12,7 @@ use Rattle.igp_theory.specs.TimetableLaws.{IsStateOfSomeWave}
 use Rattle.igp_theory.specs.Changes.{Change, first, second, changed}
 use Rattle.net_model.proofs.Members.{Contains-none, Contains-first, Contains-rest, Contains-cases}
 use Rattle.igp_theory.proofs.ChangeCounts.{StandsOnce, Counted, counted}
-use Rattle.igp_theory.proofs.OrderedLists.{pairs_append, pairs_across, pairs_first, pairs_rest, pairs_weaker, pairs_front}
+use Rattle.igp_theory.proofs.OrderedLists.{pairs_append, pairs_across, pairs_weaker, pairs_front}
 use Rattle.igp_theory.proofs.Phases.{tally, made_after, made_one_by_one, made_in_few, phases_same, second_after_first}
 use Rattle.igp_theory.proofs.SortedChanges.{Listed, Passes, listed_passing}
 use Rattle.igp_theory.proofs.Timetables.{made_at_start, made_before, made_upto, left_from}
