@@ -1,5 +1,5 @@
 -- The states of a wave of ranked routers: those of earlier waves are New, those of later ones Old.
-use Rattle.std.proofs.Common.{◌≡◌, ℕ, ◌+◌, ◌<◌, ◌≤◌, List, inl, inr, arith, refl, ap}
+use Rattle.std.proofs.Common.{◌≡◌, ℕ, ◌+◌, ◌<◌, List, inl, inr, arith, refl, ap}
 use Rattle.std.proofs.lemmas.Bool.{cases_order}
 use Rattle.order_core.specs.Rankings.{rank_of}
 use Rattle.igp_theory.specs.Phases.{State, made_in, all_old}

@@ -1,17 +1,15 @@
 -- Both ends are states of every wave list, so where one of them isn't sound no wave list is seamless.
-use Rattle.std.proofs.Common.{◌≡◌, ℕ, ◌+◌, ◌<◌, ◌≤◌, List, length, arith, refl, sym, ap}
-use Rattle.order_core.specs.Rankings.{IsRanking, rank_of, wave_count}
+use Rattle.std.proofs.Common.{ℕ, ◌+◌, ◌<◌, ◌≤◌, List, length, arith, refl}
+use Rattle.order_core.specs.Rankings.{rank_of, wave_count}
 use Rattle.order_core.proofs.WaveLists.{rank_below_count}
 use Rattle.std.proofs.lemmas.List.Elements.{Contains-get_or}
 use Rattle.igp_theory.specs.Migrations.{Migration}
-use Rattle.igp_theory.specs.Phases.{State, made_in, all_new}
+use Rattle.igp_theory.specs.Phases.{all_new}
 use Rattle.igp_theory.specs.States.{IsSound}
-use Rattle.igp_theory.specs.Timetables.{IsTimetable, IsStateOfWave, router_times, state_before}
+use Rattle.igp_theory.specs.Timetables.{router_times, state_before}
 use Rattle.igp_theory.specs.Waves.{AreSeamlessWaves}
-use Rattle.igp_theory.specs.declared.phase.Phase.{Phase}
-use Rattle.igp_theory.specs.declared.phase.Phase.TheVariants.{New}
 use Rattle.igp_theory.proofs.AlikeStates.{sound_alike}
-use Rattle.igp_theory.proofs.Switches.{routers_have_times, router_after}
+use Rattle.igp_theory.proofs.Switches.{router_after}
 use Rattle.igp_theory.proofs.TimetableStates.{wave_is_reached}
 use Rattle.igp_theory.proofs.Timetables.{first_of_wave}
 
