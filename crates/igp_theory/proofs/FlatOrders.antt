@@ -1,6 +1,6 @@
 -- The flat order of a wave list, and its run.
 use Rattle.std.proofs.Common.{◌≡◌, ◌≢◌, ℕ, ◌+◌, ◌*◌, ◌<◌, ◌≤◌, ◌↔◌, inl, inr, if◌then◌else◌, Bool, true, false, List, [], ◌∷◌, length, map, take}
-use Rattle.std.proofs.Common.{Contains, arith, refl, sym, ap, ◌∙◌, subst}
+use Rattle.std.proofs.Common.{Contains, arith, refl, sym, ap, ◌∙◌, subst, zero-add}
 use Rattle.std.specs.List.{AllPairs, flat_map}
 use Rattle.std.proofs.lemmas.Bool.{false≢true}
 use Rattle.std.proofs.lemmas.List.{take-map}
@@ -11,7 +11,7 @@ use Rattle.order_core.proofs.WaveLists.{flat_is_order, waves_by_rank}
 use Rattle.igp_theory.specs.Changes.{Change, first, second, changed}
 use Rattle.igp_theory.specs.LoopLaws.{BeginsOld}
 use Rattle.igp_theory.specs.Migrations.{Migration}
-use Rattle.igp_theory.specs.Phases.{State, made_in, all_old}
+use Rattle.igp_theory.specs.Phases.{State, all_old}
 use Rattle.igp_theory.specs.States.{IsSeamless, changes_of, changes_on, phase_after, state_of}
 use Rattle.igp_theory.specs.Timetables.{MayPrecede, IsRun, is_made, left_in, router_times, run_from, state_after}
 use Rattle.igp_theory.specs.Waves.{AreSeamlessWaves, run_along}
@@ -141,7 +141,7 @@ changed_along (u ∷ order) = ap (λ (l : List ℕ). u ∷ u ∷ l) (changed_alo
 -- the states along an order are its states
 pub states_along : (order : List ℕ) (k u : ℕ) → state_after all_old (take k (run_along order)) u ≡ state_of order k u
 states_along order k u =
-    ap phase_after (let k : made_in Old + changes_on u (map changed (take k (run_along order))) ≡ changes_on u (map changed (take k (run_along order))) = omega arith in k)
+    ap phase_after (zero-add (changes_on u (map changed (take k (run_along order)))))
     ∙ ap (λ (l : List ℕ). phase_after (changes_on u l)) (sym (take-map changed k (run_along order)) ∙ ap (take k) (changed_along order))
 
 pub run_length : (order : List ℕ) → length (run_along order) ≡ 2 * length order

@@ -76,7 +76,8 @@ first_fault m ranks w fault before here = record {
 -- no fault is told exactly of a seamless wave list
 pub none_seamless : (move : Migration) (ranks : List ℕ) (result : Option (ℕ × Fault)) (turns : List Turn) → IsRanking (length move.net) ranks
     → IfNone result ((state : State) → IsStateOfSomeWave (length move.net) (router_times move.start ranks) state → IsSound move state)
-    → IfSome result (λ found. IsTimesFault move (router_times move.start ranks) found.0 (told_fault found.1 turns)) → IsNone result ↔ AreSeamlessWaves move ranks
+    → IfSome result (λ found. IsTimesFault move (router_times move.start ranks) found.0 (told_fault found.1 turns)) →
+    IsNone result ↔ AreSeamlessWaves move ranks
 none_seamless move ranks None turns ranking sound fault = (λ none. record {
   waves = ranking;
   throughout = record {

@@ -36,7 +36,8 @@ breaks_of_wave move ranks w a turns fault is address ring =
 pub wave_fault_breaks : (move : Migration) (ranks : List ℕ) (w a : ℕ) (turns : List Turn) → AreSoundEnds move →
     IsTimesFault move (router_times move.start ranks) w (loop a turns) → Break (waves_meaning move) ranks a turns
 wave_fault_breaks move ranks w a turns ends fault =
-    let is = times_fault_between_ends move (router_times move.start ranks) ends (routers_have_times (length move.net) move.start ranks) w (loop a turns) fault in
+    let table = routers_have_times (length move.net) move.start ranks in
+    let is = times_fault_between_ends move (router_times move.start ranks) ends table w (loop a turns) fault in
     let same : loop a turns ≡ loop is.address is.ring = is.is in
     let address : is.address ≡ a = cc in
     let ring : is.ring ≡ turns = cc in
@@ -46,6 +47,7 @@ wave_fault_breaks move ranks w a turns ends fault =
 pub no_step_lacks : (move : Migration) (ranks : List ℕ) (w a u : ℕ) → AreSoundEnds move →
     IsTimesFault move (router_times move.start ranks) w (missing a u) → ⊥
 no_step_lacks move ranks w a u ends fault =
-    let is = times_fault_between_ends move (router_times move.start ranks) ends (routers_have_times (length move.net) move.start ranks) w (missing a u) fault in
+    let table = routers_have_times (length move.net) move.start ranks in
+    let is = times_fault_between_ends move (router_times move.start ranks) ends table w (missing a u) fault in
     let clash : missing a u ≡ loop is.address is.ring = is.is in
     cc

@@ -163,4 +163,7 @@ whole_run n ranks changes begin none = by_rest begin.rest begin.is_run
     by_rest : (rest : List Change) → IsRun n (router_times all_old ranks) (changes ++ rest) → IsRun n (router_times all_old ranks) changes
     by_rest [] is = subst (λ (run : List Change). IsRun n (router_times all_old ranks) run) (append-nil changes) is
     by_rest (c ∷ rest) is =
-        absurd (none c (record { rest = rest; is_run = subst (λ (run : List Change). IsRun n (router_times all_old ranks) run) (sym (append_assoc changes (c ∷ []) rest)) is }))
+        absurd (none c (record {
+          rest = rest;
+          is_run = subst (λ (run : List Change). IsRun n (router_times all_old ranks) run) (sym (append_assoc changes (c ∷ []) rest)) is;
+        }))
