@@ -78,13 +78,16 @@ pub none_seamless : (move : Migration) (ranks : List ℕ) (result : Option (ℕ 
     → IfNone result ((state : State) → IsStateOfSomeWave (length move.net) (router_times move.start ranks) state → IsSound move state)
     → IfSome result (λ found. IsTimesFault move (router_times move.start ranks) found.0 (told_fault found.1 turns)) →
     IsNone result ↔ AreSeamlessWaves move ranks
-none_seamless move ranks None turns ranking sound fault = (λ none. record {
-  waves = ranking;
-  throughout = record {
-    table = routers_have_times (length move.net) move.start ranks;
-    sound = λ state is. sound state (state_of_wave (routers_have_times (length move.net) move.start ranks) state is);
-  };
-}, λ seamless. refl)
+none_seamless move ranks None turns ranking sound fault = (
+  λ none. record {
+    waves = ranking;
+    throughout = record {
+      table = routers_have_times (length move.net) move.start ranks;
+      sound = λ state is. sound state (state_of_wave (routers_have_times (length move.net) move.start ranks) state is);
+    };
+  },
+  λ seamless. refl,
+)
 none_seamless move ranks (Some found) turns ranking sound fault = (
   λ none. absurd (false≢true (sym none)),
   λ seamless. absurd (times_fault_unsound move (router_times move.start ranks) found.0 (told_fault found.1 turns) fault seamless.throughout),

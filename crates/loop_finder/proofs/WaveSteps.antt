@@ -52,13 +52,13 @@ mixed_more one other r v apart = elim (cases_lt v r) [
 pub state_between : {n : ℕ} {ranks : List ℕ} {w : ℕ} {first last : List Phase} (state : State) → AreEnds n ranks w first last → IsBetween n first last state →
     IsOfWave n ranks w state
 state_between {ranks = ranks} {w = w} {first = first} {last = last} state ends between = wave_of ranks w
-  (λ u within before.
-      let switched : state_in first u ≡ New = ends.begins.switched u (omega (arith, within, ends.each)) before in
-      elim (between u within) [ inl same ↦ same ∙ switched | inr both ↦ absurd (let clash : Old ≡ New = sym both.0 ∙ switched in cc) ])
-  (λ u within after.
-      let waits : state_in first u ≡ Old = ends.begins.others u (omega (arith, within, ends.each)) (omega (arith, after)) in
-      let waits_on : state_in last u ≡ Old = ends.ends.others u (omega (arith, within, ends.each)) (omega (arith, after)) in
-      elim (between u within) [ inl same ↦ same ∙ waits | inr both ↦ absurd (let clash : New ≡ Old = sym both.1 ∙ waits_on in cc) ])
+    (λ u within before.
+    let switched : state_in first u ≡ New = ends.begins.switched u (omega (arith, within, ends.each)) before in
+    elim (between u within) [ inl same ↦ same ∙ switched | inr both ↦ absurd (let clash : Old ≡ New = sym both.0 ∙ switched in cc) ])
+    (λ u within after.
+    let waits : state_in first u ≡ Old = ends.begins.others u (omega (arith, within, ends.each)) (omega (arith, after)) in
+    let waits_on : state_in last u ≡ Old = ends.ends.others u (omega (arith, within, ends.each)) (omega (arith, after)) in
+    elim (between u within) [ inl same ↦ same ∙ waits | inr both ↦ absurd (let clash : New ≡ Old = sym both.1 ∙ waits_on in cc) ])
 
 -- the steps of a part in the first and the last state of a wave are those of the wave
 in_wave : (part : ClassPart) (ranks : List ℕ) (w : ℕ) (first last : List Phase) → length part.rows ≡ length ranks → AreSwitchedBefore ranks w first →
