@@ -7,14 +7,14 @@ use Rattle.std.proofs.lemmas.List.Elements.{All-cons, All-nil}
 use Rattle.net_addr.specs.JoinedLines.{is_of_whole_lines}
 use Rattle.ios_sections.specs.TextLines.{TextLine, Part, lines_in, is_end, parts_of}
 use Rattle.ios_sections.specs.Sections.{sections_in}
-use Rattle.ios_sections.specs.JoinedLines.{further_on, is_in_banner, begins_with_end, open_sections}
+use Rattle.ios_sections.specs.JoinedLines.{further_on, is_in_banner, begins_with_end, open_lines, open_sections}
 use Rattle.ios_sections.specs.declared.section.Section.{Section}
 use Rattle.ios_sections.proofs.JoinedFacts.{lines_in-append}
 use Rattle.ios_reader.specs.InsertedLines.{IsOutsideBanners}
 use Rattle.ios_reader.specs.Places.{raw_lines}
 use Rattle.ios_reader.specs.PutBlocks.{ends_here, put_block, put_blocks, Piece, as_they_were, with_blocks, EndsAtEnd, IsCutAtEnds}
 use Rattle.ios_reader.proofs.RawLines.{IsWholeBefore, AreRaw, joined_raw, HasOneLine, one_line, are_raw, raw_joined, parts_stay, parts_at_end}
-use Rattle.ios_reader.proofs.RawLines.{open_lines, part_with, whole_next, whole_start}
+use Rattle.ios_reader.proofs.RawLines.{part_with, whole_next, whole_start}
 
 -- ---- up to the last `end` line ----
 

@@ -1,5 +1,6 @@
 ghost use Rattle.std.specs.Prelude.{◌≡◌, IfOk};
 ghost use Rattle.net_model.specs.Configuration.{IsConfiguration};
+ghost use Rattle.ios_reader.specs.Faults.{fault_further};
 ghost use Rattle.ios_reader.specs.Configurations.{interfaces_by, configuration_of_settings, configuration_by};
 ghost use Rattle.ios_reader.specs.steps.LeastFaults.{ospf_fault_by, isis_fault_by, interfaces_fault_by, fault_by};
 ghost use Rattle.ios_reader.specs.steps.Parts.{part_at, IsPartRead};
@@ -13,7 +14,7 @@ use ios_lines::fault::{Fault, fault_if, lesser_fault};
 use ios_lines::kind::ReadKind;
 use ios_sections::isis_process::{lacking, least_isis_line_fault, least_second_title};
 use ios_sections::process::least_ospf_line_fault;
-use ios_sections::read_section::read_sections;
+use ios_sections::read_section::{first_number, sections_from_first};
 use ios_sections::statements::{Statements, statements_of};
 use ios_sections::text_line::TextLine;
 use net_addr::Name;
@@ -39,7 +40,7 @@ fn isis_fault(statements: &Statements) -> Option<Fault>
     lesser_fault(own, missing)
 }
 
-/// The least fault of a configuration whose `end` line has this number, by that of its interfaces.
+/// The least fault of a configuration whose `end` line has this number, as its lines are counted, by that of its interfaces.
 fn fault_of(statements: &Statements, interfaces: Option<Fault>, ends: u32) -> Option<Fault>
     requires { interfaces ≡ interfaces_fault_by statements.now }
     ensures { result ≡ fault_by statements.now ends }
@@ -104,7 +105,21 @@ fn config_of(
     Ok(config_with(name_or_empty(alloc, name), interfaces, ospf, isis))
 }
 
-/// The configuration of the lines before an `end` line of this number, or its least fault.
+/// A fault, so many lines further on. A number of more than 32 bits gives `OutOfMemory`, since no text has so many lines.
+fn fault_further(count: u32, fault: Fault) -> Result<Fault, OutOfMemory>
+    ensures { IfOk result (λ further. further ≡ fault_further count fault) }
+{
+    match count.checked_add(fault.line) {
+        Some(line) => Ok(Fault {
+            line,
+            kind: fault.kind,
+        }),
+        None => Err(OutOfMemory),
+    }
+}
+
+/// The configuration of the lines before an `end` line of this number, or its least fault. The lines are read as they are
+/// counted from the first one that may tell something; the number of a fault in the text is made here.
 pub(crate) fn read_part(
     alloc: Global,
     lines: &[TextLine],
@@ -112,12 +127,13 @@ pub(crate) fn read_part(
 ) -> Result<Result<Config, Fault>, OutOfMemory>
     ensures { IfOk result (IsPartRead (part_at lines.now ends)) }
 {
-    let sections = read_sections(alloc, lines)?;
+    let sections = sections_from_first(alloc, lines)?;
     let statements = statements_of(alloc, sections)?;
     let facts = process_facts_of(statements.ospf.as_slice(), statements.isis.as_slice());
     let interfaces = interfaces_of(alloc, &statements, facts)?;
-    match fault_of(&statements, interfaces.fault, ends) {
-        Some(fault) => Ok(Err(fault)),
+    let first = first_number(lines);
+    match fault_of(&statements, interfaces.fault, ends.saturating_sub(first)) {
+        Some(fault) => Ok(Err(fault_further(first, fault)?)),
         None => Ok(Ok(config_of(alloc, statements, interfaces.all, facts)?)),
     }
 }

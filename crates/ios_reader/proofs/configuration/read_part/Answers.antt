@@ -1,6 +1,10 @@
-use Rattle.std.proofs.Common.{◌≡◌, sym, ap, ◌∙◌}
+use Rattle.std.proofs.Common.{◌≡◌, Some, sym, ap, ◌∙◌}
+use Rattle.ios_lines.specs.FaultOrder.{least_fault}
+use Rattle.ios_lines.specs.declared.fault.Fault.{Fault}
 use Rattle.ios_sections.specs.Sections.{sections_in}
 use Rattle.ios_sections.specs.Statements.{statements_of}
+use Rattle.ios_reader.specs.Faults.{part_faults}
+use Rattle.ios_reader.specs.steps.LeastFaults.{fault_by}
 use Rattle.ios_reader.specs.steps.Parts.{part_at}
 use Rattle.ios_reader.proofs.ReadFacts.{part_kept, part_made, part_faulty}
 use Rattle.ios_reader.proofs.configuration.read_part.Goals as goal
