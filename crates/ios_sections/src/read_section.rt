@@ -202,7 +202,6 @@ fn before_first(lines: &[TextLine]) -> usize
 }
 
 /// The lines from that line on.
-#[tactic(auto, using(crate::proofs::PlaceFacts::own_from))]
 fn own_lines<'b, 'a>(lines: &'b [TextLine<'a>]) -> &'b [TextLine<'a>]
     ensures { result.now ≡ own_lines lines.entry.now }
 {

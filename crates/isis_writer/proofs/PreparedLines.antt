@@ -15,7 +15,7 @@ use Rattle.ios_lines.specs.declared.kind.ReadKind.TheVariants.{NoEnd}
 use Rattle.ios_sections.specs.TextLines.{TextLine, Part, lines_in, counted_lines, is_end, rest_after, parts_of}
 use Rattle.ios_sections.specs.TextLines.{begins_configuration, is_empty, lacks_end}
 use Rattle.ios_sections.specs.Sections.{sections_in}
-use Rattle.ios_sections.specs.JoinedLines.{further_on, is_in_banner, begins_with_end}
+use Rattle.ios_sections.specs.JoinedLines.{further_on, is_in_banner, begins_with_end, open_lines}
 use Rattle.ios_sections.proofs.JoinedFacts.{lines_in-append}
 use Rattle.ios_reader.specs.Faults.{part_faults}
 use Rattle.ios_reader.specs.Configurations.{configuration_of}
@@ -25,7 +25,7 @@ use Rattle.ios_reader.specs.Texts.{ReadsText}
 use Rattle.ios_reader.proofs.BlockPieces.{ends_among, put_to_last, put_none}
 use Rattle.ios_reader.proofs.InsertedFacts.{closed_text}
 use Rattle.ios_reader.proofs.PutBlocks.{EndsWithEnd, put_reads}
-use Rattle.ios_reader.proofs.RawLines.{IsWholeBefore, AreRaw, joined_raw, HasOneLine, one_line, parts_stay, open_lines, part_with, parts_at_end}
+use Rattle.ios_reader.proofs.RawLines.{IsWholeBefore, AreRaw, joined_raw, HasOneLine, one_line, parts_stay, part_with, parts_at_end}
 use Rattle.ios_reader.proofs.RawLines.{whole_next, whole_start}
 use Rattle.design_file.specs.Settling.{FitsNetwork}
 use Rattle.design_file.specs.declared.settled.SettledRouter.{SettledRouter}
