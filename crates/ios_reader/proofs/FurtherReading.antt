@@ -4,7 +4,7 @@ use Rattle.std.proofs.Common.{Option, Some, None, arith}
 use Rattle.std.specs.Prelude.{filter_map, flat_map, option_map, is_none}
 use Rattle.std.proofs.lemmas.Bool.Decides.{nat_tests}
 use Rattle.ios_lines.specs.Lookups.{last_of}
-use Rattle.ios_lines.specs.FaultOrder.{rank, is_before, faults_if, lesser_fault, least_fault}
+use Rattle.ios_lines.specs.FaultOrder.{fault_at, rank, is_before, faults_if, lesser_fault, least_fault}
 use Rattle.ios_lines.specs.declared.fault.Fault.{Fault}
 use Rattle.ios_lines.specs.declared.kind.ReadKind.TheVariants.{NoHostname}
 use Rattle.ios_sections.specs.TextLines.{TextLine, Part}
@@ -98,12 +98,14 @@ pub record HasFirst (lines : List TextLine) : Type 0 where
   pub more : List TextLine
   pub is : own_lines lines ≡ first ∷ more
 
+never_none : (f : Fault) → f ∷ [] ≡ [] → ⊥
+never_none f e = cc
+
 pub has_first : (lines : List TextLine) (ends : ℕ) → section_faults (sections_from_first lines) ends ≡ [] → HasFirst lines
 has_first lines ends e = by_own (own_lines lines) refl
   where
     by_own : (own : List TextLine) → own_lines lines ≡ own → HasFirst lines
     by_own [] none =
-        let no : record { line = ends; kind = NoHostname } ∷ [] ≡ [] =
-        sym (ap (λ (ls : List TextLine). section_faults (sections_among (map (counted_from (head_number ls)) ls)) ends) none) ∙ e in
-        absurd cc
+        absurd (never_none (fault_at ends NoHostname)
+        (sym (ap (λ (ls : List TextLine). section_faults (sections_among (map (counted_from (head_number ls)) ls)) ends) none) ∙ e))
     by_own (first ∷ more) is = record { first = first; more = more; is = is }

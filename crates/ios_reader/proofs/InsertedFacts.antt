@@ -268,7 +268,7 @@ block_sections before block outside fits own =
     (first-further more (counted_lines (lines_in block)) ∙ fits.opens)
     ∙ ap (λ (ls : List TextLine). open_sections before ++ sections_among ls) (sym (counted-further more (lines_in block)))
 
-some_at_end : (ps qs : List Part) (p : Part) → is_empty (ps ++ p ∷ qs) ≡ false
+pub some_at_end : (ps qs : List Part) (p : Part) → is_empty (ps ++ p ∷ qs) ≡ false
 some_at_end [] qs p = refl
 some_at_end (q ∷ ps) qs p = refl
 

@@ -32,6 +32,7 @@ use Rattle.ios_lines.proofs.FaultFacts.{least_of_two}
 use Rattle.ios_reader.proofs.LeastFaults.{by_before, by_not_before, none_least}
 use Rattle.ios_sections.proofs.GoodSections.{sections_good}
 use Rattle.ios_reader.proofs.KeptFacts.{configuration_kept}
+use Rattle.ios_reader.proofs.LookedUp.{none_right}
 use Rattle.ios_reader.proofs.FurtherReading.{least-further}
 
 -- ---- the least fault of a configuration ----
@@ -66,10 +67,6 @@ fault_is sections ends =
     (isis_is sections))
     refl) refl
 
-append_none : (fs gs : List Fault) → fs ++ gs ≡ [] → gs ≡ []
-append_none [] gs e = e
-append_none (f ∷ fs) gs e = absurd cc
-
 no_fault : (t : Bool) (line : ℕ) → faults_if t line NoHostname ≡ [] → t ≡ false
 no_fault true line e = absurd cc
 no_fault false line e = refl
@@ -84,7 +81,7 @@ part_named : (sections : List Section) (ends : ℕ) → section_faults sections 
 part_named sections ends e =
     some_name (last_of as_hostname sections)
     (no_fault (is_none (last_of as_hostname sections)) ends
-    (append_none
+    (none_right
     (filter_map as_fault sections ++ second_processes sections ++ ospf_faults sections ++ isis_faults sections
     ++ flat_map (interface_faults (router_of sections) (first_tag (filter_map as_isis sections))) (interfaces_in sections))
     (faults_if (is_none (last_of as_hostname sections)) ends NoHostname) e))

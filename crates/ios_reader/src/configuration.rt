@@ -1,5 +1,6 @@
-ghost use Rattle.std.specs.Prelude.{◌≡◌, IfOk};
+ghost use Rattle.std.specs.Prelude.{◌≡◌, ◌-◌, IfOk};
 ghost use Rattle.net_model.specs.Configuration.{IsConfiguration};
+ghost use Rattle.ios_sections.specs.Sections.{first_number};
 ghost use Rattle.ios_reader.specs.Faults.{fault_further};
 ghost use Rattle.ios_reader.specs.Configurations.{interfaces_by, configuration_of_settings, configuration_by};
 ghost use Rattle.ios_reader.specs.steps.LeastFaults.{ospf_fault_by, isis_fault_by, interfaces_fault_by, fault_by};
@@ -105,11 +106,19 @@ fn config_of(
     Ok(config_with(name_or_empty(alloc, name), interfaces, ospf, isis))
 }
 
-/// A fault, so many lines further on. A number of more than 32 bits gives `OutOfMemory`, since no text has so many lines.
-fn fault_further(count: u32, fault: Fault) -> Result<Fault, OutOfMemory>
-    ensures { IfOk result (λ further. further ≡ fault_further count fault) }
+/// The number of an `end` line, counted from the first of these lines that may tell something.
+fn counted_ends(lines: &[TextLine], ends: u32) -> u32
+    ensures { result ≡ ends - first_number lines.now }
 {
-    match count.checked_add(fault.line) {
+    ends.saturating_sub(first_number(lines))
+}
+
+/// A fault, found as these lines are counted, with its number in the text. A number of more than 32 bits gives
+/// `OutOfMemory`, since no text has so many lines.
+fn fault_in_text(lines: &[TextLine], fault: Fault) -> Result<Fault, OutOfMemory>
+    ensures { IfOk result (λ own. own ≡ fault_further (first_number lines.now) fault) }
+{
+    match first_number(lines).checked_add(fault.line) {
         Some(line) => Ok(Fault {
             line,
             kind: fault.kind,
@@ -119,7 +128,7 @@ fn fault_further(count: u32, fault: Fault) -> Result<Fault, OutOfMemory>
 }
 
 /// The configuration of the lines before an `end` line of this number, or its least fault. The lines are read as they are
-/// counted from the first one that may tell something; the number of a fault in the text is made here.
+/// counted from the first one that may tell something; only here a fault gets its number in the text.
 pub(crate) fn read_part(
     alloc: Global,
     lines: &[TextLine],
@@ -131,9 +140,8 @@ pub(crate) fn read_part(
     let statements = statements_of(alloc, sections)?;
     let facts = process_facts_of(statements.ospf.as_slice(), statements.isis.as_slice());
     let interfaces = interfaces_of(alloc, &statements, facts)?;
-    let first = first_number(lines);
-    match fault_of(&statements, interfaces.fault, ends.saturating_sub(first)) {
-        Some(fault) => Ok(Err(fault_further(first, fault)?)),
+    match fault_of(&statements, interfaces.fault, counted_ends(lines, ends)) {
+        Some(fault) => Ok(Err(fault_in_text(lines, fault)?)),
         None => Ok(Ok(config_of(alloc, statements, interfaces.all, facts)?)),
     }
 }

@@ -26,11 +26,11 @@ parts_are block text rest (piece ∷ pieces) (part ∷ parts) from placed blocks
     let second : drop (from + length piece.before) text ≡ piece.ends ++ behind = drop_front text from piece.before (piece.ends ++ behind) first in
     rw (
       placed.0,
-      placed.1.0,
+      placed.1,
       between_front text from piece.before (piece.ends ++ behind) first,
       between_front text (from + length piece.before) piece.ends behind second,
       sym own,
-      parts_are block text rest pieces parts (from + length piece.before + length piece.ends) placed.1.1 later
+      parts_are block text rest pieces parts (from + length piece.before + length piece.ends) placed.2 later
       (drop_front text (from + length piece.before) piece.ends behind second),
     ) refl
 
