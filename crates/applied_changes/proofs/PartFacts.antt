@@ -37,8 +37,8 @@ parts_are phases text rest (piece ∷ pieces) (part ∷ parts) from front placed
       between_front text from (front ++ piece.before) (piece.ends ++ was) first,
       sym own,
       parts_are phases text rest pieces parts (from + length (front ++ piece.before)) piece.ends
-      (subst (λ (n : ℕ). ArePlaced text (n + length piece.ends) pieces parts) long placed.2) later
-      (drop_front text from (front ++ piece.before) (piece.ends ++ was) first),
+          (subst (λ (n : ℕ). ArePlaced text (n + length piece.ends) pieces parts) long placed.2) later
+          (drop_front text from (front ++ piece.before) (piece.ends ++ was) first),
     )
     (append_assoc (front ++ piece.before) piece.block (piece.ends ++ now)
     ∙ append_assoc front piece.before (piece.block ++ (piece.ends ++ now))

@@ -176,12 +176,11 @@ module _ (block : List Section → List ℕ) where
             ∙ append_assoc (parts_of (lines_in before)) (part ∷ []) next.later;
         blocks = ap (λ (l : List (List ℕ)). own ∷ l) next.blocks;
         placed = λ from at.
-            let long : from + length pending + length raw ≡ length (before ++ raw) = omega (arith, at, length-append before raw) in
-            (
+            let long : from + length pending + length raw ≡ length (before ++ raw) = omega (arith, at, length-append before raw) in (
               start ∙ sym at,
               behind ∙ sym long,
               subst (λ (t : List ℕ). ArePlaced t (from + length pending + length raw) next.pieces next.later) whole
-              (next.placed (from + length pending + length raw) (omega (arith, long))),
+                  (next.placed (from + length pending + length raw) (omega (arith, long))),
             );
         some = λ some.
             ap (λ (b : Bool). pending ++ cond (b || ends_among (before ++ raw) raws)

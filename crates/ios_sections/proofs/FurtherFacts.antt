@@ -123,4 +123,3 @@ from_first-further k xs =
 -- what the sections of a part say, wherever it stands
 pub sections_in-further : (k : ℕ) (part : Part) → sections_in (part_further k part) ≡ sections_in part
 sections_in-further k part = ap sections_among (from_first-further k part.lines)
-

@@ -31,7 +31,7 @@ parts_are block text rest (piece ∷ pieces) (part ∷ parts) from placed blocks
       between_front text (from + length piece.before) piece.ends behind second,
       sym own,
       parts_are block text rest pieces parts (from + length piece.before + length piece.ends) placed.2 later
-      (drop_front text (from + length piece.before) piece.ends behind second),
+          (drop_front text (from + length piece.before) piece.ends behind second),
     ) refl
 
 pub prepared_is : (text : List ℕ) (net : Network) (settled : List SettledRouter) →
