@@ -10,7 +10,7 @@ use Rattle.net_model.specs.declared.refusal.NetRefusal.{NetRefusal}
 use Rattle.net_model.specs.declared.refusal.NetRefusal.TheVariants.{Limit, TwoNames, OutOfMemory}
 use Rattle.net_model.proofs.Names.{TwoHaveName-permutation}
 
-IsLeastDouble-permutation : (xs ys : List Configuration) (name : List ℕ) → IsPermutation xs ys → IsLeastDouble ys name → IsLeastDouble xs name
+pub IsLeastDouble-permutation : (xs ys : List Configuration) (name : List ℕ) → IsPermutation xs ys → IsLeastDouble ys name → IsLeastDouble xs name
 IsLeastDouble-permutation xs ys name moves h = record {
   double = TwoHaveName-permutation ys xs name (IsPermutation-sym xs ys moves) h.double;
   least = λ other t below. h.least other (TwoHaveName-permutation xs ys other moves t) below;
