@@ -26,7 +26,7 @@ use Rattle.refutation_check.proofs.SameVerdicts as same_verdicts
 use Rattle.rib_mix.specs.Mixture.{Mixture, migration_of}
 use Rattle.route_core.specs.Tables.{HasEntry}
 use Rattle.migrate_cli.specs.steps.Tables.{AreBothTables, MixesTables}
-use Rattle.migrate_cli.proofs.PlanTables.{planned_over}
+use Rattle.plan_theory.proofs.PlanTables.{planned_over}
 
 -- a mixture of the tables of a network
 module _ (net : Network) (old : OspfRoutes) (new : IsisRoutes) (tables : AreBothTables net old new) where
