@@ -61,4 +61,5 @@ pub use laws::build_laws;
 pub use links::{cost_in, is_link, may_join};
 pub use net::Net;
 pub use refusal::{LimitWhat, NetRefusal};
+pub use starts::is_off_start;
 pub use zone::Zone;
