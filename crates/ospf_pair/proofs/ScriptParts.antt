@@ -4,7 +4,8 @@ use Rattle.std.proofs.Common.{append-nil, arith}
 use Rattle.std.specs.List.{enumerate_from, flat_map}
 use Rattle.std.proofs.lemmas.List.{take_more, length-take-le}
 use Rattle.std.proofs.lemmas.List.Concat.{flat_map-append}
-use Rattle.igp_theory.specs.Waves.{Change, first, second, run_along}
+use Rattle.igp_theory.specs.Changes.{Change, first, second}
+use Rattle.igp_theory.specs.Waves.{run_along}
 use Rattle.printed_lines.specs.Texts.{text_of}
 use Rattle.printed_lines.proofs.TextSteps.{text_of-append}
 use Rattle.ospf_pair.specs.PairScripts.{PairScripted, pair_part, pair_parts}
