@@ -1,9 +1,8 @@
 ghost use Rattle.std.specs.Prelude.{◌≡◌, ◌+◌, ◌<◌, ◌^◌, ◌++◌, [], IfOk, IfSome, OnOk, length, unwrap_or};
 ghost use Rattle.net_addr.specs.Lines.{text_lines};
 ghost use Rattle.printed_lines.specs.Texts.{text_of};
-ghost use Rattle.ios_sections.specs.Sections.{section_of};
-ghost use Rattle.ios_sections.specs.TextLines.{parts_after, sections_of};
-ghost use Rattle.std.specs.Prelude.{map};
+ghost use Rattle.ios_sections.specs.Sections.{sections_from_first};
+ghost use Rattle.ios_sections.specs.TextLines.{parts_after};
 ghost use Rattle.ios_reader.specs.Places.{between, start_of};
 ghost use Rattle.isis_writer.specs.Prepared.{new_block, numbered_from, numbered_lines, prepared_parts, prepared_text};
 
@@ -11,7 +10,7 @@ use crate::OutOfMemory;
 use crate::router_lines::with_router;
 use design_file::Settled;
 use ios_reader::{between, start_of};
-use ios_sections::read_section::read_sections;
+use ios_sections::read_section::sections_from_first;
 use ios_sections::section::InterfaceSection;
 use ios_sections::statements::statements_of;
 use ios_sections::text::counted_lines;
@@ -108,9 +107,9 @@ fn new_text(
     settled: &Settled,
     lines: &[TextLine],
 ) -> Result<Bytes, OutOfMemory>
-    ensures { IfOk result (λ new. new ≡ new_block net.now settled.now (map section_of (sections_of lines.now))) }
+    ensures { IfOk result (λ new. new ≡ new_block net.now settled.now (sections_from_first lines.now)) }
 {
-    let statements = statements_of(alloc, read_sections(alloc, lines)?)?;
+    let statements = statements_of(alloc, sections_from_first(alloc, lines)?)?;
     let number = number_of(net, &statements.name);
     let interfaces = statements.interfaces.as_slice();
     Ok(numbered_text(alloc, TextBuilder::new(alloc), settled, interfaces, number)?.finish())

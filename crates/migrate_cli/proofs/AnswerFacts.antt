@@ -23,6 +23,7 @@ use Rattle.migrate_cli.specs.Answers.MayFail.{last_failed, none_failed}
 use Rattle.migrate_cli.specs.Calls.{Call}
 use Rattle.migrate_cli.specs.CallWords.AreRefused.{not_taken, number_off}
 use Rattle.migrate_cli.specs.CommandFiles.{GivenTexts, config_texts, files_of, given_texts, own_texts, text_names}
+use Rattle.migrate_cli.specs.Configurations.RefusesFirst.{here}
 use Rattle.migrate_cli.specs.Outcomes.{IsOutcome}
 use Rattle.migrate_cli.specs.Outcomes.IsOutcome.{faulty_configuration, no_network, off_start, decided}
 use Rattle.migrate_cli.specs.Reading.{AreRead, AreWithin, NoneFailed, file_names, to_read}
@@ -127,8 +128,8 @@ network_no_fault _ = refused_no_fault
 pub outcome_no_fault : {command : Command} {texts : GivenTexts} {outcome : Outcome} → IsOutcome command texts outcome → NoFault (status_of outcome)
 outcome_no_fault (faulty_configuration _ _ _ _) = refused_no_fault
 outcome_no_fault (no_network _ refusal _ _ _) = network_no_fault refusal
-outcome_no_fault (off_start _ _ _ _ _ _ _) = refused_no_fault
-outcome_no_fault (decided _ decision _ _ _) = decision_no_fault decision
+outcome_no_fault (off_start _ _ _ _ _ _ _ _) = refused_no_fault
+outcome_no_fault (decided _ _ decision _ _ _) = decision_no_fault decision
 
 -- that a write failed is no answer
 pub answer_writes : {call : Call} {asked : List (List ℕ)} {outcome : Outcome} → IsAnswer call asked outcome → status_of outcome ≢ WriteFault
@@ -214,5 +215,5 @@ pub refused_network : (command : Command) (texts : GivenTexts) (all : List Confi
     ReadsTexts texts.configs all → Refuses refusal all → OnOk r (refusal ≢ NoNetMemory) → IfOk r (λ outcome. outcome ≡ Refused (NoNetwork refusal)) →
     IfOk r (IsOutcome command texts)
 refused_network command texts all refusal (Ok outcome) read refuses told so =
-    subst (IsOutcome command texts) (sym so) (no_network all refusal read refuses told)
+    subst (IsOutcome command texts) (sym so) (no_network all refusal read (here all read refuses) told)
 refused_network command texts all refusal (Err e) read refuses told so = tt

@@ -1,9 +1,8 @@
 -- A call that ended so keeps its promises.
 use Rattle.std.proofs.Common.{◌≡◌, ◌≢◌, ◌∷◌, [], ℕ, List, arith, refl, subst, sym}
 use Rattle.store_edge.specs.Faults.{Rose}
-use Rattle.migrate_words.specs.Asked.{Asks}
-use Rattle.migrate_words.specs.declared.command.CommandKind.TheVariants.{Plan, Prepare}
-use Rattle.migration_report.specs.Outcomes.{status_of}
+use Rattle.store_edge.specs.Sink.{AddsBytes}
+use Rattle.migration_report.specs.Outcomes.{outcome_text, status_of}
 use Rattle.migration_report.specs.declared.outcome.Outcome.{Outcome}
 use Rattle.migration_report.specs.declared.status.Status.{Status}
 use Rattle.migration_report.specs.declared.status.Status.TheVariants.{Done, ReadFault, WriteFault, Memory}
@@ -13,7 +12,6 @@ use Rattle.migrate_cli.specs.Answers.{Answers, Ends, IsAnswer, ReadsAgree}
 use Rattle.migrate_cli.specs.Answers.Ends.{whole, cut, no_memory}
 use Rattle.migrate_cli.specs.Calls.{Call, Outside, course}
 use Rattle.migrate_cli.specs.Claim.{Claim}
-use Rattle.migrate_cli.specs.CommandFiles.{command_of}
 use Rattle.migrate_cli.specs.Completeness.{Decides, DecidesTree, NoFaultRose, Writes}
 use Rattle.migrate_cli.specs.Completeness.Decides.{memory}
 use Rattle.migrate_cli.specs.Completeness.DecidesTree.{no_memory as none_for_tree}
@@ -67,20 +65,13 @@ module _ (call : Call) (before after : Outside) where
   sample_so it (cut _ _ _ _) fails calm = absurd (calm (fails refl))
   sample_so it (no_memory _ _ _) fails calm = none_planned
 
-  -- it has planned where its status says so
-  plan_so : {asked : List (List ℕ)} {status : Status} (budget : ℕ) (configs : List (List ℕ)) → Asks call.words (command_of Plan [] configs budget) →
-      Ends call asked (course before after) status → IsOfPlan status → HasPlanned call budget configs (course before after) status
-  plan_so budget configs asks (whole outcome is _ adds) of = answer_means call budget configs (course before after) asks is adds of
-  plan_so budget configs asks (cut _ _ _ _) of = absurd of
-  plan_so budget configs asks (no_memory _ _ _) of = absurd of
-
-  -- and prepared
-  prepare_so : {asked : List (List ℕ)} {status : Status} (file : List ℕ) (configs : List (List ℕ)) →
-      Asks call.words (command_of Prepare (file ∷ []) configs 0) →
-      Ends call asked (course before after) status → status ≡ Done → HasPrepared call file configs (course before after)
-  prepare_so file configs asks (whole outcome is _ adds) done = reads_back call file configs (course before after) asks is adds done
-  prepare_so file configs asks (cut _ _ _ _) done = absurd (Prim.cc done)
-  prepare_so file configs asks (no_memory _ _ _) done = absurd (Prim.cc done)
+  -- what its text means holds where its status says that it was written
+  wrote_so : {asked : List (List ℕ)} {status : Status} (Q R : Status → Type 0) → (Q WriteFault → ⊥) → (Q Memory → ⊥) →
+      ((outcome : Outcome) → IsAnswer call asked outcome → AddsBytes before.written after.written (outcome_text outcome) → Q (status_of outcome) →
+      R (status_of outcome)) → Ends call asked (course before after) status → Q status → R status
+  wrote_so Q R uncut kept means (whole outcome is _ adds) q = means outcome is adds q
+  wrote_so Q R uncut kept means (cut _ _ _ _) q = absurd (uncut q)
+  wrote_so Q R uncut kept means (no_memory _ _ _) q = absurd (kept q)
 
   -- so it keeps all of its promises
   pub claim : (status : Status) → Answers call before after status → Fails status →
@@ -95,7 +86,8 @@ module _ (call : Call) (before after : Outside) where
         write_fault = fails;
         unless_write_fault = stands;
         plans = record {
-          means = λ budget configs asks of. plan_so budget configs asks ends of;
+          means = λ budget configs asks. wrote_so IsOfPlan (HasPlanned call budget configs (course before after)) (λ q. q) (λ q. q)
+              (λ outcome is adds of. answer_means call budget configs (course before after) asks is adds of) ends;
           decides = λ it calm. calm_so (PlansOrNot it.net) none_planned (plan_decides call it asked) ends fails calm;
         };
         checks = λ it calm. calm_so Decides memory (check_decides call it asked) ends fails calm;
@@ -103,7 +95,8 @@ module _ (call : Call) (before after : Outside) where
         replays = λ it calm. calm_so Decides memory (replay_decides call it asked) ends fails calm;
         scripts = λ it calm. calm_so Writes unwritten (scripts_write call it asked) ends fails calm;
         prepares = record {
-          reads_back = λ file configs asks done. prepare_so file configs asks ends done;
+          reads_back = λ file configs asks. wrote_so (λ s. s ≡ Done) (λ _. HasPrepared call file configs (course before after)) (λ e. Prim.cc e)
+              (λ e. Prim.cc e) (λ outcome is adds done. reads_back call file configs (course before after) asks is adds done) ends;
           writes = λ it calm. calm_so Writes unwritten (prepare_writes call it asked) ends fails calm;
         };
         samples = record {

@@ -1,5 +1,5 @@
 -- Where nothing of the input is refused, a command decides.
-use Rattle.std.proofs.Common.{◌≡◌, ◌≢◌, ℕ, List, [], ◌∷◌, All, ap, sym, ◌∙◌, subst}
+use Rattle.std.proofs.Common.{◌≡◌, ◌≢◌, ℕ, List, [], ◌∷◌, All, ap, drop, get_or, sym, ◌∙◌, subst}
 use Rattle.net_model.specs.Network.{Network}
 use Rattle.net_model.specs.Refusals.{NamesAscend}
 use Rattle.design_file.specs.Answers.{SaysDesign}
@@ -22,11 +22,11 @@ use Rattle.migrate_cli.specs.CheckDecision.{IsCheckOver, IsOrderDecision, IsWave
 use Rattle.migrate_cli.specs.CheckDecision.IsCheckOver.{faulty_order, of_order, of_waves}
 use Rattle.migrate_cli.specs.CheckDecision.IsOrderDecision.{safe, unsafe}
 use Rattle.migrate_cli.specs.CheckDecision.IsWavesDecision.{safe_waves, unsafe_wave}
-use Rattle.migrate_cli.specs.CommandFiles.{NeedsStart, command_of, config_texts, files_of, own_texts, given_texts}
+use Rattle.migrate_cli.specs.CommandFiles.{NeedsStart, command_of, config_texts, files_of, groups_of, own_texts, given_texts}
 use Rattle.migrate_cli.specs.Completeness.{AcceptsCheck, AcceptsRefute, AcceptsReplay, AcceptsScripts, Decides, DecidesTree, IsAccepted, Writes}
 use Rattle.migrate_cli.specs.Completeness.Decides.{yes, no}
 use Rattle.migrate_cli.specs.Completeness.Writes.{written}
-use Rattle.migrate_cli.specs.Configurations.{GiveNetwork, IsAtStart}
+use Rattle.migrate_cli.specs.Configurations.{GiveNetwork, GiveNetworks, IsAtStart}
 use Rattle.migrate_cli.specs.Decisions.{Input, IsDecision, input_of}
 use Rattle.migrate_cli.specs.Outcomes.{IsOutcome}
 use Rattle.migrate_cli.specs.Outcomes.IsOutcome.{faulty_configuration, no_network, off_start, decided}
@@ -41,11 +41,10 @@ use Rattle.migrate_cli.specs.ScriptsDecision.IsScriptsDecision.{faulty_waves as 
 use Rattle.migrate_cli.proofs.CallLaws.{OfFiles, OfWords, question, few_or_many, refused_or_asks, steps_of, stop_or_all}
 use Rattle.migrate_cli.proofs.CallLaws.OfFiles.{above, stopped, all_read}
 use Rattle.migrate_cli.proofs.CallLaws.OfWords.{refused, asks}
-use Rattle.migrate_cli.proofs.OutcomeLaws.{one_network, refused_or_given}
+use Rattle.migrate_cli.proofs.GroupLaws.{given_unrefused, none_refuses, same_networks}
 use Rattle.migrate_cli.proofs.PrepareLaws.{settled_writes}
 use Rattle.migrate_cli.proofs.RefuteLaws.{tree_decides}
 use Rattle.migrate_cli.proofs.StopLaws.{one_list, told_files, told_with, IsToldOf}
-use Rattle.migrate_cli.proofs.TextLaws.{none_refused}
 
 -- ---- what is decided, is decided of the network ----
 
@@ -56,26 +55,31 @@ pub record IsDecided (command : Command) (input : Input) (outcome : Outcome) : T
   pub is : IsDecision command.kind input decision
 
 -- where nothing of some texts is refused, the command decides
-pub judged_alone : (command : Command) (own texts : List (List ℕ)) (net : Network) {outcome : Outcome} → GiveNetwork texts net →
-    (NeedsStart command.kind → IsAtStart net) → IsOutcome command (given_texts own texts) outcome →
-    IsDecided command (input_of command (given_texts own texts) net) outcome
-judged_alone command own texts net gives start (faulty_configuration _ _ _ first) = absurd (none_refused first gives.configs gives.read)
-judged_alone command own texts net gives start (no_network all refusal read refuses told) =
-    absurd (refused_or_given texts net all refusal gives read refuses told)
-judged_alone command own texts net gives start (off_start other router _ given needs lowest _) =
-    let at_start : IsAtStart other = subst IsAtStart (one_network texts net other gives given) (start needs) in
+pub judged_alone : (command : Command) (own texts : List (List ℕ)) (net : Network) (others : List Network) {outcome : Outcome} →
+    GiveNetworks (groups_of command.kind texts) (net ∷ others) → (NeedsStart command.kind → IsAtStart net) →
+    IsOutcome command (given_texts own texts) outcome → IsDecided command (input_of command (given_texts own texts) net others) outcome
+judged_alone command own texts net others gives start (faulty_configuration _ _ _ first) =
+    absurd (given_unrefused command.kind texts (net ∷ others) gives first)
+judged_alone command own texts net others gives start (no_network _ _ _ refuses told) = absurd (none_refuses (net ∷ others) gives told refuses)
+judged_alone command own texts net others gives start (off_start other more router _ given needs lowest _) =
+    let same = same_networks (groups_of command.kind texts) (net ∷ others) (other ∷ more) gives given in
+    let at_start : IsAtStart other = subst (λ (all : List Network). IsAtStart (get_or all 0 net)) same (start needs) in
     absurd (at_start router lowest.holds)
-judged_alone command own texts net gives start (decided other decision given _ is) =
-    let same : other ≡ net = one_network texts other net given gives in
+judged_alone command own texts net others gives start (decided other more decision given _ is) =
+    let same = same_networks (groups_of command.kind texts) (other ∷ more) (net ∷ others) given gives in
     record {
       decision = decision;
-      outcome_is = ap (λ (n : Network). Decided n decision) same;
-      is = subst (λ (n : Network). IsDecision command.kind (input_of command (given_texts own texts) n) decision) same is;
+      outcome_is = ap (λ (all : List Network). Decided (get_or all 0 net) decision) same;
+      is =
+          subst
+          (λ (all : List Network). IsDecision command.kind (input_of command (given_texts own texts) (get_or all 0 net) (drop 1 all)) decision)
+          same is;
     }
 
-module _ (call : Call) (command : Command) (texts : List (List ℕ)) (net : Network) (accepted : IsAccepted call command texts net) where
+module _ (call : Call) (command : Command) (texts : List (List ℕ)) (net : Network) (others : List Network)
+    (accepted : IsAccepted call command texts net others) where
   abbrev pub input : Input
-  input = input_of command (given_texts (own_texts command texts) (config_texts command texts)) net
+  input = input_of command (given_texts (own_texts command texts) (config_texts command texts)) net others
 
   files_judged : {asked : List (List ℕ)} {outcome : Outcome} → OfFiles (question call.content command) asked outcome →
       IsDecided command input outcome
@@ -86,7 +90,7 @@ module _ (call : Call) (command : Command) (texts : List (List ℕ)) (net : Netw
       (told_with call.content before file stop.after (subst (All (IsToldOf call.content)) stop.files_are tell)) stop accepted.read accepted.within)
   files_judged {outcome = outcome} (all_read some _ read _ is) =
       let same = one_list call.content (files_of command) some texts (told_files call.content (files_of command) accepted.told) read accepted.read in
-      judged_alone command (own_texts command texts) (config_texts command texts) net accepted.gives accepted.start
+      judged_alone command (own_texts command texts) (config_texts command texts) net others accepted.gives accepted.start
       (subst (λ list. IsOutcome command (given_texts (own_texts command list) (config_texts command list)) outcome) same is)
 
   words_judged : {asked : List (List ℕ)} {outcome : Outcome} → OfWords call asked outcome → IsDecided command input outcome
@@ -140,8 +144,8 @@ check_of_waves ascending names (of_waves _ _ _ is) = waves_decide is
 pub check_decides : (call : Call) → AcceptsCheck call → (asked : List (List ℕ)) (outcome : Outcome) → status_of outcome ≢ ReadFault →
     IsAnswer call asked outcome → Decides (status_of outcome)
 check_decides call it =
-    ends_decided call (command_of Check (it.file ∷ []) it.configs 0) it.texts it.net it.accepted Decides
-    (λ decision is. check_of_waves (names_ascend it.accepted.gives)
+    ends_decided call (command_of Check (it.file ∷ []) it.configs 0) it.texts it.net [] it.accepted Decides
+    (λ decision is. check_of_waves (names_ascend it.accepted.gives.0)
     (said_of it.file (λ t. NamesWaves it.net t it.version it.ranks) it.text_is is.1 it.names) is.2)
 
 -- ---- `scripts` ----
@@ -155,8 +159,8 @@ scripts_of_waves ascending names (script_of _ _ _) = written
 pub scripts_write : (call : Call) → AcceptsScripts call → (asked : List (List ℕ)) (outcome : Outcome) → status_of outcome ≢ ReadFault →
     IsAnswer call asked outcome → Writes (status_of outcome)
 scripts_write call it =
-    ends_decided call (command_of Scripts (it.file ∷ []) it.configs 0) it.texts it.net it.accepted Writes
-    (λ decision is. scripts_of_waves (names_ascend it.accepted.gives)
+    ends_decided call (command_of Scripts (it.file ∷ []) it.configs 0) it.texts it.net [] it.accepted Writes
+    (λ decision is. scripts_of_waves (names_ascend it.accepted.gives.0)
     (said_of it.file (λ t. NamesWaves it.net t it.version it.ranks) it.text_is is.1 it.names) is.2)
 
 -- ---- `replay` ----
@@ -175,11 +179,11 @@ replay_of_waves ascending names (replay_of _ _ _ _ is) = journal_decides is
 pub replay_decides : (call : Call) → AcceptsReplay call → (asked : List (List ℕ)) (outcome : Outcome) → status_of outcome ≢ ReadFault →
     IsAnswer call asked outcome → Decides (status_of outcome)
 replay_decides call it =
-    ends_decided call (command_of Replay (it.file ∷ it.journal_file ∷ []) it.configs 0) it.texts it.net it.accepted Decides
+    ends_decided call (command_of Replay (it.file ∷ it.journal_file ∷ []) it.configs 0) it.texts it.net [] it.accepted Decides
     (λ decision is. let both : List (List ℕ) → List NamedText = named_texts (it.file ∷ it.journal_file ∷ []) in
     let lists : named_text it.file it.text ∷ named_text it.journal_file it.journal ∷ [] ≡ is.0 ∷ is.1 ∷ [] = ap both (sym it.texts_are) ∙ is.2 in
     let same : named_text it.file it.text ≡ is.0 = cc lists in
-    replay_of_waves {order = is.0} {journal = journal_of is.1.text it.net} (names_ascend it.accepted.gives)
+    replay_of_waves {order = is.0} {journal = journal_of is.1.text it.net} (names_ascend it.accepted.gives.0)
     (subst (λ (file : NamedText). NamesWaves it.net file.text it.version it.ranks) same it.names) is.3)
 
 -- ---- `refute` and `prepare` ----
@@ -187,7 +191,7 @@ replay_decides call it =
 pub refute_decides : (call : Call) → (it : AcceptsRefute call) → (asked : List (List ℕ)) (outcome : Outcome) → status_of outcome ≢ ReadFault
     → IsAnswer call asked outcome → DecidesTree it.net it.tree (status_of outcome)
 refute_decides call it =
-    ends_decided call (command_of Refute (it.file ∷ []) it.configs 0) it.texts it.net it.accepted (DecidesTree it.net it.tree)
+    ends_decided call (command_of Refute (it.file ∷ []) it.configs 0) it.texts it.net [] it.accepted (DecidesTree it.net it.tree)
     (λ decision is. let lists : named_text it.file it.tree ∷ [] ≡ is.0 ∷ [] = ap (named_texts (it.file ∷ [])) (sym it.tree_is) ∙ is.1 in
     let same : named_text it.file it.tree ≡ is.0 = cc lists in
     tree_decides it.tree it.net (subst (λ (file : NamedText). IsTreeDecision (ospf_to_isis it.net) file.text decision) (sym same) is.2))
@@ -195,5 +199,5 @@ refute_decides call it =
 pub prepare_writes : (call : Call) → AcceptsPrepare call → (asked : List (List ℕ)) (outcome : Outcome) → status_of outcome ≢ ReadFault →
     IsAnswer call asked outcome → Writes (status_of outcome)
 prepare_writes call it =
-    ends_decided call (command_of Prepare (it.file ∷ []) it.configs 0) it.texts it.net it.accepted Writes
+    ends_decided call (command_of Prepare (it.file ∷ []) it.configs 0) it.texts it.net [] it.accepted Writes
     (λ decision is. settled_writes it.design it.settled (said_of it.file (λ t. SaysDesign t it.design) it.text_is is.1 it.says) it.settles is.2)

@@ -1,5 +1,5 @@
 -- Configurations read file by file.
-use Rattle.std.proofs.Common.{◌≡◌, ℕ, zero, suc, ◌+◌, ◌<◌, List, [], ◌∷◌, ◌++◌, length, take, get_or, refl, arith, ap, ◌∙◌, sym, subst, append_assoc}
+use Rattle.std.proofs.Common.{◌≡◌, ℕ, zero, suc, ◌+◌, ◌<◌, List, [], ◌∷◌, ◌++◌, length, take, get_or, refl, arith, ap, ◌∙◌, sym, subst}
 use Rattle.std.proofs.Common.{append-nil}
 use Rattle.std.proofs.lemmas.List.{take_more}
 use Rattle.ios_reader.specs.Texts.{ReadsText, IsRefusedText}
@@ -11,31 +11,15 @@ use Rattle.migrate_cli.specs.Configurations.IsFirstRefused.{here, later}
 use Rattle.migrate_cli.specs.steps.Unread.{IsUnreadText, IsUnread}
 use Rattle.migrate_cli.specs.declared.configurations.Unread.{Unread}
 use Rattle.migrate_cli.specs.declared.configurations.Unread.TheVariants.{Bad, OutOfMemory}
+use Rattle.migrate_cli.proofs.GroupLaws.{reads_append}
 
 -- one more text was read
-pub ReadsTexts-more : (texts : List (List ℕ)) (text : List ℕ) (configs more : List Configuration) → ReadsTexts texts configs → ReadsText text more
-    → ReadsTexts (texts ++ text ∷ []) (configs ++ more)
-ReadsTexts-more [] text configs more none reads = record {
-  one = more;
-  others = [];
-  reads = reads;
-  rest = refl;
-  all = ap (λ some. some ++ more) none ∙ sym (append-nil more);
-}
-ReadsTexts-more (t ∷ texts) text configs more first reads = record {
-  one = first.one;
-  others = first.others ++ more;
-  reads = first.reads;
-  rest = ReadsTexts-more texts text first.others more first.rest reads;
-  all = ap (λ some. some ++ more) first.all ∙ append_assoc first.one first.others more;
-}
-
--- the same, by place
 pub ReadsTexts-next : (texts : List (List ℕ)) (i : ℕ) (text : List ℕ) (configs more : List Configuration) → i < length texts → text ≡ get_or texts i text
     → ReadsTexts (take i texts) configs → ReadsText text more → ReadsTexts (take (i + 1) texts) (configs ++ more)
 ReadsTexts-next texts i text configs more within at first reads =
     let e : take i texts ++ text ∷ [] ≡ take (i + 1) texts = ap (λ t. take i texts ++ t ∷ []) at ∙ sym (take_more texts i text within) in
-    subst (λ some. ReadsTexts some (configs ++ more)) e (ReadsTexts-more (take i texts) text configs more first reads)
+    let one : ReadsTexts (text ∷ []) more = record { one = more; others = []; reads = reads; rest = refl; all = sym (append-nil more) } in
+    subst (λ some. ReadsTexts some (configs ++ more)) e (reads_append (take i texts) (text ∷ []) configs more first one)
 
 -- after texts that were read the first faulty one
 pub first_refused : (names texts : List (List ℕ)) (i : ℕ) (name text : List ℕ) (configs : List Configuration) (line : ℕ) (kind : ReadKind) →

@@ -89,20 +89,20 @@ is_as_planned routers (faulty_configuration file number kind first) =
     record { planned = _; plans = faulty_configuration file number kind first; same_status = refl; same = λ _. refl }
 is_as_planned routers (no_network all refusal reads refuses told) =
     record { planned = _; plans = no_network all refusal reads refuses told; same_status = refl; same = λ _. refl }
-is_as_planned routers (off_start net router config gives needs lowest has) =
-    record { planned = _; plans = off_start net router config gives needs lowest has; same_status = refl; same = λ _. refl }
-is_as_planned routers (decided net decision gives start is) = by_decision decision is
+is_as_planned routers (off_start net others router config gives needs lowest has) =
+    record { planned = _; plans = off_start net others router config gives needs lowest has; same_status = refl; same = λ _. refl }
+is_as_planned routers (decided net others decision gives start is) = by_decision decision is
   where
     by_decision : (d : Decision) → IsSampleDecision routers net d → IsAsPlanned routers (Decided net d)
     by_decision d (summed_up ranks pairs chain trail _ some network found _) = record {
       planned = Decided net (Plan (Searched (Waves ranks pairs chain trail)));
-      plans = decided net _ gives start (plans _ some network found);
+      plans = decided net others _ gives start (plans _ some network found);
       same_status = refl;
       same = λ not_done. absurd (not_done refl);
     }
     by_decision d (as_planned planned _ some network found) = record {
       planned = Decided net (Plan planned);
-      plans = decided net _ gives start (plans planned some network found);
+      plans = decided net others _ gives start (plans planned some network found);
       same_status = refl;
       same = λ _. refl;
     }
@@ -142,5 +142,5 @@ pub sample_decides : (call : Call) → (it : AcceptsSample call) → (asked : Li
     PlansOrNot it.net (status_of outcome)
 sample_decides call it asked outcome answer =
     let of = sampled call it.routers it.asks answer in
-    let made = judged_alone (command_of Sample [] [] it.routers) [] (sample_text it.routers ∷ []) it.net it.gives (λ _. it.start) of.is in
+    let made = judged_alone (command_of Sample [] [] it.routers) [] (sample_text it.routers ∷ []) it.net [] (it.gives, tt) (λ _. it.start) of.is in
     subst (λ (o : Outcome). PlansOrNot it.net (status_of o)) (sym made.outcome_is) (sample_plans made.is)

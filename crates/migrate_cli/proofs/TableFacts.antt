@@ -7,10 +7,12 @@ use Rattle.igp_theory.specs.Migrations.{listed_migration, ospf_to_isis}
 use Rattle.igp_theory.specs.Ospf.{OspfEntry}
 use Rattle.igp_theory.specs.Routes.{HaveSameEntries}
 use Rattle.igp_theory.specs.States.{IsSeamless}
-use Rattle.igp_theory.specs.WaveFaults.{IsWavesFault}
+use Rattle.igp_theory.specs.Phases.{all_old}
+use Rattle.igp_theory.specs.Timetables.{router_times}
+use Rattle.igp_theory.specs.WaveFaults.{IsTimesFault}
 use Rattle.igp_theory.specs.Waves.{AreSeamlessWaves, HasNoneSeamless}
 use Rattle.igp_theory.proofs.SameTables.{first_fault_over, seamless_over}
-use Rattle.igp_theory.proofs.WaveFaultLaws.{seamless_waves_over, waves_fault_over}
+use Rattle.igp_theory.proofs.WaveFaultLaws.{seamless_waves_over, times_fault_over}
 use Rattle.isis_routes.specs.declared.source.IsisRoutes.{IsisRoutes}
 use Rattle.net_model.specs.Network.{Network}
 use Rattle.ospf_routes.specs.RouteTables.{table_at}
@@ -24,7 +26,7 @@ use Rattle.refutation_check.proofs.SameVerdicts as same_verdicts
 use Rattle.rib_mix.specs.Mixture.{Mixture, migration_of}
 use Rattle.route_core.specs.Tables.{HasEntry}
 use Rattle.migrate_cli.specs.steps.Tables.{AreBothTables, MixesTables}
-use Rattle.migrate_cli.proofs.PlanTables.{planned_over}
+use Rattle.plan_theory.proofs.PlanTables.{planned_over}
 
 -- a mixture of the tables of a network
 module _ (net : Network) (old : OspfRoutes) (new : IsisRoutes) (tables : AreBothTables net old new) where
@@ -60,10 +62,10 @@ module _ (net : Network) (m : Mixture OspfRoutes IsisRoutes) (mixes : MixesTable
   seamless_waves ranks is =
       subst (λ (n : Network). AreSeamlessWaves (ospf_to_isis n) ranks) mixes.net_is (seamless_waves_over mixes.same is)
 
-  pub waves_fault : (ranks : List ℕ) (w : ℕ) (fault : Fault) → IsWavesFault (migration_of table_at table_at m) ranks w fault →
-      IsWavesFault (ospf_to_isis net) ranks w fault
+  pub waves_fault : (ranks : List ℕ) (w : ℕ) (fault : Fault) → IsTimesFault (migration_of table_at table_at m) (router_times all_old ranks) w fault →
+      IsTimesFault (ospf_to_isis net) (router_times all_old ranks) w fault
   waves_fault ranks w fault is =
-      subst (λ (n : Network). IsWavesFault (ospf_to_isis n) ranks w fault) mixes.net_is (waves_fault_over mixes.same is)
+      subst (λ (n : Network). IsTimesFault (ospf_to_isis n) (router_times all_old ranks) w fault) mixes.net_is (times_fault_over mixes.same is)
 
   pub planned_of : (budget : ℕ) (planned : Planned) → IsPlanned (migration_of table_at table_at m) budget planned →
       IsPlanned (ospf_to_isis net) budget planned

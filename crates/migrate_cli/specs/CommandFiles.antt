@@ -53,6 +53,10 @@ made_texts _ number texts = texts
 abbrev pub config_texts : Command → List (List ℕ) → List (List ℕ)
 config_texts command texts = made_texts command.kind command.number (drop (length command.own) texts)
 
+-- the groups of texts of configurations of a command of this kind, each of which makes a network: today's have one
+abbrev pub groups_of : CommandKind → List (List ℕ) → List (List (List ℕ))
+groups_of kind texts = texts ∷ []
+
 -- the names of the texts of configurations, by the kind of the command: those of the files, or `sample`
 abbrev pub names_for : CommandKind → List (List ℕ) → List (List ℕ)
 names_for Sample configs = codes "sample" ∷ []

@@ -14,18 +14,18 @@ use Rattle.migration_report.specs.declared.status.Status.TheVariants.{Done, Nega
 use Rattle.migrate_cli.specs.AnswerLaws.{IsFileTold}
 use Rattle.migrate_cli.specs.Answers.{AsksForFew}
 use Rattle.migrate_cli.specs.Calls.{Call, Outside}
-use Rattle.migrate_cli.specs.CommandFiles.{NeedsStart, command_of, config_texts, files_of, own_texts}
-use Rattle.migrate_cli.specs.Configurations.{GiveNetwork, IsAtStart}
+use Rattle.migrate_cli.specs.CommandFiles.{NeedsStart, command_of, config_texts, files_of, groups_of, own_texts}
+use Rattle.migrate_cli.specs.Configurations.{GiveNetworks, IsAtStart}
 use Rattle.migrate_cli.specs.Reading.{AreRead, AreWithin, file_names}
 
 -- the words ask for this, what the files hold is told and within the limits, and the configurations make this network, which
--- is at its start where that is needed
-pub record IsAccepted (call : Call) (command : Command) (texts : List (List ℕ)) (net : Network) : Type 0 where
+-- is at its start where that is needed, and these others
+pub record IsAccepted (call : Call) (command : Command) (texts : List (List ℕ)) (net : Network) (others : List Network) : Type 0 where
   pub asked : AsksForFew call.words command
   pub told : All (IsFileTold call.content) (file_names (files_of command))
   pub read : AreRead call.content (files_of command) texts
   pub within : AreWithin (files_of command) texts
-  pub gives : GiveNetwork (config_texts command texts) net
+  pub gives : GiveNetworks (groups_of command.kind (config_texts command texts)) (net ∷ others)
   pub start : NeedsStart command.kind → IsAtStart net
 
 -- no read fails in a call, and no fault of the sink rises
@@ -39,7 +39,7 @@ pub record AcceptsCheck (call : Call) : Type 0 where
   pub configs : List (List ℕ)
   pub texts : List (List ℕ)
   pub net : Network
-  pub accepted : IsAccepted call (command_of Check (file ∷ []) configs 0) texts net
+  pub accepted : IsAccepted call (command_of Check (file ∷ []) configs 0) texts net []
   pub text : List ℕ
   pub text_is : own_texts (command_of Check (file ∷ []) configs 0) texts ≡ text ∷ []
   pub version : Version
@@ -52,7 +52,7 @@ pub record AcceptsScripts (call : Call) : Type 0 where
   pub configs : List (List ℕ)
   pub texts : List (List ℕ)
   pub net : Network
-  pub accepted : IsAccepted call (command_of Scripts (file ∷ []) configs 0) texts net
+  pub accepted : IsAccepted call (command_of Scripts (file ∷ []) configs 0) texts net []
   pub text : List ℕ
   pub text_is : own_texts (command_of Scripts (file ∷ []) configs 0) texts ≡ text ∷ []
   pub version : Version
@@ -66,7 +66,7 @@ pub record AcceptsReplay (call : Call) : Type 0 where
   pub configs : List (List ℕ)
   pub texts : List (List ℕ)
   pub net : Network
-  pub accepted : IsAccepted call (command_of Replay (file ∷ journal_file ∷ []) configs 0) texts net
+  pub accepted : IsAccepted call (command_of Replay (file ∷ journal_file ∷ []) configs 0) texts net []
   pub text : List ℕ
   pub journal : List ℕ
   pub texts_are : own_texts (command_of Replay (file ∷ journal_file ∷ []) configs 0) texts ≡ text ∷ journal ∷ []
@@ -80,7 +80,7 @@ pub record AcceptsRefute (call : Call) : Type 0 where
   pub configs : List (List ℕ)
   pub texts : List (List ℕ)
   pub net : Network
-  pub accepted : IsAccepted call (command_of Refute (file ∷ []) configs 0) texts net
+  pub accepted : IsAccepted call (command_of Refute (file ∷ []) configs 0) texts net []
   pub tree : List ℕ
   pub tree_is : own_texts (command_of Refute (file ∷ []) configs 0) texts ≡ tree ∷ []
 

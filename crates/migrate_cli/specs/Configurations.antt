@@ -1,12 +1,14 @@
--- The configurations of several files, and the network that they make.
+-- The configurations of several files, and the networks that they make.
 use Rattle.std.specs.Prelude.{ℕ, List, ◌∷◌}
+use Rattle.std.specs.List.{AllZip}
 use Rattle.ios_reader.specs.Texts.{ReadsText, IsRefusedText}
 use Rattle.ios_reader.specs.declared.kind.ReadKind.{ReadKind}
 use Rattle.isis_writer.specs.ReadTexts.{ReadsTexts}
 use Rattle.net_model.specs.Configuration.{Configuration}
 use Rattle.net_model.specs.Network.{Network}
 use Rattle.net_model.specs.OffStarts.{StartsOff}
-use Rattle.net_model.specs.Refusals.{MakeNetwork}
+use Rattle.net_model.specs.Refusals.{MakeNetwork, Refuses}
+use Rattle.net_model.specs.declared.refusal.NetRefusal.{NetRefusal}
 
 -- a faulty line of a text, and why it is faulty
 pub record LineFault : Type 0 where
@@ -28,6 +30,17 @@ pub record GiveNetwork (texts : List (List ℕ)) (net : Network) : Type 0 where
   pub configs : List Configuration
   pub read : ReadsTexts texts configs
   pub make : MakeNetwork configs net
+
+-- groups of texts give these networks, each group one
+abbrev pub GiveNetworks : List (List (List ℕ)) → List Network → Type 0
+GiveNetworks groups nets = AllZip GiveNetwork groups nets
+
+-- the first of some groups of texts that makes no network is refused so; those before it give networks
+pub data RefusesFirst (refusal : NetRefusal) : List (List (List ℕ)) → Type 0 where
+  here : {texts : List (List ℕ)} {groups : List (List (List ℕ))} (configs : List Configuration) →
+      ReadsTexts texts configs → Refuses refusal configs → RefusesFirst refusal (texts ∷ groups)
+  later : {texts : List (List ℕ)} {groups : List (List (List ℕ))} (net : Network) →
+      GiveNetwork texts net → RefusesFirst refusal groups → RefusesFirst refusal (texts ∷ groups)
 
 -- every router is where a migration starts: OSPF below the greatest distance, IS-IS at it
 abbrev pub IsAtStart : Network → Type 0

@@ -16,16 +16,23 @@ use Rattle.migrate_cli.specs.ReplayDecision.{IsReplayDecision, journal_of}
 use Rattle.migrate_cli.specs.SampleDecision.{IsSampleDecision}
 use Rattle.migrate_cli.specs.ScriptsDecision.{IsScriptsDecision}
 
--- what a command decides on: its own files, its number, the texts of the configurations, and the network that these make
+-- what a command decides on: its own files, its number, the texts of the configurations, the network that their first group
+-- makes, and those of the other groups
 pub record Input : Type 0 where
   pub own : List NamedText
   pub number : ℕ
   pub configs : List (List ℕ)
   pub net : Network
+  pub others : List Network
 
-abbrev pub input_of : Command → GivenTexts → Network → Input
-input_of command texts net =
-    record { own = named_texts command.own texts.own; number = command.number; configs = texts.configs; net = net }
+abbrev pub input_of : Command → GivenTexts → Network → List Network → Input
+input_of command texts net others = record {
+  own = named_texts command.own texts.own;
+  number = command.number;
+  configs = texts.configs;
+  net = net;
+  others = others;
+}
 
 -- what a command decides
 abbrev pub IsDecision : CommandKind → Input → Decision → Type 0

@@ -42,7 +42,7 @@ pub record AcceptsPlan (call : Call) : Type 0 where
   pub configs : List (List ℕ)
   pub texts : List (List ℕ)
   pub net : Network
-  pub accepted : IsAccepted call (command_of Plan [] configs budget) texts net
+  pub accepted : IsAccepted call (command_of Plan [] configs budget) texts net []
 
 -- it ends as a plan of the network, or there was no memory
 pub data PlansOrNot (net : Network) : Status → Type 0 where

@@ -43,7 +43,7 @@ pub record AcceptsPrepare (call : Call) : Type 0 where
   pub configs : List (List ℕ)
   pub texts : List (List ℕ)
   pub net : Network
-  pub accepted : IsAccepted call (command_of Prepare (file ∷ []) configs 0) texts net
+  pub accepted : IsAccepted call (command_of Prepare (file ∷ []) configs 0) texts net []
   pub text : List ℕ
   pub text_is : own_texts (command_of Prepare (file ∷ []) configs 0) texts ≡ text ∷ []
   pub design : Design

@@ -38,7 +38,7 @@ pub(crate) fn judge_command(
     requires some { 0 < length net.now }
     requires own { AreShort (own_files command.now) own.now }
     requires configs { All (λ text. length text ≤ FILE_MOST) configs.now }
-    ensures { IfOk result (IsDecision command.now.kind (input_of command.now (given_texts own.now configs.now) net.now)) }
+    ensures { IfOk result (IsDecision command.now.kind (input_of command.now (given_texts own.now configs.now) net.now [])) }
 {
     match command.kind {
         CommandKind::Check => {

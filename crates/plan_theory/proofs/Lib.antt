@@ -4,3 +4,4 @@ pub mod Ends
 pub mod Meaning
 pub mod WaveBreaks
 pub mod AlikeFaults
+pub mod PlanTables

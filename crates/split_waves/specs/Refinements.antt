@@ -3,7 +3,8 @@ use Rattle.std.specs.Prelude.{◌≡◌, ℕ, ◌<◌, List, length}
 use Rattle.order_core.specs.Rankings.{IsRanking, KeepsPair}
 use Rattle.igp_theory.specs.Migrations.{Migration}
 use Rattle.igp_theory.specs.Phases.{State}
-use Rattle.igp_theory.specs.Waves.{AreSeamlessWaves, IsWavesState}
+use Rattle.igp_theory.specs.Timetables.{IsStateOf, router_times}
+use Rattle.igp_theory.specs.Waves.{AreSeamlessWaves}
 
 -- a ranking refines another one of as many routers: it keeps each "u before v" that the other keeps
 pub record Refines (coarse fine : List ℕ) : Type 0 where
@@ -14,7 +15,8 @@ pub record Refines (coarse fine : List ℕ) : Type 0 where
 abbrev pub RefinementsHaveNoOtherStates : Migration → Type 0
 RefinementsHaveNoOtherStates move =
     (coarse fine : List ℕ) (state : State) → IsRanking (length move.net) coarse → Refines coarse fine →
-    IsWavesState (length move.net) fine state → IsWavesState (length move.net) coarse state
+    IsStateOf (length move.net) move.start (router_times move.start fine) state →
+    IsStateOf (length move.net) move.start (router_times move.start coarse) state
 
 -- and each refinement of a seamless wave list is seamless
 abbrev pub RefinementsAreSeamless : Migration → Type 0

@@ -53,7 +53,7 @@ returns-in-Refute c =
     let command = c.args.command.now in
     let own = c.args.own.now in
     let text = c.index-own-0.result in
-    let input : Input = input_of command (given_texts own c.args.configs.now) c.args.net.now in
+    let input : Input = input_of command (given_texts own c.args.configs.now) c.args.net.now [] in
     let count : length own ≡ 1 = text_count command own Refute c.in-Refute.is c.requires.range c.requires.own in
     let here : 0 < length own = omega (arith, count) in
     let text_is : text ≡ slice_index_or own 0 [] = c.index-own-0.is ∙ element own 0 text [] here in
@@ -66,7 +66,7 @@ pub returns-in-Replay : goal.returns-in-Replay
 returns-in-Replay c =
     let command = c.args.command.now in
     let own = c.args.own.now in
-    let input : Input = input_of command (given_texts own c.args.configs.now) c.args.net.now in
+    let input : Input = input_of command (given_texts own c.args.configs.now) c.args.net.now [] in
     let file = c.first_own-in-Replay.result.0.now in
     let order = c.first_own-in-Replay.result.1.now in
     let journal = c.index-own-1.result in

@@ -4,7 +4,7 @@ use Rattle.migrate_cli.specs.CommandFiles.{given_texts, own_file}
 use Rattle.migrate_cli.specs.Outcomes.{IsOutcome}
 use Rattle.migrate_cli.specs.Reading.{AreShort}
 use Rattle.migrate_cli.proofs.FileFacts.{sample_names, sample_number, sample_own}
-use Rattle.migrate_cli.proofs.SampleFacts.{sample_short}
+use Rattle.sample_network.proofs.TextLengths.{sample_short}
 use Rattle.migrate_cli.proofs.judging.judge_made.Goals as goal
 
 pub sample_text-requires : goal.sample_text-requires

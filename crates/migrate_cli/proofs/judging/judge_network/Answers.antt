@@ -1,4 +1,4 @@
-use Rattle.std.proofs.Common.{◌∙◌, ap, sym, subst}
+use Rattle.std.proofs.Common.{◌∙◌, [], ap, sym, subst}
 use Rattle.net_model.specs.Configuration.{Configuration}
 use Rattle.migration_report.specs.declared.outcome.Outcome.TheVariants.{Refused}
 use Rattle.migration_report.specs.declared.refusal.Refusal.TheVariants.{OffStart}
@@ -13,7 +13,7 @@ returns-in-Some c = λ gives.
     let texts = given_texts c.args.own.now c.args.configs.now in
     let same = c.in_ok-name.ensures ∙ ap (λ (some : Configuration). some.name) c.behind-net.view_is in
     subst (λ name. IsOutcome c.args.command.now texts (Refused (OffStart name))) (sym same)
-    (off_start net c.in-Some.router c.config.result.now gives c.in-Some.ensures.0 c.in-Some.ensures.1 c.config.ensures.router)
+    (off_start net [] c.in-Some.router c.config.result.now (gives, tt) c.in-Some.ensures.0 c.in-Some.ensures.1 c.config.ensures.router)
 
 pub returns : goal.returns
-returns c = λ gives. decided c.args.net c.in_ok-decision.decision gives c.in_default.ensures c.in_ok-decision.ensures
+returns c = λ gives. decided c.args.net [] c.in_ok-decision.decision (gives, tt) c.in_default.ensures c.in_ok-decision.ensures
