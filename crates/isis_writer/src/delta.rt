@@ -1,12 +1,12 @@
-ghost use Rattle.std.specs.Prelude.{◌≡◌, ◌<◌, ◌^◌, [], IfOk, length, map, unwrap_or};
-ghost use Rattle.ios_sections.specs.Sections.{section_of};
-ghost use Rattle.ios_sections.specs.TextLines.{parts_after, sections_of};
+ghost use Rattle.std.specs.Prelude.{◌≡◌, ◌<◌, ◌^◌, [], IfOk, length, unwrap_or};
+ghost use Rattle.ios_sections.specs.Sections.{sections_from_first};
+ghost use Rattle.ios_sections.specs.TextLines.{parts_after};
 ghost use Rattle.isis_writer.specs.Deltas.{delta_block, delta_parts, delta_text, router_comment};
 
 use crate::OutOfMemory;
 use crate::prepared::{number_of, numbered_text};
 use design_file::Settled;
-use ios_sections::read_section::read_sections;
+use ios_sections::read_section::sections_from_first;
 use ios_sections::statements::statements_of;
 use ios_sections::text::counted_lines;
 use ios_sections::text_line::TextLine;
@@ -61,9 +61,9 @@ fn delta_block(
     settled: &Settled,
     lines: &[TextLine],
 ) -> Result<Bytes, OutOfMemory>
-    ensures { IfOk result (λ new. new ≡ delta_block net.now settled.now (map section_of (sections_of lines.now))) }
+    ensures { IfOk result (λ new. new ≡ delta_block net.now settled.now (sections_from_first lines.now)) }
 {
-    let statements = statements_of(alloc, read_sections(alloc, lines)?)?;
+    let statements = statements_of(alloc, sections_from_first(alloc, lines)?)?;
     let number = number_of(net, &statements.name);
     let text = TextBuilder::new(alloc).line(router_comment(alloc, &statements.name)?)?;
     let interfaces = statements.interfaces.as_slice();

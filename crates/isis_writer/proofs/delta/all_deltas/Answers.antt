@@ -1,7 +1,7 @@
-use Rattle.std.proofs.Common.{◌≡◌, ◌+◌, ◌++◌, ℕ, true, false, List, Vec, Global, drop, map, ap, sym, ◌∙◌, arith}
+use Rattle.std.proofs.Common.{◌≡◌, ◌+◌, ◌++◌, ℕ, true, false, List, Vec, Global, drop, ap, sym, ◌∙◌, arith}
 use Rattle.std.specs.List.{slice_range}
-use Rattle.ios_sections.specs.TextLines.{Part, is_end, parts_after, sections_of}
-use Rattle.ios_sections.specs.Sections.{section_of}
+use Rattle.ios_sections.specs.TextLines.{Part, is_end, parts_after}
+use Rattle.ios_sections.specs.Sections.{sections_from_first}
 use Rattle.isis_writer.specs.Deltas.{delta_block, delta_parts}
 use Rattle.ios_reader.proofs.PartSteps.{at_end, at_other}
 use Rattle.isis_writer.proofs.delta.all_deltas.Goals.{then-is_end+in_ok-new+in_ok-extend_from_slice, else-is_end}
@@ -17,7 +17,7 @@ loop-i-preserved c =
     elim c.if-is_end.branch [
       | then-is_end+in_ok-new+in_ok-extend_from_slice w ↦
           let ends : is_end x ≡ true = sym c.is_end.ensures ∙ w.if-is_end.true in
-          let new : w.as_slice.result.now ≡ delta_block c.args.net.now c.args.settled.now (map section_of (sections_of (slice_range counted c.loop-i.start i))) =
+          let new : w.as_slice.result.now ≡ delta_block c.args.net.now c.args.settled.now (sections_from_first (slice_range counted c.loop-i.start i)) =
           w.as_slice.ensures ∙ w.in_ok-new.ensures in
           record {
             start = omega (arith, w.start-is);
