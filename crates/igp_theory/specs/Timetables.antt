@@ -90,12 +90,12 @@ abbrev pub router_times : State → List ℕ → Timetable
 router_times start ranks c = if is_made (start (changed c)) c then 0 else rank_of ranks (changed c) + 1
 
 -- changes are ranked: the first change of router u is the number 2 u, the second 2 u + 1
-abbrev pub number_of : Change → ℕ
-number_of (first u) = u + u
-number_of (second u) = u + u + 1
+abbrev pub change_number : Change → ℕ
+change_number (first u) = u + u
+change_number (second u) = u + u + 1
 
 abbrev pub change_times : List ℕ → Timetable
-change_times ranks c = rank_of ranks (number_of c) + 1
+change_times ranks c = rank_of ranks (change_number c) + 1
 
 -- the changes that are left in a phase, and the run along an order of routers, each making its rest at once
 abbrev pub left_in : Phase → ℕ → List Change

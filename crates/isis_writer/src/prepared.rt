@@ -111,31 +111,32 @@ fn new_text(
 {
     let statements = statements_of(alloc, sections_from_first(alloc, lines)?)?;
     let number = number_of(net, &statements.name);
-    numbered_text(alloc, settled, statements.interfaces.as_slice(), number)
+    let interfaces = statements.interfaces.as_slice();
+    Ok(numbered_text(alloc, TextBuilder::new(alloc), settled, interfaces, number)?.finish())
 }
 
-/// The new lines of the router of this number.
-fn numbered_text(
+/// The text with the new lines more of the router of this number.
+pub(crate) fn numbered_text(
     alloc: Global,
+    text: TextBuilder,
     settled: &Settled,
     old: &[InterfaceSection],
     number: Option<u32>,
-) -> Result<Bytes, OutOfMemory>
+) -> Result<TextBuilder, OutOfMemory>
     requires { IfSome number (λ n. n < 1000) }
-    ensures { IfOk result (λ new. new ≡ text_of (numbered_lines old.now settled.now number)) }
+    ensures { IfOk result (λ longer. longer ≡ text ++ text_of (numbered_lines old.now settled.now number)) }
 {
-    let text = TextBuilder::new(alloc);
     let Some(number) = number else {
-        return Ok(text.finish());
+        return Ok(text);
     };
     match settled.as_slice().get(number as usize) {
-        Some(router) => Ok(with_router(alloc, text, old, number, router)?.finish()),
-        None => Ok(text.finish()),
+        Some(router) => with_router(alloc, text, old, number, router),
+        None => Ok(text),
     }
 }
 
 /// The number of the router of this name, where there is one.
-fn number_of(net: &Net, name: &Option<Name>) -> Option<u32>
+pub(crate) fn number_of(net: &Net, name: &Option<Name>) -> Option<u32>
     ensures number { result ≡ numbered_from 0 (unwrap_or name.now []) net.now }
     ensures small { IfSome result (λ n. n < 1000) }
 {
