@@ -9,3 +9,4 @@ pub mod CountFacts
 pub mod KeptFacts
 pub mod StandFacts
 pub mod SurveyedFacts
+pub mod NeighborFacts

@@ -9,6 +9,7 @@
 //! | `joined` | the first router that no walk over shared subnets joins with the first one (`Joined`) |
 //! | `routers` | what is told of a router, and routers that stand out (`Routers`) |
 //! | `refusals` | the network that configurations make, or all that refuses it (`AllRefusals`) |
+//! | `laws` | what it means that nothing is told (`Neighbors`) |
 //!
 //! Each call gives exactly the ascending list of what meets a definition (`Listings`). It takes the time of the network's
 //! interfaces, and of pairs of those that are up.
@@ -29,9 +30,13 @@ mod routers;
 // What refuses a network.
 mod refusals;
 
+// Laws.
+mod laws;
+
 pub use counts::{count_links, count_subnets};
 pub use interfaces::{half_ports, one_sided_in, one_sided_in_area};
 pub use joined::first_cut_off;
+pub use laws::neighbor_law;
 pub use pairs::{PortPair, mask_pairs, uneven_in, uneven_in_area};
 pub use port::{Port, up_ports};
 pub use refusals::{Surveyed, network_or_refusals};
