@@ -14,19 +14,19 @@ abbrev pub AreSoundRanks : Migration → List ℕ → Type 0
 AreSoundRanks move ranks = IsSoundThroughout move (router_times move.start ranks)
 
 -- router v has this rank instead of its own, the others keep theirs
-abbrev pub moved : List ℕ → ℕ → ℕ → List ℕ
-moved ranks v rank = slice_set ranks v rank
+abbrev pub reranked : List ℕ → ℕ → ℕ → List ℕ
+reranked ranks v rank = slice_set ranks v rank
 
 -- router v stands one wave earlier. Its wave before has the number `rank_of ranks v`, counted from 1
 abbrev pub one_earlier : List ℕ → ℕ → List ℕ
-one_earlier ranks v = moved ranks v (rank_of ranks v - 1)
+one_earlier ranks v = reranked ranks v (rank_of ranks v - 1)
 
 -- router v may stand one wave earlier: the migration is sound throughout that list too
 abbrev pub MayBeEarlier : Migration → List ℕ → ℕ → Type 0
 MayBeEarlier move ranks v = AreSoundRanks move (one_earlier ranks v)
 
--- why it may not: a loop of the network, which arises in the wave before v's own once v stands there; v is tagged New in it,
--- some router of that wave is tagged Old, and no router tagged Old stands in an earlier wave
+-- why it may not: a loop of the network, which arises in the wave before v's own once v stands there. In it v is tagged New,
+-- and the router `after` of that wave is tagged Old, so v has to come after it; no router tagged Old stands in an earlier wave
 pub record IsReason (move : Migration) (ranks : List ℕ) (v : ℕ) (fault : Fault) : Type 0 where
   pub address : ℕ
   pub ring : List Turn

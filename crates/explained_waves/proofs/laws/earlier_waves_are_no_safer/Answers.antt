@@ -1,4 +1,3 @@
-use Rattle.explained_waves.specs.Reasons.{AreSoundRanks, moved}
 use Rattle.explained_waves.proofs.Reasons.{fault_reason, may_be_earlier, forbids_earlier}
 use Rattle.explained_waves.proofs.laws.earlier_waves_are_no_safer.Goals as goal
 
