@@ -29,12 +29,11 @@ def text_of(path):
     return path.read_bytes().decode("latin-1") if path.is_file() else None
 
 
-def reader_of(folders):
-    """Reads a file by its name from the first of some folders that has it, or makes it."""
-    def read(name):
-        return made(name) if name.startswith("made/") else next((text for folder in folders
-                                                                if (text := text_of(folder / name)) is not None), None)
-    return read
+def link_data(folders, place):
+    """Makes links in a folder to all that is in some folders; a name that stands twice is that of the first one."""
+    for path in (path for folder in folders for path in folder.iterdir()):
+        if not (place / path.name).exists():
+            (place / path.name).symlink_to(path.resolve())
 
 
 def is_taken(words):
@@ -82,18 +81,21 @@ class Count:
 
 
 def compare_stored(count, program, folder):
-    """Compares on the calls of a folder, or of crates/migrate_rows."""
+    """Compares on the calls of a folder, or of crates/migrate_rows. No file is made for a program."""
     calls = (folder or ROWS / "data") / "calls.txt"
     session = stored_answers(text_of((folder or ROWS) / "stdout"))
     if [call for call in text_of(calls).split("\n")[:-1] if not call.startswith("#")] != [call for call, *_ in session]:
         raise SystemExit(f"{calls} has other calls than the answers beside it")
-    read = reader_of(([folder / "data"] if folder else []) + [ROWS / "data"])
-    for call, text, code in session:
-        words = call.split(" ")
-        if not is_taken(words) or program and " made/" in call:
-            count.not_taken += 1
-        else:
-            count.compare(call, answer(words, read), answer_of(program, words, ROWS / "data") if program else (text, code))
+    with tempfile.TemporaryDirectory() as name:
+        place = pathlib.Path(name)
+        link_data(([folder / "data"] if folder else []) + [ROWS / "data"], place)
+        for call, text, code in session:
+            words = call.split(" ")
+            if not is_taken(words) or program and " made/" in call:
+                count.not_taken += 1
+            else:
+                by_model = answer(words, lambda file: made(file) or text_of(place / file))
+                count.compare(call, by_model, answer_of(program, words, place) if program else (text, code))
 
 
 def compare_random(count, options):
