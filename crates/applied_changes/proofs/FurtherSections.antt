@@ -15,6 +15,7 @@ use Rattle.net_model.specs.declared.bounds.TheConstants.{ISIS_DISTANCE, MOST_DIS
 use Rattle.ios_lines.specs.Words.{Word, is_printable}
 use Rattle.ios_lines.specs.Lookups.{later, last_of, earlier, first_of, replaced}
 use Rattle.ios_lines.specs.FaultOrder.{fault_at, faults_if}
+use Rattle.ios_lines.proofs.LineLookups.{last_of-push}
 use Rattle.ios_lines.specs.InterfaceLines.{counting}
 use Rattle.ios_lines.specs.declared.kind.ReadKind.{ReadKind}
 use Rattle.ios_lines.specs.declared.kind.ReadKind.TheVariants.{SecondProcess, Unsupported, BadNet}
@@ -47,12 +48,10 @@ use Rattle.ios_reader.proofs.LookedUp.{two_none, none_left, none_right, ospf_lin
 -- ---- one item more at the end of a list ----
 
 pub last_stays : {A B : Type 0} (form : A → Option B) (xs : List A) (x : A) → form x ≡ None → last_of form (xs ++ x ∷ []) ≡ last_of form xs
-last_stays form [] x none = ap (λ o. later o None) none
-last_stays form (y ∷ xs) x none = ap (later (form y)) (last_stays form xs x none)
+last_stays form xs x none = last_of-push form xs x ∙ ap (later (last_of form xs)) none
 
 pub last_is : {A B : Type 0} (form : A → Option B) (xs : List A) (x : A) (b : B) → form x ≡ Some b → last_of form (xs ++ x ∷ []) ≡ Some b
-last_is form [] x b some = ap (λ o. later o None) some
-last_is form (y ∷ xs) x b some = ap (later (form y)) (last_is form xs x b some)
+last_is form xs x b some = last_of-push form xs x ∙ ap (later (last_of form xs)) some
 
 pub first_stays : {A B : Type 0} (form : A → Option B) (xs : List A) (x : A) → form x ≡ None → first_of form (xs ++ x ∷ []) ≡ first_of form xs
 first_stays form [] x none = ap (λ o. earlier o None) none

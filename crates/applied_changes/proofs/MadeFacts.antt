@@ -8,7 +8,7 @@ use Rattle.net_model.specs.Network.{Network, HasConfiguration}
 use Rattle.net_model.proofs.Members.{Contains-first, Contains-rest}
 use Rattle.order_core.specs.Orders.{IsOrder}
 use Rattle.igp_theory.specs.States.{changes_of, changes_on, phase_after, state_of}
-use Rattle.igp_theory.specs.Waves.{Change, first, second, changed}
+use Rattle.igp_theory.specs.Changes.{Change, first, second, changed}
 use Rattle.igp_theory.proofs.OrderedLists.{pairs_first, pairs_rest}
 use Rattle.applied_changes.specs.AppliedTexts.{lines_to}
 use Rattle.applied_changes.specs.MadeChanges.{made_on}

@@ -5,7 +5,8 @@ use Rattle.net_model.specs.Configuration.{Configuration}
 use Rattle.net_model.specs.Network.{Network, HasConfiguration}
 use Rattle.order_core.specs.Orders.{IsOrder}
 use Rattle.igp_theory.specs.States.{state_of}
-use Rattle.igp_theory.specs.Waves.{Change, changed, run_along}
+use Rattle.igp_theory.specs.Changes.{Change, changed}
+use Rattle.igp_theory.specs.Waves.{run_along}
 use Rattle.applied_changes.specs.AppliedTexts.{lines_to}
 use Rattle.step_scripts.specs.Scripts.{change_lines}
 

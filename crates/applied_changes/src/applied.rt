@@ -2,8 +2,8 @@ ghost use Rattle.std.specs.Prelude.{◌≡◌, ◌<◌, ◌^◌, ◌++◌, [], L
 ghost use Rattle.net_addr.specs.Lines.{text_lines};
 ghost use Rattle.net_model.specs.Configuration.{Configuration};
 ghost use Rattle.igp_theory.specs.States.{state_of};
-ghost use Rattle.ios_sections.specs.Sections.{section_of};
-ghost use Rattle.ios_sections.specs.TextLines.{parts_after, sections_of};
+ghost use Rattle.ios_sections.specs.Sections.{sections_from_first};
+ghost use Rattle.ios_sections.specs.TextLines.{parts_after};
 ghost use Rattle.ios_reader.specs.Configurations.{configuration_of};
 ghost use Rattle.ios_reader.specs.Texts.{ReadsText};
 ghost use Rattle.applied_changes.specs.AppliedTexts.{applied_text, block_for, in_phase};
@@ -16,7 +16,7 @@ use crate::change_lines::phase_text;
 use crate::phases::phase_named;
 use igp_theory::Phase;
 use ios_reader::{between, start_of};
-use ios_sections::read_section::read_sections;
+use ios_sections::read_section::sections_from_first;
 use ios_sections::statements::statements_of;
 use ios_sections::text::counted_lines;
 use ios_sections::text_line::TextLine;
@@ -119,9 +119,9 @@ fn block_text(
     lines: &[TextLine],
 ) -> Result<Bytes, OutOfMemory>
     ensures { IfOk result (λ block. block
-        ≡ block_for (phase_named net.now (state_of order.now changes)) (configuration_of (map section_of (sections_of lines.now)))) }
+        ≡ block_for (phase_named net.now (state_of order.now changes)) (configuration_of (sections_from_first lines.now))) }
 {
-    let statements = statements_of(alloc, read_sections(alloc, lines)?)?;
+    let statements = statements_of(alloc, sections_from_first(alloc, lines)?)?;
     let phase = phase_in(net, order, changes, &statements.name);
     let block = phase_text(alloc, phase, &statements.tag, statements.process)?;
     Ok(block)

@@ -9,3 +9,4 @@ pub mod FitLaws
 pub mod AnswerLaws
 pub mod IsisInterfaces
 pub mod NameOrder
+pub mod MetricTables

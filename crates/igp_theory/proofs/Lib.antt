@@ -5,7 +5,7 @@ pub mod SameTables
 pub mod FoundRings
 pub mod FaultLaws
 pub mod OrderedLists
-pub mod WaveStates
+pub mod ChangeCounts
 pub mod FlatOrders
 pub mod AlikeStates
 pub mod OnesWaves
@@ -16,4 +16,11 @@ pub mod MiddlePhase
 pub mod WaveFaultLaws
 pub mod Rings
 pub mod LoopLaws
-pub mod LoopWaves
+pub mod TaggedRings
+pub mod LoopsDecide
+pub mod Phases
+pub mod Timetables
+pub mod SortedChanges
+pub mod TimetableStates
+pub mod Switches
+pub mod WaveLoops

@@ -108,7 +108,7 @@ old_or_new_step Middle steps = elim (middle_is_old_or_new steps.uses) [
 ]
 
 -- so is it from the phase on from which it starts
-later_step : {move : Migration} {u a h : ℕ} (start : Phase) → Steps move u start a h → Steps move u New a h → (phase : Phase) →
+pub later_step : {move : Migration} {u a h : ℕ} (start : Phase) → Steps move u start a h → Steps move u New a h → (phase : Phase) →
     made_in start ≤ made_in phase → Steps move u phase a h
 later_step Old one two phase from = both_step one two phase
 later_step Middle one two Old from = absurd (omega (arith, from))

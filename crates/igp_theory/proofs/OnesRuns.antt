@@ -1,20 +1,27 @@
 -- An order as a wave list of ones: it has its ranks, and one run.
 use Rattle.std.proofs.Common.{◌≡◌, ◌≢◌, ℕ, zero, suc, ◌+◌, ◌<◌, ◌⊎◌, inl, inr, ◌==◌, if◌then◌else◌, Bool, List, []}
-use Rattle.std.proofs.Common.{◌∷◌, length, map, get_or, Contains, refl, sym, ap, ◌∙◌, subst, arith}
+use Rattle.std.proofs.Common.{◌∷◌, length, map, take, min, get_or, Contains, ◌*◌, false, refl, sym, ap, ◌∙◌, subst, arith}
 use Rattle.std.specs.List.{AllPairs}
 use Rattle.std.proofs.lemmas.Bool.Decides.{eqb_tells}
-use Rattle.std.proofs.lemmas.List.{get_or-map, length-map}
+use Rattle.std.proofs.lemmas.List.{get_or-map, length-map, take_min}
 use Rattle.std.proofs.lemmas.List.Elements.{Contains-get_or}
 use Rattle.std.proofs.lemmas.List.FromFn.{get_or-range_with_len, length-range_with_len}
 use Rattle.order_core.specs.Orders.{IsOrder}
 use Rattle.order_core.specs.Rankings.{IsRanking, numbers_below}
 use Rattle.order_core.proofs.Orders.{order_length}
 use Rattle.igp_theory.specs.Migrations.{Migration}
-use Rattle.igp_theory.specs.Waves.{AreSeamlessWaves, HasNoneSeamless, Change, first, second, changed, MayPrecede, IsRun, AreOnes, run_along}
-use Rattle.igp_theory.proofs.FlatOrders.{along_is_run}
-use Rattle.igp_theory.proofs.OnesWaves.{ones_are_waves, ones_in_turn, rank_tells, order_is_seamless}
+use Rattle.igp_theory.specs.Changes.{Change, first, second, changed}
+use Rattle.igp_theory.specs.LoopLaws.{BeginsOld}
+use Rattle.igp_theory.specs.Phases.{State}
+use Rattle.igp_theory.specs.States.{IsSeamless}
+use Rattle.igp_theory.specs.Timetables.{Timetable, MayPrecede, IsRun, is_made, router_times, run_from, state_after}
+use Rattle.igp_theory.specs.Waves.{AreSeamlessWaves, HasNoneSeamless, AreOnes}
+use Rattle.igp_theory.proofs.AlikeStates.{sound_alike}
+use Rattle.igp_theory.proofs.FlatOrders.{along_is_run, left_time, left_where, states_from, run_from_old, run_length}
+use Rattle.igp_theory.proofs.OnesWaves.{ones_are_waves, ones_in_turn, rank_tells}
 use Rattle.net_model.proofs.Members.{Contains-none, Contains-first, Contains-rest, Contains-cases}
 use Rattle.igp_theory.proofs.OrderedLists.{pairs_first, pairs_rest}
+use Rattle.igp_theory.proofs.Switches.{routers_have_times}
 
 -- Ranks of ones
 
@@ -59,7 +66,7 @@ order_has_ones n order lists =
 -- One run
 
 -- two lists of the same elements in one strict order are the same
-same_in_turn : {X : Type 0} (R : X → X → Type 0) (xs ys : List X) → AllPairs R xs → AllPairs R ys →
+pub same_in_turn : {X : Type 0} (R : X → X → Type 0) (xs ys : List X) → AllPairs R xs → AllPairs R ys →
     ((x y : X) → Contains xs x → Contains xs y → R x y → R y x → ⊥) → ((x : X) → Contains xs x → Contains ys x) →
     ((x : X) → Contains ys x → Contains xs x) → xs ≡ ys
 same_in_turn R [] [] one two apart over back = refl
@@ -92,29 +99,58 @@ same_in_turn {X} R (x ∷ xs) (y ∷ ys) one two apart over back =
         let here : Contains (x ∷ xs) z = back z (Contains-rest y ys z inside) in
         absurd (apart z z here here own own)
 
-one_way : (ranks : List ℕ) (c d : Change) → changed c ≡ changed d → MayPrecede ranks c d → MayPrecede ranks d c → ⊥
-one_way ranks (first u) (first v) same one two = one.other (ap first same)
-one_way ranks (second u) (second v) same one two = one.other (ap second same)
-one_way ranks (first u) (second v) same one two = two.half v refl (ap first same)
-one_way ranks (second u) (first v) same one two = one.half u refl (ap first (sym same))
+one_way : (time : Timetable) (c d : Change) → changed c ≡ changed d → MayPrecede time c d → MayPrecede time d c → ⊥
+one_way time (first u) (first v) same one two = one.other (ap first same)
+one_way time (second u) (second v) same one two = one.other (ap second same)
+one_way time (first u) (second v) same one two = two.half v refl (ap first same)
+one_way time (second u) (first v) same one two = one.half u refl (ap first (sym same))
 
-pub order_has_one_run : (n : ℕ) (order ranks : List ℕ) (run : List Change) → IsOrder n order → AreOnes order ranks → IsRun n ranks run →
-    run ≡ run_along order
-order_has_one_run n order ranks run lists ones is =
-    let along : IsRun n ranks (run_along order) = along_is_run n ranks order lists (ones_in_turn n order ranks lists ones) in
-    same_in_turn (MayPrecede ranks) run (run_along order) is.in_turn along.in_turn
+pub order_has_one_run : (n : ℕ) (start : State) (order ranks : List ℕ) (run : List Change) → IsOrder n order → AreOnes order ranks →
+    IsRun n (router_times start ranks) run → run ≡ run_from start order
+order_has_one_run n start order ranks run lists ones is =
+    let along : IsRun n (router_times start ranks) (run_from start order) =
+    along_is_run n start ranks order lists (ones_in_turn n order ranks lists ones) in
+    same_in_turn (MayPrecede (router_times start ranks)) run (run_from start order) is.in_turn along.in_turn
     (λ c d left right one two.
     let up = one.wave in
     let down = two.wave in
-    one_way ranks c d (rank_tells n order ranks (changed c) (changed d) lists ones ((is.all c).0 left) ((is.all d).0 right) (omega (arith, up, down))) one two)
+    let time_c = left_time n start ranks order lists (ones_in_turn n order ranks lists ones) c (left_of_run c ((is.all c).0 left).1) in
+    let time_d = left_time n start ranks order lists (ones_in_turn n order ranks lists ones) d (left_of_run d ((is.all d).0 right).1) in
+    one_way (router_times start ranks) c d
+    (rank_tells n order ranks (changed c) (changed d) lists ones ((is.all c).0 left).0 ((is.all d).0 right).0 (omega (arith, up, down, time_c, time_d)))
+    one two)
     (λ c inside. (along.all c).1 ((is.all c).0 inside))
     (λ c inside. (is.all c).1 ((along.all c).0 inside))
+  where
+    left_of_run : (c : Change) → 0 < router_times start ranks c → is_made (start (changed c)) c ≡ false
+    left_of_run c some = left_where n start ranks order lists (ones_in_turn n order ranks lists ones) c (is_made (start (changed c)) c) refl some
+
+-- where every router begins in Old a seamless order is a seamless wave list of ones
+pub order_is_seamless : (move : Migration) (order ranks : List ℕ) → BeginsOld move → IsSeamless move order → AreOnes order ranks →
+    AreSeamlessWaves move ranks
+order_is_seamless move order ranks begins seamless ones = record {
+  waves = ones_are_waves (length move.net) order ranks seamless.lists ones;
+  throughout = record {
+    table = routers_have_times (length move.net) move.start ranks;
+    sound = λ state is.
+        let k : ℕ = min is.k (length (run_from move.start order)) in
+        let run : is.run ≡ run_from move.start order =
+        order_has_one_run (length move.net) move.start order ranks is.run seamless.lists ones is.is_run in
+        sound_alike
+        (λ u below. sym (states_from move.start order k u begins) ∙ ap (λ l. state_after move.start l u) (take_min is.k (run_from move.start order))
+        ∙ ap (λ l. state_after move.start (take is.k l) u) (sym run) ∙ sym (is.after u below))
+        (seamless.sound k (omega (arith, many)));
+  };
+}
+  where
+    many : length (run_from move.start order) ≡ 2 * length order
+    many = ap length (run_from_old move.start order begins) ∙ run_length order
 
 -- where no wave list is seamless, no order is: as a wave list of ones it would be one
-pub none_without_waves : (move : Migration) → ((ranks : List ℕ) → ¬ AreSeamlessWaves move ranks) → HasNoneSeamless move
-none_without_waves move none = record {
+pub none_without_waves : (move : Migration) → BeginsOld move → ((ranks : List ℕ) → ¬ AreSeamlessWaves move ranks) → HasNoneSeamless move
+none_without_waves move begins none = record {
   waves = none;
   orders = λ order seamless.
       let ones = order_has_ones (length move.net) order seamless.lists in
-      none ones.0 (order_is_seamless move order ones.0 seamless ones.1);
+      none ones.0 (order_is_seamless move order ones.0 begins seamless ones.1);
 }

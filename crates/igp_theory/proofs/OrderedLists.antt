@@ -5,7 +5,7 @@ use Rattle.std.proofs.Math.Seq.{take-append_seam, take-append-add}
 use Rattle.std.proofs.lemmas.List.{append_cancel_left}
 use Rattle.std.specs.List.{AllPairs}
 use Rattle.net_model.proofs.Members.{Contains-none, Contains-first, Contains-rest, Contains-cases}
-use Rattle.std.proofs.lemmas.List.Elements.{Contains-append_right, Contains-append_cases}
+use Rattle.std.proofs.lemmas.List.Elements.{Contains-append_left, Contains-append_right, Contains-append_cases}
 
 -- What a list contains
 
@@ -61,6 +61,16 @@ pairs_across R (z ∷ xs) ys pairs x y left right = elim (Contains-cases z xs x 
   | inl same ↦ subst (λ w. R w y) same (pairs_first R z (xs ++ ys) pairs y (Contains-append_right xs ys y right))
   | inr rest ↦ pairs_across R xs ys (pairs_rest R z (xs ++ ys) pairs) x y rest right
 ]
+
+pub pairs_front : {X : Type 0} (R : X → X → Type 0) (xs ys : List X) → AllPairs R (xs ++ ys) → AllPairs R xs
+pairs_front R [] ys pairs = pairs_none R
+pairs_front R (x ∷ xs) ys pairs =
+    pairs_more R x xs (λ y inside. pairs_first R x (xs ++ ys) pairs y (Contains-append_left xs ys y inside))
+    (pairs_front R xs ys (pairs_rest R x (xs ++ ys) pairs))
+
+pub pairs_back : {X : Type 0} (R : X → X → Type 0) (xs ys : List X) → AllPairs R (xs ++ ys) → AllPairs R ys
+pairs_back R [] ys pairs = pairs
+pairs_back R (x ∷ xs) ys pairs = pairs_back R xs ys (pairs_rest R x (xs ++ ys) pairs)
 
 pub pairs_weaker : {X : Type 0} (R S : X → X → Type 0) → ((x y : X) → R x y → S x y) → (xs : List X) → AllPairs R xs → AllPairs S xs
 pairs_weaker R S over xs pairs i j d before within = over (get_or xs i d) (get_or xs j d) (pairs i j d before within)

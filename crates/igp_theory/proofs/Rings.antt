@@ -2,7 +2,6 @@
 use Rattle.std.proofs.Common.{◌≡◌, ◌≢◌, ℕ, zero, suc, ◌<◌, ◌≤◌, ◌⊎◌, inl, inr, List, [], ◌∷◌, ◌++◌, length, Contains}
 use Rattle.std.proofs.Common.{AllPairs, refl, sym, ap, ◌∙◌, subst, arith}
 use Rattle.std.proofs.lemmas.List.{append-nil}
-use Rattle.std.proofs.lemmas.List.Elements.{Contains-append_left}
 use Rattle.order_core.specs.Orders.{AreDistinct}
 use Rattle.order_core.specs.Turns.{routers_of}
 use Rattle.order_core.specs.declared.turn.Turn.{Turn}
@@ -10,7 +9,7 @@ use Rattle.igp_theory.specs.Loops.{EachToNext, AroundRing, IsLowestLiveHop, IsFo
 use Rattle.igp_theory.specs.States.{Follows}
 use Rattle.igp_theory.proofs.Delivery.{contains_or_not, LeadsOn}
 use Rattle.net_model.proofs.Members.{Contains-none, Contains-first, Contains-rest, Contains-cases}
-use Rattle.igp_theory.proofs.OrderedLists.{pairs_none, pairs_more, pairs_first, pairs_rest, pairs_append, pairs_across}
+use Rattle.igp_theory.proofs.OrderedLists.{pairs_none, pairs_more, pairs_first, pairs_rest, pairs_append, pairs_across, pairs_front, pairs_back}
 use Rattle.igp_theory.proofs.SameTables.{each_to_next_over}
 
 -- Each element of a ring and the next one
@@ -82,16 +81,6 @@ around_turned : {A : Type 0} (R : A → A → Type 0) (xs ys : List A) → Aroun
 around_turned R [] ys goes = subst (AroundRing R) (sym (append-nil ys)) goes
 around_turned R (x ∷ xs) [] goes = subst (AroundRing R) (append-nil (x ∷ xs)) goes
 around_turned R (x ∷ xs) (y ∷ ys) goes = each_join R y x (y ∷ ys) xs (each_drop R x y (x ∷ xs) ys goes) (each_take R x y (x ∷ xs) ys goes)
-
-pairs_front : {A : Type 0} (R : A → A → Type 0) (xs ys : List A) → AllPairs R (xs ++ ys) → AllPairs R xs
-pairs_front R [] ys pairs = pairs_none R
-pairs_front R (x ∷ xs) ys pairs =
-    pairs_more R x xs (λ y inside. pairs_first R x (xs ++ ys) pairs y (Contains-append_left xs ys y inside))
-    (pairs_front R xs ys (pairs_rest R x (xs ++ ys) pairs))
-
-pairs_back : {A : Type 0} (R : A → A → Type 0) (xs ys : List A) → AllPairs R (xs ++ ys) → AllPairs R ys
-pairs_back R [] ys pairs = pairs
-pairs_back R (x ∷ xs) ys pairs = pairs_back R xs ys (pairs_rest R x (xs ++ ys) pairs)
 
 distinct_turned : (xs ys : List ℕ) → AreDistinct (xs ++ ys) → AreDistinct (ys ++ xs)
 distinct_turned xs ys distinct =
@@ -235,7 +224,7 @@ pub ring_returns : (step : ℕ → ℕ → Type 0) (u : ℕ) (rest : List ℕ) �
 ring_returns step u [] goes = record { hop = u; hops = []; follows = (goes, refl) }
 ring_returns step u (s ∷ rest) goes = record { hop = s; hops = rest ++ u ∷ []; follows = each_follows step u u (s ∷ rest) goes }
 
-each_to_routers : (step : ℕ → ℕ → Type 0) (first : Turn) (ring : List Turn) → EachToNext (λ (r s : Turn). step r.router s.router) first ring →
+pub each_to_routers : (step : ℕ → ℕ → Type 0) (first : Turn) (ring : List Turn) → EachToNext (λ (r s : Turn). step r.router s.router) first ring →
     EachToNext step first.router (routers_of ring)
 each_to_routers step first [] goes = tt
 each_to_routers step first (r ∷ []) goes = goes

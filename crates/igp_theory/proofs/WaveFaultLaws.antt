@@ -11,15 +11,16 @@ use Rattle.igp_theory.specs.Migrations.{Migration, retabled}
 use Rattle.igp_theory.specs.Routes.{Tables}
 use Rattle.igp_theory.specs.Phases.{State}
 use Rattle.igp_theory.specs.States.{StepsIn, IsSoundAt, IsSound}
-use Rattle.igp_theory.specs.WaveFaults.{StepsInSome, LacksStep, HasStepsInAll, IsLeastUnsound, IsFaultOver, missing_in_one, loop_over_all, IsWavesFault}
+use Rattle.igp_theory.specs.WaveFaults.{StepsInSome, LacksStep, HasStepsInAll, IsLeastUnsound, IsFaultOver, missing_in_one, loop_over_all, IsTimesFault}
 use Rattle.igp_theory.specs.WaveLaws.{Delivers}
-use Rattle.igp_theory.specs.Waves.{AreSeamlessWaves, IsStateOfWave}
+use Rattle.igp_theory.specs.Timetables.{Timetable, IsSoundThroughout, IsStateOfWave}
+use Rattle.igp_theory.specs.Waves.{AreSeamlessWaves}
 use Rattle.igp_theory.proofs.FaultLaws.{fault_is_unsound}
-use Rattle.igp_theory.proofs.FlatOrders.{wave_state_is_reached}
 use Rattle.igp_theory.proofs.FoundRings.{found_ring_unique}
 use Rattle.igp_theory.proofs.SameTables.{same_tables_sym, steps_over, has_step_over, follows_over, sound_at_over, sound_over, around_ring_over, tag_over}
 use Rattle.igp_theory.proofs.SameTables.{SameHops, found_ring_over}
 use Rattle.igp_theory.proofs.Tags.{AreTagged, same_tagged}
+use Rattle.igp_theory.proofs.TimetableStates.{wave_is_reached}
 
 -- One fault
 
@@ -81,29 +82,29 @@ fault_over_unsound (missing_in_one {a = a} least lacks lowest) sound =
 fault_over_unsound (loop_over_all {a = a} least forwards found tags) sound =
     least.unsound.unsound (sound least.unsound.state least.unsound.among a least.address)
 
-same_wave : {move : Migration} {ranks : List ℕ} {w v : ℕ} {fault other : Fault} → IsWavesFault move ranks w fault →
-    IsWavesFault move ranks v other → w ≡ v
-same_wave {w = w} {v = v} one other = elim (cases_order w v) [
+same_time : {move : Migration} {time : Timetable} {w v : ℕ} {fault other : Fault} → IsTimesFault move time w fault →
+    IsTimesFault move time v other → w ≡ v
+same_time {w = w} {v = v} one other = elim (cases_order w v) [
   | inl same ↦ same
-  | inr (inl before) ↦ absurd (fault_over_unsound one.here (other.before w before))
-  | inr (inr after) ↦ absurd (fault_over_unsound other.here (one.before v after))
+  | inr (inl before) ↦ absurd (fault_over_unsound one.here (other.before w one.from_one before))
+  | inr (inr after) ↦ absurd (fault_over_unsound other.here (one.before v other.from_one after))
 ]
 
--- a wave list has one fault
-pub waves_fault_unique : {move : Migration} {ranks : List ℕ} {w v : ℕ} {fault other : Fault} → IsWavesFault move ranks w fault →
-    IsWavesFault move ranks v other → (w ≡ v) × (fault ≡ other)
-waves_fault_unique {move} {ranks} {w} {v} {fault} {other} one two =
-    let wave : w ≡ v = same_wave one two in
-    let here : IsFaultOver move (IsStateOfWave (length move.net) ranks w) other =
-    subst (λ (x : ℕ). IsFaultOver move (IsStateOfWave (length move.net) ranks x) other) (sym wave) two.here in
+-- a timetable has one fault
+pub times_fault_unique : {move : Migration} {time : Timetable} {w v : ℕ} {fault other : Fault} → IsTimesFault move time w fault →
+    IsTimesFault move time v other → (w ≡ v) × (fault ≡ other)
+times_fault_unique {move} {time} {w} {v} {fault} {other} one two =
+    let wave : w ≡ v = same_time one two in
+    let here : IsFaultOver move (IsStateOfWave (length move.net) time w) other =
+    subst (λ (x : ℕ). IsFaultOver move (IsStateOfWave (length move.net) time x) other) (sym wave) two.here in
     (wave, fault_over_unique one.here here)
 
--- a wave list that has a fault isn't seamless
-pub waves_fault_unsound : (move : Migration) (ranks : List ℕ) (w : ℕ) (fault : Fault) → IsWavesFault move ranks w fault →
-    AreSeamlessWaves move ranks → ⊥
-waves_fault_unsound move ranks w fault is seamless =
-    fault_over_unsound is.here (λ state of_wave. seamless.sound state
-    (wave_state_is_reached (length move.net) ranks state seamless.waves (record { wave = w; is_wave = is.is_wave; of_wave = of_wave })))
+-- and with it the migration isn't sound throughout
+pub times_fault_unsound : (move : Migration) (time : Timetable) (w : ℕ) (fault : Fault) → IsTimesFault move time w fault →
+    IsSoundThroughout move time → ⊥
+times_fault_unsound move time w fault is sound =
+    fault_over_unsound is.here (λ state of_wave. sound.sound state
+    (wave_is_reached sound.table state (record { wave = w; from_one = is.from_one; of_wave = of_wave })))
 
 -- A single state
 
@@ -164,9 +165,13 @@ delivers_over {move} {old'} {new'} {state} {a} same is = record {
   ];
 }
 
+throughout_over : {move : Migration} {old' new' : Tables} {time : Timetable} → HaveSameTables move old' new' → IsSoundThroughout move time →
+    IsSoundThroughout (retabled move old' new') time
+throughout_over same sound = record { table = sound.table; sound = λ state is. sound_over same (sound.sound state is) }
+
 pub seamless_waves_over : {move : Migration} {old' new' : Tables} {ranks : List ℕ} → HaveSameTables move old' new' →
     AreSeamlessWaves move ranks → AreSeamlessWaves (retabled move old' new') ranks
-seamless_waves_over same seamless = record { waves = seamless.waves; sound = λ state is. sound_over same (seamless.sound state is) }
+seamless_waves_over same seamless = record { waves = seamless.waves; throughout = throughout_over same seamless.throughout }
 
 some_steps_over : {move : Migration} {old' new' : Tables} {states : State → Type 0} (a : ℕ) → HaveSameTables move old' new' →
     SameHops (StepsInSome move states a) (StepsInSome (retabled move old' new') states a)
@@ -202,10 +207,10 @@ fault_over_tables same (loop_over_all {a = a} {ring = ring} least forwards found
     loop_over_all (least_over same least) (λ v must state among. has_step_over same (forwards v must state among))
     (found_ring_over (some_steps_over a same) found) (around_ring_over (λ (r s : Turn). tag_over {next = s.router} {r = r} same) ring tags)
 
-pub waves_fault_over : {move : Migration} {old' new' : Tables} {ranks : List ℕ} {w : ℕ} {fault : Fault} → HaveSameTables move old' new' →
-    IsWavesFault move ranks w fault → IsWavesFault (retabled move old' new') ranks w fault
-waves_fault_over same is = record {
-  is_wave = is.is_wave;
-  before = λ v less state of_wave. sound_over same (is.before v less state of_wave);
+pub times_fault_over : {move : Migration} {old' new' : Tables} {time : Timetable} {w : ℕ} {fault : Fault} → HaveSameTables move old' new' →
+    IsTimesFault move time w fault → IsTimesFault (retabled move old' new') time w fault
+times_fault_over same is = record {
+  from_one = is.from_one;
+  before = λ v from less state of_wave. sound_over same (is.before v from less state of_wave);
   here = fault_over_tables same is.here;
 }

@@ -15,10 +15,13 @@ pub mod Isis
 pub mod Forwarding
 pub mod States
 pub mod Loops
+pub mod Changes
+pub mod Timetables
 pub mod Waves
 pub mod WaveFaults
 pub mod WaveLaws
 pub mod WaveFaultLaws
 pub mod LoopLaws
+pub mod TimetableLaws
 pub mod MiddleLaws
 pub mod Laws

@@ -1,14 +1,13 @@
--- What the laws of loops say: state by state, and wave by wave (Vanbever et al., SIGCOMM 2011).
-use Rattle.std.specs.Prelude.{◌≡◌, ◌≢◌, ℕ, ◌<◌, ◌≤◌, ◌↔◌, List, ◌∷◌, length, Contains}
-use Rattle.order_core.specs.Rankings.{IsRanking, rank_of}
+-- What the laws of loops say: state by state, and of wave lists (Vanbever et al., SIGCOMM 2011).
+use Rattle.std.specs.Prelude.{◌≡◌, ◌≢◌, ℕ, ◌<◌, ◌≤◌, ◌↔◌, List, length, Contains}
+use Rattle.order_core.specs.Rankings.{IsRanking}
 use Rattle.order_core.specs.Turns.{old_routers, new_routers, HasBothTags, RanksSomeOldFirst}
 use Rattle.order_core.specs.declared.turn.Turn.{Turn}
 use Rattle.igp_theory.specs.Loops.{IsLoop, Arises, Fault, loop, IsFault}
 use Rattle.igp_theory.specs.Migrations.{Migration}
 use Rattle.igp_theory.specs.Phases.{State, made_in, all_new}
-use Rattle.igp_theory.specs.States.{Follows, IsSound}
-use Rattle.igp_theory.specs.WaveFaults.{StepsInSome, IsUnsoundInSome, IsWavesFault}
-use Rattle.igp_theory.specs.Waves.{AreSeamlessWaves, IsStateOfWave}
+use Rattle.igp_theory.specs.States.{IsSound}
+use Rattle.igp_theory.specs.Waves.{AreSeamlessWaves}
 use Rattle.igp_theory.specs.declared.phase.Phase.TheVariants.{Old, New}
 
 -- State by state
@@ -66,36 +65,11 @@ abbrev pub LoopsBetweenSoundEndsHaveBothTags : Migration → Type 0
 LoopsBetweenSoundEndsHaveBothTags move =
     (a : ℕ) (ring : List Turn) → AreSoundEnds move → IsLoop move a ring → HasBothTags ring
 
--- Wave by wave, where every router begins in Old
-
+-- every router begins in Old
 abbrev pub BeginsOld : Migration → Type 0
 BeginsOld move = (u : ℕ) → move.start u ≡ Old
 
--- a loop arises in a state of wave w
-pub record ArisesInWave (move : Migration) (ranks : List ℕ) (w a : ℕ) (ring : List Turn) : Type 0 where
-  pub state : State
-  pub of_wave : IsStateOfWave (length move.net) ranks w state
-  pub arises : Arises move state a ring
-
--- the routers tagged New stand in waves up to w, and those tagged Old in waves from w on
-pub record StandsRoundWave (ranks : List ℕ) (w : ℕ) (ring : List Turn) : Type 0 where
-  pub new : (u : ℕ) → Contains (new_routers ring) u → rank_of ranks u ≤ w
-  pub old : (u : ℕ) → Contains (old_routers ring) u → w ≤ rank_of ranks u
-
--- a loop arises in a state of wave w exactly there
-abbrev pub LoopsAriseInWaves : Migration → Type 0
-LoopsAriseInWaves move =
-    (ranks : List ℕ) (w a : ℕ) (ring : List Turn) → BeginsOld move → IsLoop move a ring →
-    ArisesInWave move ranks w a ring ↔ StandsRoundWave ranks w ring
-
--- over the states of wave w a router may have hops of both phases. Where a list of steps over all these
--- hops returns to its first router, some state of w is unsound for the address: the list contains a ring of
--- distinct routers, and each of them keeps one phase that makes its step
-abbrev pub ReturnsInWavesAreUnsound : Migration → Type 0
-ReturnsInWavesAreUnsound move =
-    (ranks : List ℕ) (w a u h : ℕ) (hops : List ℕ) →
-    Follows (StepsInSome move (IsStateOfWave (length move.net) ranks w) a) u (h ∷ hops) u →
-    IsUnsoundInSome move (IsStateOfWave (length move.net) ranks w) a
+-- Wave lists
 
 -- a wave list puts some router tagged Old of each loop with both tags in an earlier wave than some router tagged New
 abbrev pub PutsSomeOldFirstInEach : Migration → List ℕ → Type 0
@@ -104,28 +78,10 @@ PutsSomeOldFirstInEach move ranks =
 
 -- whatever the ends, a wave list that is seamless does so
 abbrev pub SeamlessWavesPutOldFirst : Migration → Type 0
-SeamlessWavesPutOldFirst move =
-    (ranks : List ℕ) → BeginsOld move → AreSeamlessWaves move ranks → PutsSomeOldFirstInEach move ranks
+SeamlessWavesPutOldFirst move = (ranks : List ℕ) → AreSeamlessWaves move ranks → PutsSomeOldFirstInEach move ranks
 
 -- between sound ends a wave list is seamless exactly where it does so
 abbrev pub WavesAreSeamlessByLoops : Migration → Type 0
 WavesAreSeamlessByLoops move =
-    (ranks : List ℕ) → BeginsOld move → AreSoundEnds move → IsRanking (length move.net) ranks →
+    (ranks : List ℕ) → AreSoundEnds move → IsRanking (length move.net) ranks →
     AreSeamlessWaves move ranks ↔ PutsSomeOldFirstInEach move ranks
-
--- the fault of a wave is a loop of the network with both tags, and no missing step; it arises in a state of
--- the wave, and stands round it
-pub record IsLoopOfWave (move : Migration) (ranks : List ℕ) (w : ℕ) (fault : Fault) : Type 0 where
-  pub address : ℕ
-  pub ring : List Turn
-  pub is : fault ≡ loop address ring
-  pub is_loop : IsLoop move address ring
-  pub both : HasBothTags ring
-  pub arises : ArisesInWave move ranks w address ring
-  pub round : StandsRoundWave ranks w ring
-
--- between sound ends the fault of a wave list is such a loop
-abbrev pub WaveFaultsBetweenSoundEndsAreLoops : Migration → Type 0
-WaveFaultsBetweenSoundEndsAreLoops move =
-    (ranks : List ℕ) (w : ℕ) (fault : Fault) → BeginsOld move → AreSoundEnds move →
-    IsWavesFault move ranks w fault → IsLoopOfWave move ranks w fault

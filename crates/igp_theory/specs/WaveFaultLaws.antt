@@ -6,7 +6,8 @@ use Rattle.igp_theory.specs.Loops.{Fault, IsFault}
 use Rattle.igp_theory.specs.Migrations.{Migration, retabled}
 use Rattle.igp_theory.specs.Routes.{Tables}
 use Rattle.igp_theory.specs.Phases.{State}
-use Rattle.igp_theory.specs.WaveFaults.{IsFaultOver, IsWavesFault}
+use Rattle.igp_theory.specs.Timetables.{Timetable, IsSoundThroughout}
+use Rattle.igp_theory.specs.WaveFaults.{IsFaultOver, IsTimesFault}
 use Rattle.igp_theory.specs.WaveLaws.{Delivers}
 use Rattle.igp_theory.specs.Waves.{AreSeamlessWaves}
 
@@ -23,17 +24,16 @@ FaultsOverOneAreFaults move =
     (state : State) (fault : Fault) →
     IsFaultOver move (λ (other : State). other ≡ state) fault ↔ IsFault move state fault
 
--- a wave list has at most one fault: one wave, and one router or one ring with its tags
-abbrev pub WavesFaultsAreUnique : Migration → Type 0
-WavesFaultsAreUnique move =
-    (ranks : List ℕ) (w v : ℕ) (fault other : Fault) →
-    IsWavesFault move ranks w fault → IsWavesFault move ranks v other → (w ≡ v) × (fault ≡ other)
+-- a timetable has at most one fault: one wave, and one router or one ring with its tags
+abbrev pub TimesFaultsAreUnique : Migration → Type 0
+TimesFaultsAreUnique move =
+    (time : Timetable) (w v : ℕ) (fault other : Fault) →
+    IsTimesFault move time w fault → IsTimesFault move time v other → (w ≡ v) × (fault ≡ other)
 
--- a wave list that has a fault isn't seamless
-abbrev pub WavesFaultsAreUnsound : Migration → Type 0
-WavesFaultsAreUnsound move =
-    (ranks : List ℕ) (w : ℕ) (fault : Fault) →
-    IsWavesFault move ranks w fault → AreSeamlessWaves move ranks → ⊥
+-- a migration with a fault isn't sound throughout
+abbrev pub TimesFaultsAreUnsound : Migration → Type 0
+TimesFaultsAreUnsound move =
+    (time : Timetable) (w : ℕ) (fault : Fault) → IsTimesFault move time w fault → IsSoundThroughout move time → ⊥
 
 -- Tables with the same entries
 
@@ -55,8 +55,8 @@ SameFaultsOver move other_old other_new states =
     (fault : Fault) → HaveSameTables move other_old other_new →
     IsFaultOver move states fault ↔ IsFaultOver (retabled move other_old other_new) states fault
 
--- a wave list has the same fault
-abbrev pub SameWavesFaults : Migration → Tables → Tables → Type 0
-SameWavesFaults move other_old other_new =
-    (ranks : List ℕ) (w : ℕ) (fault : Fault) → HaveSameTables move other_old other_new →
-    IsWavesFault move ranks w fault ↔ IsWavesFault (retabled move other_old other_new) ranks w fault
+-- a timetable has the same fault
+abbrev pub SameTimesFaults : Migration → Tables → Tables → Type 0
+SameTimesFaults move other_old other_new =
+    (time : Timetable) (w : ℕ) (fault : Fault) → HaveSameTables move other_old other_new →
+    IsTimesFault move time w fault ↔ IsTimesFault (retabled move other_old other_new) time w fault

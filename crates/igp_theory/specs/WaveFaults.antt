@@ -1,5 +1,5 @@
--- The fault of a set of states, and of a wave list that isn't seamless.
-use Rattle.std.specs.Prelude.{ℕ, ◌^◌, ◌<◌, List, length, Contains}
+-- The fault of a set of states, and of a timetable throughout which a migration isn't sound.
+use Rattle.std.specs.Prelude.{ℕ, ◌^◌, ◌<◌, ◌≤◌, List, length}
 use Rattle.order_core.specs.Turns.{routers_of}
 use Rattle.order_core.specs.declared.turn.Turn.{Turn}
 use Rattle.igp_theory.specs.Forwarding.{MustForward, HasStep}
@@ -7,7 +7,7 @@ use Rattle.igp_theory.specs.Loops.{IsTag, AroundRing, Fault, missing, loop, IsFo
 use Rattle.igp_theory.specs.Migrations.{Migration}
 use Rattle.igp_theory.specs.Phases.{State}
 use Rattle.igp_theory.specs.States.{StepsIn, IsSoundAt, IsSound}
-use Rattle.igp_theory.specs.Waves.{IsStateOfWave}
+use Rattle.igp_theory.specs.Timetables.{Timetable, IsStateOfWave}
 
 -- the steps of a set of states, for one address: each router has every hop that it has in some of them
 pub record StepsInSome (move : Migration) (states : State → Type 0) (a u h : ℕ) : Type 0 where
@@ -51,8 +51,8 @@ pub data IsFaultOver (move : Migration) (states : State → Type 0) : Fault → 
       AroundRing (λ (r s : Turn). IsTag move a r s.router) ring →
       IsFaultOver move states (loop a ring)
 
--- the fault of a wave list: its first wave with an unsound state, and the fault of that wave's states
-pub record IsWavesFault (move : Migration) (ranks : List ℕ) (w : ℕ) (fault : Fault) : Type 0 where
-  pub is_wave : Contains ranks w
-  pub before : (v : ℕ) → v < w → (state : State) → IsStateOfWave (length move.net) ranks v state → IsSound move state
-  pub here : IsFaultOver move (IsStateOfWave (length move.net) ranks w) fault
+-- the fault of a timetable: its first wave with an unsound state, counted from 1, and the fault of that wave's states
+pub record IsTimesFault (move : Migration) (time : Timetable) (w : ℕ) (fault : Fault) : Type 0 where
+  pub from_one : 1 ≤ w
+  pub before : (v : ℕ) → 1 ≤ v → v < w → (state : State) → IsStateOfWave (length move.net) time v state → IsSound move state
+  pub here : IsFaultOver move (IsStateOfWave (length move.net) time w) fault

@@ -1,18 +1,21 @@
 -- What the laws of sound states and of wave lists say.
-use Rattle.std.specs.Prelude.{◌≡◌, ℕ, ◌^◌, ◌<◌, ◌↔◌, ◌⊎◌, List, length, take, Contains}
+use Rattle.std.specs.Prelude.{◌≡◌, ℕ, ◌^◌, ◌<◌, ◌↔◌, ◌⊎◌, List, length, take}
 use Rattle.net_addr.specs.Addresses.{Block}
 use Rattle.net_model.specs.Network.{Network, Connected}
 use Rattle.route_core.specs.declared.entry.Entry.{Entry}
+use Rattle.igp_theory.specs.Changes.{Change}
 use Rattle.igp_theory.specs.Forwarding.{IsTarget, HasStep}
 use Rattle.igp_theory.specs.Isis.{IsisEntry}
+use Rattle.igp_theory.specs.LoopLaws.{BeginsOld}
 use Rattle.igp_theory.specs.Migrations.{Migration}
 use Rattle.igp_theory.specs.Ospf.{OspfEntry}
 use Rattle.igp_theory.specs.Routes.{Tables, EntryLeadsTo}
 use Rattle.order_core.specs.Orders.{IsOrder}
 use Rattle.order_core.specs.Rankings.{IsRanking, flat_of}
-use Rattle.igp_theory.specs.Phases.{State}
+use Rattle.igp_theory.specs.Phases.{State, all_old}
 use Rattle.igp_theory.specs.States.{StepsIn, Follows, IsSound, IsSeamless, state_of}
-use Rattle.igp_theory.specs.Waves.{Change, IsRun, IsWavesState, AreSeamlessWaves, IsStateOfWave, AreOnes, run_along, state_after}
+use Rattle.igp_theory.specs.Timetables.{IsRun, router_times, run_from, state_after}
+use Rattle.igp_theory.specs.Waves.{AreSeamlessWaves, AreOnes, run_along}
 
 -- What sound means
 
@@ -43,48 +46,27 @@ SoundStatesDeliver move =
     (state : State) → HopsAreRouters move.net move.old → HopsAreRouters move.net move.new →
     IsSound move state ↔ ((a : ℕ) (p : Block) → a < 2 ^ 32 → IsTarget move.net a p → Delivers move state a p)
 
--- The states of a wave list
-
--- a state of one of the waves
-pub record IsStateOfSomeWave (n : ℕ) (ranks : List ℕ) (state : State) : Type 0 where
-  pub wave : ℕ
-  pub is_wave : Contains ranks wave
-  pub of_wave : IsStateOfWave n ranks wave state
-
--- the states of a wave list are exactly those of its waves: every combination of phases of one wave, with
--- each earlier wave New and each later wave Old, is a state of some run, and there is no other
-abbrev pub StatesAreThoseOfWaves : Type 0
-StatesAreThoseOfWaves =
-    (n : ℕ) (ranks : List ℕ) (state : State) → 0 < n → IsRanking n ranks →
-    IsWavesState n ranks state ↔ IsStateOfSomeWave n ranks state
-
--- so a wave list is seamless exactly where every state of each of its waves is sound
-abbrev pub SeamlessWaveByWave : Migration → Type 0
-SeamlessWaveByWave move =
-    (ranks : List ℕ) → IsRanking (length move.net) ranks →
-    AreSeamlessWaves move ranks
-    ↔ ((state : State) → IsStateOfSomeWave (length move.net) ranks state → IsSound move state)
-
 -- Wave lists and orders
 
--- the flat run is a run
+-- the flat run, in which each router makes its rest at once, is a run
 abbrev pub FlatRunsAreRuns : Type 0
-FlatRunsAreRuns = (n : ℕ) (ranks : List ℕ) → IsRanking n ranks → IsRun n ranks (run_along (flat_of ranks))
+FlatRunsAreRuns =
+    (n : ℕ) (start : State) (ranks : List ℕ) → IsRanking n ranks → IsRun n (router_times start ranks) (run_from start (flat_of ranks))
 
 -- the states along an order are those of the order
 abbrev pub StatesAlongAreThoseOfOrders : Type 0
 StatesAlongAreThoseOfOrders =
-    (order : List ℕ) (k u : ℕ) → state_after (take k (run_along order)) u ≡ state_of order k u
+    (order : List ℕ) (k u : ℕ) → state_after all_old (take k (run_along order)) u ≡ state_of order k u
 
--- a seamless wave list, written wave by wave in number order, is a seamless order
+-- where every router begins in Old a seamless wave list, written wave by wave in number order, is a seamless order
 abbrev pub FlatOrdersAreSeamless : Migration → Type 0
 FlatOrdersAreSeamless move =
-    (ranks : List ℕ) → AreSeamlessWaves move ranks → IsSeamless move (flat_of ranks)
+    (ranks : List ℕ) → BeginsOld move → AreSeamlessWaves move ranks → IsSeamless move (flat_of ranks)
 
--- a seamless order is a seamless wave list of ones
+-- and a seamless order is a seamless wave list of ones
 abbrev pub OrdersAreSeamlessWaves : Migration → Type 0
 OrdersAreSeamlessWaves move =
-    (order ranks : List ℕ) → IsSeamless move order → AreOnes order ranks →
+    (order ranks : List ℕ) → BeginsOld move → IsSeamless move order → AreOnes order ranks →
     AreSeamlessWaves move ranks
 
 -- each order is a wave list of ones, and as that it has one run
@@ -93,5 +75,5 @@ OrdersAreOnes = (n : ℕ) (order : List ℕ) → IsOrder n order → (ranks : Li
 
 abbrev pub OrdersHaveOneRun : Type 0
 OrdersHaveOneRun =
-    (n : ℕ) (order ranks : List ℕ) (run : List Change) → IsOrder n order → AreOnes order ranks → IsRun n ranks run →
-    run ≡ run_along order
+    (n : ℕ) (order ranks : List ℕ) (run : List Change) → IsOrder n order → AreOnes order ranks →
+    IsRun n (router_times all_old ranks) run → run ≡ run_along order

@@ -11,10 +11,12 @@
 //! | `Forwarding` | the used entry of an address: the longest match, then the distance; the steps | RFC 1812, section 5.2.4.3 |
 //! | `States` | sound states, the states of an order, seamless orders | the same |
 //! | `Loops` | loops of the network with their tags, the fault of an unsound state | the same |
-//! | `Waves` | wave lists, their runs and states, seamless wave lists | the same |
-//! | `WaveFaults` | the fault of a set of states, and of a wave list | |
+//! | `Changes` | the two changes of a router | the same |
+//! | `Timetables` | when the changes are made, wave by wave; their runs and states; sound throughout | the same |
+//! | `Waves` | wave lists, seamless wave lists | the same |
+//! | `WaveFaults` | the fault of a set of states, and of a timetable | |
 //!
-//! What the laws say stands in `Laws`, `MiddleLaws`, `LoopLaws`, `WaveLaws` and `WaveFaultLaws`. A law is a function without
+//! What the laws say stands in `Laws`, `MiddleLaws`, `LoopLaws`, `WaveLaws`, `WaveFaultLaws` and `TimetableLaws`. A law is a function without
 //! a body, whose contract says it; its proof is found under its name in `proofs`.
 #![tactic(auto)]
 
@@ -32,6 +34,9 @@ mod table_laws;
 mod fault_laws;
 mod loop_laws;
 mod sound_laws;
+
+// Timetables.
+mod timetable_laws;
 
 // Wave lists.
 mod wave_fault_laws;
@@ -53,10 +58,11 @@ pub use phase::Phase;
 pub use same_table_laws::same_tables_act_alike;
 pub use sound_laws::{hops_are_routers, sound_states_deliver};
 pub use table_laws::{costs_are_unique, entries_are_unique, entries_forward, hops_are_neighbors};
+pub use timetable_laws::{
+    changes_switch, loops_decide, one_run, routers_switch, sound_wave_by_wave,
+    states_are_those_of_waves,
+};
 pub use wave_fault_laws::{
-    StateSet, faults_over_states_are_unique, same_tables_have_same_waves, wave_faults_are_unique,
+    StateSet, faults_over_states_are_unique, same_tables_have_same_waves, times_faults_are_unique,
 };
-pub use wave_laws::{
-    flat_runs_are_runs, orders_are_waves_of_ones, seamless_waves_are_orders,
-    states_are_those_of_waves, waves_are_seamless_one_by_one,
-};
+pub use wave_laws::{flat_runs_are_runs, orders_are_waves_of_ones, seamless_waves_are_orders};

@@ -1,6 +1,7 @@
 ghost use Rattle.igp_theory.specs.LoopLaws.{LoopsArise, ArisingLoopsAreUnsound, FaultsBetweenSoundEndsAreLoops, LoopsBetweenSoundEndsHaveBothTags};
-ghost use Rattle.igp_theory.specs.LoopLaws.{LoopsAriseInWaves, ReturnsInWavesAreUnsound, WaveFaultsBetweenSoundEndsAreLoops, SeamlessWavesPutOldFirst};
-ghost use Rattle.igp_theory.specs.LoopLaws.{WavesAreSeamlessByLoops};
+ghost use Rattle.igp_theory.specs.LoopLaws.{SeamlessWavesPutOldFirst, WavesAreSeamlessByLoops};
+ghost use Rattle.igp_theory.specs.TimetableLaws.{LoopsAriseInWaves, RankedLoopsAriseInWaves, ReturnsInWavesAreUnsound};
+ghost use Rattle.igp_theory.specs.TimetableLaws.{TimesFaultsBetweenSoundEndsAreLoops};
 
 use crate::migration::AnyMigration;
 
@@ -14,20 +15,21 @@ pub fn loops_arise<T: AnyMigration>()
 
 /// The law that between sound ends faults are loops with a turn tagged `Old` and one tagged `New`.
 ///
-/// The fault of an unsound state from the start on is such a loop that arises there; where every router begins in
-/// `Old`, that of a wave list is one that arises in a state of its wave. A missing step and a loop of one tag are
-/// impossible there.
+/// The fault of an unsound state from the start on is such a loop that arises there; that of a timetable is one that
+/// arises in a state of its wave. A missing step and a loop of one tag are impossible there.
 pub fn faults_between_sound_ends_are_loops<T: AnyMigration>()
     ensures state { FaultsBetweenSoundEndsAreLoops T.migration }
-    ensures waves { WaveFaultsBetweenSoundEndsAreLoops T.migration }
+    ensures waves { TimesFaultsBetweenSoundEndsAreLoops T.migration }
 {}
 
-/// The law of the waves in which loops arise, where every router begins in `Old`.
+/// The law of the waves in which loops arise.
 ///
-/// A loop arises in a state of wave w exactly where its routers tagged `New` stand in waves up to w and its
-/// routers tagged `Old` in waves from w on.
+/// A loop arises in a state of a wave exactly where each of its routers steps to the next when the wave begins or when
+/// it ends. Where routers are ranked, that is where its routers tagged `New` stand in waves up to this one and its
+/// routers tagged `Old` in waves from it on.
 pub fn loops_arise_in_waves<T: AnyMigration>()
-    ensures { LoopsAriseInWaves T.migration }
+    ensures timed { LoopsAriseInWaves T.migration }
+    ensures ranked { RankedLoopsAriseInWaves T.migration }
 {}
 
 /// The law of lists of steps over every hop that a router has in some state of a wave.
@@ -38,7 +40,7 @@ pub fn returns_in_waves_are_unsound<T: AnyMigration>()
     ensures { ReturnsInWavesAreUnsound T.migration }
 {}
 
-/// The law that loops say which wave lists are seamless, where every router begins in `Old`.
+/// The law that loops say which wave lists are seamless.
 ///
 /// Whatever the ends, a seamless wave list puts some router tagged `Old` of each loop with both tags in an
 /// earlier wave than some router tagged `New`. Between sound ends a wave list is seamless exactly where it

@@ -1,5 +1,5 @@
-ghost use Rattle.igp_theory.specs.WaveFaultLaws.{FaultsOverAreUnique, FaultsOverOneAreFaults, WavesFaultsAreUnique, WavesFaultsAreUnsound, SameDeliveries};
-ghost use Rattle.igp_theory.specs.WaveFaultLaws.{SameSeamlessWaves, SameFaultsOver, SameWavesFaults};
+ghost use Rattle.igp_theory.specs.WaveFaultLaws.{FaultsOverAreUnique, FaultsOverOneAreFaults, TimesFaultsAreUnique, TimesFaultsAreUnsound, SameDeliveries};
+ghost use Rattle.igp_theory.specs.WaveFaultLaws.{SameSeamlessWaves, SameFaultsOver, SameTimesFaults};
 ghost use Rattle.igp_theory.specs.Phases.{State};
 
 use crate::migration::AnyMigration;
@@ -18,17 +18,17 @@ pub fn faults_over_states_are_unique<T: AnyMigration, S: StateSet>()
     ensures single { FaultsOverOneAreFaults T.migration }
 {}
 
-/// The law that a wave list has at most one fault, and isn't seamless where it has one.
-pub fn wave_faults_are_unique<T: AnyMigration>()
-    ensures unique { WavesFaultsAreUnique T.migration }
-    ensures unsound { WavesFaultsAreUnsound T.migration }
+/// The law that a timetable has at most one fault, and that a migration with one isn't sound throughout.
+pub fn times_faults_are_unique<T: AnyMigration>()
+    ensures unique { TimesFaultsAreUnique T.migration }
+    ensures unsound { TimesFaultsAreUnsound T.migration }
 {}
 
 /// The law that tables with the same entries at the routers of a network have the same seamless wave lists
-/// and the same faults of waves, and deliver the same packets.
+/// and the same faults of timetables, and deliver the same packets.
 pub fn same_tables_have_same_waves<T: AnyMigration, U: AnyMigration, S: StateSet>()
     ensures deliveries { SameDeliveries T.migration U.migration.old U.migration.new }
     ensures seamless { SameSeamlessWaves T.migration U.migration.old U.migration.new }
     ensures faults { SameFaultsOver T.migration U.migration.old U.migration.new S.states }
-    ensures waves_faults { SameWavesFaults T.migration U.migration.old U.migration.new }
+    ensures times_faults { SameTimesFaults T.migration U.migration.old U.migration.new }
 {}

@@ -1,20 +1,7 @@
-ghost use Rattle.igp_theory.specs.WaveLaws.{StatesAreThoseOfWaves, FlatRunsAreRuns, StatesAlongAreThoseOfOrders, FlatOrdersAreSeamless};
-ghost use Rattle.igp_theory.specs.WaveLaws.{OrdersAreSeamlessWaves, OrdersAreOnes, OrdersHaveOneRun, SeamlessWaveByWave};
+ghost use Rattle.igp_theory.specs.WaveLaws.{FlatRunsAreRuns, StatesAlongAreThoseOfOrders, FlatOrdersAreSeamless};
+ghost use Rattle.igp_theory.specs.WaveLaws.{OrdersAreSeamlessWaves, OrdersAreOnes, OrdersHaveOneRun};
 
 use crate::migration::AnyMigration;
-
-/// The law that the states of a wave list are those of its waves.
-///
-/// Every combination of phases of one wave, with each earlier wave `New` and each later wave `Old`, is the
-/// state after some prefix of some run, and there is no other.
-pub fn states_are_those_of_waves()
-    ensures { StatesAreThoseOfWaves }
-{}
-
-/// The law that a wave list is seamless exactly where every state of each of its waves is sound.
-pub fn waves_are_seamless_one_by_one<T: AnyMigration>()
-    ensures { SeamlessWaveByWave T.migration }
-{}
 
 /// The law that the flat run of a wave list is a run of it, with the states of the flat order.
 pub fn flat_runs_are_runs()
@@ -24,8 +11,8 @@ pub fn flat_runs_are_runs()
 
 /// The law of wave lists and orders.
 ///
-/// A seamless wave list, written wave by wave in number order, is a seamless order, and a seamless order is
-/// a seamless wave list of ones.
+/// Where every router begins in `Old` a seamless wave list, written wave by wave in number order, is a seamless
+/// order, and a seamless order is a seamless wave list of ones.
 pub fn seamless_waves_are_orders<T: AnyMigration>()
     ensures flat { FlatOrdersAreSeamless T.migration }
     ensures ones { OrdersAreSeamlessWaves T.migration }

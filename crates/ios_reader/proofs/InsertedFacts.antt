@@ -1,7 +1,7 @@
 -- Texts joined end to end, and lines put before an `end` line, are read as the law says.
-use Rattle.std.proofs.Common.{sym, ◌≡◌, ℕ, ◌+◌, ◌<◌, Bool, true, false, not, ◌&&◌, ◌||◌, List, [], ◌∷◌, ◌++◌, length, refl, ap, subst, ◌∙◌, cond, map}
+use Rattle.std.proofs.Common.{sym, ◌≡◌, ℕ, ◌+◌, ◌-◌, ◌<◌, Bool, true, false, not, ◌&&◌, ◌||◌, List, [], ◌∷◌, ◌++◌, length, refl, ap, subst, ◌∙◌, cond, map}
 use Rattle.std.proofs.Common.{append-nil, arith, bytes_eq, nat_eq}
-use Rattle.std.specs.Prelude.{flat_map, filter, filter_map, codes, slice_index, is_none}
+use Rattle.std.specs.Prelude.{flat_map, filter, codes, slice_index}
 use Rattle.std.specs.List.{list_any}
 use Rattle.std.proofs.lemmas.Bool.{or_parts}
 use Rattle.std.proofs.lemmas.List.{map-append}
@@ -11,27 +11,25 @@ use Rattle.net_addr.specs.JoinedLines.{is_of_whole_lines}
 use Rattle.net_addr.proofs.JoinedFacts.{is_of_whole_lines-append}
 use Rattle.net_model.specs.Configuration.{Configuration}
 use Rattle.ios_lines.specs.Words.{Word, word_at, says, lacks}
-use Rattle.ios_lines.specs.Lookups.{last_of}
 use Rattle.ios_lines.specs.FaultOrder.{faults_if}
 use Rattle.ios_lines.specs.declared.fault.Fault.{Fault}
-use Rattle.ios_lines.specs.declared.kind.ReadKind.TheVariants.{NoHostname, NoEnd}
+use Rattle.ios_lines.specs.declared.kind.ReadKind.TheVariants.{NoEnd}
 use Rattle.ios_sections.specs.TextLines.{TextLine, Part, lines_in, counted_lines, counts, is_end, parts_after, rest_after, parts_of, begins_configuration}
 use Rattle.ios_sections.specs.TextLines.{is_empty, lacks_end, outside_banners, opens_banner, carets, first_indent}
-use Rattle.ios_sections.specs.Sections.{sections_in}
-use Rattle.ios_sections.specs.JoinedLines.{further_on, is_in_banner, begins_banner, begins_with_end, sections_among, open_sections, sections_further_on}
+use Rattle.ios_sections.specs.Sections.{first_number, from_first, sections_among, sections_from_first, sections_in}
+use Rattle.ios_sections.specs.JoinedLines.{further_on, is_in_banner, begins_banner, begins_with_end, open_lines, open_sections, sections_further_on}
 use Rattle.ios_sections.specs.declared.section.Section.{Section}
 use Rattle.ios_sections.proofs.JoinedFacts.{lines_in-append, counted-append, banner-append, banner-none, counted-no_end, parts-append, rest-append}
 use Rattle.ios_sections.proofs.JoinedFacts.{parts-none, rest-none, sections_among-append}
 use Rattle.ios_sections.proofs.FurtherFacts.{list_any-map, first-further, counted-further, banner-further, part_further, parts-further, rest-further}
-use Rattle.ios_sections.proofs.FurtherFacts.{fault_further}
-use Rattle.ios_sections.specs.Processes.{as_hostname, as_isis, as_fault, interfaces_in, first_tag}
-use Rattle.ios_sections.specs.ProcessFaults.{second_processes, ospf_faults, isis_faults}
-use Rattle.ios_reader.specs.Routers.{router_of}
-use Rattle.ios_reader.specs.Faults.{interface_faults, section_faults, part_faults, faults_in}
+use Rattle.ios_sections.proofs.FirstLines.{from_first-append, first_within}
+use Rattle.ios_reader.specs.Faults.{section_faults, part_faults, faults_in}
 use Rattle.ios_reader.specs.Configurations.{configurations_in, configuration_of}
 use Rattle.ios_reader.specs.Texts.{ReadsText}
 use Rattle.ios_reader.specs.InsertedLines.{IsOutsideBanners, IsClosed, IsEndLine, IsLineBlock, grown_sections, IsGrown, IsReadGrown}
-use Rattle.ios_reader.proofs.FurtherReading.{part-further, part_faults-further}
+use Rattle.ios_reader.proofs.LookedUp.{none_left, none_right}
+use Rattle.ios_reader.proofs.FurtherReading.{part_faultless, faultless_further, faultless_back, part-further, HasFirst, has_first}
+use Rattle.ios_reader.proofs.RawLines.{end_word, counted_end, part_with, parts_at_end as parts_ended, open_fine}
 
 -- ---- what it takes to be read ----
 
@@ -44,14 +42,6 @@ record AreRead (parts : List Part) (rest : List TextLine) : Type 0 where
   some : is_empty parts ≡ false
   none_open : list_any begins_configuration rest ≡ false
 
-append_left : (fs gs : List Fault) → fs ++ gs ≡ [] → fs ≡ []
-append_left [] gs e = refl
-append_left (f ∷ fs) gs e = absurd cc
-
-append_right : (fs gs : List Fault) → fs ++ gs ≡ [] → gs ≡ []
-append_right [] gs e = e
-append_right (f ∷ fs) gs e = absurd cc
-
 none_if : (t : Bool) (line : ℕ) → faults_if t line NoEnd ≡ [] → t ≡ false
 none_if true line e = absurd cc
 none_if false line e = refl
@@ -60,11 +50,11 @@ read_from : (lines : List TextLine) → faults_in lines ≡ [] → AreRead (part
 read_from lines e =
     let lacks : lacks_end lines ≡ false =
     none_if (lacks_end lines) (length lines + 1)
-    (append_right (flat_map part_faults (parts_of lines)) (faults_if (lacks_end lines) (length lines + 1) NoEnd) e) in
+    (none_right (flat_map part_faults (parts_of lines)) (faults_if (lacks_end lines) (length lines + 1) NoEnd) e) in
     let two : (is_empty (parts_of lines) ≡ false) × (list_any begins_configuration (rest_after [] (counted_lines lines)) ≡ false) =
     or_parts (is_empty (parts_of lines)) (list_any begins_configuration (rest_after [] (counted_lines lines))) lacks in
     record {
-      faultless = append_left (flat_map part_faults (parts_of lines)) (faults_if (lacks_end lines) (length lines + 1) NoEnd) e;
+      faultless = none_left (flat_map part_faults (parts_of lines)) (faults_if (lacks_end lines) (length lines + 1) NoEnd) e;
       some = two.0;
       none_open = two.1;
     }
@@ -83,21 +73,6 @@ read_to lines parts rest p r read =
     ∙ read.faultless
 
 -- ---- parts further on ----
-
-faults-further : (k : ℕ) (parts : List Part) → flat_map part_faults (map (part_further k) parts) ≡ map (fault_further k) (flat_map part_faults parts)
-faults-further k [] = refl
-faults-further k (p ∷ ps) =
-    rw (part_faults-further k p, faults-further k ps) (sym (map-append (fault_further k) (part_faults p) (flat_map part_faults ps)))
-
-none_mapped : (k : ℕ) (fs : List Fault) → map (fault_further k) fs ≡ [] → fs ≡ []
-none_mapped k [] e = refl
-none_mapped k (f ∷ fs) e = absurd cc
-
-faultless_further : (k : ℕ) (parts : List Part) → flat_map part_faults parts ≡ [] → flat_map part_faults (map (part_further k) parts) ≡ []
-faultless_further k parts e = faults-further k parts ∙ ap (map (fault_further k)) e
-
-faultless_back : (k : ℕ) (parts : List Part) → flat_map part_faults (map (part_further k) parts) ≡ [] → flat_map part_faults parts ≡ []
-faultless_back k parts e = none_mapped k (flat_map part_faults parts) (sym (faults-further k parts) ∙ e)
 
 made-further : (k : ℕ) (parts : List Part) → made (map (part_further k) parts) ≡ made parts
 made-further k [] = refl
@@ -179,24 +154,8 @@ some_configuration text configurations read =
 
 -- ---- an `end` line ----
 
-middle : (a b c : Bool) → (a && b && c) ≡ true → b ≡ true
-middle a b c e = grind arith
-
-end_word : (line : TextLine) → is_end line ≡ true → word_at line.words 0 ≡ codes "end"
-end_word line e =
-    (bytes_eq-Decides (word_at line.words 0) (codes "end")).0 (middle (nat_eq line.indent 0) (says line.words 0 (codes "end")) (lacks line.words 1) e)
-
-end_counts : (line : TextLine) → is_end line ≡ true → counts line ≡ true
-end_counts line e = ap (λ (w : Word). not (nat_eq (length w) 0) && not (nat_eq (slice_index w 0) 33)) (end_word line e)
-
 end_opens_none : (line : TextLine) → is_end line ≡ true → opens_banner line ≡ false
 end_opens_none line e = ap (λ (w : Word). bytes_eq w (codes "banner") && nat_eq (carets line.bytes) 1) (end_word line e)
-
-counted_end : (line : TextLine) (ls : List TextLine) → is_end line ≡ true → counted_lines (line ∷ ls) ≡ line ∷ counted_lines ls
-counted_end line ls e =
-    ap (λ (b : Bool). cond b (line ∷ filter counts (outside_banners (opens_banner line) ls)) (filter counts (outside_banners (opens_banner line) ls)))
-    (end_counts line e)
-    ∙ ap (λ (b : Bool). line ∷ filter counts (outside_banners b ls)) (end_opens_none line e)
 
 -- some lines, of which the first is an `end` line
 record EndsFirst (lines : List TextLine) : Type 0 where
@@ -212,17 +171,11 @@ ends_first (line ∷ lines) e = record { end = line; behind = lines; all = refl;
 counted_first : (lines : List TextLine) (first : EndsFirst lines) → counted_lines lines ≡ first.end ∷ counted_lines first.behind
 counted_first lines first = ap counted_lines first.all ∙ counted_end first.end first.behind first.ends
 
-abbrev part_with : List TextLine → ℕ → Part
-part_with lines ends = record { lines = lines; ends = ends }
-
 -- ---- a text, and behind it one that begins with an `end` line ----
 
 -- how many lines a text has, and those of it that are open
 abbrev count_of : List ℕ → ℕ
 count_of text = length (lines_in text)
-
-abbrev open_lines : List ℕ → List TextLine
-open_lines text = rest_after [] (counted_lines (lines_in text))
 
 -- the parts behind an `end` line
 abbrev parts_behind : List TextLine → List Part
@@ -232,13 +185,9 @@ parts_at_end : (text after : List ℕ) → IsOutsideBanners text → (first : En
     parts_of (lines_in (text ++ after)) ≡ parts_of (lines_in text) ++ part_with (open_lines text) (count_of text + first.end.number) ∷ map
     (part_further (count_of text)) (parts_behind first.behind)
 parts_at_end text after outside first =
-    rw (
-      counted_joined text after outside,
-      parts-append [] (counted_lines (lines_in text)) (map (further_on (count_of text)) (counted_lines (lines_in after))),
-      counted_first (lines_in after) first,
-      first.ends,
-      parts-further (count_of text) [] (counted_lines first.behind),
-    ) refl
+    parts_ended text after first.end first.behind outside first.all first.ends
+    ∙ ap (λ (ps : List Part). parts_of (lines_in text) ++ part_with (open_lines text) (count_of text + first.end.number) ∷ ps)
+    (parts-further (count_of text) [] (counted_lines first.behind))
 
 rest_at_end : (text after : List ℕ) → IsOutsideBanners text → (first : EndsFirst (lines_in after)) →
     rest_after [] (counted_lines (lines_in (text ++ after))) ≡ map (further_on (count_of text)) (rest_after [] (counted_lines first.behind))
@@ -308,30 +257,18 @@ block_open before block outside fits =
     ∙ rest-none (open_lines before) (block_lines before block) (no_end_in before block fits)
 
 -- the sections that stand open behind a text and a block
-block_sections : (before block : List ℕ) → IsOutsideBanners before → IsLineBlock block → open_sections (before ++ block) ≡ grown_sections before block
-block_sections before block outside fits =
-    ap sections_among (block_open before block outside fits)
-    ∙ sections_among-append (open_lines before) (block_lines before block) (first-further (count_of before) (counted_lines (lines_in block)) ∙ fits.opens)
-    ∙ ap (λ (ls : List TextLine). open_sections before ++ sections_among ls) (sym (counted-further (count_of before) (lines_in block)))
+block_sections : (before block : List ℕ) → IsOutsideBanners before → IsLineBlock block → HasFirst (open_lines before) →
+    open_sections (before ++ block) ≡ grown_sections before block
+block_sections before block outside fits own =
+    let more : ℕ = count_of before - first_number (open_lines before) in
+    ap sections_from_first (block_open before block outside fits)
+    ∙ ap sections_among (from_first-append (count_of before) (open_lines before) (counted_lines (lines_in block)) own.first own.more own.is
+    (first_within before))
+    ∙ sections_among-append (from_first (open_lines before)) (map (further_on more) (counted_lines (lines_in block)))
+    (first-further more (counted_lines (lines_in block)) ∙ fits.opens)
+    ∙ ap (λ (ls : List TextLine). open_sections before ++ sections_among ls) (sym (counted-further more (lines_in block)))
 
-name_if : (t : Bool) (line other : ℕ) → faults_if t line NoHostname ≡ [] → faults_if t other NoHostname ≡ []
-name_if true line other e = absurd cc
-name_if false line other e = refl
-
--- whether sections have a fault isn't a matter of the number of the `end` line
-other_end : (fs : List Fault) (t : Bool) (line other : ℕ) → fs ++ faults_if t line NoHostname ≡ [] → fs ++ faults_if t other NoHostname ≡ []
-other_end fs t line other e =
-    ap (λ (gs : List Fault). gs ++ faults_if t other NoHostname) (append_left fs (faults_if t line NoHostname) e)
-    ∙ name_if t line other (append_right fs (faults_if t line NoHostname) e)
-
-faultless_at : (ss : List Section) (line other : ℕ) → section_faults ss line ≡ [] → section_faults ss other ≡ []
-faultless_at ss line other e =
-    other_end
-    (filter_map as_fault ss ++ second_processes ss ++ ospf_faults ss ++ isis_faults ss ++ flat_map
-    (interface_faults (router_of ss) (first_tag (filter_map as_isis ss))) (interfaces_in ss))
-    (is_none (last_of as_hostname ss)) line other e
-
-some_at_end : (ps qs : List Part) (p : Part) → is_empty (ps ++ p ∷ qs) ≡ false
+pub some_at_end : (ps qs : List Part) (p : Part) → is_empty (ps ++ p ∷ qs) ≡ false
 some_at_end [] qs p = refl
 some_at_end (q ∷ ps) qs p = refl
 
@@ -369,12 +306,12 @@ read_around before after configurations outside first reads =
     ∙ sym (ap (flat_map part_faults) (parts_at_end before after outside first))
     ∙ read.faultless in
     record {
-      first = append_left (flat_map part_faults (parts_of (lines_in before)))
+      first = none_left (flat_map part_faults (parts_of (lines_in before)))
           (part_faults (part_ended before first.end) ++ flat_map part_faults (map (part_further (count_of before)) (parts_behind first.behind))) faults;
       last =
           faultless_back (count_of before) (parts_behind first.behind)
-          (append_right (part_faults (part_ended before first.end)) (flat_map part_faults (map (part_further (count_of before)) (parts_behind first.behind)))
-          (append_right (flat_map part_faults (parts_of (lines_in before)))
+          (none_right (part_faults (part_ended before first.end)) (flat_map part_faults (map (part_further (count_of before)) (parts_behind first.behind)))
+          (none_right (flat_map part_faults (parts_of (lines_in before)))
           (part_faults (part_ended before first.end) ++ flat_map part_faults (map (part_further (count_of before)) (parts_behind first.behind))) faults));
       none_open =
           sym (none_open-further (count_of before) (rest_after [] (counted_lines first.behind)))
@@ -412,10 +349,13 @@ inserted_lines before block after configurations grown outside fits ends reads g
     let around : IsReadAround before first.behind configurations = read_around before after configurations outside first reads in
     let wider : IsOutsideBanners (before ++ block) = block_outside before block outside fits in
     let same_parts : parts_of (lines_in (before ++ block)) ≡ parts_of (lines_in before) = block_parts before block outside fits in
-    let same_sections : open_sections (before ++ block) ≡ grown_sections before block = block_sections before block outside fits in
-    let faultless : section_faults (open_sections (before ++ block)) (count_of (before ++ block) + first.end.number) ≡ [] =
-    ap (λ (ss : List Section). section_faults ss (count_of (before ++ block) + first.end.number)) same_sections
-    ∙ faultless_at (grown_sections before block) grows.ends (count_of (before ++ block) + first.end.number) grows.faultless in
+    let fine : section_faults (open_sections before) (count_of before + first.end.number) ≡ [] =
+    open_fine before after first.end first.behind configurations outside first.all first.ends reads in
+    let own : HasFirst (open_lines before) = has_first (open_lines before) (count_of before + first.end.number) fine in
+    let same_sections : open_sections (before ++ block) ≡ grown_sections before block = block_sections before block outside fits own in
+    let faultless : part_faults (part_ended (before ++ block) first.end) ≡ [] =
+    part_faultless (part_ended (before ++ block) first.end) grows.ends
+    (ap (λ (ss : List Section). section_faults ss grows.ends) same_sections ∙ grows.faultless) in
     record {
       last = made (parts_behind first.behind);
       was = around.was;

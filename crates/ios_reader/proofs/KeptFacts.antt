@@ -17,7 +17,7 @@ use Rattle.net_model.specs.declared.interface.Interface.{Interface}
 use Rattle.ios_lines.specs.Words.{Word, is_letter}
 use Rattle.ios_lines.specs.Heads.{is_name_byte, is_router_name}
 use Rattle.ios_lines.specs.Lookups.{last_of, replaced, first_seen, good_value, value_or}
-use Rattle.ios_reader.specs.InterfaceFacts.{address_at, address_in, cost_said, metric_said, metric1_said, metric2_said, facts_of}
+use Rattle.ios_reader.specs.InterfaceFacts.{no_facts, noted_at, noted, facts_of}
 use Rattle.ios_lines.specs.InterfaceLines.{counting}
 use Rattle.ios_sections.specs.Processes.{as_hostname, as_interface, merged, interfaces_in, process_of, ospf_lines, isis_lines}
 use Rattle.ios_reader.specs.Routers.{Router, router_of, range_said, is_same_range, ranges_in, stub_said, is_same_area, stub_lines_in}
@@ -30,6 +30,8 @@ use Rattle.ios_lines.specs.MaskedAddress.{MaskedAddress}
 use Rattle.ios_lines.specs.declared.kind.ReadKind.{ReadKind}
 use Rattle.ios_reader.specs.declared.facts.PlacedAddress.{PlacedAddress}
 use Rattle.ios_lines.specs.declared.interface_line.InterfaceLine.{InterfaceLine}
+use Rattle.ios_lines.specs.declared.interface_line.InterfaceLine.TheVariants.{Address, NoAddress, Cost, Metric, Metric1, Metric2}
+use Rattle.ios_reader.specs.declared.facts.InterfaceFacts.{InterfaceFacts}
 use Rattle.ios_lines.specs.declared.interface_line.InterfaceStatement.{InterfaceStatement}
 use Rattle.ios_lines.specs.declared.ospf_line.StubLine.{StubLine}
 use Rattle.ios_lines.specs.declared.ospf_line.OspfLine.{OspfLine}
@@ -100,23 +102,31 @@ or_default P (Some a) d e h = h
 abbrev IsGoodValue : ℕ → ℕ → Result ℕ ReadKind → Type 0
 IsGoodValue least most r = IfOk r (IsFrom least most)
 
-cost_in : (s : InterfaceLine) → IsGoodInterfaceLine s → IfSome (cost_said s) (IsGoodValue 1 65535)
-cost_in s h = grind arith
-
-metric_in : (s : InterfaceLine) → IsGoodInterfaceLine s → IfSome (metric_said s) (IsGoodValue 1 16777214)
-metric_in s h = grind arith
-
-metric1_in : (s : InterfaceLine) → IsGoodInterfaceLine s → IfSome (metric1_said s) (IsGoodValue 1 16777214)
-metric1_in s h = grind arith
-
-metric2_in : (s : InterfaceLine) → IsGoodInterfaceLine s → IfSome (metric2_said s) (IsGoodValue 1 16777214)
-metric2_in s h = grind arith
-
 abbrev IsGoodPlaced : Option PlacedAddress → Type 0
 IsGoodPlaced o = IfSome o (λ (p : PlacedAddress). IfOk p.address IsGoodAddress)
 
-placed_in : (line : ℕ) (s : InterfaceLine) → IsGoodInterfaceLine s → IfSome (address_at line s) IsGoodPlaced
-placed_in line s h = grind arith
+-- what is said of an interface is in its ranges
+record AreGoodFacts (facts : InterfaceFacts) : Type 0 where
+  address : IfSome facts.address IsGoodPlaced
+  cost : IfSome facts.cost (IsGoodValue 1 65535)
+  metric : IfSome facts.metric (IsGoodValue 1 16777214)
+  metric1 : IfSome facts.metric1 (IsGoodValue 1 16777214)
+  metric2 : IfSome facts.metric2 (IsGoodValue 1 16777214)
+
+noted_good : (line : ℕ) (facts : InterfaceFacts) (says : InterfaceLine) → AreGoodFacts facts → IsGoodInterfaceLine says →
+    AreGoodFacts (noted_at line facts says)
+noted_good line facts (Address r) g h = record { address = h; cost = g.cost; metric = g.metric; metric1 = g.metric1; metric2 = g.metric2 }
+noted_good line facts NoAddress g h = record { address = tt; cost = g.cost; metric = g.metric; metric1 = g.metric1; metric2 = g.metric2 }
+noted_good line facts (Cost r) g h = record { address = g.address; cost = h; metric = g.metric; metric1 = g.metric1; metric2 = g.metric2 }
+noted_good line facts (Metric r) g h = record { address = g.address; cost = g.cost; metric = h; metric1 = g.metric1; metric2 = g.metric2 }
+noted_good line facts (Metric1 r) g h = record { address = g.address; cost = g.cost; metric = g.metric; metric1 = h; metric2 = g.metric2 }
+noted_good line facts (Metric2 r) g h = record { address = g.address; cost = g.cost; metric = g.metric; metric1 = g.metric1; metric2 = h }
+noted_good line facts _ g h = record { address = g.address; cost = g.cost; metric = g.metric; metric1 = g.metric1; metric2 = g.metric2 }
+
+facts_good : (lines : List InterfaceStatement) → All IsGoodStatement lines → AreGoodFacts (facts_of lines)
+facts_good lines good =
+    fold_keeps AreGoodFacts IsGoodStatement noted (λ f s g h. noted_good s.line f s.says g h) no_facts lines
+    (record { address = tt; cost = tt; metric = tt; metric1 = tt; metric2 = tt }) good
 
 given_good : (o : Option (Option PlacedAddress)) → IfSome o IsGoodPlaced → IfSome (address_given o) IsGoodAddress
 given_good None h = tt
@@ -174,39 +184,30 @@ by_metric None both router h i j = or_default IsMetric both router j i
 pair : (least most n : ℕ) → IsFrom least most n → (least ≤ n) × (n ≤ most)
 pair least most n h = (h.low, h.high)
 
-module _ (router : Router) (name : Word) (lines : List InterfaceStatement) (good : All IsGoodStatement lines) (metric : IsMetric router.metric) where
+module _ (router : Router) (name : Word) (facts : InterfaceFacts) (good : AreGoodFacts facts) (metric : IsMetric router.metric) where
   own_metric : (own : Option (Result ℕ ReadKind)) → IfSome own (IsGoodValue 1 16777214) →
-      IsMetric (level_metric router.metric (is_isis_passive router name) (facts_of lines) own)
+      IsMetric (level_metric router.metric (is_isis_passive router name) facts own)
   own_metric own h =
-      by_if IsMetric (runs_isis (is_isis_passive router name) (facts_of lines))
-      (metric_by (good_value own) (good_value (facts_of lines).metric) router.metric) 10
-      (by_metric (good_value own) (good_value (facts_of lines).metric) router.metric (value_metric own h)
-      (value_metric (facts_of lines).metric (last_keeps (λ (s : InterfaceStatement). metric_said s.says) IsGoodStatement (IsGoodValue 1 16777214)
-      (λ s g. metric_in s.says g) lines good)) metric)
+      by_if IsMetric (runs_isis (is_isis_passive router name) facts) (metric_by (good_value own) (good_value facts.metric) router.metric) 10
+      (by_metric (good_value own) (good_value facts.metric) router.metric (value_metric own h) (value_metric facts.metric good.metric) metric)
       ten_metric
 
-  interface_good : IsInterface (interface_with router name (facts_of lines))
+  interface_good : IsInterface (interface_with router name facts)
   interface_good = record {
-    cost = pair 1 65535 _ (field_cost (interface_area router (facts_of lines)) (ospf_cost router name (facts_of lines))
-        (given_cost (facts_of lines).cost (default_cost router.reference name (facts_of lines).bandwidth)
-        (last_keeps (λ (s : InterfaceStatement). cost_said s.says) IsGoodStatement (IsGoodValue 1 65535) (λ s g. cost_in s.says g) lines good)
-        (otherwise_cost router.reference name (facts_of lines).bandwidth)));
-    metric1 = pair 1 16777214 _ (own_metric (facts_of lines).metric1 (last_keeps (λ (s : InterfaceStatement). metric1_said s.says) IsGoodStatement
-        (IsGoodValue 1 16777214) (λ s g. metric1_in s.says g) lines good));
-    metric2 = pair 1 16777214 _ (own_metric (facts_of lines).metric2 (last_keeps (λ (s : InterfaceStatement). metric2_said s.says) IsGoodStatement
-        (IsGoodValue 1 16777214) (λ s g. metric2_in s.says g) lines good));
-    prefix = subnet_good (address_given (facts_of lines).address) (given_good (facts_of lines).address
-        (last_keeps address_in IsGoodStatement IsGoodPlaced (λ s g. placed_in s.line s.says g) lines good));
-    subnet = λ up. subnet_there (address_given (facts_of lines).address)
-        (and_left (is_some (address_given (facts_of lines).address)) (not (unwrap_or (facts_of lines).shut false)) up);
+    cost = pair 1 65535 _ (field_cost (interface_area router facts) (ospf_cost router name facts)
+        (given_cost facts.cost (default_cost router.reference name facts.bandwidth) good.cost (otherwise_cost router.reference name facts.bandwidth)));
+    metric1 = pair 1 16777214 _ (own_metric facts.metric1 good.metric1);
+    metric2 = pair 1 16777214 _ (own_metric facts.metric2 good.metric2);
+    prefix = subnet_good (address_given facts.address) (given_good facts.address good.address);
+    subnet = λ up. subnet_there (address_given facts.address) (and_left (is_some (address_given facts.address)) (not (unwrap_or facts.shut false)) up);
   }
 
 interfaces_kept : (router : Router) (sections : List InterfaceSection) → IsMetric router.metric → All IsGoodInterface sections →
     All IsInterface (map (interface_as_read router) sections)
 interfaces_kept router sections metric good =
     All-map IsInterface (interface_as_read router) sections
-    (λ k d lt. interface_good router (get_or sections k d).name (counting (get_or sections k d).lines)
-    (counting_good (get_or sections k d).lines (good k d lt)) metric)
+    (λ k d lt. interface_good router (get_or sections k d).name (facts_of (counting (get_or sections k d).lines))
+    (facts_good (counting (get_or sections k d).lines) (counting_good (get_or sections k d).lines (good k d lt))) metric)
 
 -- two interfaces have two names
 apart_interfaces : (router : Router) (parts : List InterfaceSection) (names : List Word) → AllPairs (λ (n m : Word). n ≢ m) names →

@@ -1,4 +1,3 @@
-pub mod FactsFacts
 pub mod ProcessLookups
 pub mod LastTitle
 pub mod LeastFaults

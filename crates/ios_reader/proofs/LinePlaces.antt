@@ -1,8 +1,8 @@
 -- Where the lines of a text begin that is put together from others.
-use Rattle.std.proofs.Common.{◌≡◌, ℕ, ◌+◌, ◌-◌, ◌<◌, ◌≤◌, true, List, [], ◌∷◌, ◌++◌, length, map, take, drop, refl}
-use Rattle.std.proofs.Common.{sym, ap, ◌∙◌, append-nil, length-drop, arith}
+use Rattle.std.proofs.Common.{◌≡◌, ℕ, ◌+◌, ◌-◌, ◌<◌, true, List, [], ◌∷◌, ◌++◌, length, map, refl}
+use Rattle.std.proofs.Common.{sym, ap, ◌∙◌, append-nil, arith}
 use Rattle.std.specs.Prelude.{slice_get}
-use Rattle.std.proofs.lemmas.List.{length-map, drop-append-le, take_at}
+use Rattle.std.proofs.lemmas.List.{length-map}
 use Rattle.std.proofs.lemmas.Option.{slice_get_past}
 use Rattle.net_addr.specs.declared.line.Line.{Line}
 use Rattle.net_addr.specs.Lines.{line_pieces, lines_of, text_lines}
@@ -11,7 +11,7 @@ use Rattle.net_addr.proofs.JoinedFacts.{lines_of-length, text_lines-append}
 use Rattle.ios_sections.specs.TextLines.{TextLine, text_line, lines_in}
 use Rattle.ios_sections.specs.JoinedLines.{further_on}
 use Rattle.ios_sections.proofs.JoinedFacts.{lines_in-append}
-use Rattle.ios_reader.specs.Places.{begins_at, between, start_of}
+use Rattle.ios_reader.specs.Places.{begins_at, start_of}
 use Rattle.ios_reader.proofs.RawLines.{IsWholeBefore, AreRaw, joined_raw, HasOneLine, one_line}
 
 -- ---- where a line begins ----
@@ -65,12 +65,3 @@ next_begins before (raw ∷ next ∷ raws) number whole are first =
     (map (further_on (length (lines_in raw))) (lines_in (joined_raw (next ∷ raws)))) whole
     (lines_in-append raw (joined_raw (next ∷ raws)) are.1.0
     ∙ ap (λ l. l ++ map (further_on (length (lines_in raw))) (lines_in (joined_raw (next ∷ raws)))) single.is) first
-
--- ---- the text ----
-
--- what stands from a place up to the end of a text's first part
-pub up_to : (before rest text : List ℕ) (from : ℕ) → before ++ rest ≡ text → from ≤ length before → between text from (length before) ≡ drop from before
-up_to before rest text from is low =
-    ap (λ (t : List ℕ). take (length before - from) (drop from t)) (sym is)
-    ∙ ap (take (length before - from)) (drop-append-le from before rest low)
-    ∙ take_at (drop from before) rest (length before - from) (length-drop from before)

@@ -26,13 +26,14 @@ use Rattle.ios_reader.specs.Configurations.{ospf_settings, isis_settings, config
 pub two_none : (fs gs : List Fault) → fs ≡ [] → gs ≡ [] → fs ++ gs ≡ []
 two_none fs gs one two = ap (λ l. l ++ gs) one ∙ two
 
-pub none_left : (fs gs : List Fault) → fs ++ gs ≡ [] → fs ≡ []
-none_left [] gs e = refl
-none_left (f ∷ fs) gs e = absurd cc
+-- where two lists have nothing together, neither has
+pub none_left : {A : Type 0} (xs ys : List A) → xs ++ ys ≡ [] → xs ≡ []
+none_left [] ys e = refl
+none_left (x ∷ xs) ys e = absurd cc
 
-pub none_right : (fs gs : List Fault) → fs ++ gs ≡ [] → gs ≡ []
-none_right [] gs e = e
-none_right (f ∷ fs) gs e = absurd cc
+pub none_right : {A : Type 0} (xs ys : List A) → xs ++ ys ≡ [] → ys ≡ []
+none_right [] ys e = e
+none_right (x ∷ xs) ys e = absurd cc
 
 -- ---- what sections say, by what they are looked up by ----
 

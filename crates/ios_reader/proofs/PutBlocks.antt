@@ -1,5 +1,5 @@
 -- A text with blocks put before its `end` lines: it reads as its configurations, each with what its block makes of it.
-use Rattle.std.proofs.Common.{◌≡◌, ℕ, ◌+◌, Bool, true, false, not, ◌&&◌, cond, List, [], ◌∷◌, ◌++◌, length, map, refl, sym, ap}
+use Rattle.std.proofs.Common.{◌≡◌, ℕ, ◌+◌, ◌-◌, Bool, true, false, not, ◌&&◌, cond, List, [], ◌∷◌, ◌++◌, length, map, refl, sym, ap}
 use Rattle.std.proofs.Common.{subst, ◌∙◌}
 use Rattle.std.proofs.Common.{append_assoc, append-nil}
 use Rattle.std.specs.Prelude.{All, fold}
@@ -10,25 +10,22 @@ use Rattle.net_addr.specs.JoinedLines.{is_of_whole_lines}
 use Rattle.net_addr.proofs.JoinedFacts.{is_of_whole_lines-append}
 use Rattle.net_model.specs.Configuration.{Configuration}
 use Rattle.ios_sections.specs.TextLines.{TextLine, Part, lines_in, banner_after, is_end}
-use Rattle.ios_sections.specs.Sections.{sections_in}
-use Rattle.ios_sections.specs.JoinedLines.{further_on, is_in_banner, begins_with_end, open_sections}
+use Rattle.ios_sections.specs.Sections.{first_number, sections_in}
+use Rattle.ios_sections.specs.JoinedLines.{further_on, is_in_banner, begins_with_end, open_lines, open_sections}
 use Rattle.ios_sections.specs.declared.section.Section.{Section}
 use Rattle.ios_sections.proofs.JoinedFacts.{lines_in-append, banner-none}
+use Rattle.ios_sections.proofs.FurtherFacts.{banner-fold}
 use Rattle.ios_reader.specs.Faults.{section_faults}
 use Rattle.ios_reader.specs.Configurations.{configurations_in, configuration_of}
 use Rattle.ios_reader.specs.InsertedLines.{IsOutsideBanners, IsLineBlock, IsReadGrown}
 use Rattle.ios_reader.specs.PutBlocks.{ends_here, put_blocks, ends_last}
 use Rattle.ios_reader.specs.Texts.{ReadsText}
 use Rattle.ios_reader.proofs.InsertedFacts.{inserted_lines}
-use Rattle.ios_reader.proofs.RawLines.{IsRaw, IsWholeBefore, AreRaw, joined_raw, HasOneLine, one_line, open_lines, part_with, whole_next}
+use Rattle.ios_reader.proofs.RawLines.{IsRaw, IsWholeBefore, AreRaw, joined_raw, HasOneLine, one_line, part_with, whole_next}
 use Rattle.ios_reader.proofs.RawLines.{configurations_stay, configurations_end, open_fine, same_back, same_tail}
 use Rattle.ios_reader.proofs.GrownSections.{Grows}
 
 -- ---- banners ----
-
-banner_moved : (k : ℕ) (inside : Bool) (ls : List TextLine) → fold banner_after inside (map (further_on k) ls) ≡ fold banner_after inside ls
-banner_moved k inside [] = refl
-banner_moved k inside (l ∷ ls) = banner_moved k (banner_after inside l) ls
 
 -- whether a banner is open behind a text and another one
 banner_by : (before raw : List ℕ) → is_of_whole_lines before ≡ true →
@@ -36,7 +33,7 @@ banner_by : (before raw : List ℕ) → is_of_whole_lines before ≡ true →
 banner_by before raw whole =
     ap is_in_banner (lines_in-append before raw whole)
     ∙ fold-append banner_after false (lines_in before) (map (further_on (length (lines_in before))) (lines_in raw))
-    ∙ banner_moved (length (lines_in before)) (is_in_banner (lines_in before)) (lines_in raw)
+    ∙ banner-fold (length (lines_in before)) (is_in_banner (lines_in before)) (lines_in raw)
 
 -- it is so behind another text too, if it was before
 banner_same : (before done raw : List ℕ) → is_of_whole_lines before ≡ true → is_of_whole_lines done ≡ true →
@@ -168,6 +165,7 @@ module _ (block : List Section → List ℕ) (moved : Configuration → Configur
       let front : List Configuration = configurations_in (lines_in before) in
       let back : List Configuration = map moved rest.later in
       let count : ℕ = length (lines_in before) in
+      let own : ℕ = count - first_number (open_lines before) in
       let shown : List Configuration = configurations_in (lines_in (before ++ raw)) ++ back in
       let starts : Starts (raw ++ tail) line = starts_with raw tail raws line next none is in
       let ended : configurations_in (lines_in (before ++ raw)) ≡ front ++ c ∷ [] = configurations_end before raw line outside is e in
@@ -180,7 +178,7 @@ module _ (block : List Section → List ℕ) (moved : Configuration → Configur
       grows (part_with (open_lines before) 0) (count + line.number) fine known in
       let grown : IsReadGrown before (before ++ its ++ (raw ++ tail)) shown (moved c) =
       inserted_lines before its (raw ++ tail) shown (moved c) outside grown_by.fits (ap begins_with_end starts.is ∙ e) reads
-      (record { ends = count + line.number; faultless = grown_by.faultless count; made = grown_by.made count }) in
+      (record { ends = count + line.number; faultless = grown_by.faultless own; made = grown_by.made own }) in
       let ours : front ++ c ∷ grown.last ≡ front ++ c ∷ back = sym grown.was ∙ ap (λ l. l ++ back) ended ∙ append_assoc front (c ∷ []) back in
       let last : grown.last ≡ back = same_tail c grown.last back (same_back front (c ∷ grown.last) (c ∷ back) ours) in
       record {

@@ -14,18 +14,19 @@ use Rattle.net_addr.proofs.JoinedFacts.{is_of_whole_lines-append}
 use Rattle.net_addr.proofs.PieceFacts.{line_pieces-first}
 use Rattle.net_model.specs.Configuration.{Configuration}
 use Rattle.ios_lines.specs.Words.{Word, word_at, says, lacks}
-use Rattle.ios_lines.specs.declared.fault.Fault.{Fault}
 use Rattle.ios_sections.specs.TextLines.{TextLine, Part, text_line, lines_in, carets, opens_banner, banner_after, outside_banner, outside_banners, counts}
 use Rattle.ios_sections.specs.TextLines.{counted_lines, is_end, parts_after, rest_after, parts_of}
 use Rattle.ios_sections.specs.Sections.{sections_in}
-use Rattle.ios_sections.specs.JoinedLines.{further_on, is_in_banner, open_sections}
-use Rattle.ios_sections.proofs.JoinedFacts.{lines_in-append, counted-append, parts-append, parts-none}
+use Rattle.ios_sections.specs.JoinedLines.{further_on, is_in_banner, open_lines, open_sections}
+use Rattle.ios_sections.proofs.JoinedFacts.{lines_in-append, outside-append, counted-append, parts-append, parts-none}
 use Rattle.ios_sections.proofs.FurtherFacts.{counted-further}
 use Rattle.ios_reader.specs.Faults.{section_faults, part_faults}
 use Rattle.ios_reader.specs.Configurations.{configurations_in, configuration_of}
 use Rattle.ios_reader.specs.InsertedLines.{IsOutsideBanners}
 use Rattle.ios_reader.specs.Texts.{ReadsText}
 use Rattle.ios_reader.specs.Places.{with_byte, raw_lines}
+use Rattle.ios_reader.proofs.LookedUp.{none_left, none_right}
+use Rattle.ios_reader.proofs.FurtherReading.{sections_faultless}
 
 -- ---- the lines of a text, one by one ----
 
@@ -89,19 +90,11 @@ one_line raw is =
 
 -- ---- one line more behind a text ----
 
-outside_joined : (inside : Bool) (xs ys : List TextLine) →
-    outside_banners inside (xs ++ ys) ≡ outside_banners inside xs ++ outside_banners (fold banner_after inside xs) ys
-outside_joined inside [] ys = refl
-outside_joined inside (x ∷ xs) ys =
-    ap (λ l. outside_banner inside x ++ l) (outside_joined (banner_after inside x) xs ys)
-    ∙ sym (append_assoc (outside_banner inside x) (outside_banners (banner_after inside x) xs)
-    (outside_banners (fold banner_after (banner_after inside x) xs) ys))
-
 -- the lines that count of some lines and of one more
 counted_more : (xs : List TextLine) (line : TextLine) → counted_lines (xs ++ line ∷ []) ≡ counted_lines xs
     ++ filter counts (outside_banner (is_in_banner xs) line)
 counted_more xs line =
-    ap (filter counts) (outside_joined false xs (line ∷ []) ∙ ap (λ l. outside_banners false xs ++ l) (append-nil (outside_banner (is_in_banner xs) line)))
+    ap (filter counts) (outside-append false xs (line ∷ []) ∙ ap (λ l. outside_banners false xs ++ l) (append-nil (outside_banner (is_in_banner xs) line)))
     ∙ filter-append counts (outside_banners false xs) (outside_banner (is_in_banner xs) line)
 
 -- none of these lines is an `end` line
@@ -124,20 +117,17 @@ parts_stay xs line off =
 
 -- ---- an `end` line behind a text ----
 
-end_word : (line : TextLine) → is_end line ≡ true → word_at line.words 0 ≡ codes "end"
+pub end_word : (line : TextLine) → is_end line ≡ true → word_at line.words 0 ≡ codes "end"
 end_word line e =
     let front = (and_parts (nat_eq line.indent 0 && says line.words 0 (codes "end")) (lacks line.words 1) e).0 in
     (bytes_eq-Decides (word_at line.words 0) (codes "end")).0 (and_parts (nat_eq line.indent 0) (says line.words 0 (codes "end")) front).1
 
-counted_end : (line : TextLine) (ls : List TextLine) → is_end line ≡ true → counted_lines (line ∷ ls) ≡ line ∷ counted_lines ls
+pub counted_end : (line : TextLine) (ls : List TextLine) → is_end line ≡ true → counted_lines (line ∷ ls) ≡ line ∷ counted_lines ls
 counted_end line ls e =
     ap (λ (w : Word). cond (not (nat_eq (length w) 0) && not (nat_eq (slice_index w 0) 33)) (line ∷ filter counts (outside_banners (opens_banner line) ls))
     (filter counts (outside_banners (opens_banner line) ls)))
     (end_word line e)
     ∙ ap (λ (w : Word). line ∷ filter counts (outside_banners (bytes_eq w (codes "banner") && nat_eq (carets line.bytes) 1) ls)) (end_word line e)
-
-abbrev pub open_lines : List ℕ → List TextLine
-open_lines text = rest_after [] (counted_lines (lines_in text))
 
 abbrev pub part_with : List TextLine → ℕ → Part
 part_with lines ends = record { lines = lines; ends = ends }
@@ -182,14 +172,6 @@ configurations_end before raw line outside is e =
     ∙ map-append (λ (part : Part). configuration_of (sections_in part)) (parts_of (lines_in before))
     (part_with (open_lines before) (length (lines_in before) + line.number) ∷ [])
 
-none_left : (fs gs : List Fault) → fs ++ gs ≡ [] → fs ≡ []
-none_left [] gs e = refl
-none_left (f ∷ fs) gs e = absurd cc
-
-none_right : (fs gs : List Fault) → fs ++ gs ≡ [] → gs ≡ []
-none_right [] gs e = e
-none_right (f ∷ fs) gs e = absurd cc
-
 -- behind a text that is read up to its next `end` line, what stands open has no fault
 pub open_fine : (before after : List ℕ) (line : TextLine) (behind : List TextLine) (configurations : List Configuration) → IsOutsideBanners before →
     lines_in after ≡ line ∷ behind → is_end line ≡ true → ReadsText (before ++ after) configurations →
@@ -202,8 +184,9 @@ open_fine before after line behind configurations outside is e reads =
     let split : flat_map part_faults (parts_of (lines_in before)) ++ flat_map part_faults (part ∷ later) ≡ [] =
     sym (flat_map-append part_faults (parts_of (lines_in before)) (part ∷ later))
     ∙ sym (ap (flat_map part_faults) (parts_at_end before after line behind outside is e)) ∙ all in
-    none_left (part_faults part) (flat_map part_faults later)
-    (none_right (flat_map part_faults (parts_of (lines_in before))) (flat_map part_faults (part ∷ later)) split)
+    sections_faultless part (count + line.number)
+    (none_left (part_faults part) (flat_map part_faults later)
+    (none_right (flat_map part_faults (parts_of (lines_in before))) (flat_map part_faults (part ∷ later)) split))
 
 -- lists with one front have one back
 pub same_back : {A : Type 0} (front one two : List A) → front ++ one ≡ front ++ two → one ≡ two

@@ -1,7 +1,7 @@
 -- The answer to a text, from what was read of its parts.
-use Rattle.std.proofs.Common.{sym, ◌≡◌, ℕ, ◌+◌, ◌≤◌, Bool, true, false, List, [], ◌∷◌, ◌++◌, length, Option, Some, None, refl, ap, subst, ◌∙◌, cond}
+use Rattle.std.proofs.Common.{sym, ◌≡◌, ℕ, ◌+◌, ◌-◌, ◌≤◌, Bool, true, false, List, [], ◌∷◌, ◌++◌, length, Option, Some, None, refl, ap, subst, ◌∙◌, cond}
 use Rattle.std.proofs.Common.{arith, zero, suc, inr}
-use Rattle.std.specs.Prelude.{flat_map, All, filter_map, is_none, is_some}
+use Rattle.std.specs.Prelude.{map, option_map, flat_map, All, filter_map, is_none, is_some}
 use Rattle.std.specs.List.{slice_split}
 use Rattle.std.proofs.lemmas.List.{length-map}
 use Rattle.std.proofs.lemmas.List.Splits.{length-slice_split}
@@ -14,8 +14,8 @@ use Rattle.ios_sections.specs.TextLines.{TextLine, Part, text_line, lines_in, pa
 use Rattle.ios_lines.specs.FaultOrder.{faults_if, is_before, lesser_fault, least_fault}
 use Rattle.ios_sections.specs.ProcessFaults.{second_processes, ospf_faults, isis_faults, isis_statement_faults, tag_faults, second_titles, lacking}
 use Rattle.ios_sections.specs.ProcessFaults.{first_isis_line}
-use Rattle.ios_reader.specs.Faults.{interface_faults, section_faults, part_faults, faults_in}
-use Rattle.ios_sections.specs.Sections.{sections_in}
+use Rattle.ios_reader.specs.Faults.{interface_faults, section_faults, fault_further, part_faults, faults_in}
+use Rattle.ios_sections.specs.Sections.{first_number, sections_in}
 use Rattle.ios_sections.specs.Processes.{as_hostname, as_isis, as_fault, interfaces_in, first_tag, isis_lines}
 use Rattle.ios_reader.specs.Routers.{router_of}
 use Rattle.ios_lines.specs.Lookups.{last_of}
@@ -32,6 +32,8 @@ use Rattle.ios_lines.proofs.FaultFacts.{least_of_two}
 use Rattle.ios_reader.proofs.LeastFaults.{by_before, by_not_before, none_least}
 use Rattle.ios_sections.proofs.GoodSections.{sections_good}
 use Rattle.ios_reader.proofs.KeptFacts.{configuration_kept}
+use Rattle.ios_reader.proofs.LookedUp.{none_right}
+use Rattle.ios_reader.proofs.FurtherReading.{least-further}
 
 -- ---- the least fault of a configuration ----
 
@@ -65,10 +67,6 @@ fault_is sections ends =
     (isis_is sections))
     refl) refl
 
-append_none : (fs gs : List Fault) → fs ++ gs ≡ [] → gs ≡ []
-append_none [] gs e = e
-append_none (f ∷ fs) gs e = absurd cc
-
 no_fault : (t : Bool) (line : ℕ) → faults_if t line NoHostname ≡ [] → t ≡ false
 no_fault true line e = absurd cc
 no_fault false line e = refl
@@ -83,35 +81,48 @@ part_named : (sections : List Section) (ends : ℕ) → section_faults sections 
 part_named sections ends e =
     some_name (last_of as_hostname sections)
     (no_fault (is_none (last_of as_hostname sections)) ends
-    (append_none
+    (none_right
     (filter_map as_fault sections ++ second_processes sections ++ ospf_faults sections ++ isis_faults sections
     ++ flat_map (interface_faults (router_of sections) (first_tag (filter_map as_isis sections))) (interfaces_in sections))
     (faults_if (is_none (last_of as_hostname sections)) ends NoHostname) e))
 
-part_fault : (part : Part) (s : Statements) → s ≡ statements_of (sections_in part) → fault_by s part.ends ≡ least_fault (part_faults part)
-part_fault part s e = ap (λ (t : Statements). fault_by t part.ends) e ∙ fault_is (sections_in part) part.ends
+-- the number of the `end` line of a part, counted from the part's first line
+abbrev pub ends_in : Part → ℕ
+ends_in part = part.ends - first_number part.lines
 
-part_faultless : (part : Part) (s : Statements) → s ≡ statements_of (sections_in part) → fault_by s part.ends ≡ None → part_faults part ≡ []
-part_faultless part s e none = none_least (part_faults part) (sym (part_fault part s e) ∙ none)
+pub part_fault : (part : Part) (s : Statements) → s ≡ statements_of (sections_in part) →
+    option_map (fault_further (first_number part.lines)) (fault_by s (ends_in part)) ≡ least_fault (part_faults part)
+part_fault part s e =
+    ap (option_map (fault_further (first_number part.lines)))
+    (ap (λ (t : Statements). fault_by t (ends_in part)) e ∙ fault_is (sections_in part) (ends_in part))
+    ∙ sym (least-further (first_number part.lines) (section_faults (sections_in part) (ends_in part)))
+
+sections_fine : (part : Part) (s : Statements) → s ≡ statements_of (sections_in part) → fault_by s (ends_in part) ≡ None →
+    section_faults (sections_in part) (ends_in part) ≡ []
+sections_fine part s e none =
+    none_least (section_faults (sections_in part) (ends_in part))
+    (sym (ap (λ (t : Statements). fault_by t (ends_in part)) e ∙ fault_is (sections_in part) (ends_in part)) ∙ none)
 
 -- the configuration of a part without a fault keeps the facts of a configuration
-pub part_kept : (part : Part) (s : Statements) → s ≡ statements_of (sections_in part) → fault_by s part.ends ≡ None → IsConfiguration (configuration_by s)
+pub part_kept : (part : Part) (s : Statements) → s ≡ statements_of (sections_in part) → fault_by s (ends_in part) ≡ None →
+    IsConfiguration (configuration_by s)
 part_kept part s e none =
-    let named : is_some (last_of as_hostname (sections_in part)) ≡ true = part_named (sections_in part) part.ends (part_faultless part s e none) in
+    let named : is_some (last_of as_hostname (sections_in part)) ≡ true =
+    part_named (sections_in part) (ends_in part) (sections_fine part s e none) in
     subst (λ (t : Statements). IsConfiguration (configuration_by t)) (sym e) (configuration_kept (sections_in part) (sections_good part) named)
 
 -- a part without a fault is read into its configuration
-pub part_made : (part : Part) (s : Statements) (c : Configuration) → s ≡ statements_of (sections_in part) → fault_by s part.ends ≡ None → c
-    ≡ configuration_by s → IsMadeOf part c
+pub part_made : (part : Part) (s : Statements) (c : Configuration) → s ≡ statements_of (sections_in part) → fault_by s (ends_in part) ≡ None →
+    c ≡ configuration_by s → IsMadeOf part c
 part_made part s c e none made = record {
-  faultless = part_faultless part s e none;
+  faultless = ap (map (fault_further (first_number part.lines))) (sections_fine part s e none);
   made = made ∙ ap configuration_by e;
 }
 
 -- a faulty part is read into its least fault
-pub part_faulty : (part : Part) (s : Statements) (f : Fault) → s ≡ statements_of (sections_in part) → fault_by s part.ends ≡ Some f →
-    least_fault (part_faults part) ≡ Some f
-part_faulty part s f e some = sym (part_fault part s e) ∙ some
+pub part_faulty : (part : Part) (s : Statements) (f : Fault) → s ≡ statements_of (sections_in part) → fault_by s (ends_in part) ≡ Some f →
+    least_fault (part_faults part) ≡ Some (fault_further (first_number part.lines) f)
+part_faulty part s f e some = sym (part_fault part s e) ∙ ap (option_map (fault_further (first_number part.lines))) some
 
 -- ---- the least fault of some ----
 

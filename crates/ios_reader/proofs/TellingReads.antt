@@ -1,6 +1,6 @@
 -- A text is read by the lines that tell something.
-use Rattle.std.proofs.Common.{◌≡◌, Bool, false, ◌||◌, List, [], ◌∷◌, Option, map, refl, sym, ap, ◌∙◌}
-use Rattle.std.specs.Prelude.{flat_map}
+use Rattle.std.proofs.Common.{◌≡◌, ℕ, ◌-◌, Bool, false, ◌||◌, List, [], ◌∷◌, Option, map, refl, sym, ap, ◌∙◌}
+use Rattle.std.specs.Prelude.{option_map, flat_map}
 use Rattle.std.specs.List.{list_any}
 use Rattle.net_model.specs.Configuration.{Configuration}
 use Rattle.ios_lines.specs.FaultOrder.{lesser_fault, least_fault}
@@ -9,19 +9,19 @@ use Rattle.ios_lines.proofs.FaultFacts.{least_fault-append}
 use Rattle.ios_sections.specs.TextLines.{TextLine, Part, parts_after, rest_after, is_empty, begins_configuration}
 use Rattle.ios_sections.specs.TellingLines.{telling_lines}
 use Rattle.ios_sections.specs.Sections.{sections_in}
-use Rattle.ios_sections.specs.Statements.{Statements}
-use Rattle.ios_sections.proofs.TellingFacts.{told_part, parts_told, rest_told, begins_told, none_told, statements_told}
-use Rattle.ios_reader.specs.Faults.{part_faults}
+use Rattle.ios_sections.specs.Statements.{statements_of}
+use Rattle.ios_sections.proofs.TellingFacts.{told_part, parts_told, rest_told, begins_told, none_told, first_told, statements_told}
+use Rattle.ios_reader.specs.Faults.{fault_further, part_faults}
 use Rattle.ios_reader.specs.Configurations.{configuration_of, configuration_by}
 use Rattle.ios_reader.specs.steps.LeastFaults.{fault_by}
 use Rattle.ios_reader.specs.steps.Parts.{Reading, IsReadingOf}
-use Rattle.ios_reader.proofs.ReadFacts.{fault_is}
+use Rattle.ios_reader.proofs.ReadFacts.{part_fault}
 
 fault_told : (part : Part) → least_fault (part_faults (told_part part)) ≡ least_fault (part_faults part)
 fault_told part =
-    sym (fault_is (sections_in (told_part part)) part.ends)
-    ∙ ap (λ (s : Statements). fault_by s part.ends) (statements_told part)
-    ∙ fault_is (sections_in part) part.ends
+    sym (part_fault (told_part part) (statements_of (sections_in part)) (sym (statements_told part)))
+    ∙ ap (λ (n : ℕ). option_map (fault_further n) (fault_by (statements_of (sections_in part)) (part.ends - n))) (first_told part.lines)
+    ∙ part_fault part (statements_of (sections_in part)) refl
 
 abbrev made : Part → Configuration
 made part = configuration_of (sections_in part)

@@ -1,6 +1,6 @@
 -- The faulty lines of a configuration, each with its kind.
 pub use Rattle.ios_lines.specs.FaultOrder.{fault_at}
-use Rattle.std.specs.Prelude.{ℕ, ◌+◌, Bool, false, not, ◌&&◌, List, [], ◌++◌, Option, Some, None, Result, Ok, Err, length, filter_map, flat_map, bytes_eq}
+use Rattle.std.specs.Prelude.{ℕ, ◌+◌, ◌-◌, Bool, false, not, ◌&&◌, List, [], ◌++◌, Option, Some, None, Result, Ok, Err, length, map, filter_map, flat_map, bytes_eq}
 use Rattle.std.specs.Prelude.{nat_eq, is_some, is_none, if◌then◌else◌}
 use Rattle.ios_lines.specs.Words.{Word}
 use Rattle.ios_lines.specs.Lookups.{last_of}
@@ -23,7 +23,7 @@ use Rattle.ios_sections.specs.declared.section.InterfaceSection.{InterfaceSectio
 use Rattle.ios_sections.specs.declared.section.Section.{Section}
 use Rattle.ios_lines.specs.FaultOrder.{faults_at, faults_if}
 use Rattle.ios_sections.specs.ProcessFaults.{second_processes, ospf_faults, isis_faults}
-use Rattle.ios_sections.specs.Sections.{sections_in}
+use Rattle.ios_sections.specs.Sections.{first_number, sections_in}
 
 -- ---- interfaces ----
 
@@ -83,7 +83,7 @@ interface_faults router first section =
 
 -- ---- a configuration, and a text ----
 
--- the faults of a configuration whose `end` line has this number
+-- the faults of a configuration whose `end` line has this number, as its lines are counted
 abbrev pub section_faults : List Section → ℕ → List Fault
 section_faults sections ends =
     filter_map as_fault sections
@@ -93,9 +93,14 @@ section_faults sections ends =
     ++ flat_map (interface_faults (router_of sections) (first_tag (filter_map as_isis sections))) (interfaces_in sections)
     ++ faults_if (is_none (last_of as_hostname sections)) ends NoHostname
 
--- the faults of a configuration
+-- a fault, so many lines further on
+abbrev pub fault_further : ℕ → Fault → Fault
+fault_further count f = fault_at (count + f.line) f.kind
+
+-- the faults of a configuration, found on its lines as they are counted from its first one
 abbrev pub part_faults : Part → List Fault
-part_faults part = section_faults (sections_in part) part.ends
+part_faults part =
+    map (fault_further (first_number part.lines)) (section_faults (sections_in part) (part.ends - first_number part.lines))
 
 -- the faulty lines of a text, each with its kinds
 abbrev pub faults_in : List TextLine → List Fault

@@ -1,10 +1,11 @@
 -- Texts joined end to end, and lines put before an `end` line: what they are read as.
-use Rattle.std.specs.Prelude.{◌≡◌, ℕ, ◌+◌, ◌<◌, true, false, List, [], ◌∷◌, ◌++◌, length}
+use Rattle.std.specs.Prelude.{◌≡◌, ℕ, ◌+◌, ◌-◌, ◌<◌, true, false, List, [], ◌∷◌, ◌++◌, length}
 use Rattle.std.specs.List.{list_any}
 use Rattle.net_addr.specs.JoinedLines.{is_of_whole_lines}
 use Rattle.net_model.specs.Configuration.{Configuration}
 use Rattle.ios_sections.specs.TextLines.{lines_in, counted_lines, is_end, rest_after, first_indent}
-use Rattle.ios_sections.specs.JoinedLines.{is_in_banner, begins_banner, begins_with_end, open_sections, sections_further_on}
+use Rattle.ios_sections.specs.JoinedLines.{is_in_banner, begins_banner, begins_with_end, open_lines, open_sections, sections_further_on}
+use Rattle.ios_sections.specs.Sections.{first_number}
 use Rattle.ios_sections.specs.declared.section.Section.{Section}
 use Rattle.ios_reader.specs.Faults.{section_faults}
 use Rattle.ios_reader.specs.Configurations.{configurations_in, configuration_of}
@@ -61,9 +62,10 @@ BlockSectionsLaw =
     (count : ℕ) (block other : List ℕ) → IsLineBlock block → IsLineBlock other →
     sections_further_on count (block ++ other) ≡ sections_further_on count block ++ sections_further_on (count + length (lines_in block)) other
 
--- what the sections say that stand open behind a text, and behind them those of a block
+-- what the sections say that stand open behind a text, and behind them those of a block, counted on
 abbrev pub grown_sections : List ℕ → List ℕ → List Section
-grown_sections before block = open_sections before ++ sections_further_on (length (lines_in before)) block
+grown_sections before block =
+    open_sections before ++ sections_further_on (length (lines_in before) - first_number (open_lines before)) block
 
 -- the configuration that a block makes of the one that stands open behind a text
 pub record IsGrown (before block : List ℕ) (grown : Configuration) : Type 0 where

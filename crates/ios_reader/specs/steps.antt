@@ -4,4 +4,3 @@ pub mod LeastFaults
 pub mod Parts
 pub mod Passives
 pub mod Tables
-pub mod Noted

@@ -1,5 +1,7 @@
-ghost use Rattle.std.specs.Prelude.{◌≡◌, IfOk};
+ghost use Rattle.std.specs.Prelude.{◌≡◌, ◌-◌, IfOk};
 ghost use Rattle.net_model.specs.Configuration.{IsConfiguration};
+ghost use Rattle.ios_sections.specs.Sections.{first_number};
+ghost use Rattle.ios_reader.specs.Faults.{fault_further};
 ghost use Rattle.ios_reader.specs.Configurations.{interfaces_by, configuration_of_settings, configuration_by};
 ghost use Rattle.ios_reader.specs.steps.LeastFaults.{ospf_fault_by, isis_fault_by, interfaces_fault_by, fault_by};
 ghost use Rattle.ios_reader.specs.steps.Parts.{part_at, IsPartRead};
@@ -13,7 +15,7 @@ use ios_lines::fault::{Fault, fault_if, lesser_fault};
 use ios_lines::kind::ReadKind;
 use ios_sections::isis_process::{lacking, least_isis_line_fault, least_second_title};
 use ios_sections::process::least_ospf_line_fault;
-use ios_sections::read_section::read_sections;
+use ios_sections::read_section::{first_number, sections_from_first};
 use ios_sections::statements::{Statements, statements_of};
 use ios_sections::text_line::TextLine;
 use net_addr::Name;
@@ -39,7 +41,7 @@ fn isis_fault(statements: &Statements) -> Option<Fault>
     lesser_fault(own, missing)
 }
 
-/// The least fault of a configuration whose `end` line has this number, by that of its interfaces.
+/// The least fault of a configuration whose `end` line has this number, as its lines are counted, by that of its interfaces.
 fn fault_of(statements: &Statements, interfaces: Option<Fault>, ends: u32) -> Option<Fault>
     requires { interfaces ≡ interfaces_fault_by statements.now }
     ensures { result ≡ fault_by statements.now ends }
@@ -104,7 +106,29 @@ fn config_of(
     Ok(config_with(name_or_empty(alloc, name), interfaces, ospf, isis))
 }
 
-/// The configuration of the lines before an `end` line of this number, or its least fault.
+/// The number of an `end` line, counted from the first of these lines that may tell something.
+fn counted_ends(lines: &[TextLine], ends: u32) -> u32
+    ensures { result ≡ ends - first_number lines.now }
+{
+    ends.saturating_sub(first_number(lines))
+}
+
+/// A fault, found as these lines are counted, with its number in the text. A number of more than 32 bits gives
+/// `OutOfMemory`, since no text has so many lines.
+fn fault_in_text(lines: &[TextLine], fault: Fault) -> Result<Fault, OutOfMemory>
+    ensures { IfOk result (λ own. own ≡ fault_further (first_number lines.now) fault) }
+{
+    match first_number(lines).checked_add(fault.line) {
+        Some(line) => Ok(Fault {
+            line,
+            kind: fault.kind,
+        }),
+        None => Err(OutOfMemory),
+    }
+}
+
+/// The configuration of the lines before an `end` line of this number, or its least fault. The lines are read as they are
+/// counted from the first one that may tell something; only here a fault gets its number in the text.
 pub(crate) fn read_part(
     alloc: Global,
     lines: &[TextLine],
@@ -112,12 +136,12 @@ pub(crate) fn read_part(
 ) -> Result<Result<Config, Fault>, OutOfMemory>
     ensures { IfOk result (IsPartRead (part_at lines.now ends)) }
 {
-    let sections = read_sections(alloc, lines)?;
+    let sections = sections_from_first(alloc, lines)?;
     let statements = statements_of(alloc, sections)?;
     let facts = process_facts_of(statements.ospf.as_slice(), statements.isis.as_slice());
     let interfaces = interfaces_of(alloc, &statements, facts)?;
-    match fault_of(&statements, interfaces.fault, ends) {
-        Some(fault) => Ok(Err(fault)),
+    match fault_of(&statements, interfaces.fault, counted_ends(lines, ends)) {
+        Some(fault) => Ok(Err(fault_in_text(lines, fault)?)),
         None => Ok(Ok(config_of(alloc, statements, interfaces.all, facts)?)),
     }
 }

@@ -1,6 +1,5 @@
 ghost use Rattle.std.specs.Prelude.{◌≡◌};
-ghost use Rattle.ios_reader.specs.InterfaceFacts.{facts_of};
-ghost use Rattle.ios_reader.specs.steps.Noted.{noted};
+ghost use Rattle.ios_reader.specs.InterfaceFacts.{facts_of, noted};
 
 use ios_lines::address::InterfaceAddress;
 use ios_lines::interface_line::{InterfaceLine, InterfaceStatement, ProcessArea};

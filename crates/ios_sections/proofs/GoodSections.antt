@@ -8,7 +8,7 @@ use Rattle.ios_sections.specs.TextLines.{TextLine, Part, sections_of}
 use Rattle.ios_lines.specs.InterfaceLines.{interface_line, in_vrf, counting}
 use Rattle.ios_lines.specs.OspfLines.{ospf_line}
 use Rattle.ios_lines.specs.IsisLines.{isis_line}
-use Rattle.ios_sections.specs.Sections.{interface_statements, ospf_statements, isis_statements, section_with, section_of, sections_in}
+use Rattle.ios_sections.specs.Sections.{interface_statements, ospf_statements, isis_statements, section_with, section_of, from_first, sections_among, sections_in}
 use Rattle.ios_lines.specs.Lookups.{first_seen}
 use Rattle.ios_sections.specs.Processes.{as_hostname, as_interface, as_ospf, as_isis, named, merged, interfaces_in, mention_said, mentions_in, mention_of}
 use Rattle.ios_sections.specs.Processes.{mentions_of, mentions, first_mention, least_mention, process_of, is_of_process, lines_of_process, ospf_lines}
@@ -113,12 +113,15 @@ with_good (IsisHead tag) line body h = isis_lines_good body
 with_good (FaultyHead kind) line body h = tt
 with_good OtherHead line body h = tt
 
+among_good : (lines : List TextLine) → All IsGoodSection (sections_among lines)
+among_good lines =
+    All-map IsGoodSection section_of (sections_of lines)
+    (λ k d lt. with_good (head_of (get_or (sections_of lines) k d).head.words) (get_or (sections_of lines) k d).head.number
+    (get_or (sections_of lines) k d).body (head_good (get_or (sections_of lines) k d).head.words))
+
 -- the values of each section of a part are in their ranges
 pub sections_good : (part : Part) → All IsGoodSection (sections_in part)
-sections_good part =
-    All-map IsGoodSection section_of (sections_of part.lines)
-    (λ k d lt. with_good (head_of (get_or (sections_of part.lines) k d).head.words) (get_or (sections_of part.lines) k d).head.number
-    (get_or (sections_of part.lines) k d).body (head_good (get_or (sections_of part.lines) k d).head.words))
+sections_good part = among_good (from_first part.lines)
 
 -- ---- sections by what they say ----
 

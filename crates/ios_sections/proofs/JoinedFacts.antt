@@ -17,8 +17,8 @@ use Rattle.net_addr.proofs.JoinedFacts.{text_lines-append}
 use Rattle.net_addr.proofs.PlacedPieces.{text_lines-inside}
 use Rattle.ios_sections.specs.TextLines.{TextLine, Part, text_line, lines_in, opens_banner, banner_after, outside_banner, outside_banners, counts}
 use Rattle.ios_sections.specs.TextLines.{counted_lines, is_end, parts_after, rest_after, TextSection, opens_section, first_indent, section_lines, sections_of}
-use Rattle.ios_sections.specs.Sections.{section_of}
-use Rattle.ios_sections.specs.JoinedLines.{further_on, is_in_banner, begins_banner, sections_among}
+use Rattle.ios_sections.specs.Sections.{section_of, sections_among}
+use Rattle.ios_sections.specs.JoinedLines.{further_on, is_in_banner, begins_banner}
 
 -- ---- the lines of a text ----
 
@@ -73,7 +73,7 @@ cond_append : {A : Type 0} (t : Bool) (x : A) (xs ys : List A) → cond t [] (x 
 cond_append true x xs ys = refl
 cond_append false x xs ys = refl
 
-outside-append : (inside : Bool) (xs ys : List TextLine) →
+pub outside-append : (inside : Bool) (xs ys : List TextLine) →
     outside_banners inside (xs ++ ys) ≡ outside_banners inside xs ++ outside_banners (fold banner_after inside xs) ys
 outside-append inside [] ys = refl
 outside-append inside (x ∷ xs) ys =

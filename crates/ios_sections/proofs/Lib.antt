@@ -5,7 +5,7 @@ pub mod TitleFacts
 pub mod GoodSections
 pub mod JoinedFacts
 pub mod FurtherFacts
-pub mod FurtherProcesses
+pub mod FirstLines
 pub mod LawFacts
 pub mod TellingFacts
 pub mod LeastSteps

@@ -1,9 +1,11 @@
 -- The first place that passes a test, as a place or as none.
-use Rattle.std.proofs.Common.{◌≡◌, ℕ, ◌≤◌, Bool, true, false, not, List, length, Some, None, refl, nat_lt, cond, arith}
+use Rattle.std.proofs.Common.{◌≡◌, ℕ, ◌+◌, ◌≤◌, Bool, true, false, not, List, [], ◌∷◌, length, drop, suc, Some, None, refl, ap, ◌∙◌, nat_lt, cond, arith}
 use Rattle.std.specs.Prelude.{position}
 use Rattle.std.specs.List.{position_or_len}
 use Rattle.std.proofs.lemmas.Bool.Decides.{nat_tests}
 use Rattle.std.proofs.lemmas.List.Sums.{prefix_len-le-length}
+use Rattle.ios_sections.specs.TextLines.{TextLine}
+use Rattle.ios_sections.specs.Sections.{may_begin, own_lines}
 
 chosen : (t : Bool) (place n : ℕ) → cond t (Some place) None ≡ Some n → n ≡ place
 chosen true place n e = cc
@@ -21,3 +23,15 @@ no_place p xs e =
     let beyond : nat_lt (position_or_len p xs) (length xs) ≡ false = refused _ (position_or_len p xs) e in
     let within : position_or_len p xs ≤ length xs = prefix_len-le-length (λ x. not (p x)) xs in
     grind (arith, nat_tests)
+
+-- a configuration's own lines, by the place of the first one
+pub own_from : (xs : List TextLine) → drop (position_or_len may_begin xs) xs ≡ own_lines xs
+own_from [] = refl
+own_from (x ∷ xs) = by_first (may_begin x) (own_from xs)
+  where
+    by_first : (t : Bool) → drop (position_or_len may_begin xs) xs ≡ own_lines xs →
+        drop (cond (not t) (1 + position_or_len may_begin xs) 0) (x ∷ xs) ≡ cond t (x ∷ xs) (own_lines xs)
+    by_first true rest = refl
+    by_first false rest =
+        let one : 1 + position_or_len may_begin xs ≡ suc (position_or_len may_begin xs) = omega arith in
+        ap (λ (n : ℕ). drop n (x ∷ xs)) one ∙ rest

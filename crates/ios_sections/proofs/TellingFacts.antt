@@ -17,8 +17,7 @@ use Rattle.ios_sections.specs.TextLines.{TextLine, TextSection, Part, banner_aft
 use Rattle.ios_sections.specs.TextLines.{parts_after, rest_after, begins_configuration, opens_section, first_indent, section_lines, sections_of}
 use Rattle.ios_sections.specs.TellingLines.{has_lines, may_tell, line_tells, open_after, telling_lines}
 use Rattle.ios_sections.specs.steps.ToldLines.{told_at, place_after, told_from}
-use Rattle.ios_sections.specs.Sections.{section_with, section_of, sections_in}
-use Rattle.ios_sections.specs.JoinedLines.{sections_among}
+use Rattle.ios_sections.specs.Sections.{section_with, section_of, sections_among, sections_in, counted_from, own_lines, head_number, first_number, from_first}
 use Rattle.ios_sections.specs.Processes.{as_hostname, as_interface, as_ospf, as_isis, as_fault}
 use Rattle.ios_sections.specs.Statements.{statements_of}
 use Rattle.ios_sections.specs.declared.text.TextPlace.{TextPlace}
@@ -378,11 +377,65 @@ statements_spoken ss =
       taken_spoken as_fault refl ss,
     ) refl
 
+-- ---- the lines of a configuration ----
+
+told_choice : (t : Bool) (n : ℕ) (x : TextLine) (xs : List TextLine) →
+    cond t (counted_from n x ∷ map (counted_from n) xs) (map (counted_from n) xs) ≡ map (counted_from n) (cond t (x ∷ xs) xs)
+told_choice true n x xs = refl
+told_choice false n x xs = refl
+
+told_counted : (n : ℕ) (below : Bool) (xs : List TextLine) →
+    telling_lines below (map (counted_from n) xs) ≡ map (counted_from n) (telling_lines below xs)
+told_counted n below [] = refl
+told_counted n below (x ∷ xs) =
+    ap (λ (ls : List TextLine). cond (line_tells below x) (counted_from n x ∷ ls) ls) (told_counted n (open_after below x) xs)
+    ∙ told_choice (line_tells below x) n x (telling_lines (open_after below x) xs)
+
+-- the first line of a configuration's own is told
+own_told : (below : Bool) (xs : List TextLine) → own_lines (telling_lines below xs) ≡ telling_lines false (own_lines xs)
+own_told below [] = refl
+own_told below (x ∷ xs) = by_first (opens_section x) refl (may_tell x) refl (λ b. own_told b xs)
+  where
+    by_first : (t : Bool) → opens_section x ≡ t → (u : Bool) → may_tell x ≡ u →
+        ((b : Bool) → own_lines (telling_lines b xs) ≡ telling_lines false (own_lines xs)) →
+        own_lines (cond (cond (opens_section x) (may_tell x) below) (x ∷ telling_lines (cond (opens_section x) (has_lines x) below) xs)
+        (telling_lines (cond (opens_section x) (has_lines x) below) xs))
+        ≡ telling_lines false (cond (opens_section x && may_tell x) (x ∷ xs) (own_lines xs))
+    by_first true opens true tells rest = rw (opens, tells) rw (opens, tells) refl
+    by_first true opens false tells rest = rw (opens, tells) (rest (has_lines x))
+    by_first false opens u tells rest = rw opens (by_below below)
+      where
+        by_below : (b : Bool) → own_lines (cond b (x ∷ telling_lines b xs) (telling_lines b xs)) ≡ telling_lines false (own_lines xs)
+        by_below true = rw opens (rest true)
+        by_below false = rest false
+
+head_told : (xs : List TextLine) → head_number (telling_lines false (own_lines xs)) ≡ head_number (own_lines xs)
+head_told [] = refl
+head_told (x ∷ xs) = by_first (opens_section x) refl (may_tell x) refl (head_told xs)
+  where
+    by_first : (t : Bool) → opens_section x ≡ t → (u : Bool) → may_tell x ≡ u →
+        head_number (telling_lines false (own_lines xs)) ≡ head_number (own_lines xs) →
+        head_number (telling_lines false (cond (opens_section x && may_tell x) (x ∷ xs) (own_lines xs)))
+        ≡ head_number (cond (opens_section x && may_tell x) (x ∷ xs) (own_lines xs))
+    by_first true opens true tells rest = rw (opens, tells) rw (opens, tells) refl
+    by_first true opens false tells rest = rw (opens, tells) rest
+    by_first false opens u tells rest = rw opens rest
+
+pub first_told : (xs : List TextLine) → first_number (telling_lines false xs) ≡ first_number xs
+first_told xs = ap head_number (own_told false xs) ∙ head_told xs
+
+from_first_told : (xs : List TextLine) → from_first (telling_lines false xs) ≡ telling_lines false (from_first xs)
+from_first_told xs =
+    ap (λ (n : ℕ). map (counted_from n) (own_lines (telling_lines false xs))) (first_told xs)
+    ∙ ap (map (counted_from (first_number xs))) (own_told false xs)
+    ∙ sym (told_counted (first_number xs) false (own_lines xs))
+
 -- the sections of a part say the same without the lines that tell nothing
 pub statements_told : (part : Part) → statements_of (sections_in (told_part part)) ≡ statements_of (sections_in part)
 statements_told part =
-    sym (statements_spoken (sections_in (told_part part)))
-    ∙ ap statements_of (spoken_told false part.lines)
+    ap (λ (ls : List TextLine). statements_of (sections_among ls)) (from_first_told part.lines)
+    ∙ sym (statements_spoken (sections_among (telling_lines false (from_first part.lines))))
+    ∙ ap statements_of (spoken_told false (from_first part.lines))
     ∙ statements_spoken (sections_in part)
 
 -- no part is there exactly where none is

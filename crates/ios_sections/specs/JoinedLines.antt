@@ -1,8 +1,8 @@
 -- The lines of texts joined end to end, and the sections behind the last `end` line.
 use Rattle.std.specs.Prelude.{ℕ, ◌+◌, Bool, false, List, [], ◌∷◌, map, fold, codes}
 use Rattle.ios_lines.specs.Words.{says}
-use Rattle.ios_sections.specs.TextLines.{TextLine, lines_in, banner_after, counted_lines, is_end, rest_after, sections_of}
-use Rattle.ios_sections.specs.Sections.{section_of}
+use Rattle.ios_sections.specs.TextLines.{TextLine, lines_in, banner_after, counted_lines, is_end, rest_after}
+use Rattle.ios_sections.specs.Sections.{sections_among, sections_from_first}
 use Rattle.ios_sections.specs.declared.section.Section.{Section}
 
 -- a line, so many lines further on
@@ -22,13 +22,13 @@ abbrev pub begins_with_end : List TextLine → Bool
 begins_with_end [] = false
 begins_with_end (line ∷ _) = is_end line
 
--- what the sections of some lines say
-abbrev pub sections_among : List TextLine → List Section
-sections_among lines = map section_of (sections_of lines)
+-- the lines of a text that count and stand behind its last `end` line
+abbrev pub open_lines : List ℕ → List TextLine
+open_lines text = rest_after [] (counted_lines (lines_in text))
 
 -- what the sections behind the last `end` line of a text say
 abbrev pub open_sections : List ℕ → List Section
-open_sections text = sections_among (rest_after [] (counted_lines (lines_in text)))
+open_sections text = sections_from_first (open_lines text)
 
 -- what the sections of a text say that stands so many lines further on
 abbrev pub sections_further_on : ℕ → List ℕ → List Section

@@ -12,7 +12,7 @@
 //!
 //! `text::counted_lines` and `text::telling_lines` go through a text once, and look at the first word of each line. The
 //! second keeps no line that says nothing: nothing at indent 0 but `hostname`, `interface`, `router`, `ip` and `end`
-//! lines, and no other lines than those of interfaces and processes. `read_section::read_sections` and
+//! lines, and no other lines than those of interfaces and processes. `read_section::sections_from_first` and
 //! `statements::statements_of` take time of the lines that they are given, and one look-up of a name for each section
 //! of an interface.
 #![tactic(auto)]

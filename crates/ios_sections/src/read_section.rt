@@ -3,6 +3,7 @@ ghost use Rattle.std.specs.List.{position_or_len};
 ghost use Rattle.ios_lines.specs.InterfaceLines.{interface_line};
 ghost use Rattle.ios_sections.specs.TextLines.{opens_section, first_indent, section_lines, sections_of};
 ghost use Rattle.ios_sections.specs.Sections.{interface_statements, ospf_statements, isis_statements, section_with, section_of};
+ghost use Rattle.ios_sections.specs.Sections.{may_begin, own_lines, head_number, first_number, from_first, sections_from_first};
 
 use crate::OutOfMemory;
 use crate::section::{
@@ -169,7 +170,7 @@ fn section_at(alloc: Global, head: &TextLine, after: &[TextLine]) -> Result<Sect
 }
 
 /// What the sections of some lines say, in order.
-pub fn read_sections(alloc: Global, lines: &[TextLine]) -> Result<Vec<Section>, OutOfMemory>
+fn read_sections(alloc: Global, lines: &[TextLine]) -> Result<Vec<Section>, OutOfMemory>
     ensures { IfOk result (λ s. s.items ≡ map section_of (sections_of lines.now)) }
 {
     let mut sections = Vec::new(alloc);
@@ -179,4 +180,68 @@ pub fn read_sections(alloc: Global, lines: &[TextLine]) -> Result<Vec<Section>, 
         }
     }
     Ok(sections)
+}
+
+/// The place of the first line that opens a section and may tell something.
+fn first_place(lines: &[TextLine]) -> Option<usize>
+    ensures { result ≡ position may_begin lines.now }
+{
+    lines.iter().position(|line| line.may_begin())
+}
+
+/// How many lines come before that line.
+#[tactic(auto, using(crate::proofs::PlaceFacts::some_place, crate::proofs::PlaceFacts::no_place))]
+fn before_first(lines: &[TextLine]) -> usize
+    ensures count { result ≡ position_or_len may_begin lines.now }
+    ensures within { result ≤ length lines.now }
+{
+    match first_place(lines) {
+        Some(count) => count,
+        None => lines.len(),
+    }
+}
+
+/// The lines from that line on.
+fn own_lines<'b, 'a>(lines: &'b [TextLine<'a>]) -> &'b [TextLine<'a>]
+    ensures { result.now ≡ own_lines lines.entry.now }
+{
+    &lines[before_first(lines)..]
+}
+
+/// The number of the first of some lines, 0 where there is none.
+fn head_number(lines: &[TextLine]) -> u32
+    ensures { result ≡ head_number lines.now }
+{
+    match lines.first() {
+        Some(line) => line.number(),
+        None => 0,
+    }
+}
+
+/// The number of the first line that opens a section and may tell something, 0 where there is none.
+pub fn first_number(lines: &[TextLine]) -> u32
+    ensures { result ≡ first_number lines.now }
+{
+    head_number(own_lines(lines))
+}
+
+/// The lines from that line on, counted from it.
+fn from_first<'a>(alloc: Global, lines: &[TextLine<'a>]) -> Result<Vec<TextLine<'a>>, OutOfMemory>
+    ensures { IfOk result (λ own. own.items ≡ from_first lines.now) }
+{
+    let first = first_number(lines);
+    let own = own_lines(lines);
+    let mut counted = Vec::with_capacity(alloc, own.len())?;
+    for line in own {
+        counted.push(line.counted_from(first))?;
+    }
+    Ok(counted)
+}
+
+/// What the lines of a configuration say, each counted from the first one that opens a section and may tell something.
+pub fn sections_from_first(alloc: Global, lines: &[TextLine]) -> Result<Vec<Section>, OutOfMemory>
+    ensures { IfOk result (λ s. s.items ≡ sections_from_first lines.now) }
+{
+    let own = from_first(alloc, lines)?;
+    read_sections(alloc, own.as_slice())
 }

@@ -3,6 +3,7 @@ ghost use Rattle.net_addr.specs.Blanks.{words_in};
 ghost use Rattle.ios_lines.specs.Words.{word_at, says};
 ghost use Rattle.ios_sections.specs.TextLines.{carets, is_caret, opens_banner, closes_banner, counts, is_end, begins_configuration, opens_section};
 ghost use Rattle.ios_sections.specs.TellingLines.{may_tell, has_lines};
+ghost use Rattle.ios_sections.specs.Sections.{counted_from, may_begin};
 ghost use Rattle.ios_sections.specs.steps.ToldLines.{may_concern_interface};
 
 use ios_lines::words::{Words, first_word};
@@ -49,6 +50,18 @@ impl<'a> TextLine<'a> {
         ensures { result ≡ self.now.number }
     {
         self.number
+    }
+
+    /// The same line, counted from the line of this number.
+    pub(crate) fn counted_from(&self, first: u32) -> TextLine<'a>
+        ensures { result ≡ counted_from first self.now }
+    {
+        TextLine {
+            number: self.number.saturating_sub(first),
+            indent: self.indent,
+            bytes: self.bytes,
+            first: self.first,
+        }
     }
 
     /// How many blanks the line begins with.
@@ -135,6 +148,13 @@ impl<'a> TextLine<'a> {
             || self.begins_with(b"hostname")
             || self.begins_with(b"ip")
             || self.begins_with(b"end")
+    }
+
+    /// Whether the line opens a section and may tell something.
+    pub(crate) fn may_begin(&self) -> bool
+        ensures { result ≡ may_begin self.now }
+    {
+        self.opens_section() && self.may_tell()
     }
 
     /// Whether the line, of an interface, may say something of it.

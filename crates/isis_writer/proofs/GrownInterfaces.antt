@@ -19,7 +19,7 @@ use Rattle.ios_lines.specs.declared.isis_line.IsisStatement.{IsisStatement}
 use Rattle.ios_sections.specs.Processes.{mention_said, mentions_in}
 use Rattle.ios_sections.specs.declared.section.InterfaceSection.{InterfaceSection}
 use Rattle.ios_reader.specs.Routers.{Router, router_with}
-use Rattle.ios_reader.specs.InterfaceFacts.{facts_of}
+use Rattle.ios_reader.specs.InterfaceFacts.{no_facts, facts_of}
 use Rattle.ios_reader.specs.InterfacesAsRead.{interface_with, interface_as_read, is_isis_passive, runs_level, level_metric, metric_by}
 use Rattle.ios_reader.specs.Faults.{interface_line_faults, loopback_faults, bandwidth_faults, interface_faults}
 use Rattle.ios_reader.specs.declared.facts.InterfaceFacts.{InterfaceFacts}
@@ -29,7 +29,7 @@ use Rattle.isis_writer.specs.PreparedConfigurations.{runs_settled, with_settled,
 use Rattle.isis_writer.proofs.ListFacts.{none_left, none_right}
 use Rattle.isis_writer.proofs.RouterWords.{interface_says}
 use Rattle.isis_writer.proofs.InterfaceFacts.{says_from, circuit_fact, isis_fact, level_fact, grown_facts, facts_grown, counting_outside}
-use Rattle.isis_writer.proofs.InterfaceFacts.{counting_grown, mentions_grown, NeedNoProcess, need_none, no_fault_grown, has_no_old}
+use Rattle.isis_writer.proofs.InterfaceFacts.{counting_grown, mentions_grown, NeedNoProcess, need_none, no_fault_grown, say_no_old}
 
 -- an interface with other IS-IS fields
 abbrev with_isis : Interface → Bool → Bool → ℕ → ℕ → Bool → Interface
@@ -140,7 +140,7 @@ module _ (process : Option ℕ) (ospf : List OspfStatement) (isis : List IsisSta
       let f : InterfaceFacts = facts_of lines in
       let front : interface_line_faults None lines ++ loopback_faults s.name f ≡ [] =
       none_left (interface_line_faults None lines ++ loopback_faults s.name f) (bandwidth_faults before s f) fine in
-      let own : NeedNoProcess lines = need_none lines (none_left (interface_line_faults None lines) (loopback_faults s.name f) front) in
+      let own : NeedNoProcess no_facts lines = need_none no_facts lines (none_left (interface_line_faults None lines) (loopback_faults s.name f) front) in
       record {
         mentions = refl;
         faultless = three_none (interface_line_faults (Some []) lines) (loopback_faults s.name f) (bandwidth_faults after s f) own.fine
@@ -166,7 +166,8 @@ module _ (process : Option ℕ) (ospf : List OspfStatement) (isis : List IsisSta
       (facts_of l) ++ bandwidth_faults before s (facts_of l) ≡ []) all fine in
       let front : interface_line_faults None s.lines ++ loopback_faults s.name f ≡ [] =
       none_left (interface_line_faults None s.lines ++ loopback_faults s.name f) (bandwidth_faults before s f) known in
-      let own : NeedNoProcess s.lines = need_none s.lines (none_left (interface_line_faults None s.lines) (loopback_faults s.name f) front) in
+      let own : NeedNoProcess no_facts s.lines =
+      need_none no_facts s.lines (none_left (interface_line_faults None s.lines) (loopback_faults s.name f) front) in
       let whole : InterfaceSection = with_written s n old t in
       record {
         mentions =
@@ -187,9 +188,9 @@ module _ (process : Option ℕ) (ospf : List OspfStatement) (isis : List IsisSta
             ∙ ap (interface_with after s.name) facts
             ∙ runs_as_settled levels t old s.name f passive same
             (record {
-              circuit = λ e. (has_no_old s.lines (no_old e)).circuit;
-              metric1 = λ e. (has_no_old s.lines (no_old e)).metric1;
-              metric2 = λ e. (has_no_old s.lines (no_old e)).metric2;
+              circuit = λ e. (say_no_old no_facts s.lines (no_old e)).circuit;
+              metric1 = λ e. (say_no_old no_facts s.lines (no_old e)).metric1;
+              metric2 = λ e. (say_no_old no_facts s.lines (no_old e)).metric2;
             })
             ∙ sym (ap (λ (l : List InterfaceStatement). with_settled levels t (interface_with before s.name (facts_of l))) all);
       }

@@ -14,3 +14,4 @@ pub mod PreparedLines
 pub mod PreparedPlaces
 pub mod PreparedReads
 pub mod PreparedBytes
+pub mod DeltaPieces

@@ -3,15 +3,7 @@ use Rattle.std.proofs.Common.{◌≡◌, List, [], ◌∷◌, ◌++◌, map, Opt
 use Rattle.std.specs.Prelude.{All, flat_map}
 use Rattle.std.proofs.lemmas.List.Elements.{All-nil, All-cons, All-head, All-tail}
 use Rattle.ios_lines.specs.Lookups.{later}
-
--- where two lists have nothing together, neither has
-pub none_left : {A : Type 0} (xs ys : List A) → xs ++ ys ≡ [] → xs ≡ []
-none_left [] ys e = refl
-none_left (x ∷ xs) ys e = absurd cc
-
-pub none_right : {A : Type 0} (xs ys : List A) → xs ++ ys ≡ [] → ys ≡ []
-none_right [] ys e = e
-none_right (x ∷ xs) ys e = absurd cc
+pub use Rattle.ios_reader.proofs.LookedUp.{none_left, none_right}
 
 pub later_none : {A : Type 0} (o : Option A) → later None o ≡ o
 later_none None = refl

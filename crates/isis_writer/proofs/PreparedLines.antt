@@ -15,7 +15,7 @@ use Rattle.ios_lines.specs.declared.kind.ReadKind.TheVariants.{NoEnd}
 use Rattle.ios_sections.specs.TextLines.{TextLine, Part, lines_in, counted_lines, is_end, rest_after, parts_of}
 use Rattle.ios_sections.specs.TextLines.{begins_configuration, is_empty, lacks_end}
 use Rattle.ios_sections.specs.Sections.{sections_in}
-use Rattle.ios_sections.specs.JoinedLines.{further_on, is_in_banner, begins_with_end}
+use Rattle.ios_sections.specs.JoinedLines.{further_on, is_in_banner, begins_with_end, open_lines}
 use Rattle.ios_sections.proofs.JoinedFacts.{lines_in-append}
 use Rattle.ios_reader.specs.Faults.{part_faults}
 use Rattle.ios_reader.specs.Configurations.{configuration_of}
@@ -23,9 +23,9 @@ use Rattle.ios_reader.specs.InsertedLines.{IsOutsideBanners, IsClosed}
 use Rattle.ios_reader.specs.PutBlocks.{ends_here, put_block, put_blocks, ends_last}
 use Rattle.ios_reader.specs.Texts.{ReadsText}
 use Rattle.ios_reader.proofs.BlockPieces.{ends_among, put_to_last, put_none}
-use Rattle.ios_reader.proofs.InsertedFacts.{closed_text}
+use Rattle.ios_reader.proofs.InsertedFacts.{some_at_end, closed_text}
 use Rattle.ios_reader.proofs.PutBlocks.{EndsWithEnd, put_reads}
-use Rattle.ios_reader.proofs.RawLines.{IsWholeBefore, AreRaw, joined_raw, HasOneLine, one_line, parts_stay, open_lines, part_with, parts_at_end}
+use Rattle.ios_reader.proofs.RawLines.{IsWholeBefore, AreRaw, joined_raw, HasOneLine, one_line, parts_stay, part_with, parts_at_end}
 use Rattle.ios_reader.proofs.RawLines.{whole_next, whole_start}
 use Rattle.design_file.specs.Settling.{FitsNetwork}
 use Rattle.design_file.specs.declared.settled.SettledRouter.{SettledRouter}
@@ -57,10 +57,6 @@ none_ends (raw ∷ raws) before whole are none =
 
 -- ---- the text up to an `end` line ----
 
-some_part : (ps qs : List Part) (p : Part) → is_empty (ps ++ p ∷ qs) ≡ false
-some_part [] qs p = refl
-some_part (q ∷ ps) qs p = refl
-
 -- an `end` line behind a text ends a part
 parts_here : (before raw : List ℕ) (line : TextLine) → IsOutsideBanners before → lines_in raw ≡ line ∷ [] → is_end line ≡ true →
     parts_of (lines_in (before ++ raw)) ≡ parts_of (lines_in before) ++ part_with (open_lines before) (length (lines_in before) + line.number) ∷ []
@@ -83,7 +79,7 @@ cut_read before raw (next ∷ raws) line configurations outside is e whole are n
     sym (ap (flat_map part_faults) same) ∙ none_left (flat_map part_faults (parts_of (lines_in (text ++ joined_raw (next ∷ raws))))) _ reads.faultless in
     let some : is_empty (parts_of (lines_in text)) ≡ false =
     ap is_empty (parts_here before raw line outside is e)
-    ∙ some_part (parts_of (lines_in before)) [] (part_with (open_lines before) (length (lines_in before) + line.number)) in
+    ∙ some_at_end (parts_of (lines_in before)) [] (part_with (open_lines before) (length (lines_in before) + line.number)) in
     let lacks : lacks_end (lines_in text) ≡ false =
     ap (λ (b : Bool). b || list_any begins_configuration (rest_after [] (counted_lines (lines_in text)))) some
     ∙ ap (list_any begins_configuration) closed.none_open in

@@ -28,13 +28,13 @@ use Rattle.ios_reader.proofs.InsertedFacts.{closed_text, joined_texts, some_conf
 use Rattle.ios_reader.specs.Places.{raw_lines}
 use Rattle.ios_reader.proofs.RawLines.{IsRaw, joined_raw, are_raw, raw_joined, whole_start}
 use Rattle.design_file.specs.declared.settled.SettledRouter.{SettledRouter}
-use Rattle.isis_writer.specs.Prepared.{prepared_text}
+use Rattle.isis_writer.specs.Prepared.{new_block, prepared_text}
 use Rattle.isis_writer.specs.PreparedConfigurations.{prepared, IsToPrepare, PreparedTextLaw, with_last_feed, IsReadBefore, PreparedBeforeLaw, AreToPrepare}
 use Rattle.isis_writer.specs.PreparedConfigurations.{prepared_texts, PreparedTextsLaw}
 use Rattle.ios_reader.proofs.PutBlocks.{EndsWithEnd}
-use Rattle.ios_reader.proofs.BlockPieces.{ends_among}
+use Rattle.ios_reader.proofs.BlockPieces.{ends_among, cut_text}
 use Rattle.isis_writer.proofs.PreparedLines.{put_lines, none_ends, ReadsPrepared, put_all}
-use Rattle.isis_writer.proofs.PreparedPlaces.{prepared_by_parts}
+use Rattle.isis_writer.proofs.PreparedPlaces.{prepared_is}
 
 -- ---- the text ----
 
@@ -64,7 +64,7 @@ module _ (text : List ℕ) (net : Network) (settled : List SettledRouter) (confi
           sym (made_none (parts_of (lines_in text)) configurations given.reads.made no_part (some_configuration text configurations given.reads))
 
   put_is : prepared_text text net settled ≡ put_lines net settled [] raws
-  put_is = prepared_by_parts net settled text raws (whole_start raws) (are_raw text) (raw_joined text) some_end
+  put_is = prepared_is text net settled ∙ sym ((cut_text (new_block net settled) text).to_last some_end)
 
   put : ReadsPrepared net settled (put_lines net settled [] raws) configurations
   put =

@@ -16,7 +16,7 @@ use Rattle.ios_lines.specs.declared.kind.ReadKind.TheVariants.{Unsupported}
 use Rattle.ios_lines.specs.declared.interface_line.InterfaceStatement.{InterfaceStatement}
 use Rattle.ios_lines.proofs.Picked.{by_if, all_taken, names_apart}
 use Rattle.ios_sections.specs.TextLines.{TextLine, Part, sections_of}
-use Rattle.ios_sections.specs.Sections.{section_with, section_of, sections_in}
+use Rattle.ios_sections.specs.Sections.{section_with, section_of, from_first, sections_among, sections_in}
 use Rattle.ios_sections.specs.Processes.{as_interface, merged, interfaces_in}
 use Rattle.ios_sections.specs.declared.section.Section.{Section}
 use Rattle.ios_sections.specs.declared.section.Section.TheVariants.{Interface as InterfaceShown}
@@ -63,11 +63,11 @@ head_named words =
 with_named : (h : Head) (line : ℕ) (body : List TextLine) → IsNamedHead h → IsNamedSection (section_with h line body)
 with_named head line body h = grind arith
 
-sections_named : (part : Part) → All IsNamedSection (sections_in part)
-sections_named part =
-    All-map IsNamedSection section_of (sections_of part.lines)
-    (λ k d lt. with_named (head_of (get_or (sections_of part.lines) k d).head.words) (get_or (sections_of part.lines) k d).head.number
-    (get_or (sections_of part.lines) k d).body (head_named (get_or (sections_of part.lines) k d).head.words))
+among_named : (lines : List TextLine) → All IsNamedSection (sections_among lines)
+among_named lines =
+    All-map IsNamedSection section_of (sections_of lines)
+    (λ k d lt. with_named (head_of (get_or (sections_of lines) k d).head.words) (get_or (sections_of lines) k d).head.number
+    (get_or (sections_of lines) k d).body (head_named (get_or (sections_of lines) k d).head.words))
 
 as_interface_named : (s : Section) → IsNamedSection s → IfSome (as_interface s) (λ (i : InterfaceSection). is_interface_name i.name ≡ true)
 as_interface_named s h = grind arith
@@ -86,7 +86,8 @@ interfaces_named part =
     let ss : List Section = sections_in part in
     let parts : List InterfaceSection = filter_map as_interface ss in
     let all : All (λ (i : InterfaceSection). is_interface_name i.name ≡ true) (filter_map as_interface ss) =
-    all_taken as_interface IsNamedSection (λ (i : InterfaceSection). is_interface_name i.name ≡ true) as_interface_named ss (sections_named part) in
+    all_taken as_interface IsNamedSection (λ (i : InterfaceSection). is_interface_name i.name ≡ true) as_interface_named ss
+    (among_named (from_first part.lines)) in
     All-map (λ (s : InterfaceSection). is_interface_name s.name ≡ true) (merged parts) (first_seen (map (λ (s : InterfaceSection). s.name) parts))
     (seen_named (map (λ (s : InterfaceSection). s.name) parts)
     (All-map (λ (n : Word). is_interface_name n ≡ true) (λ (s : InterfaceSection). s.name) parts all))

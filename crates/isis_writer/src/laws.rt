@@ -1,3 +1,4 @@
+ghost use Rattle.isis_writer.specs.Deltas.{DeltaLaw};
 ghost use Rattle.isis_writer.specs.Prepared.{PreparedBytesLaw};
 ghost use Rattle.isis_writer.specs.PreparedConfigurations.{PreparedBeforeLaw, PreparedTextLaw, PreparedTextsLaw};
 
@@ -12,4 +13,10 @@ pub fn prepared_laws()
     ensures prepared_bytes { PreparedBytesLaw }
     ensures before_others { PreparedBeforeLaw }
     ensures prepared_texts { PreparedTextsLaw }
+{}
+
+/// The law of the new lines alone: they are those that are put before each `end` line, each configuration's behind the name of
+/// its router, and nothing else is printed.
+pub fn delta_law()
+    ensures { DeltaLaw }
 {}

@@ -4,6 +4,7 @@
 //! |---|---|---|
 //! | the lines of one router: its process, with a title (ISO 10589), and its interfaces | `specs/RouterLines.antt` | `router_lines.rt` |
 //! | where they stand in a text | `specs/Prepared.antt` | `prepared_text` (`prepared.rt`) |
+//! | these lines alone | `specs/Deltas.antt` | `delta_text` (`delta.rt`) |
 //! | what a settled design makes of a configuration | `specs/PreparedConfigurations.antt` | none: `prepared_laws` says that the prepared text is read so |
 //! | what several texts are read as | `specs/ReadTexts.antt` | none: the laws of several texts cite it |
 //!
@@ -19,13 +20,15 @@
 //! of the network, and for each settled interface among the sections of its old configuration.
 #![tactic(auto)]
 
-// The lines of a router, and the text with those of all routers.
+// The lines of a router, the text with those of all routers, and these lines alone.
+mod delta;
 mod prepared;
 mod router_lines;
 
 // That what is written reads back.
 mod laws;
 
-pub use laws::prepared_laws;
+pub use delta::delta_text;
+pub use laws::{delta_law, prepared_laws};
 pub use prepared::prepared_text;
 pub use std::alloc::AllocError as OutOfMemory;

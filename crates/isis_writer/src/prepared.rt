@@ -1,9 +1,8 @@
 ghost use Rattle.std.specs.Prelude.{◌≡◌, ◌+◌, ◌<◌, ◌^◌, ◌++◌, [], IfOk, IfSome, OnOk, length, unwrap_or};
 ghost use Rattle.net_addr.specs.Lines.{text_lines};
 ghost use Rattle.printed_lines.specs.Texts.{text_of};
-ghost use Rattle.ios_sections.specs.Sections.{section_of};
-ghost use Rattle.ios_sections.specs.TextLines.{parts_after, sections_of};
-ghost use Rattle.std.specs.Prelude.{map};
+ghost use Rattle.ios_sections.specs.Sections.{sections_from_first};
+ghost use Rattle.ios_sections.specs.TextLines.{parts_after};
 ghost use Rattle.ios_reader.specs.Places.{between, start_of};
 ghost use Rattle.isis_writer.specs.Prepared.{new_block, numbered_from, numbered_lines, prepared_parts, prepared_text};
 
@@ -11,7 +10,7 @@ use crate::OutOfMemory;
 use crate::router_lines::with_router;
 use design_file::Settled;
 use ios_reader::{between, start_of};
-use ios_sections::read_section::read_sections;
+use ios_sections::read_section::sections_from_first;
 use ios_sections::section::InterfaceSection;
 use ios_sections::statements::statements_of;
 use ios_sections::text::counted_lines;
@@ -108,35 +107,36 @@ fn new_text(
     settled: &Settled,
     lines: &[TextLine],
 ) -> Result<Bytes, OutOfMemory>
-    ensures { IfOk result (λ new. new ≡ new_block net.now settled.now (map section_of (sections_of lines.now))) }
+    ensures { IfOk result (λ new. new ≡ new_block net.now settled.now (sections_from_first lines.now)) }
 {
-    let statements = statements_of(alloc, read_sections(alloc, lines)?)?;
+    let statements = statements_of(alloc, sections_from_first(alloc, lines)?)?;
     let number = number_of(net, &statements.name);
-    numbered_text(alloc, settled, statements.interfaces.as_slice(), number)
+    let interfaces = statements.interfaces.as_slice();
+    Ok(numbered_text(alloc, TextBuilder::new(alloc), settled, interfaces, number)?.finish())
 }
 
-/// The new lines of the router of this number.
-fn numbered_text(
+/// The text with the new lines more of the router of this number.
+pub(crate) fn numbered_text(
     alloc: Global,
+    text: TextBuilder,
     settled: &Settled,
     old: &[InterfaceSection],
     number: Option<u32>,
-) -> Result<Bytes, OutOfMemory>
+) -> Result<TextBuilder, OutOfMemory>
     requires { IfSome number (λ n. n < 1000) }
-    ensures { IfOk result (λ new. new ≡ text_of (numbered_lines old.now settled.now number)) }
+    ensures { IfOk result (λ longer. longer ≡ text ++ text_of (numbered_lines old.now settled.now number)) }
 {
-    let text = TextBuilder::new(alloc);
     let Some(number) = number else {
-        return Ok(text.finish());
+        return Ok(text);
     };
     match settled.as_slice().get(number as usize) {
-        Some(router) => Ok(with_router(alloc, text, old, number, router)?.finish()),
-        None => Ok(text.finish()),
+        Some(router) => with_router(alloc, text, old, number, router),
+        None => Ok(text),
     }
 }
 
 /// The number of the router of this name, where there is one.
-fn number_of(net: &Net, name: &Option<Name>) -> Option<u32>
+pub(crate) fn number_of(net: &Net, name: &Option<Name>) -> Option<u32>
     ensures number { result ≡ numbered_from 0 (unwrap_or name.now []) net.now }
     ensures small { IfSome result (λ n. n < 1000) }
 {

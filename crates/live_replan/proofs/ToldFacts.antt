@@ -8,7 +8,7 @@ use Rattle.std.proofs.lemmas.List.FromFn.{get_or-enumerate_from, length-enumerat
 use Rattle.net_addr.specs.Lines.{line_texts}
 use Rattle.net_model.specs.Network.{Network}
 use Rattle.net_model.specs.Refusals.{NamesAscend}
-use Rattle.igp_theory.specs.Waves.{Change}
+use Rattle.igp_theory.specs.Changes.{Change}
 use Rattle.printed_lines.specs.Texts.{text_of}
 use Rattle.printed_lines.proofs.TextSteps.{text_of-append}
 use Rattle.state_replay.specs.Halves.{change_of}

@@ -5,7 +5,7 @@ use Rattle.net_addr.specs.Lines.{line_texts}
 use Rattle.net_model.specs.Configuration.{Configuration}
 use Rattle.net_model.specs.Network.{Network}
 use Rattle.net_model.specs.declared.bounds.TheConstants.{MOST_DISTANCE}
-use Rattle.igp_theory.specs.Waves.{Change, first, second, changed}
+use Rattle.igp_theory.specs.Changes.{Change, first, second, changed}
 use Rattle.printed_lines.specs.Words.{joined}
 use Rattle.printed_lines.specs.Texts.{text_of}
 use Rattle.state_replay.specs.Journals.{journal_header, TellsChange}

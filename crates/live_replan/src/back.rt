@@ -1,5 +1,5 @@
 ghost use Rattle.std.specs.Prelude.{◌≡◌, ◌<◌, ◌++◌, ◌∷◌, [], List, IfOk, length};
-ghost use Rattle.igp_theory.specs.Waves.{Change};
+ghost use Rattle.igp_theory.specs.Changes.{Change};
 ghost use Rattle.printed_lines.specs.Texts.{text_of};
 ghost use Rattle.state_replay.specs.Halves.{change_of};
 ghost use Rattle.step_scripts.specs.Scripts.{distance_line, isis_head, ospf_distance_lines, ospf_head};

@@ -1,5 +1,5 @@
 ghost use Rattle.std.specs.Prelude.{◌≡◌, ◌≢◌, ◌<◌, List, All, IfOk, MatchOption, length};
-ghost use Rattle.igp_theory.specs.Waves.{Change};
+ghost use Rattle.igp_theory.specs.Changes.{Change};
 ghost use Rattle.state_replay.specs.Halves.{change_of, ending_of};
 ghost use Rattle.state_replay.specs.Journals.{TellsChange};
 ghost use Rattle.state_replay.specs.declared.half.Half.{Half};

@@ -9,7 +9,6 @@ use Rattle.std.proofs.lemmas.List.{get_or-set_other, get_or-set_same}
 use Rattle.std.proofs.Math.ListN.{length-set}
 use Rattle.order_core.specs.Rankings.{rank_of}
 use Rattle.igp_theory.specs.Phases.{State, all_old}
-use Rattle.igp_theory.specs.Waves.{IsStateOfWave}
 use Rattle.igp_theory.specs.declared.phase.Phase.{Phase}
 use Rattle.igp_theory.specs.declared.phase.Phase.TheVariants.{Old, New}
 use Rattle.igp_theory.proofs.SameTables.{follows_over}
@@ -21,7 +20,7 @@ use Rattle.loop_finder.specs.steps.Parts.{AreSteppers, IsBareIn}
 use Rattle.loop_finder.specs.Returns.{NeverReturnsTo}
 use Rattle.loop_finder.specs.Mixes.{sample_of, Mix}
 use Rattle.loop_finder.specs.Soundness.{SoundAt, Sound}
-use Rattle.loop_finder.specs.steps.Verdicts.{IsClearAt, SoundWave, SoundWavesBefore}
+use Rattle.loop_finder.specs.steps.Verdicts.{IsOfWave, IsClearAt, SoundWave, SoundWavesBefore}
 use Rattle.loop_finder.specs.Watches.{IsIdle, ArePlacesOf}
 use Rattle.loop_finder.specs.steps.WaveStarts.{AreSwitchedBefore, AreClearParts, BeginsSound}
 use Rattle.loop_finder.proofs.ClassVerdicts.{sample_in}
@@ -144,7 +143,7 @@ taken_more ranks kept taken n within is before = subst (λ (xs : List ℕ). (u :
 -- where the first state of a wave is sound, its states are sound for the parts that are calm in it
 sound_in_calm : (m : Mix) (part : ClassPart) (ranks : List ℕ) (c w : ℕ) (first last : List Phase) (state : State)
     → IsPart m part → AreEnds (length m.net) ranks w first last → IsCalmBefore part ranks c → w < c →
-    SoundAt m (state_in first) (sample_of m.classes part.atom) → IsStateOfWave (length m.net) ranks w state
+    SoundAt m (state_in first) (sample_of m.classes part.atom) → IsOfWave (length m.net) ranks w state
     → SoundAt m state (sample_of m.classes part.atom)
 sound_in_calm m part ranks c w first last state is ends calm less begun of_wave =
     part_wave_sound m part ranks w first last state is ends (calm.moves (omega (arith, less))) (calm.calm w less) begun of_wave

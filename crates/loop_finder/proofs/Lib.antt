@@ -18,6 +18,7 @@ mod ClassVerdicts
 mod StateVerdicts
 mod ToldOfStates
 mod ToldOfWaves
+mod RankedWaves
 mod WaveListFacts
 mod OrderStates
 mod WaveSteps

@@ -8,7 +8,7 @@ use Rattle.igp_theory.specs.Phases.{State}
 use Rattle.igp_theory.specs.States.{changes_of, changes_on, phase_after, state_of}
 use Rattle.igp_theory.specs.declared.phase.Phase.{Phase}
 use Rattle.loop_finder.specs.Faults.{state_in}
-use Rattle.loop_finder.specs.steps.Orders.{next_phase, IsStateOf, IsAdvanced}
+use Rattle.loop_finder.specs.steps.Orders.{next_phase, IsOrderState, IsAdvanced}
 
 -- two states that give each router one phase are one
 pub same_state : (one other : State) → ((u : ℕ) → one u ≡ other u) → one ≡ other
@@ -61,7 +61,7 @@ state_more order k u within =
 
 -- the phases after change k, which the router at place k / 2 makes
 pub state_advanced : (order : List ℕ) (phases next : List Phase) (k r : ℕ) → k / 2 < length order → r ≡ get_or order (k / 2) r → IsAdvanced phases next r →
-    IsStateOf phases order k → IsStateOf next order (k + 1)
+    IsOrderState phases order k → IsOrderState next order (k + 1)
 state_advanced order phases next k r within at advanced state u =
     let read : r ≡ get_or order (k / 2) 0 = get_or_read order (k / 2) r within at 0 in
     elim (eqb_tells u r) [
@@ -78,7 +78,7 @@ state_advanced order phases next k r within at advanced state u =
     ]
 
 -- past its changes an order stays in its last state
-pub state_stays : (order : List ℕ) (phases : List Phase) (k : ℕ) → length order ≤ k / 2 → IsStateOf phases order k → IsStateOf phases order (k + 1)
+pub state_stays : (order : List ℕ) (phases : List Phase) (k : ℕ) → length order ≤ k / 2 → IsOrderState phases order k → IsOrderState phases order (k + 1)
 state_stays order phases k past state u =
     let long : length (changes_of order) ≤ k = omega (arith, changes_length order, past) in
     state u ∙ ap (λ (xs : List ℕ). phase_after (changes_on u xs)) (take_all k (changes_of order) long

@@ -7,7 +7,6 @@ use Rattle.std.proofs.lemmas.Bool.Decides.{leb_tells}
 use Rattle.std.proofs.lemmas.List.{get_or_past}
 use Rattle.order_core.specs.Rankings.{rank_of}
 use Rattle.igp_theory.specs.Phases.{State, all_old}
-use Rattle.igp_theory.specs.Waves.{IsStateOfWave}
 use Rattle.igp_theory.specs.declared.phase.Phase.{Phase}
 use Rattle.igp_theory.specs.declared.phase.Phase.TheVariants.{Old, New}
 use Rattle.igp_theory.proofs.AlikeStates.{sound_at_alike}
@@ -19,10 +18,11 @@ use Rattle.loop_finder.specs.steps.Parts.{PartStep}
 use Rattle.loop_finder.specs.Returns.{NeverReturnsTo}
 use Rattle.loop_finder.specs.Mixes.{sample_of, Mix}
 use Rattle.loop_finder.specs.Soundness.{SoundAt, Sound}
-use Rattle.loop_finder.specs.steps.Verdicts.{SoundWavesBefore, IsBetween}
+use Rattle.loop_finder.specs.steps.Verdicts.{IsOfWave, SoundWavesBefore, IsBetween}
 use Rattle.loop_finder.specs.steps.WaveStarts.{AreSwitchedBefore, BeginsSound}
 use Rattle.loop_finder.proofs.OrderStates.{same_state}
 use Rattle.loop_finder.proofs.PartLaws.{part_stays_sound, part_inside}
+use Rattle.loop_finder.proofs.RankedWaves.{wave_earlier, wave_later, wave_of}
 use Rattle.loop_finder.proofs.ToldOfWaves.{AreEnds, wave_between}
 
 -- the routers below r have their phases of one state, the others those of another
@@ -50,16 +50,15 @@ mixed_more one other r v apart = elim (cases_lt v r) [
 
 -- a state between the first and the last one of a wave is one of the wave
 pub state_between : {n : ℕ} {ranks : List ℕ} {w : ℕ} {first last : List Phase} (state : State) → AreEnds n ranks w first last → IsBetween n first last state →
-    IsStateOfWave n ranks w state
-state_between {ranks = ranks} {w = w} {first = first} {last = last} state ends between = record {
-  earlier = λ u within before.
-      let switched : state_in first u ≡ New = ends.begins.switched u (omega (arith, within, ends.each)) before in
-      elim (between u within) [ inl same ↦ same ∙ switched | inr both ↦ absurd (let clash : Old ≡ New = sym both.0 ∙ switched in cc) ];
-  later = λ u within after.
-      let waits : state_in first u ≡ Old = ends.begins.others u (omega (arith, within, ends.each)) (omega (arith, after)) in
-      let waits_on : state_in last u ≡ Old = ends.ends.others u (omega (arith, within, ends.each)) (omega (arith, after)) in
-      elim (between u within) [ inl same ↦ same ∙ waits | inr both ↦ absurd (let clash : New ≡ Old = sym both.1 ∙ waits_on in cc) ];
-}
+    IsOfWave n ranks w state
+state_between {ranks = ranks} {w = w} {first = first} {last = last} state ends between = wave_of ranks w
+    (λ u within before.
+    let switched : state_in first u ≡ New = ends.begins.switched u (omega (arith, within, ends.each)) before in
+    elim (between u within) [ inl same ↦ same ∙ switched | inr both ↦ absurd (let clash : Old ≡ New = sym both.0 ∙ switched in cc) ])
+    (λ u within after.
+    let waits : state_in first u ≡ Old = ends.begins.others u (omega (arith, within, ends.each)) (omega (arith, after)) in
+    let waits_on : state_in last u ≡ Old = ends.ends.others u (omega (arith, within, ends.each)) (omega (arith, after)) in
+    elim (between u within) [ inl same ↦ same ∙ waits | inr both ↦ absurd (let clash : New ≡ Old = sym both.1 ∙ waits_on in cc) ])
 
 -- the steps of a part in the first and the last state of a wave are those of the wave
 in_wave : (part : ClassPart) (ranks : List ℕ) (w : ℕ) (first last : List Phase) → length part.rows ≡ length ranks → AreSwitchedBefore ranks w first →
@@ -89,7 +88,7 @@ in_wave part ranks w first last rows begins ends u h step =
 pub part_wave_sound : (m : Mix) (part : ClassPart) (ranks : List ℕ) (w : ℕ) (first last : List Phase) (state : State)
     → IsPart m part → AreEnds (length m.net) ranks w first last → part.moves ≡ true
     → ((u : ℕ) → u < length ranks → rank_of ranks u ≡ w → NeverReturnsTo (WaveStep part ranks w) u)
-    → SoundAt m (state_in first) (sample_of m.classes part.atom) → IsStateOfWave (length m.net) ranks w state → SoundAt m state
+    → SoundAt m (state_in first) (sample_of m.classes part.atom) → IsOfWave (length m.net) ranks w state → SoundAt m state
     (sample_of m.classes part.atom)
 part_wave_sound m part ranks w first last state is ends moves never begun of_wave =
     sound_at_alike (λ u within. mixed_one state (state_in first) (length m.net) u within) (sound_to (length m.net) (omega arith))
@@ -109,8 +108,8 @@ part_wave_sound m part ranks w first last state is ends moves never begun of_wav
     as_first : (r : ℕ) → r < length m.net → (¬ (rank_of ranks r ≡ w)) → state r ≡ state_in first r
     as_first r within apart = elim (cases_order (rank_of ranks r) w) [
       | inl same ↦ absurd (apart same)
-      | inr (inl before) ↦ of_wave.earlier r within before ∙ sym (ends.begins.switched r (omega (arith, within, ends.each)) before)
-      | inr (inr after) ↦ of_wave.later r within after ∙ sym (ends.begins.others r (omega (arith, within, ends.each)) (omega (arith, after)))
+      | inr (inl before) ↦ wave_earlier ranks w of_wave r within before ∙ sym (ends.begins.switched r (omega (arith, within, ends.each)) before)
+      | inr (inr after) ↦ wave_later ranks w of_wave r within after ∙ sym (ends.begins.others r (omega (arith, within, ends.each)) (omega (arith, after)))
     ]
 
     unchanged : (r : ℕ) → state r ≡ state_in first r → (v : ℕ) → mixed state (state_in first) r v ≡ mixed state (state_in first) (suc r) v
@@ -135,10 +134,9 @@ part_wave_sound m part ranks w first last state is ends moves never begun of_wav
 pub begins_sound : (m : Mix) (ranks : List ℕ) (w : ℕ) (begun : Bool) → length ranks ≡ length m.net
     → OnTrue begun (Sound m all_old) → SoundWavesBefore m ranks w → (begun ≡ true) ⊎ (0 < w) → BeginsSound m ranks w
 begins_sound m ranks w begun each first before known phases many switched = elim (cases_lt 0 w) [
-  | inl later ↦ before (w - 1) (omega (arith, later)) (state_in phases) (record {
-    earlier = λ u within less. switched.switched u (omega (arith, within, each)) (omega (arith, less));
-    later = λ u within more. switched.others u (omega (arith, within, each)) (omega (arith, more));
-  })
+  | inl later ↦ before (w - 1) (omega (arith, later)) (state_in phases)
+      (wave_of ranks (w - 1) (λ u within less. switched.switched u (omega (arith, within, each)) (omega (arith, less)))
+      (λ u within more. switched.others u (omega (arith, within, each)) (omega (arith, more))))
   | inr none ↦ elim known [
     | inl known_now ↦ subst (λ (s : State). Sound m s) (same_state all_old (state_in phases) (λ u. sym (is_old none u)))
         (subst (λ (b : Bool). OnTrue b (Sound m all_old)) known_now first)

@@ -5,7 +5,6 @@ pub use Rattle.order_core.specs.Turns
 pub mod Faults
 pub mod Mixes
 pub mod Rooms
-pub mod WaveLists
 pub mod Soundness
 pub mod Orders
 pub mod Returns

@@ -3,10 +3,12 @@ ghost use Rattle.igp_theory.specs.Loops.{IsFault, IsFirstFault};
 ghost use Rattle.order_core.specs.Orders.{IsOrder};
 ghost use Rattle.order_core.specs.Rankings.{IsRanking};
 ghost use Rattle.igp_theory.specs.States.{IsSeamless, IsSound};
+ghost use Rattle.igp_theory.specs.Phases.{all_old};
+ghost use Rattle.igp_theory.specs.Timetables.{router_times};
+ghost use Rattle.igp_theory.specs.WaveFaults.{IsTimesFault};
 ghost use Rattle.igp_theory.specs.Waves.{AreSeamlessWaves};
 ghost use Rattle.rib_mix.specs.Mixture.{migration_of};
 ghost use Rattle.loop_finder.specs.Faults.{KeepsRing, state_in, told, told_fault};
-ghost use Rattle.loop_finder.specs.WaveLists.{IsNumberedWavesFault};
 
 use crate::calm::{none_known, renew};
 use crate::fault::Fault;
@@ -156,7 +158,7 @@ impl<'a, O: RouteSource, N: RouteSource> Finder<'a, O, N> {
         ensures seamless { IsNone result
             ↔ AreSeamlessWaves (migration_of O.table N.table self.old.mixture) ranks.now }
         ensures fault { IfSome result (λ found.
-            IsNumberedWavesFault (migration_of O.table N.table self.old.mixture) ranks.now found.0
+            IsTimesFault (migration_of O.table N.table self.old.mixture) (router_times all_old ranks.now) found.0
             (told_fault found.1 self.new.ring)) }
         ensures ring { KeepsRing (told result) self.old.ring self.new.ring }
         ensures mixture { self.new.mixture ≡ self.old.mixture }

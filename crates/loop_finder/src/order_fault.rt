@@ -4,7 +4,7 @@ ghost use Rattle.order_core.specs.Orders.{IsOrder};
 ghost use Rattle.loop_finder.specs.Mixes.{mix_of};
 ghost use Rattle.loop_finder.specs.Faults.{KeepsRing, state_in, told, told_fault};
 ghost use Rattle.loop_finder.specs.Orders.{AreFirstStates};
-ghost use Rattle.loop_finder.specs.steps.Orders.{IsAdvanced, IsStateOf, next_phase};
+ghost use Rattle.loop_finder.specs.steps.Orders.{IsAdvanced, IsOrderState, next_phase};
 ghost use Rattle.igp_theory.specs.Phases.{all_old};
 ghost use Rattle.loop_finder.specs.Parts.{AreParts};
 ghost use Rattle.loop_finder.specs.Rooms.{HasRoom};
@@ -139,10 +139,10 @@ fn change_fault<O: RouteSource, N: RouteSource>(
     requires known { AreFirstStates (Sound (mix_of O.table N.table mixed.now)) order.now known }
     requires routers { (u : ℕ) → Contains order.now u → u < length mixed.now.net }
     requires many { length phases.old ≡ length mixed.now.net }
-    requires state { IsStateOf phases.old order.now k }
+    requires state { IsOrderState phases.old order.now k }
     requires before { Sound (mix_of O.table N.table mixed.now) (state_in phases.old) }
     requires room { HasRoom (length mixed.now.net) room.old }
-    ensures state { IsStateOf phases.new order.now (k + 1) }
+    ensures state { IsOrderState phases.new order.now (k + 1) }
     ensures room { HasRoom (length mixed.now.net) room.new }
     ensures sound { IfNone result (Sound (mix_of O.table N.table mixed.now) (state_in phases.new)) }
     ensures fault { IfSome result (λ fault. Faulty (mix_of O.table N.table mixed.now) (state_in phases.new) fault room.new.ring.items) }

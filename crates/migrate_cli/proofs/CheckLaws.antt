@@ -1,10 +1,10 @@
 -- `check` decides one thing of an order file and a network.
-use Rattle.std.proofs.Common.{◌≡◌, ℕ, ◌+◌, List, length, refl, sym, subst}
+use Rattle.std.proofs.Common.{◌≡◌, ℕ, List, length, refl, sym, subst}
 use Rattle.igp_theory.proofs.FaultLaws.{first_fault_unique}
-use Rattle.igp_theory.proofs.WaveFaultLaws.{waves_fault_unique}
+use Rattle.igp_theory.proofs.WaveFaultLaws.{times_fault_unique}
 use Rattle.igp_theory.specs.Migrations.{Migration}
 use Rattle.igp_theory.specs.States.{state_of}
-use Rattle.igp_theory.specs.Waves.{IsStateOfWave}
+use Rattle.igp_theory.specs.Timetables.{IsStateOfWave, router_times}
 use Rattle.net_model.specs.Refusals.{NamesAscend}
 use Rattle.order_core.specs.Rankings.{flat_of}
 use Rattle.plan_theory.proofs.OnePlan.{told_once}
@@ -36,9 +36,9 @@ one_waves_decision (safe_waves _) (safe_waves _) = refl
 one_waves_decision (safe_waves seamless) (unsafe_wave _ _ none _) = absurd (none seamless)
 one_waves_decision (unsafe_wave _ _ none _) (safe_waves seamless) = absurd (none seamless)
 one_waves_decision (unsafe_wave _ fault _ first) (unsafe_wave _ other _ again) =
-    let same = waves_fault_unique first again in
+    let same = times_fault_unique first again in
     let told : fault ≡ other = told_once fault other same.1 in
-    λ i. UnsafeWave (same.0 i + 1) (told i)
+    λ i. UnsafeWave (same.0 i) (told i)
 
 -- and so of an order file
 module _ (move : Migration) (order : NamedText) where
@@ -72,7 +72,7 @@ order_tellable {move} {order} (unsafe state fault _ first) = fault_below move (s
 waves_tellable : {move : Migration} {ranks : List ℕ} {d : Decision} → IsWavesDecision move ranks d → IsTellable move.net d
 waves_tellable (safe_waves _) = tt
 waves_tellable {move} {ranks} (unsafe_wave wave fault _ first) =
-    fault_over_below move (IsStateOfWave (length move.net) ranks wave) fault first.here
+    fault_over_below move (IsStateOfWave (length move.net) (router_times move.start ranks) wave) fault first.here
 
 pub check_tellable : {move : Migration} {order : NamedText} {d : Decision} → IsCheckOver move order d → IsTellable move.net d
 check_tellable (faulty_order _ _ _) = tt

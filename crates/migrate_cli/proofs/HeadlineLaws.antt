@@ -8,6 +8,7 @@ use Rattle.igp_theory.specs.WaveLaws.{HopsAreRouters}
 use Rattle.igp_theory.specs.Waves.{HasNoneSeamless}
 use Rattle.igp_theory.proofs.Delivery.{delivers_sound, sound_delivers}
 use Rattle.igp_theory.proofs.FaultLaws.{faulty_not_sound}
+use Rattle.igp_theory.proofs.Switches.{routers_have_times}
 use Rattle.net_model.specs.Refusals.{IsNetwork}
 use Rattle.net_model.specs.RouterNames.{names_of}
 use Rattle.order_core.specs.Rankings.{flat_of}
@@ -38,7 +39,13 @@ module _ (move : Migration) where
   none_delivers : HasNoneSeamless move → NoneDelivers move
   none_delivers none = record {
     no_waves_deliver = λ ranks ranking deliver.
-        none.waves ranks (record { waves = ranking; sound = λ state is. sound_where_delivers state (deliver state is) });
+        none.waves ranks (record {
+          waves = ranking;
+          throughout = record {
+            table = routers_have_times (length move.net) move.start ranks;
+            sound = λ state is. sound_where_delivers state (deliver state is);
+          };
+        });
     no_waves_sound = none.waves;
     no_order_delivers = λ order lists deliver.
         none.orders order (record { lists = lists; sound = λ k within. sound_where_delivers (state_of order k) (deliver k within) });
@@ -80,7 +87,7 @@ module _ (move : Migration) where
           safe_waves = λ _. record {
             ranks = ranks;
             names = reads.names;
-            deliver = λ state of. delivers state (means.waves.sound state of);
+            deliver = λ state of. delivers state (means.waves.throughout.sound state of);
             sound = means.waves;
             order_delivers = λ k within. delivers (state_of (flat_of ranks) k) (means.order.sound k within);
             order_sound = means.order;

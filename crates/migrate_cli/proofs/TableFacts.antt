@@ -6,10 +6,12 @@ use Rattle.igp_theory.specs.Migrations.{Migration, listed_migration, migration}
 use Rattle.igp_theory.specs.Ospf.{OspfEntry}
 use Rattle.igp_theory.specs.Routes.{HaveSameEntries, Tables}
 use Rattle.igp_theory.specs.States.{IsSeamless}
-use Rattle.igp_theory.specs.WaveFaults.{IsWavesFault}
+use Rattle.igp_theory.specs.Phases.{all_old}
+use Rattle.igp_theory.specs.Timetables.{router_times}
+use Rattle.igp_theory.specs.WaveFaults.{IsTimesFault}
 use Rattle.igp_theory.specs.Waves.{AreSeamlessWaves, HasNoneSeamless}
 use Rattle.igp_theory.proofs.SameTables.{first_fault_over, seamless_over}
-use Rattle.igp_theory.proofs.WaveFaultLaws.{seamless_waves_over, waves_fault_over}
+use Rattle.igp_theory.proofs.WaveFaultLaws.{seamless_waves_over, times_fault_over}
 use Rattle.isis_routes.specs.RouteTables.{AreIsisRoutes}
 use Rattle.net_model.specs.Network.{Network}
 use Rattle.ospf_routes.specs.RouteTables.{AreOspfRoutes, table_at}
@@ -69,10 +71,10 @@ module _ (of : NetworkMove) (m : Mixture OspfRoutes NewRoutes) (mixes : MixesTab
   seamless_waves ranks is =
       subst (λ (n : Network). AreSeamlessWaves (moved n) ranks) mixes.net_is (seamless_waves_over mixes.same is)
 
-  pub waves_fault : (ranks : List ℕ) (w : ℕ) (fault : Fault) → IsWavesFault (migration_of table_at new_table m) ranks w fault →
-      IsWavesFault (move_of of) ranks w fault
+  pub waves_fault : (ranks : List ℕ) (w : ℕ) (fault : Fault) → IsTimesFault (migration_of table_at new_table m) (router_times all_old ranks) w fault →
+      IsTimesFault (move_of of) (router_times all_old ranks) w fault
   waves_fault ranks w fault is =
-      subst (λ (n : Network). IsWavesFault (moved n) ranks w fault) mixes.net_is (waves_fault_over mixes.same is)
+      subst (λ (n : Network). IsTimesFault (moved n) (router_times all_old ranks) w fault) mixes.net_is (times_fault_over mixes.same is)
 
   pub planned_of : (budget : ℕ) (planned : Planned) → IsPlanned (migration_of table_at new_table m) budget planned →
       IsPlanned (move_of of) budget planned

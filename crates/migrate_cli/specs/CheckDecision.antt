@@ -1,10 +1,11 @@
 -- What `check` decides of an order file and a network that is at its start.
-use Rattle.std.specs.Prelude.{ℕ, ◌+◌, List}
+use Rattle.std.specs.Prelude.{ℕ, List}
 use Rattle.net_model.specs.Network.{Network}
 use Rattle.igp_theory.specs.Loops.{IsFirstFault}
 use Rattle.igp_theory.specs.Migrations.{Migration, ospf_to_isis}
 use Rattle.igp_theory.specs.States.{IsSeamless}
-use Rattle.igp_theory.specs.WaveFaults.{IsWavesFault}
+use Rattle.igp_theory.specs.Timetables.{router_times}
+use Rattle.igp_theory.specs.WaveFaults.{IsTimesFault}
 use Rattle.igp_theory.specs.Waves.{AreSeamlessWaves}
 use Rattle.order_core.specs.Rankings.{flat_of, wave_count}
 use Rattle.plan_theory.specs.Plans.{fault_told}
@@ -30,8 +31,8 @@ pub data IsOrderDecision (move : Migration) (order : List ℕ) : Decision → Ty
 -- from every router, along every equal-cost choice; else its first wave with an unsound state is told, from 1
 pub data IsWavesDecision (move : Migration) (ranks : List ℕ) : Decision → Type 0 where
   safe_waves : AreSeamlessWaves move ranks → IsWavesDecision move ranks (SafeWaves (wave_count ranks))
-  unsafe_wave : (wave : ℕ) (fault : EndFault) → ¬ AreSeamlessWaves move ranks → IsWavesFault move ranks wave (fault_told fault) →
-      IsWavesDecision move ranks (UnsafeWave (wave + 1) fault)
+  unsafe_wave : (wave : ℕ) (fault : EndFault) → ¬ AreSeamlessWaves move ranks →
+      IsTimesFault move (router_times move.start ranks) wave (fault_told fault) → IsWavesDecision move ranks (UnsafeWave wave fault)
 
 -- the order file has a faulty line; or it is of version 1, and its routers are switched one after the other; or it is of
 -- version 2, and they are switched wave by wave

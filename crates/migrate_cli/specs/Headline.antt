@@ -11,7 +11,8 @@ use Rattle.igp_theory.specs.Migrations.{Migration}
 use Rattle.igp_theory.specs.Phases.{State, all_new}
 use Rattle.igp_theory.specs.States.{IsSeamless, IsSound, state_of}
 use Rattle.igp_theory.specs.WaveLaws.{Delivers}
-use Rattle.igp_theory.specs.Waves.{AreSeamlessWaves, IsWavesState}
+use Rattle.igp_theory.specs.Timetables.{IsStateOf, router_times}
+use Rattle.igp_theory.specs.Waves.{AreSeamlessWaves}
 use Rattle.order_core.specs.Orders.{IsOrder}
 use Rattle.order_core.specs.Rankings.{IsRanking, flat_of, wave_count}
 use Rattle.order_search.specs.Trees.{branch_count}
@@ -41,7 +42,8 @@ DeliversAll move state = (a : ℕ) (p : Block) → a < 2 ^ 32 → IsTarget move.
 -- a wave list delivers throughout: in each of its states, those after every prefix of every interleaving of the changes within
 -- each wave, one wave after the other and the two changes of a router in their order
 abbrev pub WavesDeliver : Migration → List ℕ → Type 0
-WavesDeliver move ranks = (state : State) → IsWavesState (length move.net) ranks state → DeliversAll move state
+WavesDeliver move ranks =
+    (state : State) → IsStateOf (length move.net) move.start (router_times move.start ranks) state → DeliversAll move state
 
 -- an order delivers throughout: after every prefix of its changes
 abbrev pub OrderDelivers : Migration → List ℕ → Type 0

@@ -4,13 +4,13 @@ use Rattle.std.proofs.lemmas.List.Sorted.{IsPermutation-sym}
 use Rattle.net_model.specs.Configuration.{Configuration}
 use Rattle.net_model.specs.Limits.{IsWithinLimits}
 use Rattle.net_model.specs.Network.{Network}
-use Rattle.net_model.specs.Refusals.{IsLeastDouble, IsNetworkOf, Refuses}
-use Rattle.net_model.specs.steps.Refused.{MayRefuse, RefusesName}
+use Rattle.net_model.specs.Refusals.{IsLeastDouble, IsNetworkOf, Refuses, RefusesName}
+use Rattle.net_model.specs.steps.Refused.{MayRefuse}
 use Rattle.net_model.specs.declared.refusal.NetRefusal.{NetRefusal}
 use Rattle.net_model.specs.declared.refusal.NetRefusal.TheVariants.{Limit, TwoNames, OutOfMemory}
 use Rattle.net_model.proofs.Names.{TwoHaveName-permutation}
 
-IsLeastDouble-permutation : (xs ys : List Configuration) (name : List ℕ) → IsPermutation xs ys → IsLeastDouble ys name → IsLeastDouble xs name
+pub IsLeastDouble-permutation : (xs ys : List Configuration) (name : List ℕ) → IsPermutation xs ys → IsLeastDouble ys name → IsLeastDouble xs name
 IsLeastDouble-permutation xs ys name moves h = record {
   double = TwoHaveName-permutation ys xs name (IsPermutation-sym xs ys moves) h.double;
   least = λ other t below. h.least other (TwoHaveName-permutation xs ys other moves t) below;

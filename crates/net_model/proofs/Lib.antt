@@ -1,11 +1,11 @@
 pub mod Members
-mod Dests
+pub mod Dests
 pub mod Names
 pub mod Adjacency
 mod BestSubnets
 pub mod NetworkFacts
 mod Bests
-mod PairFacts
+pub mod PairFacts
 pub mod RouterFacts
 mod AddressClashes
 mod AreaClashes
@@ -13,5 +13,5 @@ mod ClaimFacts
 mod BorderFacts
 mod SystemClashes
 mod StubClashes
-mod BuildFacts
+pub mod BuildFacts
 pub mod RefusalLaws

@@ -34,7 +34,7 @@ TwoHaveName-none configs net name n t =
     let two = TwoHaveName-permutation configs net name n.same t in
     two.apart (IsNamed-unique net name two.one two.two n.ascending two.first two.second)
 
-limit_exceeded : (configs : List Configuration) (what : LimitWhat) (number : ℕ) → Refuses (Limit what number) configs → IsWithinLimits configs → ⊥
+pub limit_exceeded : (configs : List Configuration) (what : LimitWhat) (number : ℕ) → Refuses (Limit what number) configs → IsWithinLimits configs → ⊥
 limit_exceeded configs Routers number h w = omega (arith, h.above, w.routers)
 limit_exceeded configs Interfaces number h w = omega (arith, h.1.above, w.interfaces)
 limit_exceeded configs Dests number h w =
@@ -121,10 +121,10 @@ same_limit configs Dests Interfaces m n h k = absurd (omega (arith, k.1.above, h
 same_limit configs Dests Dests m n h k =
     ap (Limit Dests) (omega (arith, h.2.above.number_is, k.2.above.number_is, CountsDests-unique configs h.2.dests k.2.dests h.2.counted k.2.counted))
 
-IsLeastDouble-unique : (configs : List Configuration) (a b : List ℕ) → IsLeastDouble configs a → IsLeastDouble configs b → a ≡ b
+pub IsLeastDouble-unique : (configs : List Configuration) (a b : List ℕ) → IsLeastDouble configs a → IsLeastDouble configs b → a ≡ b
 IsLeastDouble-unique configs a b h k = neither_below a b (k.least a h.double) (h.least b k.double)
 
-block_antisymmetric : (p q : Block) → IsBlockAtMost p q → IsBlockAtMost q p → p ≡ q
+pub block_antisymmetric : (p q : Block) → IsBlockAtMost p q → IsBlockAtMost q p → p ≡ q
 block_antisymmetric p q l m =
     let base : p.base ≡ q.base = ⊎_elim (λ a. ⊎_elim (λ b. absurd (omega arith)) (λ b. absurd (omega (arith, b.0))) m) (λ a. a.0) l in
     let len : p.len ≡ q.len =

@@ -71,6 +71,37 @@ pub record IsLeastDouble (configs : List Configuration) (name : List ℕ) : Type
   pub double : TwoHaveName configs name
   pub least : (other : List ℕ) → TwoHaveName configs other → IsBelow other name → ⊥
 
+-- the place of a refusal in the order in which its condition is looked at
+abbrev pub place_of : NetRefusal → ℕ
+place_of (Limit Routers _) = 0
+place_of (Limit Interfaces _) = 1
+place_of (Limit Dests _) = 2
+place_of (TwoNames _) = 3
+place_of (AddressTwice _ _ _) = 4
+place_of (PrefixInTwoAreas _ _ _) = 5
+place_of (BorderWithoutBackbone _) = 6
+place_of (OspfCostSum _) = 7
+place_of (IsisMetricSum _) = 8
+place_of (SystemIdTwice _ _) = 9
+place_of (StubMismatch _ _ _) = 10
+place_of OutOfMemory = 11
+
+-- the condition of a refusal of a network holds, and the refusal carries its least case, whatever others do
+abbrev pub Stands : NetRefusal → Network → Type 0
+Stands (AddressTwice one two address) net = IsLeastNamedPair (λ a b. a ≤ b) (HaveOneAddress net) net one two address
+Stands (PrefixInTwoAreas one two dest) net = IsLeastNamedPair IsBlockAtMost (RunTwoAreas net) net one two dest
+Stands (BorderWithoutBackbone router) net = IsLowestNamed (LacksBackbone net) net router
+Stands (OspfCostSum sum) net = IsAbove MOST_COST (ospf_cost_sum net) sum
+Stands (IsisMetricSum sum) net = IsAbove MOST_PATH_METRIC (isis_metric_sum net) sum
+Stands (SystemIdTwice one two) net = (system : ℕ) × IsLeastNamedPair (λ a b. a ≤ b) (HaveOneSystem net) net one two system
+Stands (StubMismatch one two area) net = IsLeastNamedPair (λ a b. a ≤ b) (DifferOnStub net) net one two area
+Stands _ net = ⊥
+
+-- a refusal of this place stands, or memory ran out
+abbrev pub MayStand : ℕ → NetRefusal → Network → Type 0
+MayStand place OutOfMemory net = Unit {0}
+MayStand place refusal net = (place_of refusal ≡ place) × Stands refusal net
+
 -- when each refusal of a network comes: its condition holds, and none of those above it
 abbrev pub RefusesNetwork : NetRefusal → Network → Type 0
 RefusesNetwork (AddressTwice one two address) net = IsLeastNamedPair (λ a b. a ≤ b) (HaveOneAddress net) net one two address
@@ -102,3 +133,9 @@ Refuses (Limit Dests number) configs =
 Refuses (TwoNames name) configs = IsWithinLimits configs × IsLeastDouble configs name
 Refuses OutOfMemory configs = Unit {0}
 Refuses refusal configs = HoldsOfNetwork configs (RefusesNetwork refusal)
+
+-- the refusal carries the least name that two configurations have, or is want of memory
+abbrev pub RefusesName : NetRefusal → List Configuration → Type 0
+RefusesName (TwoNames name) configs = IsLeastDouble configs name
+RefusesName OutOfMemory configs = Unit {0}
+RefusesName _ configs = ⊥

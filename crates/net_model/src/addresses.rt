@@ -2,7 +2,7 @@ ghost use Rattle.std.specs.Prelude.{◌^◌, ◌<◌, ◌≤◌, ◌↔◌, ℕ,
 ghost use Rattle.std.specs.Bool.{OnTrue};
 ghost use Rattle.net_model.specs.Conditions.{AddressesDiffer, HaveOneAddress};
 ghost use Rattle.net_model.specs.Least.{IsBest};
-ghost use Rattle.net_model.specs.steps.Refused.{MayRefuse};
+ghost use Rattle.net_model.specs.Refusals.{MayStand};
 ghost use Rattle.net_model.specs.steps.Scans.{ClashOnAddress, OffersAddress};
 
 use crate::claims::{Claim, Claims, claims_agree};
@@ -12,10 +12,10 @@ use crate::{Config, Interface, MOST_ROUTERS, NetRefusal};
 use std::alloc::{AllocError, Global};
 
 /// Refuses an address that two up interfaces have, if they belong to one router or one of them is no loopback.
-pub(crate) fn check_addresses(alloc: Global, configs: &[Config]) -> Result<(), NetRefusal>
+pub fn check_addresses(alloc: Global, configs: &[Config]) -> Result<(), NetRefusal>
     requires { length configs.now ≤ MOST_ROUTERS }
     ensures ok { OnOk result (AddressesDiffer configs.now) }
-    ensures err { IfErr result (λ e. MayRefuse e configs.now) }
+    ensures err { IfErr result (λ e. MayStand 4 e configs.now) }
 {
     if addresses_differ(alloc, configs)? {
         return Ok(());

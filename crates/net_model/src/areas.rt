@@ -1,7 +1,7 @@
 ghost use Rattle.std.specs.Prelude.{◌≡◌, ◌≤◌, ◌↔◌, ◌||◌, ◌&&◌, nat_eq, nat_lt, length, Any, IfErr, IsTrue, OnOk};
-ghost use Rattle.net_model.specs.Conditions.{AddressesDiffer, PassesAreas, RunTwoAreas};
+ghost use Rattle.net_model.specs.Conditions.{AreasAgree, RunTwoAreas};
 ghost use Rattle.net_model.specs.Least.{IsBest, IsBlockAtMost};
-ghost use Rattle.net_model.specs.steps.Refused.{MayRefuse};
+ghost use Rattle.net_model.specs.Refusals.{MayStand};
 ghost use Rattle.net_model.specs.Network.{RunsArea};
 ghost use Rattle.net_model.specs.steps.Scans.{AreInTwoAreas, ClashOnArea, OffersDest, first_block};
 
@@ -13,11 +13,10 @@ use net_addr::Prefix;
 use std::alloc::Global;
 
 /// Refuses a subnet that up interfaces run in different OSPF areas.
-pub(crate) fn check_areas(alloc: Global, configs: &[Config]) -> Result<(), NetRefusal>
-    requires few { length configs.now ≤ MOST_ROUTERS }
-    requires addresses { AddressesDiffer configs.now }
-    ensures ok { OnOk result (PassesAreas configs.now) }
-    ensures err { IfErr result (λ e. MayRefuse e configs.now) }
+pub fn check_areas(alloc: Global, configs: &[Config]) -> Result<(), NetRefusal>
+    requires { length configs.now ≤ MOST_ROUTERS }
+    ensures ok { OnOk result (AreasAgree configs.now) }
+    ensures err { IfErr result (λ e. MayStand 5 e configs.now) }
 {
     if claims_agree::<AreaClaims>(alloc, configs)? {
         return Ok(());

@@ -1,7 +1,7 @@
 ghost use Rattle.std.specs.Prelude.{◌≤◌, ◌↔◌, length, Any, IfErr, IsTrue, MatchOption, OnOk};
-ghost use Rattle.net_model.specs.Conditions.{BordersMeetBackbone, LacksBackbone, PassesAreas, PassesBorders};
+ghost use Rattle.net_model.specs.Conditions.{BordersMeetBackbone, LacksBackbone};
 ghost use Rattle.net_model.specs.Least.{IsLowest};
-ghost use Rattle.net_model.specs.steps.Refused.{MayRefuse};
+ghost use Rattle.net_model.specs.Refusals.{MayStand};
 ghost use Rattle.net_model.specs.steps.Scans.{AreInTwoAreas, LeaveBackbone};
 
 use crate::areas::{has_area, in_two_areas};
@@ -10,11 +10,10 @@ use crate::{Config, Interface, MOST_ROUTERS, NetRefusal};
 use std::alloc::Global;
 
 /// Refuses the lowest border router that has no up interface in area 0.
-pub(crate) fn check_borders(alloc: Global, configs: &[Config]) -> Result<(), NetRefusal>
-    requires few { length configs.now ≤ MOST_ROUTERS }
-    requires areas { PassesAreas configs.now }
-    ensures ok { OnOk result (PassesBorders configs.now) }
-    ensures err { IfErr result (λ e. MayRefuse e configs.now) }
+pub fn check_borders(alloc: Global, configs: &[Config]) -> Result<(), NetRefusal>
+    requires { length configs.now ≤ MOST_ROUTERS }
+    ensures ok { OnOk result (BordersMeetBackbone configs.now) }
+    ensures err { IfErr result (λ e. MayStand 6 e configs.now) }
 {
     match first_off_backbone(configs) {
         Some(lowest) => Err(NetRefusal::BorderWithoutBackbone {

@@ -50,7 +50,10 @@ mod systems;
 // Laws.
 mod laws;
 
+pub use addresses::check_addresses;
 pub use area::{Range, Ranges, Stub, Stubs};
+pub use areas::check_areas;
+pub use borders::check_borders;
 pub use bounds::{
     ISIS_DISTANCE, MOST_COST, MOST_DESTS, MOST_DISTANCE, MOST_INTERFACE_COST, MOST_METRIC,
     MOST_PATH_METRIC, MOST_PROCESS, MOST_ROUTERS, MOST_UP_INTERFACES, OSPF_DISTANCE,
@@ -58,7 +61,13 @@ pub use bounds::{
 pub use config::{Config, Configs, Distances, Levels};
 pub use interface::{Interface, Interfaces};
 pub use laws::build_laws;
+pub use limits::{count_dests, count_interfaces};
 pub use links::{cost_in, is_link, may_join};
+pub use naming::{check_names, sort_by_name};
 pub use net::Net;
 pub use refusal::{LimitWhat, NetRefusal};
+pub use starts::is_off_start;
+pub use stubs::check_stubs;
+pub use sums::{check_isis_metrics, check_ospf_costs};
+pub use systems::check_systems;
 pub use zone::Zone;

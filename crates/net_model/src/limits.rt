@@ -40,7 +40,7 @@ fn above(what: LimitWhat, number: u64) -> NetRefusal
 }
 
 /// How many interfaces of all configurations are up, or 2^64 - 1 where there are more.
-fn count_interfaces(configs: &[Config]) -> u64
+pub fn count_interfaces(configs: &[Config]) -> u64
     ensures count { result ≡ carried (all_up_interfaces configs.now) }
     ensures each { All IsConfiguration configs.now }
 {
@@ -59,7 +59,7 @@ fn count_up(interfaces: &[Interface]) -> usize
 }
 
 /// How many prefixes the configurations name.
-fn count_dests(alloc: Global, configs: &[Config]) -> Result<usize, AllocError>
+pub fn count_dests(alloc: Global, configs: &[Config]) -> Result<usize, AllocError>
     ensures { IfOk result (λ count. CountsDests configs.now count) }
 {
     let mut dests = list_dests(alloc, configs)?;

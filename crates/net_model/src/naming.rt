@@ -4,8 +4,7 @@ ghost use Rattle.std.specs.Cmp.Lexicographic.{slice_cmp};
 ghost use Rattle.std.specs.Ordering.{nat_cmp};
 ghost use Rattle.net_model.specs.steps.Doubles.{IsFirstDouble, IsTwoNames, NoDoubles};
 ghost use Rattle.net_model.specs.Lookups.{IsNamed};
-ghost use Rattle.net_model.specs.Refusals.{NamesAscend};
-ghost use Rattle.net_model.specs.steps.Refused.{RefusesName};
+ghost use Rattle.net_model.specs.Refusals.{NamesAscend, RefusesName};
 
 use crate::{Config, NetRefusal};
 use net_addr::Name;
@@ -13,7 +12,7 @@ use std::alloc::Global;
 use std::cmp::Ordering;
 
 /// Puts configurations into byte order of their names.
-pub(crate) fn sort_by_name(configs: &mut Vec<Config>)
+pub fn sort_by_name(configs: &mut Vec<Config>)
     ensures same { IsPermutation configs.old.items configs.new.items }
     ensures sorted { IsSortedByKey (λ c. c.name) (slice_cmp nat_cmp) configs.new.items }
 {
@@ -25,7 +24,7 @@ pub(crate) fn sort_by_name(configs: &mut Vec<Config>)
 }
 
 /// Refuses the least name that two configurations have. They stand in byte order of their names.
-pub(crate) fn check_names(alloc: Global, configs: &[Config]) -> Result<(), NetRefusal>
+pub fn check_names(alloc: Global, configs: &[Config]) -> Result<(), NetRefusal>
     requires { IsSortedByKey (λ c. c.name) (slice_cmp nat_cmp) configs.now }
     ensures ok { OnOk result (NamesAscend configs.now) }
     ensures err { IfErr result (λ e. RefusesName e configs.now) }

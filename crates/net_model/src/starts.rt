@@ -17,7 +17,7 @@ pub(crate) fn first_off_start(configs: &[Config]) -> Option<u32>
 }
 
 /// Whether a router has OSPF at the greatest distance, or IS-IS at another.
-fn is_off_start(config: &Config) -> bool
+pub fn is_off_start(config: &Config) -> bool
     ensures { IsTrue result ↔ IsOffStart config.now }
 {
     config.process.is_some() && config.distances.ospf == MOST_DISTANCE

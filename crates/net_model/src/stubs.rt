@@ -1,8 +1,8 @@
 ghost use Rattle.std.specs.Prelude.{◌≡◌, ◌≤◌, ◌↔◌, nat_eq, length, Any, IfErr, IsTrue, OnOk};
 ghost use Rattle.std.specs.List.{list_any};
-ghost use Rattle.net_model.specs.Conditions.{DifferOnStub, IsConsistent, PassesSystems};
+ghost use Rattle.net_model.specs.Conditions.{DifferOnStub, StubsAgree};
 ghost use Rattle.net_model.specs.Least.{IsBest};
-ghost use Rattle.net_model.specs.steps.Refused.{MayRefuse};
+ghost use Rattle.net_model.specs.Refusals.{MayStand};
 ghost use Rattle.net_model.specs.steps.Scans.{ClashOnStub, HaveStub, OffersArea, OneHasStub};
 
 use crate::areas::has_area;
@@ -13,11 +13,10 @@ use crate::{Config, Interface, MOST_ROUTERS, NetRefusal, Stub};
 use std::alloc::Global;
 
 /// Refuses an area of two routers for which one of them alone has a stub line.
-pub(crate) fn check_stubs(alloc: Global, configs: &[Config]) -> Result<(), NetRefusal>
-    requires few { length configs.now ≤ MOST_ROUTERS }
-    requires systems { PassesSystems configs.now }
-    ensures ok { OnOk result (IsConsistent configs.now) }
-    ensures err { IfErr result (λ e. MayRefuse e configs.now) }
+pub fn check_stubs(alloc: Global, configs: &[Config]) -> Result<(), NetRefusal>
+    requires { length configs.now ≤ MOST_ROUTERS }
+    ensures ok { OnOk result (StubsAgree configs.now) }
+    ensures err { IfErr result (λ e. MayStand 10 e configs.now) }
 {
     if claims_agree::<StubClaims>(alloc, configs)? {
         return Ok(());

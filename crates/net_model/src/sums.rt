@@ -1,16 +1,14 @@
 ghost use Rattle.std.specs.Prelude.{◌≡◌, ◌<◌, ◌^◌, if◌then◌else◌, IfErr, OnOk, sum_by};
-ghost use Rattle.net_model.specs.Conditions.{PassesBorders, PassesIsisMetrics, PassesOspfCosts, isis_metric, isis_metric_sum, summed_cost, ospf_cost_sum};
+ghost use Rattle.net_model.specs.Conditions.{IsisMetricsFit, OspfCostsFit, isis_metric, isis_metric_sum, summed_cost, ospf_cost_sum};
 ghost use Rattle.net_model.specs.Conditions.{ospf_costs, stated_cost};
-ghost use Rattle.net_model.specs.Refusals.{carried};
-ghost use Rattle.net_model.specs.steps.Refused.{MayRefuse};
+ghost use Rattle.net_model.specs.Refusals.{MayStand, carried};
 
 use crate::{Config, Interface, MOST_COST, MOST_PATH_METRIC, NetRefusal, Range, Stub};
 
 /// Refuses costs of OSPF whose sum is above the greatest cost of a path.
-pub(crate) fn check_ospf_costs(configs: &[Config]) -> Result<(), NetRefusal>
-    requires { PassesBorders configs.now }
-    ensures ok { OnOk result (PassesOspfCosts configs.now) }
-    ensures err { IfErr result (λ e. MayRefuse e configs.now) }
+pub fn check_ospf_costs(configs: &[Config]) -> Result<(), NetRefusal>
+    ensures ok { OnOk result (OspfCostsFit configs.now) }
+    ensures err { IfErr result (λ e. MayStand 7 e configs.now) }
 {
     let sum = sum_ospf_costs(configs);
     if sum > u64::from(MOST_COST) {
@@ -20,10 +18,9 @@ pub(crate) fn check_ospf_costs(configs: &[Config]) -> Result<(), NetRefusal>
 }
 
 /// Refuses metrics of IS-IS whose sum is above the greatest metric of a path.
-pub(crate) fn check_isis_metrics(configs: &[Config]) -> Result<(), NetRefusal>
-    requires { PassesOspfCosts configs.now }
-    ensures ok { OnOk result (PassesIsisMetrics configs.now) }
-    ensures err { IfErr result (λ e. MayRefuse e configs.now) }
+pub fn check_isis_metrics(configs: &[Config]) -> Result<(), NetRefusal>
+    ensures ok { OnOk result (IsisMetricsFit configs.now) }
+    ensures err { IfErr result (λ e. MayStand 8 e configs.now) }
 {
     let sum = sum_isis_metrics(configs);
     if sum > u64::from(MOST_PATH_METRIC) {

@@ -1,17 +1,16 @@
 ghost use Rattle.std.specs.Prelude.{◌≤◌, length, IfErr, OnOk};
-ghost use Rattle.net_model.specs.Conditions.{HaveOneSystem, PassesIsisMetrics, PassesSystems};
-ghost use Rattle.net_model.specs.steps.Refused.{MayRefuse};
+ghost use Rattle.net_model.specs.Conditions.{HaveOneSystem, SystemsDiffer};
+ghost use Rattle.net_model.specs.Refusals.{MayStand};
 
 use crate::pairs::{Clash, first_clash};
 use crate::{Config, MOST_ROUTERS, NetRefusal};
 use std::alloc::Global;
 
 /// Refuses a system id that two routers with IS-IS have.
-pub(crate) fn check_systems(alloc: Global, configs: &[Config]) -> Result<(), NetRefusal>
-    requires few { length configs.now ≤ MOST_ROUTERS }
-    requires metrics { PassesIsisMetrics configs.now }
-    ensures ok { OnOk result (PassesSystems configs.now) }
-    ensures err { IfErr result (λ e. MayRefuse e configs.now) }
+pub fn check_systems(alloc: Global, configs: &[Config]) -> Result<(), NetRefusal>
+    requires { length configs.now ≤ MOST_ROUTERS }
+    ensures ok { OnOk result (SystemsDiffer configs.now) }
+    ensures err { IfErr result (λ e. MayStand 9 e configs.now) }
 {
     match first_clash::<OneSystem>(alloc, configs)? {
         Some(pair) => Err(NetRefusal::SystemIdTwice {

@@ -125,7 +125,7 @@ routers_before ranks (suc w) u =
     subst (λ (n : ℕ). AreBefore ranks n u) e (one_wave_more ranks w u (routers_before ranks w u))
 
 -- what holds within two lists, and of each element of the first one with each of the second one
-AllPairs-append : {X : Type 0} (R : X → X → Type 0) (xs ys : List X) → AllPairs R xs → AllPairs R ys →
+pub AllPairs-append : {X : Type 0} (R : X → X → Type 0) (xs ys : List X) → AllPairs R xs → AllPairs R ys →
     ((x y : X) → Contains xs x → Contains ys y → R x y) →
     AllPairs R (xs ++ ys)
 AllPairs-append R [] ys first second cross = second

@@ -4,7 +4,9 @@ use Rattle.std.proofs.Common.{append-nil, arith}
 use Rattle.std.specs.List.{enumerate_from, flat_map}
 use Rattle.std.proofs.lemmas.List.{take_more, length-take-le}
 use Rattle.std.proofs.lemmas.List.Concat.{flat_map-append}
-use Rattle.igp_theory.specs.Waves.{Change, first, second, run_along}
+use Rattle.igp_theory.specs.Changes.{Change, first, second}
+use Rattle.igp_theory.specs.Waves.{run_along}
+use Rattle.igp_theory.proofs.FlatOrders.{run_length}
 use Rattle.printed_lines.specs.Texts.{text_of}
 use Rattle.printed_lines.proofs.TextSteps.{text_of-append}
 use Rattle.ospf_pair.specs.PairScripts.{PairScripted, pair_part, pair_parts}
@@ -15,10 +17,6 @@ enumerate_append n [] ys = ap (λ k. enumerate_from k ys) (let e : n ≡ n + 0 =
 enumerate_append n (x ∷ xs) ys =
     ap (λ l. (n, x) ∷ l) (enumerate_append (n + 1) xs ys
     ∙ ap (λ k. enumerate_from (n + 1) xs ++ enumerate_from k ys) (let e : n + 1 + length xs ≡ n + suc (length xs) = omega arith in e))
-
-run_length : (order : List ℕ) → length (run_along order) ≡ 2 * length order
-run_length [] = refl
-run_length (u ∷ order) = let more = run_length order in omega (arith, more)
 
 -- the text of the parts for the routers before a place, and for the one there
 pub text_more : (m : PairScripted) (order : List ℕ) (place u d : ℕ) → place < length order → u ≡ get_or order place d →

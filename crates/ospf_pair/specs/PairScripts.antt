@@ -4,7 +4,8 @@ use Rattle.std.specs.List.{enumerate_from, flat_map, list_any}
 use Rattle.net_model.specs.Configuration.{Configuration}
 use Rattle.net_model.specs.declared.bounds.TheConstants.{ISIS_DISTANCE, MOST_DISTANCE}
 use Rattle.order_core.specs.Rankings.{flat_of}
-use Rattle.igp_theory.specs.Waves.{Change, first, second, changed, run_along}
+use Rattle.igp_theory.specs.Changes.{Change, first, second, changed}
+use Rattle.igp_theory.specs.Waves.{run_along}
 use Rattle.printed_lines.specs.Texts.{text_of}
 use Rattle.step_scripts.specs.Scripts.{by_configuration, change_comment, end_comment, name_on, ospf_distance_lines, wave_comments}
 use Rattle.step_scripts.specs.declared.version.Version.{Version}

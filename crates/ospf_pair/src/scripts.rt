@@ -1,6 +1,6 @@
 ghost use Rattle.std.specs.Prelude.{◌≡◌, ◌+◌, ◌<◌, ◌++◌, ◌∷◌, [], length, IfOk};
 ghost use Rattle.std.specs.List.{list_any};
-ghost use Rattle.igp_theory.specs.Waves.{first, second};
+ghost use Rattle.igp_theory.specs.Changes.{first, second};
 ghost use Rattle.printed_lines.specs.Texts.{text_of};
 ghost use Rattle.step_scripts.specs.Scripts.{change_comment, distance_line, name_on, opens_wave, ospf_distance_lines};
 ghost use Rattle.step_scripts.specs.Scripts.{ospf_head};

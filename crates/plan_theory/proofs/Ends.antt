@@ -1,55 +1,37 @@
 -- Both ends are states of every wave list, so where one of them isn't sound no wave list is seamless.
-use Rattle.std.proofs.Common.{◌≡◌, ℕ, ◌+◌, ◌-◌, ◌<◌, inl, inr, List, length, arith, refl}
-use Rattle.std.proofs.lemmas.Bool.{cases_lt}
+use Rattle.std.proofs.Common.{ℕ, ◌+◌, ◌<◌, ◌≤◌, List, length, arith, refl}
+use Rattle.order_core.specs.Rankings.{rank_of, wave_count}
+use Rattle.order_core.proofs.WaveLists.{rank_below_count}
 use Rattle.std.proofs.lemmas.List.Elements.{Contains-get_or}
-use Rattle.order_core.specs.Rankings.{IsRanking, rank_of, wave_count, flat_of}
-use Rattle.order_core.proofs.WaveLists.{rank_below_count, rank_stands}
-use Rattle.igp_theory.specs.LoopLaws.{BeginsOld}
 use Rattle.igp_theory.specs.Migrations.{Migration}
 use Rattle.igp_theory.specs.Phases.{all_new}
 use Rattle.igp_theory.specs.States.{IsSound}
-use Rattle.igp_theory.specs.Waves.{IsWavesState, AreSeamlessWaves, IsStateOfWave, run_along}
-use Rattle.igp_theory.proofs.FlatOrders.{flat_is_run, wave_state_is_reached}
-use Rattle.igp_theory.proofs.LoopWaves.{empty_is_sound}
+use Rattle.igp_theory.specs.Timetables.{router_times, state_before}
+use Rattle.igp_theory.specs.Waves.{AreSeamlessWaves}
+use Rattle.igp_theory.proofs.AlikeStates.{sound_alike}
+use Rattle.igp_theory.proofs.Switches.{router_after}
+use Rattle.igp_theory.proofs.TimetableStates.{wave_is_reached}
+use Rattle.igp_theory.proofs.Timetables.{first_of_wave}
 
--- before any change every router is Old
-pub begins_sound : (move : Migration) (ranks : List ℕ) → BeginsOld move → AreSeamlessWaves move ranks → IsSound move move.start
-begins_sound move ranks begins seamless = seamless.sound move.start before
-  where
-    before : IsWavesState (length move.net) ranks move.start
-    before = record {
-      run = run_along (flat_of ranks);
-      is_run = flat_is_run (length move.net) ranks seamless.waves;
-      k = 0;
-      after = λ u below. begins u;
-    }
+-- the state in which a wave begins is a state of the timetable
+begin_sound : (move : Migration) (ranks : List ℕ) (w : ℕ) → 1 ≤ w → AreSeamlessWaves move ranks →
+    IsSound move (state_before (router_times move.start ranks) w)
+begin_sound move ranks w one seamless =
+    seamless.throughout.sound (state_before (router_times move.start ranks) w)
+    (wave_is_reached seamless.throughout.table (state_before (router_times move.start ranks) w)
+    (record { wave = w; from_one = one; of_wave = first_of_wave seamless.throughout.table w }))
 
--- every router's rank is below the count of waves
-rank_below : (n : ℕ) (ranks : List ℕ) (u : ℕ) → IsRanking n ranks → u < n → rank_of ranks u < wave_count ranks
-rank_below n ranks u waves below =
-    let within : u < length ranks = omega (arith, below, waves.each) in
-    rank_below_count ranks (rank_of ranks u) (Contains-get_or ranks u 0 within)
+-- the first wave begins at the start
+pub begins_sound : (move : Migration) (ranks : List ℕ) → AreSeamlessWaves move ranks → IsSound move move.start
+begins_sound move ranks seamless = sound_alike seamless.throughout.table.begins (begin_sound move ranks 1 (omega arith) seamless)
 
--- in the last wave every router may be New
-ends_in_last : (n : ℕ) (ranks : List ℕ) → 0 < n → IsRanking n ranks → IsWavesState n ranks all_new
-ends_in_last n ranks some waves =
-    let any : rank_of ranks 0 < wave_count ranks = rank_below n ranks 0 waves some in
-    let last : ℕ = wave_count ranks - 1 in
-    let within : last < wave_count ranks = omega (arith, any) in
-    wave_state_is_reached n ranks all_new waves (record {
-      wave = last;
-      is_wave = rank_stands n ranks last waves within;
-      of_wave = of_last last within (omega (arith, any));
-    })
-  where
-    of_last : (last : ℕ) → last < wave_count ranks → last + 1 ≡ wave_count ranks → IsStateOfWave n ranks last all_new
-    of_last last within is_last = record {
-      earlier = λ u below before. refl;
-      later = λ u below after. absurd (omega (arith, rank_below n ranks u waves below, after, is_last));
-    }
-
+-- behind the last one every router is New
 pub ends_sound : (move : Migration) (ranks : List ℕ) → AreSeamlessWaves move ranks → IsSound move all_new
-ends_sound move ranks seamless = elim (cases_lt 0 (length move.net)) [
-  | inl some ↦ seamless.sound all_new (ends_in_last (length move.net) ranks some seamless.waves)
-  | inr none ↦ empty_is_sound move all_new none
-]
+ends_sound move ranks seamless =
+    sound_alike (λ u below. router_after move.start ranks u (wave_count ranks + 1) (move.start u) refl
+    (let last = rank_below u below in omega (arith, last)))
+    (begin_sound move ranks (wave_count ranks + 1) (omega arith) seamless)
+  where
+    rank_below : (u : ℕ) → u < length move.net → rank_of ranks u < wave_count ranks
+    rank_below u below =
+        let each = seamless.waves.each in rank_below_count ranks (rank_of ranks u) (Contains-get_or ranks u 0 (omega (arith, below, each)))

@@ -20,15 +20,15 @@ use Rattle.plan_theory.proofs.Ends.{begins_sound, ends_sound}
 found_means : (move : Migration) (budget : ℕ) (found : Found) → BeginsOld move → IsFound (waves_meaning move) budget found →
     FoundMeans move found
 found_means move budget (Waves ranks pairs chain trail) begins is =
-    record { waves = is.is_good; order = flat_is_seamless move ranks is.is_good }
+    record { waves = is.is_good; order = flat_is_seamless move ranks begins is.is_good }
 found_means move budget (Refuted tree) begins is =
-    none_without_waves move (refutation_refutes (waves_meaning move) (waves_are_decisive move begins) budget tree is)
+    none_without_waves move begins (refutation_refutes (waves_meaning move) (waves_are_decisive move) budget tree is)
 found_means move budget (Spent tree) begins is = tt
 
 pub plan_means : (move : Migration) (budget : ℕ) (planned : Planned) → BeginsOld move → IsPlanned move budget planned →
     PlanMeans move planned
 plan_means move budget (UnsoundOld fault) begins is =
-    none_without_waves move (λ ranks seamless. faulty_not_sound is (begins_sound move ranks begins seamless))
+    none_without_waves move begins (λ ranks seamless. faulty_not_sound is (begins_sound move ranks seamless))
 plan_means move budget (UnsoundNew fault) begins is =
-    none_without_waves move (λ ranks seamless. faulty_not_sound is.last (ends_sound move ranks seamless))
+    none_without_waves move begins (λ ranks seamless. faulty_not_sound is.last (ends_sound move ranks seamless))
 plan_means move budget (Searched found) begins is = found_means move budget found begins is.is_found

@@ -5,7 +5,7 @@ use Rattle.igp_theory.specs.LoopLaws.{AreSoundEnds}
 use Rattle.igp_theory.specs.Migrations.{Migration, retabled}
 use Rattle.igp_theory.specs.Routes.{Tables}
 use Rattle.igp_theory.proofs.SameTables.{fault_over, loop_over, same_tables_sym, sound_over}
-use Rattle.igp_theory.proofs.WaveFaultLaws.{seamless_waves_over, waves_fault_over}
+use Rattle.igp_theory.proofs.WaveFaultLaws.{seamless_waves_over, times_fault_over}
 use Rattle.order_core.specs.declared.turn.Turn.{Turn}
 use Rattle.order_search.specs.Answers.{FoundWaves, AreFoundWaves, IsFound, IsRefutation, IsSpent}
 use Rattle.order_search.specs.Meanings.{Meaning}
@@ -30,7 +30,7 @@ module _ (move : Migration) (old' new' : Tables) (same : HaveSameTables move old
 
   -- the same loop is told of a wave list
   picked_over : (ranks : List ℕ) (a : ℕ) (turns : List Turn) → IsPickedFault move ranks a turns → IsPickedFault (retabled move old' new') ranks a turns
-  picked_over ranks a turns picked = record { wave = picked.wave; is_fault = waves_fault_over same picked.is_fault }
+  picked_over ranks a turns picked = record { wave = picked.wave; is_fault = times_fault_over same picked.is_fault }
 
   tree_node_over : (place : Place) (node : Node) → IsTreeNode m.real place node → IsTreeNode m'.real place node
   tree_node_over place (Branch a turns) is = (loop_over same is.0, is.1)

@@ -14,10 +14,10 @@ use Rattle.plan_theory.specs.Plans.{IsPlanned}
 use Rattle.plan_theory.specs.declared.planned.Planned.{Planned}
 use Rattle.plan_theory.specs.declared.planned.Planned.TheVariants.{UnsoundOld, UnsoundNew, Searched}
 
--- what a seamless wave list owes to the loops, where every router begins in Old: it ranks some Old turn's router of every loop
--- with both tags before some New turn's router. The other way is a law between sound ends alone (`WavesAreSeamlessByLoops`)
+-- what a seamless wave list owes to the loops: it ranks some Old turn's router of every loop with both tags before some New
+-- turn's router. The other way is a law between sound ends alone (`WavesAreSeamlessByLoops`)
 abbrev pub WavesAreDecided : Migration → Type 0
-WavesAreDecided move = BeginsOld move → IsDecisive (AreSeamlessWaves move) (IsLoop move) []
+WavesAreDecided move = IsDecisive (AreSeamlessWaves move) (IsLoop move) []
 
 -- one loop at most is told of a wave list, and none of a seamless one
 abbrev pub WavesPickOne : Migration → Type 0

@@ -2,7 +2,7 @@ ghost use Rattle.plan_theory.specs.Laws.{WavesAreDecided, WavesPickOne, PlansAre
 
 use igp_theory::AnyMigration;
 
-/// The law that loops decide which wave lists are seamless, where every router begins in `Old`: every seamless wave list puts some router tagged `Old` of
+/// The law that loops decide which wave lists are seamless: every seamless wave list puts some router tagged `Old` of
 /// each loop with both tags before some router tagged `New`. And one loop at most is told of a wave list, and none of a
 /// seamless one.
 pub fn waves_are_decided<T: AnyMigration>()

@@ -27,8 +27,8 @@ use Rattle.ios_lines.specs.Words.{Word, word_at, says, lacks, is_printable}
 use Rattle.ios_lines.specs.Heads.{head_of}
 use Rattle.ios_sections.specs.TextLines.{TextLine, text_line, lines_in, carets, opens_banner, outside_banners, counts, counted_lines, is_end}
 use Rattle.ios_sections.specs.TextLines.{first_indent, opens_section, section_lines, sections_of, TextSection}
-use Rattle.ios_sections.specs.Sections.{section_of, section_with}
-use Rattle.ios_sections.specs.JoinedLines.{further_on, begins_banner, sections_among, sections_further_on}
+use Rattle.ios_sections.specs.Sections.{section_of, section_with, sections_among}
+use Rattle.ios_sections.specs.JoinedLines.{further_on, begins_banner, sections_further_on}
 use Rattle.ios_sections.proofs.JoinedFacts.{lines_in-append}
 use Rattle.ios_reader.specs.InsertedLines.{IsLineBlock}
 use Rattle.printed_sections.specs.PrintedSections.{is_fine, is_fine_line, line_with, section_lines_from, section_text}

@@ -15,8 +15,8 @@ use Rattle.refutation_check.specs.declared.verdict.Verdict.TheVariants.{Closed, 
 pub closed_refutes : (move : Migration) (text : List ℕ) (branches leaves : ℕ) →
     BeginsOld move → IsClosedText move text branches leaves → HasNoneSeamless move
 closed_refutes move text branches leaves begins is =
-    none_without_waves move
-    (closed_tree_refutes (AreSeamlessWaves move) (IsLoop move) [] (waves_are_decisive move begins) is.nodes
+    none_without_waves move begins
+    (closed_tree_refutes (AreSeamlessWaves move) (IsLoop move) [] (waves_are_decisive move) is.nodes
     (record { tree = is.tree.right.fills; visited = is.visited }))
 
 -- what each verdict means

@@ -8,9 +8,11 @@ use Rattle.std.proofs.lemmas.List.Elements.{Contains-get_or}
 use Rattle.net_model.proofs.Members.{Contains-none, Contains-first, Contains-rest, Contains-cases, Contains-map}
 use Rattle.order_core.proofs.DistinctLists.{length-le_from_distinct}
 use Rattle.igp_theory.specs.States.{changes_on}
-use Rattle.igp_theory.specs.Waves.{Change, first, second, changed, MayPrecede}
+use Rattle.igp_theory.specs.Changes.{Change, first, second, changed}
+use Rattle.igp_theory.specs.Phases.{all_old}
+use Rattle.igp_theory.specs.Timetables.{Timetable, MayPrecede, router_times}
 use Rattle.igp_theory.proofs.OrderedLists.{pairs_none, pairs_more, pairs_first, pairs_rest}
-use Rattle.igp_theory.proofs.WaveStates.{count_other, count_own}
+use Rattle.igp_theory.proofs.ChangeCounts.{count_other, count_own}
 use Rattle.state_replay.specs.Journals.{BeginRun}
 use Rattle.state_replay.proofs.Fronts.{AreInFront, front_of_run}
 
@@ -50,8 +52,8 @@ count_zero changes c k is absent = elim (cases_eq k 1) [
   | inr apart ↦ let most = is.most in omega (arith, most, apart)
 ]
 
-pub counted : (ranks : List ℕ) (changes : List Change) (u : ℕ) → AllPairs (MayPrecede ranks) changes → IsCounted changes u
-counted ranks [] u pairs = record {
+pub counted : (time : Timetable) (changes : List Change) (u : ℕ) → AllPairs (MayPrecede time) changes → IsCounted changes u
+counted time [] u pairs = record {
   firsts = 0;
   seconds = 0;
   sum = refl;
@@ -61,10 +63,10 @@ counted ranks [] u pairs = record {
   where
     none_of : (c : Change) → IsCountOf [] c 0
     none_of c = record { made = λ e. absurd (omega (arith, e)); one = λ inside. absurd (Contains-none c inside); most = omega arith }
-counted ranks (c ∷ changes) u pairs = by_change c (counted ranks changes u (pairs_rest (MayPrecede ranks) c changes pairs)) absent
+counted time (c ∷ changes) u pairs = by_change c (counted time changes u (pairs_rest (MayPrecede time) c changes pairs)) absent
   where
     absent : Contains changes c → ⊥
-    absent inside = (pairs_first (MayPrecede ranks) c changes pairs c inside).other refl
+    absent inside = (pairs_first (MayPrecede time) c changes pairs c inside).other refl
 
     by_change : (d : Change) → IsCounted changes u → (Contains changes d → ⊥) → IsCounted (d ∷ changes) u
     by_change (first v) rest not = elim (cases_eq v u) [
@@ -113,7 +115,7 @@ counted ranks (c ∷ changes) u pairs = by_change c (counted ranks changes u (pa
 -- what the count of a router's changes says of them
 module _ (n : ℕ) (ranks : List ℕ) (changes : List Change) (u : ℕ) (front : AreInFront n ranks changes) where
   counts : IsCounted changes u
-  counts = counted ranks changes u front.in_turn
+  counts = counted (router_times all_old ranks) changes u front.in_turn
 
   pub none_made : changes_on u (map changed changes) ≡ 0 → Contains changes (first u) → ⊥
   none_made none here = omega (arith, counts.sum, counts.first_is.one here, none)
@@ -163,15 +165,15 @@ place_below : (n : ℕ) (c : Change) → changed c < n → place_of c < 2 * n
 place_below n (first u) below = omega (arith, below)
 place_below n (second u) below = omega (arith, below)
 
-distinct_places : (ranks : List ℕ) (changes : List Change) → AllPairs (MayPrecede ranks) changes → AllPairs (λ u v. u ≢ v) (map place_of changes)
-distinct_places ranks [] pairs = pairs_none (λ u v. u ≢ v)
-distinct_places ranks (c ∷ changes) pairs =
+distinct_places : (time : Timetable) (changes : List Change) → AllPairs (MayPrecede time) changes → AllPairs (λ u v. u ≢ v) (map place_of changes)
+distinct_places time [] pairs = pairs_none (λ u v. u ≢ v)
+distinct_places time (c ∷ changes) pairs =
     pairs_more (λ u v. u ≢ v) (place_of c) (map place_of changes)
     (λ k inside.
     let from = Contains-map place_of changes k inside in
     subst (λ (m : ℕ). place_of c ≢ m) from.gives
-    (places_apart c from.item (pairs_first (MayPrecede ranks) c changes pairs from.item from.among).other))
-    (distinct_places ranks changes (pairs_rest (MayPrecede ranks) c changes pairs))
+    (places_apart c from.item (pairs_first (MayPrecede time) c changes pairs from.item from.among).other))
+    (distinct_places time changes (pairs_rest (MayPrecede time) c changes pairs))
 
 places_below : (n : ℕ) (changes : List Change) → ((c : Change) → Contains changes c → changed c < n) → All (λ k. k < 2 * n) (map place_of changes)
 places_below n changes below k d within =
@@ -182,6 +184,6 @@ places_below n changes below k d within =
 pub few_changes : (n : ℕ) (ranks : List ℕ) (changes : List Change) → BeginRun n ranks changes → length changes ≤ 2 * n
 few_changes n ranks changes begin =
     let front : AreInFront n ranks changes = front_of_run n ranks changes begin in
-    let few = length-le_from_distinct (map place_of changes) (2 * n) (distinct_places ranks changes front.in_turn) (places_below n changes front.below) in
+    let few = length-le_from_distinct (map place_of changes) (2 * n) (distinct_places (router_times all_old ranks) changes front.in_turn) (places_below n changes front.below) in
     let long = length-map changes place_of in
     omega (arith, few, long)

@@ -7,7 +7,7 @@ use Rattle.net_model.specs.Network.{Network}
 use Rattle.net_model.specs.Refusals.{NamesAscend}
 use Rattle.net_model.proofs.NetworkFacts.{IsNamed-unique}
 use Rattle.net_model.proofs.Names.{named_within}
-use Rattle.igp_theory.specs.Waves.{Change, changed}
+use Rattle.igp_theory.specs.Changes.{Change, changed}
 use Rattle.state_replay.specs.Halves.{change_of, ending_of}
 use Rattle.state_replay.specs.Journals.{TellsChange}
 use Rattle.state_replay.specs.declared.half.Half.{Half}

@@ -8,10 +8,13 @@ use Rattle.std.proofs.lemmas.List.Elements.{Contains-append_left, Contains-appen
 use Rattle.net_model.proofs.Members.{Contains-first}
 use Rattle.order_core.specs.Rankings.{IsRanking, rank_of, flat_of}
 use Rattle.igp_theory.specs.States.{changes_on}
-use Rattle.igp_theory.specs.Waves.{Change, first, second, changed, MayPrecede, run_along}
+use Rattle.igp_theory.specs.Changes.{Change, first, second, changed}
+use Rattle.igp_theory.specs.Phases.{all_old}
+use Rattle.igp_theory.specs.Timetables.{Timetable, MayPrecede, router_times}
+use Rattle.igp_theory.specs.Waves.{run_along}
 use Rattle.igp_theory.proofs.FlatOrders.{flat_is_run}
 use Rattle.igp_theory.proofs.OrderedLists.{contains_one, pairs_none, pairs_more, pairs_append, pairs_across}
-use Rattle.igp_theory.proofs.WaveStates.{count_other, count_own, count_append}
+use Rattle.igp_theory.proofs.ChangeCounts.{count_other, count_own, count_append}
 use Rattle.state_replay.specs.Halves.{half_number, change_of}
 use Rattle.state_replay.specs.Journals.{BeginRun, MayComeNext, AreChangeCounts, IsNextOn}
 use Rattle.state_replay.specs.steps.Fitting.{FitsCounts}
@@ -22,12 +25,12 @@ use Rattle.state_replay.proofs.Lines.{changed_is}
 use Rattle.state_replay.proofs.Counting.{none_made, first_made, second_open, both_made, is_none, is_one, is_both}
 
 -- one change more
-one_more : (ranks : List ℕ) (changes : List Change) (d : Change) → AllPairs (MayPrecede ranks) changes →
-    ((c : Change) → Contains changes c → MayPrecede ranks c d) → AllPairs (MayPrecede ranks) (changes ++ d ∷ [])
-one_more ranks changes d pairs each =
-    pairs_append (MayPrecede ranks) changes (d ∷ []) pairs (pairs_more (MayPrecede ranks) d [] (λ c inside. absurd (omega (arith, inside.1)))
-    (pairs_none (MayPrecede ranks)))
-    (λ c e here there. subst (λ (x : Change). MayPrecede ranks c x) (contains_one d e there) (each c here))
+one_more : (time : Timetable) (changes : List Change) (d : Change) → AllPairs (MayPrecede time) changes →
+    ((c : Change) → Contains changes c → MayPrecede time c d) → AllPairs (MayPrecede time) (changes ++ d ∷ [])
+one_more time changes d pairs each =
+    pairs_append (MayPrecede time) changes (d ∷ []) pairs (pairs_more (MayPrecede time) d [] (λ c inside. absurd (omega (arith, inside.1)))
+    (pairs_none (MayPrecede time)))
+    (λ c e here there. subst (λ (x : Change). MayPrecede time c x) (contains_one d e there) (each c here))
 
 among_more : (changes : List Change) (d c : Change) → Contains (changes ++ d ∷ []) c → d ≢ c → Contains changes c
 among_more changes d c inside apart = elim (Contains-append_cases changes (d ∷ []) c inside) [
@@ -35,8 +38,8 @@ among_more changes d c inside apart = elim (Contains-append_cases changes (d ∷
   | inr there ↦ absurd (apart (contains_one d c there))
 ]
 
-not_yet : (ranks : List ℕ) (changes : List Change) (d : Change) → AllPairs (MayPrecede ranks) (changes ++ d ∷ []) → Contains changes d → ⊥
-not_yet ranks changes d pairs here = (pairs_across (MayPrecede ranks) changes (d ∷ []) pairs d d here (Contains-first d [])).other refl
+not_yet : (time : Timetable) (changes : List Change) (d : Change) → AllPairs (MayPrecede time) (changes ++ d ∷ []) → Contains changes d → ⊥
+not_yet time changes d pairs here = (pairs_across (MayPrecede time) changes (d ∷ []) pairs d d here (Contains-first d [])).other refl
 
 module _ (n : ℕ) (ranks : List ℕ) (changes : List Change) (front : AreInFront n ranks changes) where
   -- a change that isn't made, where those before it are
@@ -44,7 +47,7 @@ module _ (n : ℕ) (ranks : List ℕ) (changes : List Change) (front : AreInFron
       ((c : Change) → changed c < n → rank_of ranks (changed c) < rank_of ranks (changed d) → Contains changes c) →
       ((u : ℕ) → d ≡ second u → Contains changes (first u)) → AreInFront n ranks (changes ++ d ∷ [])
   one_fits d below absent done begun = record {
-    in_turn = one_more ranks changes d front.in_turn (λ c here. precede front c d here absent below);
+    in_turn = one_more (router_times all_old ranks) changes d front.in_turn (λ c here. precede front c d here absent below);
     below = λ c inside. elim (Contains-append_cases changes (d ∷ []) c inside) [
       | inl here ↦ front.below c here
       | inr there ↦ subst (λ (e : Change). changed e < n) (contains_one d c there) below
@@ -86,7 +89,7 @@ module _ (n : ℕ) (ranks : List ℕ) (changes : List Change) (front : AreInFron
       let more : AreInFront n ranks (changes ++ first u ∷ []) = front_of_run n ranks (changes ++ first u ∷ []) next in
       let here : Contains (changes ++ first u ∷ []) (first u) = Contains-append_right changes (first u ∷ []) (first u) (Contains-first (first u) []) in
       record {
-        none = counts.count u below ∙ is_none n ranks changes u front (not_yet ranks changes (first u) more.in_turn);
+        none = counts.count u below ∙ is_none n ranks changes u front (not_yet (router_times all_old ranks) changes (first u) more.in_turn);
         earlier = λ v within lower.
             let inside : v < n = let long = ranking.each in omega (arith, within, long) in
             let apart : first u ≢ first v = λ e. let same : rank_of ranks u ≡ rank_of ranks v = ap (λ (x : Change). rank_of ranks (changed x)) e in
@@ -102,7 +105,7 @@ module _ (n : ℕ) (ranks : List ℕ) (changes : List Change) (front : AreInFron
       Contains-append_right changes (second u ∷ []) (second u) (Contains-first (second u) []) in
       counts.count u below
       ∙ is_one n ranks changes u front (among_more changes (second u) (first u) (more.halves u here) (λ e. cc))
-      (not_yet ranks changes (second u) more.in_turn)
+      (not_yet (router_times all_old ranks) changes (second u) more.in_turn)
 
 -- the two changes of a router don't fit together
 fit_alone : (ranks done : List ℕ) (u : ℕ) (half next : Half) → FitsCounts ranks done u half → FitsCounts ranks done u next → half ≡ next
@@ -157,4 +160,4 @@ counts_more n ranks changes done u half counts below fits = record {
 
 -- no change begins a run
 pub begin_none : (n : ℕ) (ranks : List ℕ) → IsRanking n ranks → BeginRun n ranks []
-begin_none n ranks ranking = record { rest = run_along (flat_of ranks); is_run = flat_is_run n ranks ranking }
+begin_none n ranks ranking = record { rest = run_along (flat_of ranks); is_run = flat_is_run n all_old ranks ranking }

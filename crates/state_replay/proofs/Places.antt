@@ -11,7 +11,7 @@ use Rattle.net_model.specs.Refusals.{NamesAscend}
 use Rattle.order_core.specs.Rankings.{IsRanking}
 use Rattle.igp_theory.proofs.OrderedLists.{longer, same_front}
 use Rattle.igp_theory.specs.States.{changes_on}
-use Rattle.igp_theory.specs.Waves.{Change, changed}
+use Rattle.igp_theory.specs.Changes.{Change, changed}
 use Rattle.state_replay.specs.Journals.{journal_header, BeginRun, AreChangeCounts, TellsChange, Progress, progress, AreReplayed, HasReached, HasMisfit}
 use Rattle.state_replay.specs.Journals.{IsPlace}
 use Rattle.state_replay.specs.steps.Making.{IsMade, IsNotMade, MakesChange}

@@ -2,7 +2,7 @@
 use Rattle.std.proofs.Common.{◌≡◌, ◌≢◌, ℕ, ◌<◌, List, length, set, Option, Some, None, refl, sym, ap, subst, true, false}
 use Rattle.net_model.specs.Refusals.{NamesAscend}
 use Rattle.order_core.specs.Rankings.{IsRanking}
-use Rattle.igp_theory.specs.Waves.{Change}
+use Rattle.igp_theory.specs.Changes.{Change}
 use Rattle.state_replay.specs.Halves.{half_number, change_of}
 use Rattle.state_replay.specs.Journals.{BeginRun, MayComeNext, AreChangeCounts, TellsChange, IsNextAfter, IsNextOn, Progress}
 use Rattle.state_replay.specs.steps.Making.{MakesChange}

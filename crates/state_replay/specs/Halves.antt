@@ -1,6 +1,6 @@
 -- The two changes that a migration makes on a router, and how a journal writes them.
 use Rattle.std.specs.Prelude.{ℕ, List, codes}
-use Rattle.igp_theory.specs.Waves.{Change, first, second}
+use Rattle.igp_theory.specs.Changes.{Change, first, second}
 use Rattle.state_replay.specs.declared.half.Half.{Half}
 use Rattle.state_replay.specs.declared.half.Half.TheVariants.{First, Second}
 

@@ -7,7 +7,9 @@ use Rattle.net_addr.specs.Lines.{line_texts}
 use Rattle.net_model.specs.Lookups.{IsNamed}
 use Rattle.net_model.specs.Network.{Network}
 use Rattle.igp_theory.specs.States.{changes_on}
-use Rattle.igp_theory.specs.Waves.{Change, changed, IsRun}
+use Rattle.igp_theory.specs.Changes.{Change, changed}
+use Rattle.igp_theory.specs.Phases.{all_old}
+use Rattle.igp_theory.specs.Timetables.{IsRun, router_times}
 use Rattle.state_replay.specs.Halves.{change_of, ending_of}
 use Rattle.state_replay.specs.declared.half.Half.{Half}
 use Rattle.state_replay.specs.declared.place.Place.{Place}
@@ -18,7 +20,7 @@ use Rattle.state_replay.specs.declared.place.Place.TheVariants.{Reached, Departs
 -- changes are the first ones of some run of a wave list
 pub record BeginRun (n : ℕ) (ranks : List ℕ) (changes : List Change) : Type 0 where
   pub rest : List Change
-  pub is_run : IsRun n ranks (changes ++ rest)
+  pub is_run : IsRun n (router_times all_old ranks) (changes ++ rest)
 
 -- after some changes this one may come next: with it they begin a run
 abbrev pub MayComeNext : ℕ → List ℕ → List Change → Change → Type 0

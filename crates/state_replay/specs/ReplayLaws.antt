@@ -2,7 +2,9 @@
 use Rattle.std.specs.Prelude.{◌≡◌, ℕ, List}
 use Rattle.net_model.specs.Network.{Network}
 use Rattle.net_model.specs.Refusals.{NamesAscend}
-use Rattle.igp_theory.specs.Waves.{Change, IsRun}
+use Rattle.igp_theory.specs.Changes.{Change}
+use Rattle.igp_theory.specs.Phases.{all_old}
+use Rattle.igp_theory.specs.Timetables.{IsRun, router_times}
 use Rattle.state_replay.specs.Journals.{BeginRun, MayComeNext, IsPlace, progress}
 use Rattle.state_replay.specs.declared.place.Place.{Place}
 
@@ -16,4 +18,4 @@ OnePlaceLaw =
 abbrev pub SomeNextLaw : Type 0
 SomeNextLaw =
     (n : ℕ) (ranks : List ℕ) (changes : List Change) → BeginRun n ranks changes →
-    ((c : Change) → MayComeNext n ranks changes c → ⊥) → IsRun n ranks changes
+    ((c : Change) → MayComeNext n ranks changes c → ⊥) → IsRun n (router_times all_old ranks) changes

@@ -11,7 +11,8 @@ use Rattle.net_model.specs.Configuration.{Configuration}
 use Rattle.net_model.specs.Network.{Network}
 use Rattle.net_model.specs.declared.bounds.TheConstants.{ISIS_DISTANCE}
 use Rattle.order_core.specs.Rankings.{rank_of, flat_of}
-use Rattle.igp_theory.specs.Waves.{Change, first, second, changed, run_along}
+use Rattle.igp_theory.specs.Changes.{Change, first, second, changed}
+use Rattle.igp_theory.specs.Waves.{run_along}
 use Rattle.printed_lines.proofs.NumberFacts.{decimal-IsNumeral}
 use Rattle.step_scripts.specs.declared.version.Version.{Version}
 use Rattle.step_scripts.specs.Scripts.{isis_head, distance_line, name_on, change_comment, isis_change_lines, ospf_change_lines}

@@ -10,7 +10,9 @@ use Rattle.net_model.specs.Configuration.{Configuration}
 use Rattle.net_model.specs.Network.{Network}
 use Rattle.net_model.specs.declared.bounds.TheConstants.{ISIS_DISTANCE}
 use Rattle.order_core.specs.Rankings.{rank_of, flat_of}
-use Rattle.igp_theory.specs.Waves.{Change, first, second, changed, run_along}
+use Rattle.igp_theory.specs.Changes.{Change, first, second, changed}
+use Rattle.igp_theory.specs.Waves.{run_along}
+use Rattle.igp_theory.proofs.FlatOrders.{run_length}
 use Rattle.printed_lines.specs.Texts.{text_of}
 use Rattle.printed_lines.proofs.TextSteps.{text_of-append}
 use Rattle.step_scripts.specs.declared.version.Version.{Version}
@@ -20,10 +22,6 @@ use Rattle.step_scripts.specs.Scripts.{Scripted, scripted}
 use Rattle.step_scripts.specs.ScriptLaws.{IsFrontOfScript}
 
 -- ---- parts one after the other ----
-
-run_length : (order : List ℕ) → length (run_along order) ≡ 2 * length order
-run_length [] = refl
-run_length (u ∷ order) = let more = run_length order in omega (arith, more)
 
 parts_append : (m : Scripted) (made : ℕ) (one two : List Change) →
     change_parts m made (one ++ two) ≡ change_parts m made one ++ change_parts m (made + length one) two

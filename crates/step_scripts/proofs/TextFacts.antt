@@ -31,7 +31,7 @@ use Rattle.printed_lines.proofs.LineFacts.{lines_read_back}
 use Rattle.printed_lines.proofs.WordFacts.{words_make_lines}
 use Rattle.step_scripts.specs.WaveLines.{header_of, are_names, named_pieces, names_behind}
 use Rattle.step_scripts.specs.WaveFiles.{all_in, wave_at, AreOfEach, AreWaves, NamesWaves}
-use Rattle.step_scripts.specs.WavesTexts.{waves_in, AreOneOfEach, names_at, named_line, wave_lines, waves_text}
+use Rattle.step_scripts.specs.WavesTexts.{waves_in, AreOneOfEach, names_at, named_line, wave_lines, wave_list_text, waves_text}
 use Rattle.step_scripts.specs.declared.version.Version.TheVariants.{Two}
 use Rattle.step_scripts.proofs.Routers.{has_name}
 use Rattle.step_scripts.proofs.WaveLineFacts.{Says}
@@ -240,6 +240,21 @@ module _ (net : Network) (network : IsNetwork net) where
       seats = wave_rank ranks;
     }
 
+    -- without a chain
+    pub names_list : NamesWaves net (wave_list_text (names_of net) (waves_in ranks)) Two ranks
+    names_list =
+        let lines = wave_lines (names_of net) (waves_in ranks) in
+        let printed = All-cons IsPrintedLine (header_of Two) lines header_line (lines_printed (waves_in ranks) waves_below) in
+        record {
+          lines = lines;
+          ending = [];
+          whole = (lines_read_back (header_of Two ∷ lines) printed).texts ∙ ap (λ l. header_of Two ∷ l) (sym (append-nil lines));
+          waves = map (names_at (names_of net)) (waves_in ranks);
+          each = lines_say (waves_in ranks) waves_below waves_some;
+          ends = tt;
+          are = waves_are;
+        }
+
     pub names_waves : 0 < length net → (chain : List ℕ) → AreOneOfEach ranks chain → NamesWaves net (waves_text (names_of net) ranks chain) Two ranks
     names_waves some chain each =
         let below = chain_routers ranks chain (length net) ranking.each each in
@@ -269,3 +284,7 @@ pub waves_read_back : (net : Network) (ranks chain : List ℕ) → IsNetwork net
     AreOneOfEach ranks chain →
     NamesWaves net (waves_text (names_of net) ranks chain) Two ranks
 waves_read_back net ranks chain network some ranking each = names_waves net network ranks ranking some chain each
+
+pub lists_read_back : (net : Network) (ranks : List ℕ) → IsNetwork net → IsRanking (length net) ranks →
+    NamesWaves net (wave_list_text (names_of net) (waves_in ranks)) Two ranks
+lists_read_back net ranks network ranking = names_list net network ranks ranking

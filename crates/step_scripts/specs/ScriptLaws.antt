@@ -4,7 +4,8 @@ use Rattle.std.specs.Char.{is_ascii_digit}
 use Rattle.std.specs.List.{flat_map}
 use Rattle.net_model.specs.Network.{Network}
 use Rattle.order_core.specs.Rankings.{flat_of}
-use Rattle.igp_theory.specs.Waves.{Change, changed, run_along}
+use Rattle.igp_theory.specs.Changes.{Change, changed}
+use Rattle.igp_theory.specs.Waves.{run_along}
 use Rattle.step_scripts.specs.declared.version.Version.{Version}
 use Rattle.step_scripts.specs.Scripts.{change_comment, change_lines, change_parts, name_on, scripted, script_lines, is_comment}
 

@@ -6,7 +6,8 @@ use Rattle.net_model.specs.Configuration.{Configuration}
 use Rattle.net_model.specs.Network.{Network}
 use Rattle.net_model.specs.declared.bounds.TheConstants.{ISIS_DISTANCE, MOST_DISTANCE}
 use Rattle.order_core.specs.Rankings.{rank_of, wave_of, flat_of}
-use Rattle.igp_theory.specs.Waves.{Change, first, second, changed, run_along}
+use Rattle.igp_theory.specs.Changes.{Change, first, second, changed}
+use Rattle.igp_theory.specs.Waves.{run_along}
 use Rattle.printed_lines.specs.Words.{joined, spaced}
 use Rattle.printed_lines.specs.Texts.{text_of}
 use Rattle.step_scripts.specs.declared.version.Version.{Version}

@@ -1,4 +1,4 @@
--- The text of a wave list: a version 2 file with its chain line, the names of a wave in number order.
+-- The text of a wave list: a version 2 file, with a chain line or without, the names of a wave in number order.
 use Rattle.std.specs.Prelude.{ℕ, ◌<◌, List, [], ◌∷◌, ◌++◌, length, slice_index_or, map, codes, Contains}
 use Rattle.std.specs.List.{AllZip}
 use Rattle.net_model.specs.Network.{Network}
@@ -31,6 +31,10 @@ named_line names word routers = joined (word ∷ names_at names routers)
 abbrev pub wave_lines : List (List ℕ) → List (List ℕ) → List (List ℕ)
 wave_lines names waves = map (named_line names (codes "wave")) waves
 
+-- the text of some waves alone, without a chain
+abbrev pub wave_list_text : List (List ℕ) → List (List ℕ) → List ℕ
+wave_list_text names waves = text_of (header_of Two ∷ wave_lines names waves)
+
 -- the text of a wave list and a chain
 abbrev pub waves_text : List (List ℕ) → List ℕ → List ℕ → List ℕ
 waves_text names ranks chain = text_of (header_of Two ∷ (wave_lines names (waves_in ranks) ++ named_line names (codes "chain") chain ∷ []))
@@ -40,3 +44,9 @@ abbrev pub WavesReadBack : Type 0
 WavesReadBack =
     (net : Network) (ranks chain : List ℕ) → IsNetwork net → 0 < length net → IsRanking (length net) ranks → AreOneOfEach ranks chain →
     NamesWaves net (waves_text (names_of net) ranks chain) Two ranks
+
+-- so does the text of the waves alone
+abbrev pub WaveListsReadBack : Type 0
+WaveListsReadBack =
+    (net : Network) (ranks : List ℕ) → IsNetwork net → IsRanking (length net) ranks →
+    NamesWaves net (wave_list_text (names_of net) (waves_in ranks)) Two ranks

@@ -1,6 +1,6 @@
 ghost use Rattle.std.specs.Prelude.{◌≡◌, ◌+◌, ◌<◌, ◌++◌, [], ◌∷◌, length, IfOk};
 ghost use Rattle.std.specs.List.{list_any};
-ghost use Rattle.igp_theory.specs.Waves.{first, second};
+ghost use Rattle.igp_theory.specs.Changes.{first, second};
 ghost use Rattle.printed_lines.specs.Texts.{text_of};
 ghost use Rattle.step_scripts.specs.Scripts.{change_comment, change_lines, change_part, end_lines, isis_change_lines};
 ghost use Rattle.step_scripts.specs.Scripts.{lacks_process, scripted, name_on, opens_wave, script_text, shows_waves, wave_comment};

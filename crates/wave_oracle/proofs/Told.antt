@@ -1,10 +1,10 @@
 -- What is told of a wave list between sound ends.
 use Rattle.std.proofs.Common.{◌≡◌, ℕ, List, subst, sym}
-use Rattle.igp_theory.specs.LoopLaws.{BeginsOld, AreSoundEnds}
+use Rattle.igp_theory.specs.LoopLaws.{AreSoundEnds}
 use Rattle.igp_theory.specs.Migrations.{Migration}
-use Rattle.igp_theory.specs.WaveFaults.{IsWavesFault}
+use Rattle.igp_theory.specs.Timetables.{router_times}
+use Rattle.igp_theory.specs.WaveFaults.{IsTimesFault}
 use Rattle.loop_finder.specs.Faults.{told_fault}
-use Rattle.loop_finder.specs.WaveLists.{IsNumberedWavesFault}
 use Rattle.loop_finder.specs.declared.fault.Fault.{Fault}
 use Rattle.loop_finder.specs.declared.fault.Fault.TheVariants.{Loop, Missing}
 use Rattle.order_search.specs.Meanings.{Break}
@@ -14,17 +14,16 @@ use Rattle.order_core.specs.declared.turn.Turn.{Turn}
 use Rattle.wave_oracle.specs.steps.EndFaults.{IsToldLoop}
 
 -- what is told is a loop
-pub told_is_loop : (move : Migration) (ranks : List ℕ) (number : ℕ) (fault : Fault) (ring : List Turn) → BeginsOld move →
-    AreSoundEnds move → IsNumberedWavesFault move ranks number (told_fault fault ring) → IsToldLoop fault
-told_is_loop move ranks number (Loop address) ring begins ends told = tt
-told_is_loop move ranks number (Missing address router) ring begins ends told =
-    no_step_lacks move ranks told.wave address router begins ends told.is_fault
+pub told_is_loop : (move : Migration) (ranks : List ℕ) (wave : ℕ) (fault : Fault) (ring : List Turn) → AreSoundEnds move →
+    IsTimesFault move (router_times move.start ranks) wave (told_fault fault ring) → IsToldLoop fault
+told_is_loop move ranks wave (Loop address) ring ends told = tt
+told_is_loop move ranks wave (Missing address router) ring ends told = no_step_lacks move ranks wave address router ends told
 
 -- which breaks the wave list, also by what is mixed afterwards, which is the same
-pub told_breaks : (move after : Migration) (ranks : List ℕ) (number : ℕ) (fault : Fault) (address : ℕ) (ring : List Turn) → BeginsOld move → AreSoundEnds move →
-    IsNumberedWavesFault move ranks number (told_fault fault ring) → fault ≡ Loop address → after ≡ move →
+pub told_breaks : (move after : Migration) (ranks : List ℕ) (wave : ℕ) (fault : Fault) (address : ℕ) (ring : List Turn) → AreSoundEnds move →
+    IsTimesFault move (router_times move.start ranks) wave (told_fault fault ring) → fault ≡ Loop address → after ≡ move →
     Break (waves_meaning after) ranks address ring
-told_breaks move after ranks number fault address ring begins ends told is same =
-    let whole = λ (f : Fault). IsWavesFault move ranks told.wave (told_fault f ring) in
+told_breaks move after ranks wave fault address ring ends told is same =
+    let whole = λ (f : Fault). IsTimesFault move (router_times move.start ranks) wave (told_fault f ring) in
     subst (λ (m : Migration). Break (waves_meaning m) ranks address ring) (sym same)
-    (wave_fault_breaks move ranks told.wave address ring begins ends (subst whole is told.is_fault))
+    (wave_fault_breaks move ranks wave address ring ends (subst whole is told))

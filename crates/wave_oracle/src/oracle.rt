@@ -41,7 +41,7 @@ impl<'a, O: RouteSource, N: RouteSource> WaveOracle<'a, O, N> {
 }
 
 impl<'a, O: RouteSource, N: RouteSource> Oracle for WaveOracle<'a, O, N> {
-    ghost use Rattle.std.specs.Prelude.{[], refl};
+    ghost use Rattle.std.specs.Prelude.{[]};
     ghost use Rattle.order_search.specs.Meanings.{KeepsPairs-nil};
     ghost use Rattle.igp_theory.specs.Loops.{IsLoop};
     ghost use Rattle.igp_theory.specs.Waves.{AreSeamlessWaves};
@@ -62,7 +62,7 @@ impl<'a, O: RouteSource, N: RouteSource> Oracle for WaveOracle<'a, O, N> {
 
     ghost keeps_base = { λ o ranks _. KeepsPairs-nil ranks };
 
-    ghost decides = { λ o. seamless_ranks_old_first (migration_of O.table N.table o.mixture) (λ u. refl) };
+    ghost decides = { λ o. seamless_ranks_old_first (migration_of O.table N.table o.mixture) };
 
     fn size(&self) -> u32 {
         self.routers

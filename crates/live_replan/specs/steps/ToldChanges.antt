@@ -2,7 +2,7 @@
 use Rattle.std.specs.Prelude.{◌≡◌, ℕ, List, ◌++◌, map}
 use Rattle.std.specs.List.{AllZip}
 use Rattle.net_model.specs.Network.{Network}
-use Rattle.igp_theory.specs.Waves.{Change}
+use Rattle.igp_theory.specs.Changes.{Change}
 use Rattle.state_replay.specs.Halves.{change_of}
 use Rattle.state_replay.specs.Journals.{TellsChange}
 use Rattle.live_replan.specs.BackTexts.{TellsChanges}

@@ -12,8 +12,8 @@ next_phase Middle = New
 next_phase New = New
 
 -- the phases are those of state k of an order
-abbrev pub IsStateOf : List Phase → List ℕ → ℕ → Type 0
-IsStateOf phases order k = (u : ℕ) → state_in phases u ≡ state_of order k u
+abbrev pub IsOrderState : List Phase → List ℕ → ℕ → Type 0
+IsOrderState phases order k = (u : ℕ) → state_in phases u ≡ state_of order k u
 
 -- a router made its next change, and the others none
 pub record IsAdvanced (old new : List Phase) (router : ℕ) : Type 0 where

@@ -1,10 +1,10 @@
 -- What is told of a class, of a state and of an order, over what is mixed.
-use Rattle.std.specs.Prelude.{◌≡◌, ℕ, ◌<◌, ◌⊎◌, Bool, List, length, Option, Some, None}
+use Rattle.std.specs.Prelude.{◌≡◌, ℕ, ◌+◌, ◌<◌, ◌⊎◌, Bool, List, length, Option, Some, None}
 use Rattle.igp_theory.specs.Loops.{Fault as WholeFault, AroundRing, IsFoundRing, IsFault, IsFirstFault}
-use Rattle.igp_theory.specs.Phases.{State}
-use Rattle.igp_theory.specs.WaveFaults.{IsFaultOver}
-use Rattle.igp_theory.specs.WaveLaws.{IsStateOfSomeWave}
-use Rattle.igp_theory.specs.Waves.{IsStateOfWave}
+use Rattle.igp_theory.specs.Phases.{State, all_old}
+use Rattle.igp_theory.specs.WaveFaults.{IsFaultOver, IsTimesFault}
+use Rattle.igp_theory.specs.TimetableLaws.{IsStateOfSomeWave}
+use Rattle.igp_theory.specs.Timetables.{IsStateOfWave, router_times}
 use Rattle.igp_theory.specs.declared.phase.Phase.{Phase}
 use Rattle.igp_theory.specs.declared.phase.Phase.TheVariants.{Old, New}
 use Rattle.order_core.specs.Turns.{routers_of}
@@ -13,7 +13,6 @@ use Rattle.loop_finder.specs.Faults.{state_in, told_fault}
 use Rattle.loop_finder.specs.Mixes.{sample_of, Mix, migration_in}
 use Rattle.loop_finder.specs.steps.ClassSteps.{ClassState, ClassStep, IsTagged, Moves, FirstStuck}
 use Rattle.loop_finder.specs.steps.Walks.{ReturnsNever}
-use Rattle.loop_finder.specs.WaveLists.{IsNumberedWavesFault}
 use Rattle.loop_finder.specs.declared.fault.Fault.{Fault}
 use Rattle.loop_finder.specs.declared.fault.Fault.TheVariants.{Loop, Missing}
 use Rattle.loop_finder.specs.Soundness.{SoundAt, Sound}
@@ -83,9 +82,13 @@ Faulty m state fault turns = IsFault (migration_in m) state (told_fault fault tu
 abbrev pub FirstFaulty : Mix → List ℕ → ℕ → WholeFault → Type 0
 FirstFaulty m order k fault = IsFirstFault (migration_in m) order k fault
 
+-- the states of a wave, which is numbered from 0 here
+abbrev pub IsOfWave : ℕ → List ℕ → ℕ → State → Type 0
+IsOfWave n ranks w = IsStateOfWave n (router_times all_old ranks) (w + 1)
+
 -- every state of a wave is sound
 abbrev pub SoundWave : Mix → List ℕ → ℕ → Type 0
-SoundWave m ranks w = (state : State) → IsStateOfWave (length m.net) ranks w state → Sound m state
+SoundWave m ranks w = (state : State) → IsOfWave (length m.net) ranks w state → Sound m state
 
 -- every state of the waves before one is sound
 abbrev pub SoundWavesBefore : Mix → List ℕ → ℕ → Type 0
@@ -93,12 +96,12 @@ SoundWavesBefore m ranks w = (v : ℕ) → v < w → SoundWave m ranks v
 
 -- every state of a wave list is sound
 abbrev pub SoundWaves : Mix → List ℕ → Type 0
-SoundWaves m ranks = (state : State) → IsStateOfSomeWave (length m.net) ranks state → Sound m state
+SoundWaves m ranks = (state : State) → IsStateOfSomeWave (length m.net) (router_times all_old ranks) state → Sound m state
 
 -- the fault of the states of a wave
 abbrev pub FaultyWave : Mix → List ℕ → ℕ → WholeFault → Type 0
-FaultyWave m ranks w fault = IsFaultOver (migration_in m) (IsStateOfWave (length m.net) ranks w) fault
+FaultyWave m ranks w fault = IsFaultOver (migration_in m) (IsOfWave (length m.net) ranks w) fault
 
--- the fault of a wave list, with the number of the wave
+-- the fault of a wave list, with the number of the wave from 1
 abbrev pub FaultyWaves : Mix → List ℕ → ℕ → WholeFault → Type 0
-FaultyWaves m ranks number fault = IsNumberedWavesFault (migration_in m) ranks number fault
+FaultyWaves m ranks number fault = IsTimesFault (migration_in m) (router_times all_old ranks) number fault

@@ -1,6 +1,6 @@
 -- How the lines of a journal are taken, one after the other.
 use Rattle.std.specs.Prelude.{◌≡◌, ℕ, List, [], ◌∷◌, ◌++◌, length, Bool, true, false, MatchBool}
-use Rattle.igp_theory.specs.Waves.{Change}
+use Rattle.igp_theory.specs.Changes.{Change}
 use Rattle.state_replay.specs.Journals.{journal_header, BeginRun, MayComeNext, AreChangeCounts, TellsChange, Progress, progress, IsMisfit}
 
 -- the first of some lines is the header, and the others are left; or they don't begin with it

@@ -1,8 +1,15 @@
-use Rattle.igp_theory.proofs.LoopWaves.{stands_round, arises_in_wave}
+use Rattle.igp_theory.proofs.LoopsDecide.{stands_round, arises_where}
+use Rattle.igp_theory.proofs.WaveLoops.{goes_round, arises_round}
 use Rattle.igp_theory.proofs.loop_laws.loops_arise_in_waves.Goals as goal
 
 pub returns : goal.returns
-returns g c ranks w a ring begins is = (
-  λ there. stands_round g.T.AnyMigration.migration ranks w there.state a ring begins is.tags there.of_wave there.arises,
-  arises_in_wave g.T.AnyMigration.migration ranks w a ring begins is,
-)
+returns g c = record {
+  timed = λ time w a ring table is. (
+    goes_round g.T.AnyMigration.migration time table w a ring,
+    arises_round g.T.AnyMigration.migration time table w a ring is.distinct,
+  );
+  ranked = λ ranks w a ring one is. (
+    stands_round g.T.AnyMigration.migration ranks w a ring one is.tags,
+    arises_where g.T.AnyMigration.migration ranks w a ring one is,
+  );
+}

@@ -1,6 +1,6 @@
 use Rattle.std.proofs.Common.{ℕ, List, Option, MatchOption, sym, subst}
 use Rattle.net_model.specs.Lookups.{IsNamed}
-use Rattle.igp_theory.specs.Waves.{Change}
+use Rattle.igp_theory.specs.Changes.{Change}
 use Rattle.state_replay.specs.Halves.{change_of}
 use Rattle.state_replay.specs.Journals.{TellsChange}
 use Rattle.state_replay.proofs.Lines.{no_name_told}

@@ -3,7 +3,7 @@ use Rattle.std.proofs.lemmas.List.{get_or_default}
 use Rattle.igp_theory.specs.Phases.{State}
 use Rattle.igp_theory.specs.States.{state_of}
 use Rattle.loop_finder.specs.Faults.{state_in}
-use Rattle.loop_finder.specs.steps.Orders.{IsStateOf}
+use Rattle.loop_finder.specs.steps.Orders.{IsOrderState}
 use Rattle.loop_finder.specs.Soundness.{Sound}
 use Rattle.loop_finder.specs.Watches.{ArePlacesOf}
 use Rattle.loop_finder.proofs.OrderStates.{changed_inside, same_state, state_advanced, state_stays}
@@ -49,7 +49,7 @@ returns-then-is_known-clause-state g c =
 
 pub returns-then-is_known-clause-sound : goal.returns-then-is_known-clause-sound
 returns-then-is_known-clause-sound g c =
-    let state : IsStateOf c.advance-was.new.phases c.args.order.now (c.args.k + 1) =
+    let state : IsOrderState c.advance-was.new.phases c.args.order.now (c.args.k + 1) =
     state_advanced c.args.order.now c.args.phases.now c.advance-was.new.phases c.args.k c.in-Some.router.now c.in-Some.ensures.lookup.3.0
     c.in-Some.ensures.lookup.1 c.advance-was.ensures.state c.requires.state in
     subst (λ (s : State). Sound (mix_of g.O.RouteSource.table g.N.RouteSource.table c.args.mixed.now) s)

@@ -4,8 +4,9 @@ use Rattle.net_model.specs.Network.{Network}
 use Rattle.loop_finder.specs.steps.Verdicts.{SoundWave}
 use Rattle.loop_finder.proofs.CalmLaws.{sound_waves_before}
 use Rattle.loop_finder.proofs.OnFalse.{on_true}
-use Rattle.loop_finder.proofs.WaveListFacts.{sound_to_last, sound_to_all}
+use Rattle.loop_finder.proofs.WaveListFacts.{sound_to_last, sound_to_all, first_fault}
 use Rattle.loop_finder.proofs.WaveSteps.{begins_sound}
+use Rattle.loop_finder.specs.Faults.{told_fault}
 use Rattle.loop_finder.specs.Mixes.{mix_of}
 use Rattle.loop_finder.proofs.waves_fault.waves_fault.Goals as goal
 
@@ -40,3 +41,8 @@ loop-wave-init g c = record {
   room = c.requires.room;
   ring = refl;
 }
+
+pub returns-in-Some-clause-fault : goal.returns-in-Some-clause-fault
+returns-in-Some-clause-fault g c =
+    first_fault (mix_of g.O.RouteSource.table g.N.RouteSource.table c.args.mixed.now) c.args.ranks.now c.loop-wave.wave
+    (told_fault c.in-Some.fault c.wave_fault.new.room.ring.items) c.loop-wave.invariant.sound c.in-Some.ensures.fault

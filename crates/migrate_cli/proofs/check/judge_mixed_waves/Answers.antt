@@ -1,12 +1,14 @@
 use Rattle.std.proofs.Common.{◌∙◌, ◌≡◌, ap, length, refl, subst, sym}
-use Rattle.igp_theory.specs.WaveFaults.{IsWavesFault}
+use Rattle.igp_theory.specs.Phases.{all_old}
+use Rattle.igp_theory.specs.Timetables.{router_times}
+use Rattle.igp_theory.specs.WaveFaults.{IsTimesFault}
 use Rattle.igp_theory.specs.Waves.{AreSeamlessWaves}
-use Rattle.igp_theory.proofs.WaveFaultLaws.{waves_fault_unsound}
+use Rattle.igp_theory.proofs.WaveFaultLaws.{times_fault_unsound}
 use Rattle.loop_finder.specs.Faults.{told_fault}
 use Rattle.order_core.specs.Rankings.{IsRanking}
 use Rattle.ospf_routes.specs.RouteTables.{table_at}
 use Rattle.rib_mix.specs.Mixture.{migration_of}
-use Rattle.migration_report.specs.declared.decision.Decision.TheVariants.{SafeWaves, UnsafeWave}
+use Rattle.migration_report.specs.declared.decision.Decision.TheVariants.{SafeWaves}
 use Rattle.migrate_cli.specs.CheckDecision.{IsWavesDecision}
 use Rattle.migrate_cli.specs.CheckDecision.IsWavesDecision.{safe_waves, unsafe_wave}
 use Rattle.migrate_cli.specs.steps.Tables.{move_of, new_table}
@@ -32,13 +34,14 @@ pub returns : goal.returns
 returns c = λ of mixes.
     let ranks = c.args.waves.now in
     let move = move_of of in
-    let found = c.in-Some.ensures.fault in
     let told = told_fault c.in-Some.fault c.waves_fault.new.self.ring in
-    let first = subst (λ some. IsWavesFault (migration_of table_at new_table c.args.mixed.now) some found.wave told) c.ranks.ensures.ranks
-    (subst (λ m. IsWavesFault (migration_of table_at new_table m) c.ranks.result.now found.wave told) c.in_ok-finder.ensures.mixture found.is_fault) in
+    let first = subst (λ some. IsTimesFault (migration_of table_at new_table c.args.mixed.now) (router_times all_old some) c.in-Some.wave told)
+    c.ranks.ensures.ranks
+    (subst (λ m. IsTimesFault (migration_of table_at new_table m) (router_times all_old c.ranks.result.now) c.in-Some.wave told)
+    c.in_ok-finder.ensures.mixture c.in-Some.ensures.fault) in
     let whole = c.in_ok-fault-in-Some.fault in
-    let fault = subst (IsWavesFault move ranks found.wave)
+    let fault = subst (IsTimesFault move (router_times all_old ranks) c.in-Some.wave)
     (sym (c.in_ok-fault-in-Some.ensures ∙ ap (told_fault c.in-Some.fault) c.ring.ensures))
-    (waves_fault of c.args.mixed.now mixes ranks found.wave told first) in
-    subst (λ n. IsWavesDecision move ranks (UnsafeWave n whole)) (sym found.number_is)
-    (unsafe_wave found.wave whole (λ seamless. waves_fault_unsound move ranks found.wave _ fault seamless) fault)
+    (waves_fault of c.args.mixed.now mixes ranks c.in-Some.wave told first) in
+    unsafe_wave c.in-Some.wave whole
+    (λ seamless. times_fault_unsound move (router_times all_old ranks) c.in-Some.wave _ fault seamless.throughout) fault

@@ -1,10 +1,11 @@
+use Rattle.std.proofs.Common.{refl}
 use Rattle.std.proofs.lemmas.Option.{MatchOption-at_none, MatchOption-at_some}
 use Rattle.net_model.proofs.AddressClashes.{HaveOneAddress-mutual}
 use Rattle.net_model.proofs.addresses.check_addresses.Goals as goal
 
 pub returns-in-Some-clause-err : goal.returns-in-Some-clause-err
 returns-in-Some-clause-err c =
-    MatchOption-at_some _ _ c.in-Some.pair c.in-Some.is (c.in_ok-pair.ensures (HaveOneAddress-mutual c.args.configs.now))
+    (refl, MatchOption-at_some _ _ c.in-Some.pair c.in-Some.is (c.in_ok-pair.ensures (HaveOneAddress-mutual c.args.configs.now)))
 
 pub returns-in-None-clause-ok : goal.returns-in-None-clause-ok
 returns-in-None-clause-ok c =

@@ -1,3 +1,4 @@
+use Rattle.std.proofs.Common.{refl}
 use Rattle.std.proofs.lemmas.Option.{MatchOption-at_none, MatchOption-at_some}
 use Rattle.std.proofs.lemmas.Bool.{OnTrue_at}
 use Rattle.net_model.proofs.ClaimFacts.{AreasAgree-claimed}
@@ -6,12 +7,12 @@ use Rattle.net_model.proofs.areas.check_areas.Goals as goal
 
 pub returns-then-branch-clause-ok : goal.returns-then-branch-clause-ok
 returns-then-branch-clause-ok c =
-    (c.requires.addresses, AreasAgree-claimed c.args.configs.now (OnTrue_at c.if-branch.true c.in_ok-claims_agree.ensures))
+    AreasAgree-claimed c.args.configs.now (OnTrue_at c.if-branch.true c.in_ok-claims_agree.ensures)
 
 pub returns-in-Some-clause-err : goal.returns-in-Some-clause-err
 returns-in-Some-clause-err c =
-    (c.requires.addresses, MatchOption-at_some _ _ c.in-Some.pair c.in-Some.is (c.in_ok-pair.ensures (RunTwoAreas-mutual c.args.configs.now)))
+    (refl, MatchOption-at_some _ _ c.in-Some.pair c.in-Some.is (c.in_ok-pair.ensures (RunTwoAreas-mutual c.args.configs.now)))
 
 pub returns-in-None-clause-ok : goal.returns-in-None-clause-ok
 returns-in-None-clause-ok c =
-    (c.requires.addresses, MatchOption-at_none _ _ c.in-None.is (c.in_ok-pair.ensures (RunTwoAreas-mutual c.args.configs.now)))
+    MatchOption-at_none _ _ c.in-None.is (c.in_ok-pair.ensures (RunTwoAreas-mutual c.args.configs.now))

@@ -2,8 +2,7 @@ use Rattle.std.proofs.Common.{ℕ, List, ap, sym, subst}
 use Rattle.std.proofs.lemmas.List.Sorted.{IsPermutation-refl}
 use Rattle.net_model.specs.Configuration.{Configuration}
 use Rattle.net_model.specs.steps.Doubles.{IsTwoNames}
-use Rattle.net_model.specs.Refusals.{IsLeastDouble}
-use Rattle.net_model.specs.steps.Refused.{RefusesName}
+use Rattle.net_model.specs.Refusals.{IsLeastDouble, RefusesName}
 use Rattle.net_model.specs.declared.refusal.NetRefusal.{NetRefusal}
 use Rattle.net_model.specs.declared.refusal.NetRefusal.TheVariants.{TwoNames, OutOfMemory}
 use Rattle.net_model.proofs.Names.{NamesAscend-from_sorted, IsLeastDouble-first}

@@ -1,10 +1,11 @@
+use Rattle.std.proofs.Common.{refl}
 use Rattle.std.proofs.lemmas.Option.{MatchOption-at_none, MatchOption-at_some}
 use Rattle.net_model.proofs.SystemClashes.{HaveOneSystem-mutual}
 use Rattle.net_model.proofs.systems.check_systems.Goals as goal
 
 pub returns-in-Some-clause-err : goal.returns-in-Some-clause-err
 returns-in-Some-clause-err c = (
-  c.requires.metrics,
+  refl,
   (
     c.in-Some.pair.item,
     MatchOption-at_some _ _ c.in-Some.pair c.in-Some.is
@@ -14,4 +15,4 @@ returns-in-Some-clause-err c = (
 
 pub returns-in-None-clause-ok : goal.returns-in-None-clause-ok
 returns-in-None-clause-ok c =
-    (c.requires.metrics, MatchOption-at_none _ _ c.in-None.is (c.in_ok-pair.ensures (HaveOneSystem-mutual c.args.configs.now)))
+    MatchOption-at_none _ _ c.in-None.is (c.in_ok-pair.ensures (HaveOneSystem-mutual c.args.configs.now))

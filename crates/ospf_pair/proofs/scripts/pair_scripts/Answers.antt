@@ -2,7 +2,7 @@ use Rattle.std.proofs.Common.{◌≡◌, ◌<◌, ℕ, ◌+◌, ◌*◌, List, �
 use Rattle.std.proofs.lemmas.List.Elements.{Contains-get_or}
 use Rattle.order_core.specs.Rankings.{flat_of}
 use Rattle.order_core.proofs.WaveLists.{flat_is_order}
-use Rattle.igp_theory.specs.Waves.{first, second}
+use Rattle.igp_theory.specs.Changes.{first, second}
 use Rattle.printed_lines.specs.Texts.{text_of}
 use Rattle.ospf_pair.specs.PairScripts.{PairScripted, pair_scripted, pair_part}
 use Rattle.ospf_pair.proofs.ScriptParts.{text_more}

@@ -5,8 +5,8 @@ use Rattle.std.proofs.lemmas.Result.{err_from_is_err_and}
 use Rattle.net_model.specs.Conditions.{IsConsistent}
 use Rattle.net_model.specs.Configuration.{Configuration, IsConfiguration}
 use Rattle.net_model.specs.Limits.{IsWithinLimits}
-use Rattle.net_model.specs.Refusals.{NamesAscend}
-use Rattle.net_model.specs.steps.Refused.{MayRefuse, RefusesName}
+use Rattle.net_model.specs.Refusals.{NamesAscend, RefusesName}
+use Rattle.net_model.specs.steps.Refused.{MayRefuse}
 use Rattle.net_model.proofs.BuildFacts.{Refuses-by_name, Refuses-by_network}
 use Rattle.net_model.proofs.Dests.{IsWithinLimits-permutation}
 use Rattle.net_model.proofs.net.Net.build.Goals as goal

@@ -1,4 +1,4 @@
-use Rattle.std.proofs.Common.{◌≡◌, ℕ, refl, ap, ◌∙◌}
+use Rattle.std.proofs.Common.{◌≡◌, ℕ, ap, ◌∙◌}
 use Rattle.rib_mix.specs.Mixture.{migration_of}
 use Rattle.loop_finder.specs.declared.fault.Fault.TheVariants.{Loop}
 use Rattle.wave_oracle.proofs.Told.{told_is_loop, told_breaks}
@@ -7,7 +7,7 @@ use Rattle.wave_oracle.proofs.oracle.WaveOracleOracle.ask.Goals as goal
 pub loop_address-address-requires : goal.loop_address-address-requires
 loop_address-address-requires g c =
     told_is_loop (migration_of g.O.RouteSource.table g.N.RouteSource.table c.self.inside.finder.mixture) c.args.ranks.now c.in-Some._wave c.in-Some.fault
-    c.waves_fault.new.self.ring (λ u. refl) c.self.invariant.ends c.in-Some.ensures.fault
+    c.waves_fault.new.self.ring c.self.invariant.ends c.in-Some.ensures.fault
 
 pub returns-in-Some-clause-breaks : goal.returns-in-Some-clause-breaks
 returns-in-Some-clause-breaks g c address answer =
@@ -15,4 +15,4 @@ returns-in-Some-clause-breaks g c address answer =
     let same : c.loop_address-address.result ≡ address = cc in
     let is : c.in-Some.fault ≡ Loop address = c.loop_address-address.ensures ∙ ap (λ (a : ℕ). Loop a) same in
     told_breaks (move c.self.inside.finder.mixture) (move c.waves_fault.new.self.mixture) c.args.ranks.now c.in-Some._wave
-    c.in-Some.fault address c.waves_fault.new.self.ring (λ u. refl) c.self.invariant.ends c.in-Some.ensures.fault is (ap move c.in-Some.ensures.mixture)
+    c.in-Some.fault address c.waves_fault.new.self.ring c.self.invariant.ends c.in-Some.ensures.fault is (ap move c.in-Some.ensures.mixture)

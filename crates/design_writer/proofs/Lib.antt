@@ -1,0 +1,5 @@
+pub mod MemberPuts
+pub mod CostTables
+pub mod CostLookups
+pub mod CostSettling
+pub mod CostTexts

@@ -1,0 +1,2 @@
+pub mod CostDesigns
+pub mod steps

@@ -1,0 +1,12 @@
+pub mod ListingFacts
+pub mod PortFacts
+pub mod SharingFacts
+pub mod RouterFacts
+pub mod PairFacts
+pub mod UnlikeFacts
+pub mod ReachFacts
+pub mod CountFacts
+pub mod KeptFacts
+pub mod StandFacts
+pub mod SurveyedFacts
+pub mod NeighborFacts

@@ -1,0 +1,6 @@
+use Rattle.std.proofs.lemmas.Result.{IfOk-weaker}
+use Rattle.network_survey.proofs.UnlikeFacts.{ListsPairs-uneven}
+use Rattle.network_survey.proofs.pairs.uneven_in.Goals as goal
+
+pub returns : goal.returns
+returns c = IfOk-weaker c.unlike_pairs.result _ _ (λ found s net lists. ListsPairs-uneven net c.args.ports.now lists c.args.zone found.items s) c.unlike_pairs.ensures

@@ -1,0 +1,10 @@
+pub mod Listings
+pub mod Ports
+pub mod Interfaces
+pub mod Counts
+pub mod Neighbors
+pub mod Pairs
+pub mod Joined
+pub mod AllRefusals
+pub mod Routers
+pub mod steps

@@ -1,0 +1,3 @@
+mod Sorting
+mod TableEntries
+mod InOrder

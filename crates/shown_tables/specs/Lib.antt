@@ -1,0 +1,4 @@
+pub mod ShownEntries
+pub mod EntryLines
+pub mod TablesTexts
+pub mod steps

@@ -1,0 +1,4 @@
+pub mod Refinements
+pub mod Cuts
+pub mod DistinctWaves
+pub mod CutWaves

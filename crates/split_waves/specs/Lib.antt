@@ -1,0 +1,3 @@
+pub mod Refinements
+pub mod Cuts
+pub mod steps

@@ -1,0 +1,2 @@
+mod BestRoutes
+mod OwnRoutes

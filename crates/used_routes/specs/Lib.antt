@@ -1,0 +1,2 @@
+pub mod UsedRoutes
+pub mod steps
