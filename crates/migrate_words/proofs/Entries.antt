@@ -1,8 +1,8 @@
 -- The entries of the table of subcommands, and the usage lines of the commands.
-use Rattle.std.proofs.Common.{◌≡◌, ◌∙◌, ℕ, ◌≤◌, Bool, true, false, cond, List, [], ◌∷◌, Option, Some, length, map, take, refl}
+use Rattle.std.proofs.Common.{◌≡◌, ◌∙◌, ℕ, ◌≤◌, Bool, true, false, cond, List, [], ◌∷◌, Option, Some, length, map, take, refl, drop, get_or}
 use Rattle.std.proofs.Common.{sym, ap, ap₂, true≢false}
 use Rattle.std.proofs.lemmas.List.{take_all}
-use Rattle.std.proofs.lemmas.List.Elements.{All-head, All-tail}
+use Rattle.std.proofs.lemmas.List.Elements.{All-cons, All-head, All-nil, All-tail}
 use Rattle.std.specs.List.{All, find, fold}
 use Rattle.std.specs.Option.{IfSome, is_some, option_map}
 use Rattle.std.specs.Str.{bytes_eq}
@@ -15,6 +15,14 @@ use Rattle.migrate_words.specs.declared.command.CommandKind.{CommandKind}
 use Rattle.migrate_words.specs.declared.command.CommandKind.TheVariants.{Check}
 use Rattle.migrate_words.specs.declared.subcommands.Subcommand.{Subcommand}
 use Rattle.migrate_words.proofs.RowFacts.{some_is}
+
+-- each entry of the table has the usage line of its command
+pub of_table : (entries : List Subcommand) → map usage_seen entries ≡ map usage_of (map kind_of_entry entries)
+    → All IsOfTable entries
+of_table [] same = All-nil IsOfTable
+of_table (entry ∷ rest) same = All-cons IsOfTable entry rest
+    (ap (λ (usages : List Usage). get_or usages 0 (usage_seen entry)) same)
+    (of_table rest (ap (λ (usages : List Usage). drop 1 usages) same))
 
 -- the command line with the subcommand of one more entry
 abbrev pub with_entry : App → Subcommand → App

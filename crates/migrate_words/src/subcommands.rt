@@ -1,6 +1,6 @@
-ghost use Rattle.std.specs.Prelude.{◌≡◌, All, map};
-ghost use Rattle.migrate_words.specs.Usages.{kinds};
-ghost use Rattle.migrate_words.specs.steps.Seen.{IsOfTable, kind_of_entry};
+ghost use Rattle.std.specs.Prelude.{◌≡◌, map};
+ghost use Rattle.migrate_words.specs.Usages.{kinds, usage_of};
+ghost use Rattle.migrate_words.specs.steps.Seen.{kind_of_entry, usage_seen};
 
 use crate::CommandKind;
 
@@ -118,7 +118,7 @@ static SUBCOMMANDS: [Subcommand; 7] = [
 /// The subcommands, in the order in which help tells them.
 pub(crate) fn subcommands() -> &'static [Subcommand]
     ensures kinds { map kind_of_entry result.now ≡ kinds }
-    ensures usages { All IsOfTable result.now }
+    ensures usages { map usage_seen result.now ≡ map usage_of (map kind_of_entry result.now) }
 {
     &SUBCOMMANDS
 }

@@ -2,7 +2,7 @@ use Rattle.std.proofs.Common.{sym, subst}
 use Rattle.std.proofs.lemmas.List.Sums.{fold_more}
 use Rattle.clap.specs.Words.{App}
 use Rattle.migrate_words.specs.steps.LineSteps.{IsWhole, bare_line}
-use Rattle.migrate_words.proofs.Entries.{with_entry, whole_of_entries}
+use Rattle.migrate_words.proofs.Entries.{of_table, with_entry, whole_of_entries}
 use Rattle.migrate_words.proofs.lines.command_line.Goals as goal
 
 pub loop-entry-init : goal.loop-entry-init
@@ -18,5 +18,6 @@ pub returns : goal.returns
 returns c =
     let table = c.subcommands-entry-items in
     subst (λ (whole : App). IsWhole whole c.loop-entry.line)
-    (whole_of_entries table.result.now c.loop-entry.entry-index table.ensures.kinds table.ensures.usages
+    (whole_of_entries table.result.now c.loop-entry.entry-index table.ensures.kinds
+    (of_table table.result.now table.ensures.usages)
     c.loop-entry-test.false) c.loop-entry.invariant

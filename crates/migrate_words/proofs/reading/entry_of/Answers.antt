@@ -6,17 +6,17 @@ use Rattle.migrate_words.specs.Usages.{usage_of}
 use Rattle.migrate_words.specs.steps.Seen.{IsOfTable, kind_of_entry}
 use Rattle.migrate_words.specs.declared.command.CommandKind.{CommandKind}
 use Rattle.migrate_words.specs.declared.subcommands.Subcommand.{Subcommand}
-use Rattle.migrate_words.proofs.Entries.{find_entry, find_holds}
+use Rattle.migrate_words.proofs.Entries.{find_entry, find_holds, of_table}
 use Rattle.migrate_words.proofs.reading.entry_of.Goals as goal
 
 pub returns-clause-kind : goal.returns-clause-kind
 returns-clause-kind c =
     let table = c.subcommands in
-    ap (option_map kind_of_entry) c.first_of.ensures ∙ find_entry table.result.now c.args.word.now table.ensures.usages
+    ap (option_map kind_of_entry) c.first_of.ensures ∙ find_entry table.result.now c.args.word.now (of_table table.result.now table.ensures.usages)
     ∙ ap (λ (some : List CommandKind). find (λ kind. bytes_eq (usage_of kind).word c.args.word.now) some) table.ensures.kinds
 
 pub returns-clause-usage : goal.returns-clause-usage
 returns-clause-usage c =
     subst (λ (found : Option Subcommand). IfSome found IsOfTable) (sym c.first_of.ensures)
     (find_holds IsOfTable
-    (λ entry. bytes_eq entry.word.now c.args.word.now) c.subcommands.result.now c.subcommands.ensures.usages)
+    (λ entry. bytes_eq entry.word.now c.args.word.now) c.subcommands.result.now (of_table c.subcommands.result.now c.subcommands.ensures.usages))

@@ -1,0 +1,5 @@
+mod SimpleWalks
+mod ZoneSums
+mod ZoneCosts
+mod OspfBounds
+mod IsisBounds

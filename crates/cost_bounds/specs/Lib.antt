@@ -1,0 +1,2 @@
+pub mod OspfCosts
+pub mod IsisCosts
