@@ -77,9 +77,7 @@ fn made_pair(alloc: Global, name: &str) -> Result<Option<Vec<u8>>> {
         _ => None,
     };
     match ring {
-        Some(ring) => Ok(Some(
-            routers(alloc, &ring, 1, ring.routers)?.into_bytes(),
-        )),
+        Some(ring) => Ok(Some(routers(alloc, &ring, 1, ring.routers)?.into_bytes())),
         None => Ok(None),
     }
 }
