@@ -71,14 +71,20 @@ fn made_greatest(alloc: Global, name: &str) -> Result<Option<Vec<u8>>> {
 
 /// Those of a file of a network of OSPF alone, as it is old or as it is new.
 fn made_pair(alloc: Global, name: &str) -> Result<Option<Vec<u8>>> {
-    let ring = match name.split_once('-') {
-        Some(("made/old", rest)) => ring_of(rest, Processes::Ospf),
-        Some(("made/new", rest)) => ring_of(rest, Processes::NewOspf),
-        _ => None,
-    };
-    match ring {
+    match old_or_new(name) {
         Some(ring) => Ok(Some(routers(alloc, &ring, 1, ring.routers)?.into_bytes())),
         None => Ok(None),
+    }
+}
+
+/// The ring of OSPF alone of a file, None where there is none.
+fn old_or_new(name: &str) -> Option<Ring>
+    ensures { IfSome result (λ ring. ring.routers < 255) }
+{
+    match name.split_once('-')? {
+        ("made/old", rest) => ring_of(rest, Processes::Ospf),
+        ("made/new", rest) => ring_of(rest, Processes::NewOspf),
+        _ => None,
     }
 }
 
