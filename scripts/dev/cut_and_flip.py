@@ -57,6 +57,9 @@ NETWORK = (
 )
 LIMIT = rb"limit (?:files|total|routers|interfaces|prefixes) \d+\n|limit bytes FILE\n"
 LINE_REFUSED = rb"refused FILE \d+ " + KIND + rb"\n|" + NETWORK
+PAIR = rb"refused pair (?:RouterMissing|InterfacesDiffer|HasIsis|ProcessClash|NotIdle) " + NAME + rb"\n"
+PAIR_REFUSED = LINE_REFUSED + rb"|" + PAIR
+PAIR_SCRIPT = rb"(?:! \d+ " + NAME + rb"\n|! wave \d+\n|! end\n|router ospf \d+\n distance (?:115|255)\n)*"
 
 # What each command may print, by its status. FILE stands for the name of a file of the call.
 TEXTS = {
@@ -92,8 +95,12 @@ TEXTS = {
         5: LINE_REFUSED,
         6: LIMIT,
     },
+    "pairscripts": {0: PAIR_SCRIPT, 5: PAIR_REFUSED, 6: LIMIT},
     "sample": {0: SUMMARY, 2: rb"(?s:words refused\n.*)"},
 }
+
+for ours, theirs in (("plan", "pair"), ("check", "paircheck"), ("refute", "pairrefute")):
+    TEXTS[theirs] = {**TEXTS[ours], 5: PAIR_REFUSED}
 
 # Words that stand at the edge of what a line, an order, a tree or a design takes.
 ODD_WORDS = (
@@ -124,6 +131,11 @@ def calls_of_examples():
         ["refute", *example("square", "tree.txt", *square)],
         ["scripts", *example("triangle", "waves.txt", *triangle)],
         ["replay", *example("triangle", "waves.txt", "journal.txt", *triangle)],
+        ["pair", *example("redesign", "old.cfg", "new.cfg")],
+        ["pair", "--budget", "5", *example("redesign", "two-areas.cfg", "one-area.cfg")],
+        ["paircheck", *example("redesign", "waves.txt", "old.cfg", "new.cfg")],
+        ["pairrefute", *example("redesign", "tree.txt", "two-areas.cfg", "one-area.cfg")],
+        ["pairscripts", *example("redesign", "waves.txt", "old.cfg", "new.cfg")],
         ["sample", "12"],
     ]
 

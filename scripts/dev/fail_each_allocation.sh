@@ -137,11 +137,12 @@ numbers_to_refuse() {
 }
 
 # A ring of so many routers whose last link is dear for OSPF and whose middle one is dear for IS-IS, with IS-IS where `isis` is 1.
+# Where it is 2 the metrics are the costs of OSPF process 2, which installs nothing yet.
 ring() {
-    awk -v n="$1" -v isis="$2" '
+    awk -v n="$1" -v isis="$(($2 % 2))" -v new="$(($2 / 2))" '
         function end_of(number, link, address) {
             printf "interface GigabitEthernet0/%d\n ip address 10.1.%d.%d 255.255.255.252\n", number, link, address
-            printf " ip ospf cost %d\n", link == n ? 1000 : 1
+            printf " ip ospf cost %d\n", new ? (link == n / 2 ? 10000 : 10) : (link == n ? 1000 : 1)
             if (isis) printf " ip router isis\n isis metric %d\n", link == n / 2 ? 10000 : 10
         }
         BEGIN {
@@ -150,7 +151,8 @@ ring() {
                 if (isis) print " ip router isis"
                 end_of(0, i, 1)
                 end_of(1, i == 1 ? n : i - 1, 2)
-                print "router ospf 1\n network 10.0.0.0 0.255.255.255 area 0"
+                printf "router ospf %d\n network 10.0.0.0 0.255.255.255 area 0\n", new + 1
+                if (new) print " distance 255"
                 if (isis) printf "router isis\n net 49.0001.0000.0000.%04d.00\n", i
                 if (isis) print " is-type level-2-only\n metric-style wide\n distance 255"
                 print "end"
@@ -164,6 +166,7 @@ refuse_deepest() {
     cd "$work" || exit 2
     ring 200 1 >ring.cfg
     ring 200 0 >without_isis.cfg
+    ring 200 2 >new.cfg
     echo 'area = "49.0001"' >design.toml
     "$1" plan ring.cfg >waves.txt
     "$1" plan --budget 100 ring.cfg >tree.txt
@@ -174,6 +177,8 @@ refuse_deepest() {
     # shellcheck disable=SC2086
     for call in "check order.txt ring.cfg" "check waves.txt ring.cfg" "plan ring.cfg" "plan --budget 100 ring.cfg" \
         "refute tree.txt ring.cfg" "scripts waves.txt ring.cfg" "replay waves.txt journal.txt ring.cfg" \
+        "pair without_isis.cfg new.cfg" "pair --budget 100 without_isis.cfg new.cfg" "paircheck waves.txt without_isis.cfg new.cfg" \
+        "pairrefute tree.txt without_isis.cfg new.cfg" "pairscripts waves.txt without_isis.cfg new.cfg" \
         "prepare design.toml without_isis.cfg" "sample 60"; do
         refuse_each end_of_program "$1" $call || wrong=1
     done
@@ -189,6 +194,8 @@ refuse_each_command() {
     levels="levels/r1.cfg levels/r2.cfg levels/r3.cfg levels/r4.cfg"
     design=
     [ ! -f design/design.toml ] || design="design/design.toml design/r1.cfg design/r2.cfg design/r3.cfg"
+    pair="redesign/old.cfg redesign/new.cfg"
+    merged="redesign/two-areas.cfg redesign/one-area.cfg"
     wrong=0
     # The words have no blanks, so they may be split.
     # shellcheck disable=SC2086
@@ -197,7 +204,9 @@ refuse_each_command() {
         "refute square/tree.txt $square" "refute square/order.txt $square" "scripts triangle/waves.txt $triangle" \
         "replay triangle/waves.txt triangle/journal.txt $triangle" "replay triangle/waves.txt triangle/safe.txt $triangle" \
         "prepare $design" "prepare design/safe.txt design/r1.cfg" "plan $triangle" "plan $levels" "plan $square" \
-        "plan --budget 1 $square" "plan triangle/r1.cfg" "sample 3" "check" "explain a.cfg" "plan --budget 0 a.cfg" "--help"; do
+        "plan --budget 1 $square" "plan triangle/r1.cfg" \
+        "pair $pair" "pair $merged" "pair --budget 1 $merged" "pair redesign/old.cfg redesign/old.cfg" "paircheck redesign/waves.txt $pair" \
+        "pairrefute redesign/tree.txt $merged" "pairscripts redesign/waves.txt $pair" "sample 3" "check" "explain a.cfg" "plan --budget 0 a.cfg" "--help"; do
         refuse_each end_of_program "$1" $call || wrong=1
     done
     return $wrong

@@ -63,10 +63,49 @@ fn made_greatest(alloc: Global, name: &str) -> Result<Option<Vec<u8>>> {
         "made/unprepared-4.cfg" => quarter(alloc, &UNPREPARED, 3)?,
         _ => match number_in(name) {
             Some(i) => router(alloc, &RING_OF_200, i)?,
-            None => return Ok(None),
+            None => return made_pair(alloc, name),
         },
     };
     Ok(Some(text.into_bytes()))
+}
+
+/// Those of a file of a network of OSPF alone, as it is old or as it is new.
+fn made_pair(alloc: Global, name: &str) -> Result<Option<Vec<u8>>> {
+    match old_or_new(name) {
+        Some(ring) => Ok(Some(routers(alloc, &ring, 1, ring.routers)?.into_bytes())),
+        None => Ok(None),
+    }
+}
+
+/// The ring of OSPF alone of a file, None where there is none.
+fn old_or_new(name: &str) -> Option<Ring>
+    ensures { IfSome result (λ ring. ring.routers < 255) }
+{
+    match name.split_once('-')? {
+        ("made/old", rest) => ring_of(rest, Processes::Ospf),
+        ("made/new", rest) => ring_of(rest, Processes::NewOspf),
+        _ => None,
+    }
+}
+
+/// The ring of a file of this name, None where there is none.
+fn ring_of(name: &str, processes: Processes) -> Option<Ring>
+    ensures { IfSome result (λ ring. ring.routers < 255) }
+{
+    let (routers, more_loopbacks, ranges, has_twins) = match name {
+        "ring-of-20.cfg" => (20, 0, 0, false),
+        "ring-of-200.cfg" => (200, 0, 0, false),
+        "twins-of-200.cfg" => (200, 0, 0, true),
+        "greatest.cfg" => (200, 7, 2296, false),
+        _ => return None,
+    };
+    Some(Ring {
+        routers,
+        more_loopbacks,
+        ranges,
+        processes,
+        has_twins,
+    })
 }
 
 /// The number of the router of a name `made/Si.cfg`, from 1 to 200.
@@ -132,14 +171,26 @@ fn range_lines(alloc: Global, count: u32) -> Result<String> {
     Ok(text)
 }
 
+/// Which processes the routers of a ring have.
+#[derive(Clone, Copy)]
+enum Processes {
+    /// OSPF process 1.
+    Ospf,
+    /// OSPF process 2, which has the metrics of IS-IS as its costs, and installs nothing yet.
+    NewOspf,
+    /// OSPF process 1, and IS-IS, which installs nothing yet.
+    OspfAndIsis,
+}
+
 /// A ring of 3 to 254 routers, whose last link is dear for OSPF and whose middle one is dear for IS-IS.
+#[derive(Drop)]
 struct Ring {
     routers: u32,
     /// How many loopbacks a router has besides the first one, at most 9.
     more_loopbacks: u32,
     /// How many ranges the last router has, at most 65,536.
     ranges: u32,
-    runs_isis: bool,
+    processes: Processes,
     /// Whether the first router and the one before the middle link have one address besides, which is cheap for OSPF at the
     /// first one, and for IS-IS at the other.
     has_twins: bool,
@@ -149,7 +200,7 @@ const RING_OF_20: Ring = Ring {
     routers: 20,
     more_loopbacks: 0,
     ranges: 0,
-    runs_isis: true,
+    processes: Processes::OspfAndIsis,
     has_twins: false,
 };
 
@@ -157,7 +208,7 @@ const RING_OF_60: Ring = Ring {
     routers: 60,
     more_loopbacks: 0,
     ranges: 0,
-    runs_isis: true,
+    processes: Processes::OspfAndIsis,
     has_twins: false,
 };
 
@@ -165,7 +216,7 @@ const RING_OF_200: Ring = Ring {
     routers: 200,
     more_loopbacks: 0,
     ranges: 0,
-    runs_isis: true,
+    processes: Processes::OspfAndIsis,
     has_twins: false,
 };
 
@@ -173,7 +224,7 @@ const TWINS_OF_200: Ring = Ring {
     routers: 200,
     more_loopbacks: 0,
     ranges: 0,
-    runs_isis: true,
+    processes: Processes::OspfAndIsis,
     has_twins: true,
 };
 
@@ -183,7 +234,7 @@ const GREATEST: Ring = Ring {
     routers: 200,
     more_loopbacks: 7,
     ranges: 2296,
-    runs_isis: true,
+    processes: Processes::OspfAndIsis,
     has_twins: false,
 };
 
@@ -192,7 +243,7 @@ const UNPREPARED: Ring = Ring {
     routers: 200,
     more_loopbacks: 7,
     ranges: 2296,
-    runs_isis: false,
+    processes: Processes::Ospf,
     has_twins: false,
 };
 
@@ -234,13 +285,13 @@ fn router(alloc: Global, ring: &Ring, i: u32) -> Result<String>
     } else {
         String::new(alloc)
     };
-    let isis = if ring.runs_isis {
-        isis_lines(alloc, i)?
-    } else {
-        String::new(alloc)
+    let (process, last) = match ring.processes {
+        Processes::Ospf => (1, String::new(alloc)),
+        Processes::NewOspf => (2, String::from_str(alloc, " distance 255\n")?),
+        Processes::OspfAndIsis => (1, isis_lines(alloc, i)?),
     };
     Ok(format!(in alloc;
-        "hostname S{i:02}\n{loopbacks}{near}{far}router ospf 1\n network 10.0.0.0 0.255.255.255 area 0\n{ranges}{isis}end\n"
+        "hostname S{i:02}\n{loopbacks}{near}{far}router ospf {process}\n network 10.0.0.0 0.255.255.255 area 0\n{ranges}{last}end\n"
     )?)
 }
 
@@ -255,10 +306,9 @@ fn isis_lines(alloc: Global, i: u32) -> Result<String> {
 fn loopbacks_in_ring(alloc: Global, ring: &Ring, i: u32) -> Result<String>
     requires { ring.now.routers < 255 }
 {
-    let isis = if ring.runs_isis {
-        " ip router isis\n"
-    } else {
-        ""
+    let isis = match ring.processes {
+        Processes::OspfAndIsis => " ip router isis\n",
+        _ => "",
     };
     let mut text = format!(in alloc;
         "interface Loopback0\n ip address 10.0.0.{i} 255.255.255.255\n{isis}"
@@ -270,41 +320,40 @@ fn loopbacks_in_ring(alloc: Global, ring: &Ring, i: u32) -> Result<String>
         text.push_str(lines.as_str())?;
     }
     if ring.has_twins && i == 1 {
-        text.push_str(FIRST_TWIN)?;
+        let twin = twin(alloc, ring, 1, 10_000)?;
+        text.push_str(twin.as_str())?;
     }
     if ring.has_twins && i == ring.routers / 2 {
-        text.push_str(SECOND_TWIN)?;
+        let twin = twin(alloc, ring, 1000, 10)?;
+        text.push_str(twin.as_str())?;
     }
     Ok(text)
 }
 
-/// The address of two routers at the first of them.
-const FIRST_TWIN: &str = "interface Loopback1
- ip address 10.0.1.0 255.255.255.255
- ip ospf cost 1
- ip router isis
- isis metric 10000
-";
+/// The address of two routers at one of them, with its cost and its metric there.
+fn twin(alloc: Global, ring: &Ring, cost: u32, metric: u32) -> Result<String> {
+    let running = running_lines(alloc, ring, cost, metric)?;
+    Ok(format!(in alloc; "interface Loopback1\n ip address 10.0.1.0 255.255.255.255\n{running}")?)
+}
 
-/// The same at the other one.
-const SECOND_TWIN: &str = "interface Loopback1
- ip address 10.0.1.0 255.255.255.255
- ip ospf cost 1000
- ip router isis
- isis metric 10
-";
+/// The lines of an interface that runs the processes of a ring, with its cost and its metric.
+fn running_lines(alloc: Global, ring: &Ring, cost: u32, metric: u32) -> Result<String> {
+    Ok(match ring.processes {
+        Processes::Ospf => format!(in alloc; " ip ospf cost {cost}\n")?,
+        Processes::NewOspf => format!(in alloc; " ip ospf cost {metric}\n")?,
+        Processes::OspfAndIsis => format!(in alloc;
+            " ip ospf cost {cost}\n ip router isis\n isis metric {metric}\n"
+        )?,
+    })
+}
 
 /// The interface of this number at an end of a link of the ring, which has this address of the link's subnet.
 fn end_of_link(alloc: Global, ring: &Ring, number: u32, link: u32, address: u32) -> Result<String> {
     let cost = if link == ring.routers { 1000 } else { 1 };
     let metric = if link == ring.routers / 2 { 10_000 } else { 10 };
-    let isis = if ring.runs_isis {
-        format!(in alloc; " ip router isis\n isis metric {metric}\n")?
-    } else {
-        String::new(alloc)
-    };
+    let running = running_lines(alloc, ring, cost, metric)?;
     Ok(format!(in alloc;
-        "interface GigabitEthernet0/{number}\n ip address 10.1.{link}.{address} 255.255.255.252\n ip ospf cost {cost}\n{isis}"
+        "interface GigabitEthernet0/{number}\n ip address 10.1.{link}.{address} 255.255.255.252\n{running}"
     )?)
 }
 
