@@ -13,7 +13,7 @@ use Rattle.design_file.specs.Designs.{each_said}
 use Rattle.design_file.proofs.NetworkLookups.{same_text, text_is}
 use Rattle.design_file.proofs.MetricTables.{AllMembers}
 use Rattle.design_writer.specs.CostDesigns.{has_cost}
-use Rattle.design_writer.specs.steps.CostTables.{cost_data, put_member, router_data, with_interface, with_interfaces, with_routers}
+use Rattle.design_writer.specs.steps.CostTables.{cost_data, put_member, router_data, with_cost, with_interfaces, with_routers}
 use Rattle.design_writer.proofs.MemberPuts.{found, passed, put_elsewhere, put_here}
 
 -- ---- what is said of a name ----
@@ -55,7 +55,7 @@ said_from P says (member word value more) all x among = elim (Contains-cases (sa
 abbrev pub AreNamedApart : List Interface → Type 0
 AreNamedApart interfaces = AllPairs (λ (i j : Interface). i.name ≢ j.name) interfaces
 
-at_other : (k : Word) (i : Interface) (ms : Members) → k ≢ i.name → get_member k (with_interface i ms) ≡ get_member k ms
+at_other : (k : Word) (i : Interface) (ms : Members) → k ≢ i.name → get_member k (with_cost i ms) ≡ get_member k ms
 at_other k i ms apart = by (has_cost i)
   where
     by : (b : Bool) → get_member k (cond b (put_member i.name (cost_data i.cost) ms) ms) ≡ get_member k ms
@@ -66,7 +66,7 @@ at_none : (k : Word) (interfaces : List Interface) (ms : Members) → ((i : Inte
     get_member k (with_interfaces ms interfaces) ≡ get_member k ms
 at_none k [] ms apart = refl
 at_none k (i ∷ interfaces) ms apart =
-    at_none k interfaces (with_interface i ms) (λ j among. apart j (Contains-rest i interfaces j among)) ∙ at_other k i ms (apart i (Contains-first i interfaces))
+    at_none k interfaces (with_cost i ms) (λ j among. apart j (Contains-rest i interfaces j among)) ∙ at_other k i ms (apart i (Contains-first i interfaces))
 
 first_apart : (i : Interface) (interfaces : List Interface) → AreNamedApart (i ∷ interfaces) → (j : Interface) → Contains interfaces j → i.name ≢ j.name
 first_apart i interfaces apart j among =
@@ -82,10 +82,10 @@ pub at_interface : (interfaces : List Interface) (ms : Members) → AreNamedApar
 at_interface [] ms apart none i among = absurd (Contains-none i among)
 at_interface (j ∷ interfaces) ms apart none i among = elim (Contains-cases j interfaces i among) [
   | inl here ↦
-      subst (λ (k : Interface). get_member k.name (with_interfaces (with_interface j ms) interfaces) ≡ cond (has_cost k) (Some (cost_data k.cost)) None) here
-      (at_none j.name interfaces (with_interface j ms) (first_apart j interfaces apart) ∙ by (has_cost j))
+      subst (λ (k : Interface). get_member k.name (with_interfaces (with_cost j ms) interfaces) ≡ cond (has_cost k) (Some (cost_data k.cost)) None) here
+      (at_none j.name interfaces (with_cost j ms) (first_apart j interfaces apart) ∙ by (has_cost j))
   | inr rest ↦
-      at_interface interfaces (with_interface j ms) (rest_apart j interfaces apart)
+      at_interface interfaces (with_cost j ms) (rest_apart j interfaces apart)
       (λ k inside. at_other k.name j ms (λ same. first_apart j interfaces apart k inside (sym same)) ∙ none k (Contains-rest j interfaces k inside)) i rest
 ]
   where

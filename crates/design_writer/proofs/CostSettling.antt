@@ -28,7 +28,7 @@ use Rattle.design_file.specs.declared.settled.SettledInterface.{SettledInterface
 use Rattle.design_file.specs.declared.settled.SettledRouter.{SettledRouter}
 use Rattle.design_file.proofs.MetricTables.{AllMembers, metric_is}
 use Rattle.design_writer.specs.CostDesigns.{has_cost, interface_by_cost, router_by_costs, settled_by_costs}
-use Rattle.design_writer.specs.steps.CostTables.{cost_data, document_by_costs, level_word, router_data, with_interfaces, with_routers}
+use Rattle.design_writer.specs.steps.CostTables.{cost_data, document_by_costs, level_text, router_data, with_interfaces, with_routers}
 use Rattle.design_writer.proofs.CostLookups.{AreRoutersApart, at_interface, at_router, find_said, said_from}
 use Rattle.design_writer.proofs.CostTables.{cost_is_metric, interfaces_hold, routers_hold}
 
@@ -37,7 +37,7 @@ abbrev pub design_by_costs : Word → Levels → Network → Design
 design_by_costs area levels net =
     record { area = area; levels = levels; metric = DEFAULT_METRIC; routers = routers_said (with_routers no_members net) }
 
-levels_said : (levels : Levels) → levels_named (level_word levels) ≡ Some levels
+levels_said : (levels : Levels) → levels_named (level_text levels) ≡ Some levels
 levels_said One = refl
 levels_said Both = refl
 levels_said Two = refl

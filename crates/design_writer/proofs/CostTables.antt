@@ -14,7 +14,7 @@ use Rattle.toml.specs.Data.{Data, Members, depth, has_valid_dates, member, membe
 use Rattle.design_file.specs.Designs.{IsMetric}
 use Rattle.design_file.specs.Values.{levels_named}
 use Rattle.design_writer.specs.CostDesigns.{has_cost}
-use Rattle.design_writer.specs.steps.CostTables.{cost_data, document_by_costs, level_word, put_member, router_data, with_interface, with_interfaces, with_routers}
+use Rattle.design_writer.specs.steps.CostTables.{cost_data, document_by_costs, level_text, put_member, router_data, with_cost, with_interfaces, with_routers}
 use Rattle.design_file.proofs.MetricTables.{AllMembers, IsMetricTable, IsMetricsTable}
 use Rattle.design_writer.proofs.MemberPuts.{put_all_hold}
 
@@ -29,7 +29,7 @@ pub interfaces_hold : (P : Word → Data → Type 0) (interfaces : List Interfac
     AllMembers P (with_interfaces ms interfaces)
 interfaces_hold P [] ms each all = all
 interfaces_hold P (i ∷ interfaces) ms each all =
-    interfaces_hold P interfaces (with_interface i ms) (λ j c. each j (Contains-rest i interfaces j c)) (here (has_cost i) refl)
+    interfaces_hold P interfaces (with_cost i ms) (λ j c. each j (Contains-rest i interfaces j c)) (here (has_cost i) refl)
   where
     here : (b : Bool) → has_cost i ≡ b → AllMembers P (cond b (put_member i.name (cost_data i.cost) ms) ms)
     here true costs = put_all_hold P i.name (cost_data i.cost) ms (each i (Contains-first i interfaces) costs) all
@@ -55,7 +55,7 @@ pub router_tables : (net : Network) → ((c : Configuration) → Contains net c 
 router_tables net are = routers_hold (λ _ its. IsMetricsTable its) net no_members (λ c among. router_table c (are c among)) tt
 
 -- the word for some levels says some
-pub levels_fine : (levels : Levels) → is_some (levels_named (level_word levels)) ≡ true
+pub levels_fine : (levels : Levels) → is_some (levels_named (level_text levels)) ≡ true
 levels_fine One = refl
 levels_fine Both = refl
 levels_fine Two = refl

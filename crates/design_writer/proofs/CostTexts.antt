@@ -12,7 +12,7 @@ use Rattle.toml.specs.Parse.{parse_document}
 use Rattle.design_file.specs.Values.{is_area}
 use Rattle.design_file.proofs.MetricTables.{metrics_say}
 use Rattle.design_writer.specs.CostDesigns.{IsDesignByCosts}
-use Rattle.design_writer.specs.steps.CostTables.{document_by_costs, level_word, with_routers}
+use Rattle.design_writer.specs.steps.CostTables.{document_by_costs, level_text, with_routers}
 use Rattle.design_writer.proofs.CostTables.{levels_fine, router_tables}
 use Rattle.design_writer.proofs.CostSettling.{all_settled, design_by_costs, faultless, is_design}
 
@@ -20,7 +20,7 @@ pub is_design_text : (area : Word) (levels : Levels) (net : Network) (text : Lis
     parse_document text ≡ Some (document_by_costs area levels net) → IsDesignByCosts area levels net text
 is_design_text area levels net text network is utf8 parsed = record {
   design = design_by_costs area levels net;
-  says = metrics_say text area (level_word levels) (with_routers no_members net) (design_by_costs area levels net) is (levels_fine levels)
+  says = metrics_say text area (level_text levels) (with_routers no_members net) (design_by_costs area levels net) is (levels_fine levels)
       (router_tables net (λ c among. All-contains IsConfiguration net c network.configurations among)) (record { utf8 = utf8; parsed = parsed })
       (is_design area levels net network is);
   settles = λ none. record { faultless = faultless area levels net network none; is_settled = sym (all_settled area levels net network) };

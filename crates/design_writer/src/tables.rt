@@ -3,8 +3,8 @@ ghost use Rattle.net_model.specs.Refusals.{IsNetwork};
 ghost use Rattle.toml.specs.Data.{no_members};
 ghost use Rattle.toml.specs.View.{table_view, view};
 ghost use Rattle.design_writer.specs.CostDesigns.{AreTextNames, IsTextNamed};
-ghost use Rattle.design_writer.specs.steps.CostTables.{document_by_costs, level_word, put_member, router_data};
-ghost use Rattle.design_writer.specs.steps.CostTables.{with_interface, with_interfaces, with_routers};
+ghost use Rattle.design_writer.specs.steps.CostTables.{document_by_costs, level_text, put_member, router_data};
+ghost use Rattle.design_writer.specs.steps.CostTables.{with_cost, with_interfaces, with_routers};
 
 use crate::OutOfMemory;
 use net_model::{Config, Interface, Levels, Net};
@@ -28,7 +28,7 @@ pub(crate) fn document(
         alloc,
         &mut table,
         "level",
-        Value::string(alloc, level_word(levels))?,
+        Value::string(alloc, level_text(levels))?,
     )?;
     put(
         alloc,
@@ -40,8 +40,8 @@ pub(crate) fn document(
 }
 
 /// The word for some levels in a design.
-fn level_word(levels: Levels) -> &'static str
-    ensures { result.now ≡ level_word levels }
+fn level_text(levels: Levels) -> &'static str
+    ensures { result.now ≡ level_text levels }
 {
     match levels {
         Levels::One => "1",
@@ -103,7 +103,7 @@ fn interfaces_table(alloc: Global, interfaces: &[Interface]) -> Result<Table, Ou
 /// Adds the table of an interface, if it has a cost.
 fn add_interface(alloc: Global, table: &mut Table, interface: &Interface) -> Result<(), OutOfMemory>
     requires { IsUtf8 interface.now.name }
-    ensures { OnOk result (table_view table.new ≡ with_interface interface.now (table_view table.old)) }
+    ensures { OnOk result (table_view table.new ≡ with_cost interface.now (table_view table.old)) }
 {
     if interface.subnet.is_none() || interface.area.is_none() {
         return Ok(());

@@ -16,12 +16,12 @@ use Rattle.igp_theory.proofs.OrderedLists.{pairs_append, pairs_first, pairs_none
 use Rattle.printed_lines.specs.Texts.{text_of}
 use Rattle.printed_lines.proofs.TextSteps.{last_line, text_of-append}
 use Rattle.shown_tables.specs.EntryLines.{shown_line}
-use Rattle.shown_tables.specs.ShownEntries.{IsBlockBefore, ShownEntry, StandsBefore, by_router, by_igp, by_dest, igp_place}
+use Rattle.shown_tables.specs.ShownEntries.{IsBlockBefore, ShownEntry, IsShownBefore, by_router, by_igp, by_dest, igp_place}
 use Rattle.shown_tables.specs.ShownEntries.{tables_by}
 use Rattle.shown_tables.specs.TablesTexts.{HasOneTablesText, IsTablesText, SameTablesText, shown_text}
 use Rattle.shown_tables.specs.declared.igp.Igp.{Igp}
 use Rattle.shown_tables.specs.declared.igp.Igp.TheVariants.{Ospf, Isis}
-use Rattle.shown_tables.specs.steps.Shown.{IsBelow, IsOfRouter, IsOfTable, Shows}
+use Rattle.shown_tables.specs.steps.Shown.{IsOfRouterBelow, IsOfRouter, IsOfShownTable, Shows}
 
 -- ---- one list ----
 
@@ -30,7 +30,7 @@ not_before_itself : (p : Block) → IsBlockBefore p p → ⊥
 not_before_itself p (inl b) = omega arith
 not_before_itself p (inr b) = let l = b.1 in omega (arith, l)
 
-irreflexive : (x : ShownEntry) → StandsBefore x x → ⊥
+irreflexive : (x : ShownEntry) → IsShownBefore x x → ⊥
 irreflexive x (by_router l) = omega arith
 irreflexive x (by_igp _ l) = omega arith
 irreflexive x (by_dest _ _ l) = not_before_itself x.dest l
@@ -41,7 +41,7 @@ blocks_transitive p q r (inl a) (inr b) = let e = b.0 in inl (omega (arith, e))
 blocks_transitive p q r (inr a) (inl b) = let e = a.0 in inl (omega (arith, e))
 blocks_transitive p q r (inr a) (inr b) = let l = a.1 in let m = b.1 in inr (a.0 ∙ b.0, omega (arith, l, m))
 
-transitive : (x y z : ShownEntry) → StandsBefore x y → StandsBefore y z → StandsBefore x z
+transitive : (x y z : ShownEntry) → IsShownBefore x y → IsShownBefore y z → IsShownBefore x z
 transitive x y z (by_router a) (by_router b) = by_router (omega arith)
 transitive x y z (by_router a) (by_igp e b) = by_router (omega arith)
 transitive x y z (by_router a) (by_dest e f b) = by_router (omega arith)
@@ -53,36 +53,36 @@ transitive x y z (by_dest c d a) (by_igp e b) = let g = ap igp_place d in by_igp
 transitive x y z (by_dest c d a) (by_dest e f b) = by_dest (c ∙ e) (d ∙ f) (blocks_transitive x.dest y.dest z.dest a b)
 
 -- lists in order with the same elements begin alike
-same_first : (x : ShownEntry) (xs : List ShownEntry) (y : ShownEntry) (ys : List ShownEntry) → AllPairs StandsBefore (x ∷ xs) →
-    AllPairs StandsBefore (y ∷ ys) → Contains (y ∷ ys) x → Contains (x ∷ xs) y → x ≡ y
+same_first : (x : ShownEntry) (xs : List ShownEntry) (y : ShownEntry) (ys : List ShownEntry) → AllPairs IsShownBefore (x ∷ xs) →
+    AllPairs IsShownBefore (y ∷ ys) → Contains (y ∷ ys) x → Contains (x ∷ xs) y → x ≡ y
 same_first x xs y ys one other into back = elim (Contains-cases y ys x into) [
   | inl same ↦ sym same
   | inr behind ↦ elim (Contains-cases x xs y back) [
     | inl same ↦ same
     | inr after ↦
-        absurd (irreflexive x (transitive x y x (pairs_first StandsBefore x xs one y after)
-        (pairs_first StandsBefore y ys other x behind)))
+        absurd (irreflexive x (transitive x y x (pairs_first IsShownBefore x xs one y after)
+        (pairs_first IsShownBefore y ys other x behind)))
   ]
 ]
 
-in_rest : (x : ShownEntry) (xs : List ShownEntry) (y : ShownEntry) (ys : List ShownEntry) → AllPairs StandsBefore (x ∷ xs) →
+in_rest : (x : ShownEntry) (xs : List ShownEntry) (y : ShownEntry) (ys : List ShownEntry) → AllPairs IsShownBefore (x ∷ xs) →
     x ≡ y →
     ((z : ShownEntry) → Contains (x ∷ xs) z → Contains (y ∷ ys) z) → (z : ShownEntry) → Contains xs z → Contains ys z
 in_rest x xs y ys one begins over z inside =
-    let before = pairs_first StandsBefore x xs one z inside in
+    let before = pairs_first IsShownBefore x xs one z inside in
     elim (Contains-cases y ys z (over z (Rattle.net_model.proofs.Members.Contains-rest x xs z inside))) [
-      | inl same ↦ absurd (irreflexive z (subst (λ w. StandsBefore w z) (begins ∙ same) before))
+      | inl same ↦ absurd (irreflexive z (subst (λ w. IsShownBefore w z) (begins ∙ same) before))
       | inr rest ↦ rest
     ]
 
-same_in_order : (xs ys : List ShownEntry) → AllPairs StandsBefore xs → AllPairs StandsBefore ys →
+same_in_order : (xs ys : List ShownEntry) → AllPairs IsShownBefore xs → AllPairs IsShownBefore ys →
     ((z : ShownEntry) → Contains xs z → Contains ys z) → ((z : ShownEntry) → Contains ys z → Contains xs z) → xs ≡ ys
 same_in_order [] [] one other into back = refl
 same_in_order [] (y ∷ ys) one other into back = absurd (Contains-none y (back y (Contains-first y ys)))
 same_in_order (x ∷ xs) [] one other into back = absurd (Contains-none x (into x (Contains-first x xs)))
 same_in_order (x ∷ xs) (y ∷ ys) one other into back =
     let begins = same_first x xs y ys one other (into x (Contains-first x xs)) (back y (Contains-first y ys)) in
-    let rest : xs ≡ ys = same_in_order xs ys (pairs_rest StandsBefore x xs one) (pairs_rest StandsBefore y ys other)
+    let rest : xs ≡ ys = same_in_order xs ys (pairs_rest IsShownBefore x xs one) (pairs_rest IsShownBefore y ys other)
     (in_rest x xs y ys one begins into) (in_rest y ys x xs other (sym begins) back) in
     cc
 
@@ -143,7 +143,7 @@ shown_more names done x text before line longer before_is line_is longer_is =
 -- what is shown before and after
 shows_both : {names : List (List ℕ)} {P Q R : ShownEntry → Type 0} {text mid longer : List ℕ} → Shows names P text mid →
     Shows names Q mid longer →
-    ((x y : ShownEntry) → P x → Q y → StandsBefore x y) → ((x : ShownEntry) → R x → P x ⊎ Q x) → ((x : ShownEntry) → P x → R x) →
+    ((x y : ShownEntry) → P x → Q y → IsShownBefore x y) → ((x : ShownEntry) → R x → P x ⊎ Q x) → ((x : ShownEntry) → P x → R x) →
     ((x : ShownEntry) → Q x → R x) → Shows names R text longer
 shows_both {names} {text} one other across parts left right = record {
   all = one.all ++ other.all;
@@ -154,7 +154,7 @@ shows_both {names} {text} one other across parts left right = record {
       λ r. ⊎_elim (λ p. Contains-append_left one.all other.all x ((one.in_order.exact x).1 p))
           (λ q. Contains-append_right one.all other.all x ((other.in_order.exact x).1 q)) (parts x r),
     );
-    ascending = pairs_append StandsBefore one.all other.all one.in_order.ascending other.in_order.ascending
+    ascending = pairs_append IsShownBefore one.all other.all one.in_order.ascending other.in_order.ascending
         (λ x y l r. across x y ((one.in_order.exact x).0 l) ((other.in_order.exact y).0 r));
   };
   longer_is = other.longer_is ∙ ap (λ t. t ++ shown_text names other.all) one.longer_is
@@ -163,12 +163,12 @@ shows_both {names} {text} one other across parts left right = record {
 }
 
 -- no entry
-pub shows_none : (names : List (List ℕ)) (move : Migration) → Shows names (IsBelow move 0) [] []
+pub shows_none : (names : List (List ℕ)) (move : Migration) → Shows names (IsOfRouterBelow move 0) [] []
 shows_none names move = record {
   all = [];
   in_order = record {
     exact = λ x. (λ inside. absurd (Contains-none x inside), λ h. let l = h.below in absurd (omega (arith, l)));
-    ascending = pairs_none StandsBefore;
+    ascending = pairs_none IsShownBefore;
   };
   longer_is = refl;
 }
@@ -178,7 +178,7 @@ pub shows_router : {names : List (List ℕ)} (move : Migration) (u : ℕ) (old n
     (Block × Entry)) {text mid longer : List ℕ} →
     ((p : Block) (e : Entry) → move.old u p e ↔ Contains old (p, e)) → ((p : Block) (e : Entry) →
     move.new u p e ↔ Contains new (p, e)) →
-    Shows names (IsOfTable u Ospf old) text mid → Shows names (IsOfTable u Isis new) mid longer →
+    Shows names (IsOfShownTable u Ospf old) text mid → Shows names (IsOfShownTable u Isis new) mid longer →
     Shows names (IsOfRouter move u) text longer
 shows_router {names} move u old new olds news one other =
     shows_both one other
@@ -189,7 +189,7 @@ shows_router {names} move u old new olds news one other =
     (λ x r. record { router_is = r.router_is; entry = of_new x (sym r.igp_is) (sym r.router_is) r.among })
   where
     parts : (x : ShownEntry) (igp : Igp) → x.igp ≡ igp → x.router ≡ u → tables_by move igp x.router x.dest x.entry →
-        IsOfTable u Ospf old x ⊎ IsOfTable u Isis new x
+        IsOfShownTable u Ospf old x ⊎ IsOfShownTable u Isis new x
     parts x Ospf is at has =
         inl (record {
           router_is = at;
@@ -219,8 +219,8 @@ shows_router {names} move u old new olds news one other =
 
 -- one router more
 pub shows_more : {names : List (List ℕ)} (move : Migration) (u : ℕ) {text mid longer : List ℕ} →
-    Shows names (IsBelow move u) text mid →
-    Shows names (IsOfRouter move u) mid longer → Shows names (IsBelow move (u + 1)) text longer
+    Shows names (IsOfRouterBelow move u) text mid →
+    Shows names (IsOfRouter move u) mid longer → Shows names (IsOfRouterBelow move (u + 1)) text longer
 shows_more move u one other =
     shows_both one other
     (λ x y l r. let a = l.below in let b = r.router_is in by_router (omega (arith, a, b)))
@@ -233,7 +233,7 @@ shows_more move u one other =
     (λ x l. let a = l.below in record { below = omega (arith, a); entry = l.entry })
     (λ x r. let a = r.router_is in record { below = omega (arith, a); entry = r.entry })
 
-pub all_shown : (move : Migration) (text : List ℕ) → Shows (names_of move.net) (IsBelow move (length move.net)) [] text →
+pub all_shown : (move : Migration) (text : List ℕ) → Shows (names_of move.net) (IsOfRouterBelow move (length move.net)) [] text →
     IsTablesText move text
 all_shown move text one = record {
   all = one.all;

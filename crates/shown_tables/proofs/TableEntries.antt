@@ -14,11 +14,11 @@ use Rattle.route_core.specs.declared.entry.Entry.{Entry}
 use Rattle.route_core.specs.declared.entry.Entry.TheVariants.{Via, Discard}
 use Rattle.route_core.proofs.RowLaws.{table_rows}
 use Rattle.igp_theory.proofs.OrderedLists.{pairs_first, pairs_more, pairs_none, pairs_rest}
-use Rattle.shown_tables.specs.ShownEntries.{AreInOrder, IsBlockBefore, ShownEntry, StandsBefore, by_dest}
+use Rattle.shown_tables.specs.ShownEntries.{AreInShownOrder, IsBlockBefore, ShownEntry, IsShownBefore, by_dest}
 use Rattle.shown_tables.specs.declared.ascending.Numbered.{Numbered}
 use Rattle.shown_tables.specs.declared.igp.Igp.{Igp}
 use Rattle.shown_tables.specs.steps.Numbered.{AreOfTable, HaveEntries, entry_of, numbered_row, shown_as}
-use Rattle.shown_tables.specs.steps.Shown.{AreHopsBelow, HaveHopsBelow, IsOfTable}
+use Rattle.shown_tables.specs.steps.Shown.{AreHopsBelow, HaveHopsBelow, IsOfShownTable}
 
 -- ---- pairs of a mapped list ----
 
@@ -72,7 +72,7 @@ module _ (kept : KeptTable) (is_table : IsTable kept) where
 
 module _ (kept : KeptTable) (all : List Numbered) (of_table : AreOfTable kept all) where
   pub shown_in_order : (u : ℕ) (igp : Igp) → AllPairs (λ (one other : Numbered). IsBlockBefore one.dest other.dest) all →
-      AreInOrder (IsOfTable u igp (listed kept)) (map (shown_as u igp kept.entries) all)
+      AreInShownOrder (IsOfShownTable u igp (listed kept)) (map (shown_as u igp kept.entries) all)
   shown_in_order u igp ascending = record {
     exact = λ x. (
       λ inside.
@@ -90,7 +90,7 @@ module _ (kept : KeptTable) (all : List Numbered) (of_table : AreOfTable kept al
           (λ i. record { router = sym h.router_is i; igp = sym h.igp_is i; dest = (one.gives i).0; entry = (one.gives i).1 })
           (Contains-in_map (shown_as u igp kept.entries) all one.item one.among),
     );
-    ascending = pairs_map StandsBefore (shown_as u igp kept.entries) all (λ i j d l h. by_dest refl refl (ascending i j d l h));
+    ascending = pairs_map IsShownBefore (shown_as u igp kept.entries) all (λ i j d l h. by_dest refl refl (ascending i j d l h));
   }
 
   -- the entry of a number is one of the table

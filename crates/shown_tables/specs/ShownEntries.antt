@@ -25,10 +25,10 @@ IsBlockBefore p q = (p.base < q.base) ⊎ ((p.base ≡ q.base) × (p.len < q.len
 
 -- an entry stands before another one: by its router, which are numbered in byte order of their names, then by its protocol, then
 -- by its prefix
-pub data StandsBefore (one other : ShownEntry) : Type 0 where
-  by_router : one.router < other.router → StandsBefore one other
-  by_igp : one.router ≡ other.router → igp_place one.igp < igp_place other.igp → StandsBefore one other
-  by_dest : one.router ≡ other.router → one.igp ≡ other.igp → IsBlockBefore one.dest other.dest → StandsBefore one other
+pub data IsShownBefore (one other : ShownEntry) : Type 0 where
+  by_router : one.router < other.router → IsShownBefore one other
+  by_igp : one.router ≡ other.router → igp_place one.igp < igp_place other.igp → IsShownBefore one other
+  by_dest : one.router ≡ other.router → one.igp ≡ other.igp → IsBlockBefore one.dest other.dest → IsShownBefore one other
 
 -- the tables of a protocol: OSPF's are the old ones of the migration, IS-IS' the new ones
 abbrev pub tables_by : Migration → Igp → Tables
@@ -41,6 +41,6 @@ pub record IsHad (move : Migration) (one : ShownEntry) : Type 0 where
   pub entry : tables_by move one.igp one.router one.dest one.entry
 
 -- the entries of which P holds, each once and in their order
-pub record AreInOrder (P : ShownEntry → Type 0) (all : List ShownEntry) : Type 0 where
+pub record AreInShownOrder (P : ShownEntry → Type 0) (all : List ShownEntry) : Type 0 where
   pub exact : (one : ShownEntry) → Contains all one ↔ P one
-  pub ascending : AllPairs StandsBefore all
+  pub ascending : AllPairs IsShownBefore all

@@ -6,7 +6,7 @@ use Rattle.igp_theory.specs.Laws.{HaveSameTables}
 use Rattle.igp_theory.specs.Migrations.{Migration, retabled}
 use Rattle.igp_theory.specs.Routes.{Tables}
 use Rattle.shown_tables.specs.EntryLines.{shown_line}
-use Rattle.shown_tables.specs.ShownEntries.{AreInOrder, IsHad, ShownEntry}
+use Rattle.shown_tables.specs.ShownEntries.{AreInShownOrder, IsHad, ShownEntry}
 
 -- the text of some entries, where these are the names of the routers
 abbrev pub shown_text : List (List ℕ) → List ShownEntry → List ℕ
@@ -15,7 +15,7 @@ shown_text names all = text_of (map (shown_line names) all)
 -- the text of the tables: a line for each entry that a router has, in their order
 pub record IsTablesText (move : Migration) (text : List ℕ) : Type 0 where
   pub all : List ShownEntry
-  pub in_order : AreInOrder (IsHad move) all
+  pub in_order : AreInShownOrder (IsHad move) all
   pub text_is : text ≡ shown_text (names_of move.net) all
 
 -- there is one text

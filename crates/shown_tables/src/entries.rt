@@ -3,7 +3,7 @@ ghost use Rattle.net_model.specs.RouterNames.{names_of};
 ghost use Rattle.printed_lines.specs.Words.{router_word, spaced};
 ghost use Rattle.route_core.specs.Rows.{listed};
 ghost use Rattle.shown_tables.specs.EntryLines.{hop_words, shown_line};
-ghost use Rattle.shown_tables.specs.steps.Shown.{AreHopsBelow, HaveHopsBelow, IsOfTable, Shows};
+ghost use Rattle.shown_tables.specs.steps.Shown.{AreHopsBelow, HaveHopsBelow, IsOfShownTable, Shows};
 
 use crate::ascending::ascending;
 use crate::igp::Igp;
@@ -31,7 +31,7 @@ pub(crate) fn with_table(
     requires router { owner.router < length owner.net.now }
     requires hops { HaveHopsBelow (length owner.net.now) (listed table.now) }
     ensures { IfOk result (λ longer. Shows (names_of owner.entry.net.now)
-        (IsOfTable owner.entry.router owner.entry.igp (listed table.now)) text longer) }
+        (IsOfShownTable owner.entry.router owner.entry.igp (listed table.now)) text longer) }
 {
     let parts = table.parts();
     let all = ascending(alloc, parts)?;

@@ -2,7 +2,7 @@ ghost use Rattle.std.specs.Prelude.{◌≡◌, ◌<◌, ◌≤◌, ℕ, IfOk, le
 ghost use Rattle.net_model.specs.RouterNames.{names_of};
 ghost use Rattle.igp_theory.specs.Migrations.{listed_migration};
 ghost use Rattle.shown_tables.specs.TablesTexts.{IsTablesText};
-ghost use Rattle.shown_tables.specs.steps.Shown.{IsOfRouter, IsOfTable, Shows};
+ghost use Rattle.shown_tables.specs.steps.Shown.{IsOfRouter, IsOfShownTable, Shows};
 
 use crate::entries::{Owner, with_table};
 use crate::igp::Igp;
@@ -84,7 +84,7 @@ fn with_source<S: RouteSource>(
     requires router { owner.router < length owner.net.now }
     requires routers { S.routers source.now ≡ length owner.net.now }
     ensures { IfOk result (λ longer. Shows (names_of owner.entry.net.now)
-        (IsOfTable owner.entry.router owner.entry.igp (S.table source.now owner.entry.router)) text longer) }
+        (IsOfShownTable owner.entry.router owner.entry.igp (S.table source.now owner.entry.router)) text longer) }
 {
     let _ = source.routers();
     with_table(alloc, text, owner, source.table(owner.router))

@@ -17,7 +17,7 @@ use Rattle.step_scripts.specs.WavesTexts.{waves_in}
 use Rattle.step_scripts.proofs.TextFacts.{wave_there, waves_long}
 use Rattle.step_scripts.proofs.WaveLists.{in_all}
 use Rattle.split_waves.specs.Cuts.{AreSmallerWaves, CutsRefine, cut_waves, cuts_of}
-use Rattle.split_waves.specs.steps.Seats.{AreSeated, AreSplit, cuts_before, seating}
+use Rattle.split_waves.specs.steps.Seats.{AreRankedByCuts, AreSplit, cuts_before, seating}
 use Rattle.split_waves.proofs.Cuts.{are_cuts, cut_ascends, cut_place, cut_there, cuts_long, few_cuts, whole}
 use Rattle.split_waves.proofs.DistinctWaves.{AreDistinctWaves, ranking, waves_are}
 
@@ -146,7 +146,7 @@ module _ (most : ℕ) (ranks : List ℕ) (some : 0 < most) where
   split_none = record { each = refl; counted = refl; few = omega arith; seats = λ k u c. absurd (Contains-none u c) }
 
   module _ (w count : ℕ) (split after : List ℕ) (were : AreSplit most ranks w count split)
-      (are : AreSeated most count (wave_of ranks w) (seating split after)) where
+      (are : AreRankedByCuts most count (wave_of ranks w) (seating split after)) where
     abbrev wave : List ℕ
     wave = wave_of ranks w
 

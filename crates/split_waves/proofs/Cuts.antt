@@ -17,7 +17,7 @@ use Rattle.net_model.proofs.Members.{Contains-none}
 use Rattle.order_core.specs.Rankings.{numbers_below}
 use Rattle.order_core.proofs.WaveLists.{numbers_more}
 use Rattle.step_scripts.specs.WaveFiles.{all_in, wave_at}
-use Rattle.split_waves.specs.Cuts.{AreCuts, cuts_of}
+use Rattle.split_waves.specs.Cuts.{AreCutsOf, cuts_of}
 
 -- k times as many and once more
 times_more : (k most : ℕ) → (k + 1) * most ≡ k * most + most
@@ -80,7 +80,7 @@ module _ (most : ℕ) (wave : List ℕ) (some : 0 < most) where
   sized : (k : ℕ) → k < count → length (wave_at (cuts_of most wave) k) ≡ min most (length wave - k * most)
   sized k below = ap length (cut_there k below) ∙ cut_size k
 
-  pub are_cuts : AreCuts most wave (cuts_of most wave)
+  pub are_cuts : AreCutsOf most wave (cuts_of most wave)
   are_cuts = record {
     whole = whole;
     some = λ k below.

@@ -18,7 +18,7 @@ cut_waves most ranks = flat_map (cuts_of most) (waves_in ranks)
 
 -- what cuts of a wave are: end to end they are the wave, none is empty, none has more routers than asked for, and the last
 -- one alone may have fewer
-pub record AreCuts (most : ℕ) (wave : List ℕ) (cuts : List (List ℕ)) : Type 0 where
+pub record AreCutsOf (most : ℕ) (wave : List ℕ) (cuts : List (List ℕ)) : Type 0 where
   pub whole : all_in cuts ≡ wave
   pub some : (k : ℕ) → k < length cuts → 0 < length (wave_at cuts k)
   pub at_most : (k : ℕ) → k < length cuts → length (wave_at cuts k) ≤ most
@@ -31,7 +31,7 @@ pub record AreSmallerWaves (most : ℕ) (ranks split : List ℕ) : Type 0 where
 
 -- all this is so
 pub record CutsRefine : Type 0 where
-  pub cuts : (most : ℕ) (wave : List ℕ) → 0 < most → AreCuts most wave (cuts_of most wave)
+  pub cuts : (most : ℕ) (wave : List ℕ) → 0 < most → AreCutsOf most wave (cuts_of most wave)
   pub lists :
       (n most : ℕ) (ranks split : List ℕ) → 0 < most → IsRanking n ranks → IsRanking n split →
       waves_in split ≡ cut_waves most ranks → AreSmallerWaves most ranks split

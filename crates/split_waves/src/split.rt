@@ -3,7 +3,7 @@ ghost use Rattle.std.specs.Int.{div_ceil};
 ghost use Rattle.order_core.specs.Orders.{AreDistinct};
 ghost use Rattle.step_scripts.specs.WavesTexts.{waves_in};
 ghost use Rattle.split_waves.specs.Cuts.{cut_waves};
-ghost use Rattle.split_waves.specs.steps.Seats.{AreSeated, seating};
+ghost use Rattle.split_waves.specs.steps.Seats.{AreRankedByCuts, seating};
 
 use order_core::Waves;
 use std::alloc::{AllocError, Global};
@@ -28,7 +28,7 @@ fn seat_cuts(ranks: &mut Vec<u32>, routers: &[u32], most: u32, first: u32) -> u3
     requires known { All (λ u. u < length ranks.old.items) routers.now }
     requires few { first + length routers.now < 2 ^ 32 }
     ensures count { result ≡ first + div_ceil (length routers.now) most }
-    ensures seated { AreSeated most first routers.now (seating ranks.old.items ranks.new.items) }
+    ensures seated { AreRankedByCuts most first routers.now (seating ranks.old.items ranks.new.items) }
 {
     for place in 0..routers.len() {
         ranks[routers[place] as usize] = first + place as u32 / most;

@@ -5,7 +5,7 @@ use Rattle.net_model.specs.Network.{Network}
 use Rattle.route_core.specs.declared.entry.Entry.{Entry}
 use Rattle.route_core.specs.declared.entry.Entry.TheVariants.{Discard}
 use Rattle.igp_theory.specs.Forwarding.{Usable, Uses, connected, of_new, of_old}
-use Rattle.igp_theory.specs.Migrations.{Migration, listed_migration}
+use Rattle.igp_theory.specs.Migrations.{listed_migration}
 use Rattle.igp_theory.specs.declared.phase.Phase.{Phase}
 use Rattle.used_routes.specs.declared.used.Origin.{Origin}
 use Rattle.used_routes.specs.declared.used.Origin.TheVariants.{Connected, Old, New}
@@ -22,14 +22,10 @@ usable_at old new (Old place) = of_old (entry_at old place)
 usable_at old new (New place) = of_new (entry_at new place)
 
 -- the place is one of the table that it is said of
-abbrev pub IsWithin : List (Block × Entry) → List (Block × Entry) → Origin → Type 0
-IsWithin old new Connected = Unit {0}
-IsWithin old new (Old place) = place < length old
-IsWithin old new (New place) = place < length new
-
--- router u uses nothing for the address in this phase
-abbrev pub UsesNone : Migration → ℕ → Phase → ℕ → Type 0
-UsesNone move u phase a = (used : Usable) → Uses move u phase a used → ⊥
+abbrev pub IsOfTables : List (Block × Entry) → List (Block × Entry) → Origin → Type 0
+IsOfTables old new Connected = Unit {0}
+IsOfTables old new (Old place) = place < length old
+IsOfTables old new (New place) = place < length new
 
 -- router u uses this route for the address in this phase: the entry, of this prefix and at this distance
 pub record IsUsedRoute (net : Network) (old new : ℕ → List (Block × Entry)) (u : ℕ) (phase : Phase) (a : ℕ)

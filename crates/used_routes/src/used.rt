@@ -1,8 +1,9 @@
 ghost use Rattle.std.specs.Prelude.{◌≡◌, ◌<◌, ◌↔◌, IfNone, IfSome, IsTrue, length};
 ghost use Rattle.igp_theory.specs.Forwarding.{NewCounts, OldCounts};
 ghost use Rattle.igp_theory.specs.Migrations.{listed_migration};
-ghost use Rattle.used_routes.specs.UsedRoutes.{IsUsedRoute, IsWithin, UsesNone, usable_at};
-ghost use Rattle.used_routes.specs.steps.Found.{IsFound, OfConnected, OfNew, OfOld};
+ghost use Rattle.igp_theory.specs.MiddleLaws.{UsesNone};
+ghost use Rattle.used_routes.specs.UsedRoutes.{IsOfTables, IsUsedRoute, usable_at};
+ghost use Rattle.used_routes.specs.steps.Found.{IsFoundRoute, OfConnected, OfNew, OfOld};
 
 use crate::better::better;
 use igp_theory::Phase;
@@ -52,7 +53,7 @@ impl<O: RouteSource, N: RouteSource> Sources<'_, O, N> {
             (listed_migration self.now.net.now (O.table self.now.old.now) (N.table self.now.new.now)) router phase a) }
         ensures used { IfSome result (IsUsedRoute self.now.net.now (O.table self.now.old.now) (N.table self.now.new.now)
             router phase a) }
-        ensures within { IfSome result (λ r. IsWithin (O.table self.now.old.now router) (N.table self.now.new.now router)
+        ensures within { IfSome result (λ r. IsOfTables (O.table self.now.old.now router) (N.table self.now.new.now router)
             r.origin) }
     {
         let connected = self.connected(router, a);
@@ -64,9 +65,9 @@ impl<O: RouteSource, N: RouteSource> Sources<'_, O, N> {
     /// The longest connected prefix.
     fn connected(&self, router: u32, a: u32) -> Option<UsedRoute>
         requires { router < length self.now.net.now }
-        ensures found { IsFound (usable_at (O.table self.now.old.now router) (N.table self.now.new.now router))
+        ensures found { IsFoundRoute (usable_at (O.table self.now.old.now router) (N.table self.now.new.now router))
             (OfConnected self.now.net.now router) a result }
-        ensures within { IfSome result (λ r. IsWithin (O.table self.now.old.now router) (N.table self.now.new.now router)
+        ensures within { IfSome result (λ r. IsOfTables (O.table self.now.old.now router) (N.table self.now.new.now router)
             r.origin) }
     {
         let Some(prefix) = self.net.connected(router, a) else {
@@ -83,9 +84,9 @@ impl<O: RouteSource, N: RouteSource> Sources<'_, O, N> {
     fn of_old(&self, router: u32, phase: Phase, a: u32) -> Option<UsedRoute>
         requires router { router < length self.now.net.now }
         requires old { O.routers self.now.old.now ≡ length self.now.net.now }
-        ensures found { IsFound (usable_at (O.table self.now.old.now router) (N.table self.now.new.now router))
+        ensures found { IsFoundRoute (usable_at (O.table self.now.old.now router) (N.table self.now.new.now router))
             (OfOld self.now.net.now (O.table self.now.old.now router) router phase) a result }
-        ensures within { IfSome result (λ r. IsWithin (O.table self.now.old.now router) (N.table self.now.new.now router)
+        ensures within { IfSome result (λ r. IsOfTables (O.table self.now.old.now router) (N.table self.now.new.now router)
             r.origin) }
     {
         if !old_counts(phase) {
@@ -110,9 +111,9 @@ impl<O: RouteSource, N: RouteSource> Sources<'_, O, N> {
     fn of_new(&self, router: u32, phase: Phase, a: u32) -> Option<UsedRoute>
         requires router { router < length self.now.net.now }
         requires new { N.routers self.now.new.now ≡ length self.now.net.now }
-        ensures found { IsFound (usable_at (O.table self.now.old.now router) (N.table self.now.new.now router))
+        ensures found { IsFoundRoute (usable_at (O.table self.now.old.now router) (N.table self.now.new.now router))
             (OfNew (N.table self.now.new.now router) phase) a result }
-        ensures within { IfSome result (λ r. IsWithin (O.table self.now.old.now router) (N.table self.now.new.now router)
+        ensures within { IfSome result (λ r. IsOfTables (O.table self.now.old.now router) (N.table self.now.new.now router)
             r.origin) }
     {
         if !new_counts(phase) {

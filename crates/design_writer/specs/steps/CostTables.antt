@@ -23,13 +23,13 @@ abbrev pub cost_data : ℕ → Data
 cost_data cost = table (member (codes "metric") (integer (pos cost)) no_members)
 
 -- the members with the table of an interface, if it has a cost
-abbrev pub with_interface : Interface → Members → Members
-with_interface i members = if has_cost i then put_member i.name (cost_data i.cost) members else members
+abbrev pub with_cost : Interface → Members → Members
+with_cost i members = if has_cost i then put_member i.name (cost_data i.cost) members else members
 
 -- with those of interfaces, one after the other
 abbrev pub with_interfaces : Members → List Interface → Members
 with_interfaces members [] = members
-with_interfaces members (i ∷ interfaces) = with_interfaces (with_interface i members) interfaces
+with_interfaces members (i ∷ interfaces) = with_interfaces (with_cost i members) interfaces
 
 -- the table of a router
 abbrev pub router_data : Configuration → Data
@@ -41,13 +41,13 @@ with_routers members [] = members
 with_routers members (c ∷ net) = with_routers (put_member c.name (router_data c) members) net
 
 -- the word for some levels
-abbrev pub level_word : Levels → Word
-level_word One = codes "1"
-level_word Both = codes "1-2"
-level_word Two = codes "2"
+abbrev pub level_text : Levels → Word
+level_text One = codes "1"
+level_text Both = codes "1-2"
+level_text Two = codes "2"
 
 -- the document
 abbrev pub document_by_costs : Word → Levels → Network → Members
 document_by_costs area levels net =
-    member (codes "area") (string area) (member (codes "level") (string (level_word levels))
+    member (codes "area") (string area) (member (codes "level") (string (level_text levels))
     (member (codes "routers") (table (with_routers no_members net)) no_members))

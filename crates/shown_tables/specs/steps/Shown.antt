@@ -5,7 +5,7 @@ use Rattle.route_core.specs.Tables.{IsListed}
 use Rattle.route_core.specs.declared.entry.Entry.{Entry}
 use Rattle.route_core.specs.declared.entry.Entry.TheVariants.{Via, Discard}
 use Rattle.igp_theory.specs.Migrations.{Migration}
-use Rattle.shown_tables.specs.ShownEntries.{AreInOrder, ShownEntry, tables_by}
+use Rattle.shown_tables.specs.ShownEntries.{AreInShownOrder, ShownEntry, tables_by}
 use Rattle.shown_tables.specs.TablesTexts.{shown_text}
 use Rattle.shown_tables.specs.declared.igp.Igp.{Igp}
 
@@ -18,7 +18,7 @@ abbrev pub HaveHopsBelow : ℕ → List (Block × Entry) → Type 0
 HaveHopsBelow n table = (dest : Block) (entry : Entry) → IsListed table dest entry → AreHopsBelow n entry
 
 -- an entry of this table, which is the router's by the protocol
-pub record IsOfTable (router : ℕ) (igp : Igp) (table : List (Block × Entry)) (one : ShownEntry) : Type 0 where
+pub record IsOfShownTable (router : ℕ) (igp : Igp) (table : List (Block × Entry)) (one : ShownEntry) : Type 0 where
   pub router_is : one.router ≡ router
   pub igp_is : one.igp ≡ igp
   pub among : IsListed table one.dest one.entry
@@ -28,12 +28,12 @@ pub record IsOfRouter (move : Migration) (router : ℕ) (one : ShownEntry) : Typ
   pub router_is : one.router ≡ router
   pub entry : tables_by move one.igp one.router one.dest one.entry
 
-pub record IsBelow (move : Migration) (n : ℕ) (one : ShownEntry) : Type 0 where
+pub record IsOfRouterBelow (move : Migration) (n : ℕ) (one : ShownEntry) : Type 0 where
   pub below : one.router < n
   pub entry : tables_by move one.igp one.router one.dest one.entry
 
 -- a text with the lines more of the entries of which P holds, each once and in their order
 pub record Shows (names : List (List ℕ)) (P : ShownEntry → Type 0) (text longer : List ℕ) : Type 0 where
   pub all : List ShownEntry
-  pub in_order : AreInOrder P all
+  pub in_order : AreInShownOrder P all
   pub longer_is : longer ≡ text ++ shown_text names all

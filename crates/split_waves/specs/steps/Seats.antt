@@ -5,16 +5,16 @@ use Rattle.order_core.specs.Rankings.{numbers_below, rank_of, wave_of, waves_bef
 use Rattle.step_scripts.specs.WaveFiles.{wave_at}
 use Rattle.split_waves.specs.Cuts.{cuts_of}
 
-pub record Seating : Type 0 where
+pub record RankChange : Type 0 where
   pub before : List ℕ
   pub after : List ℕ
 
-abbrev pub seating : List ℕ → List ℕ → Seating
+abbrev pub seating : List ℕ → List ℕ → RankChange
 seating before after = record { before = before; after = after }
 
 -- each router of the wave is ranked by the cut that it stands in, counted from the first rank on, and no other router has
 -- another rank than before
-pub record AreSeated (most first : ℕ) (routers : List ℕ) (ranks : Seating) : Type 0 where
+pub record AreRankedByCuts (most first : ℕ) (routers : List ℕ) (ranks : RankChange) : Type 0 where
   pub count : length ranks.after ≡ length ranks.before
   pub each : (place : ℕ) → place < length routers → rank_of ranks.after (slice_index routers place) ≡ first + place / most
   pub others : (u : ℕ) → (Contains routers u → ⊥) → rank_of ranks.after u ≡ rank_of ranks.before u

@@ -4,11 +4,11 @@ use Rattle.net_model.specs.RouterNames.{names_of}
 use Rattle.route_core.specs.Rows.{KeptTable, kept_in, listed}
 use Rattle.route_core.specs.declared.entry.Entry.{Entry}
 use Rattle.route_core.specs.declared.entry.Entry.TheVariants.{Discard}
-use Rattle.shown_tables.specs.ShownEntries.{AreInOrder, ShownEntry}
+use Rattle.shown_tables.specs.ShownEntries.{AreInShownOrder, ShownEntry}
 use Rattle.shown_tables.specs.TablesTexts.{shown_text}
 use Rattle.shown_tables.specs.declared.ascending.Numbered.{Numbered}
 use Rattle.shown_tables.specs.steps.Numbered.{shown_as}
-use Rattle.shown_tables.specs.steps.Shown.{AreHopsBelow, HaveHopsBelow, IsOfTable}
+use Rattle.shown_tables.specs.steps.Shown.{AreHopsBelow, HaveHopsBelow, IsOfShownTable}
 use Rattle.shown_tables.proofs.InOrder.{shown_more}
 use Rattle.shown_tables.proofs.TableEntries.{entry_hops, shown_in_order}
 use Rattle.shown_tables.proofs.entries.with_table.Goals as goal
@@ -85,7 +85,7 @@ returns c =
     take_all c.loop-numbered.numbered-index items c.loop-numbered-test.false ∙ c.as_slice-numbered-items.ensures.value in
     record {
       all = map (shown_as u igp kept.entries) c.in_ok-all.all.items;
-      in_order = subst (λ (k : KeptTable). AreInOrder (IsOfTable u igp (listed k)) (map
+      in_order = subst (λ (k : KeptTable). AreInShownOrder (IsOfShownTable u igp (listed k)) (map
           (shown_as u igp kept.entries) c.in_ok-all.all.items))
           c.parts-parts.ensures.parts (shown_in_order kept c.in_ok-all.all.items c.in_ok-all.ensures.same u igp
           c.in_ok-all.ensures.ascending);

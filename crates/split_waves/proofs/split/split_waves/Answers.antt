@@ -7,7 +7,7 @@ use Rattle.order_core.specs.Rankings.{IsRanking, wave_count, wave_of, waves_befo
 use Rattle.order_core.proofs.WaveLists.{wave_ascends, waves_length, waves_more}
 use Rattle.step_scripts.specs.WavesTexts.{waves_in}
 use Rattle.step_scripts.proofs.TextFacts.{wave_below}
-use Rattle.split_waves.specs.steps.Seats.{AreSeated, AreSplit, seating}
+use Rattle.split_waves.specs.steps.Seats.{AreRankedByCuts, AreSplit, seating}
 use Rattle.split_waves.proofs.CutWaves.{split_more, split_ranking, split_waves_are}
 use Rattle.split_waves.proofs.split.split_waves.Goals as goal
 
@@ -39,7 +39,7 @@ loop-wave-preserved c =
     c.seat_cuts-count.ensures.count ∙ ap (λ l. c.loop-wave.count + div_ceil (length l) c.args.most) c.wave.ensures in
     subst (λ n. AreSplit c.args.most ranks (w + 1) n after) (sym count)
     (split_more c.args.most ranks c.requires w c.loop-wave.count c.loop-wave.ranks.items after c.loop-wave.invariant
-    (subst (λ l. AreSeated c.args.most c.loop-wave.count l (seating c.loop-wave.ranks.items after)) c.wave.ensures c.seat_cuts-count.ensures.seated))
+    (subst (λ l. AreRankedByCuts c.args.most c.loop-wave.count l (seating c.loop-wave.ranks.items after)) c.wave.ensures c.seat_cuts-count.ensures.seated))
 
 pub from_ranks-requires-clause-ranking : goal.from_ranks-requires-clause-ranking
 from_ranks-requires-clause-ranking c =
