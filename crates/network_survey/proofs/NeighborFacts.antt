@@ -1,17 +1,16 @@
 -- Whether another router is there can be decided, so where nothing stands out one is.
-use Rattle.std.proofs.Common.{◌≡◌, ◌≢◌, ℕ, zero, suc, ◌+◌, ◌<◌, Bool, true, false, List, [], ◌∷◌, length, get_or, slice_get, Option, Some, None, is_some, IsSome, IsTrue}
-use Rattle.std.proofs.Common.{Contains, Any, ◌⊎◌, ⊎_elim, inl, inr, refl, sym, subst, ap, ◌∙◌, arith}
+use Rattle.std.proofs.Common.{◌≡◌, ◌≢◌, ℕ, zero, suc, ◌+◌, ◌<◌, Bool, true, false, List, [], ◌∷◌, length, get_or, slice_get, Option, Some, None, is_some, IsSome}
+use Rattle.std.proofs.Common.{Any, ◌⊎◌, ⊎_elim, inl, inr, refl, sym, subst, ap, ◌∙◌, arith}
 use Rattle.std.proofs.lemmas.Bool.{cases_eq, false≢true}
 use Rattle.std.proofs.lemmas.Option.{same_Some}
 use Rattle.net_addr.specs.Addresses.{Block}
 use Rattle.net_model.specs.Configuration.{Configuration}
 use Rattle.net_model.specs.Links.{IsLink}
-use Rattle.net_model.specs.Network.{Network, HasConfiguration, UpInterface, Adjacent}
-use Rattle.net_model.specs.Refusals.{IsNetwork}
+use Rattle.net_model.specs.Network.{Network, Adjacent}
 use Rattle.net_model.specs.declared.interface.Interface.{Interface}
 use Rattle.net_model.specs.declared.zone.Zone.TheVariants.{Area}
 use Rattle.net_model.proofs.NetworkFacts.{UpInterface-keeps}
-use Rattle.network_survey.specs.Interfaces.{HasPeer, IsHalf, IsOneSidedInArea, IsShared}
+use Rattle.network_survey.specs.Interfaces.{HasPeer, IsHalf, IsOneSidedInArea}
 use Rattle.network_survey.specs.Neighbors.{HasNeighborBy, NeighborLaw}
 use Rattle.network_survey.specs.Ports.{Port, IsPort}
 use Rattle.network_survey.proofs.SharingFacts.{UpInterface-port, slice_get-Contains}
