@@ -8,7 +8,7 @@ use Rattle.net_model.specs.Network.{Network, Connected}
 use Rattle.net_model.proofs.Members.{Contains-in_map, Contains-map}
 use Rattle.network_survey.specs.Counts.{IsSharedSubnet, IsSubnet}
 use Rattle.network_survey.specs.Listings.{CountsAll}
-use Rattle.network_survey.specs.Ports.{Port, IsPort, ListsPorts}
+use Rattle.network_survey.specs.Ports.{Port, IsUpPort, ListsUpPorts}
 use Rattle.network_survey.specs.steps.PortLists.{Selects}
 use Rattle.network_survey.specs.steps.Sharing.{SeesOther}
 use Rattle.network_survey.specs.steps.Subnets.{IsSubnetOf}
@@ -37,7 +37,7 @@ CountsAll-sorted ports ys zs moved up is = record {
 port_at : (net : Network) (v : ℕ) (p : Block) → Connected net v p → Port
 port_at net v p to = record { router = v; place = to.up.among.0; subnet = p; interface = to.interface }
 
-module _ (net : Network) (ports : List Port) (lists : ListsPorts (IsPort net) ports) where
+module _ (net : Network) (ports : List Port) (lists : ListsUpPorts (IsUpPort net) ports) where
   among : (v : ℕ) (p : Block) → (to : Connected net v p) → Contains ports (port_at net v p to)
   unfolding port_at
   among v p to = (lists.exact (port_at net v p to)).1 (record {

@@ -12,7 +12,7 @@ use Rattle.net_model.specs.declared.zone.Zone.TheVariants.{Area}
 use Rattle.net_model.proofs.NetworkFacts.{UpInterface-keeps}
 use Rattle.network_survey.specs.Interfaces.{HasPeer, IsHalf, IsOneSidedInArea}
 use Rattle.network_survey.specs.Neighbors.{HasNeighborBy, NeighborLaw}
-use Rattle.network_survey.specs.Ports.{Port, IsPort}
+use Rattle.network_survey.specs.Ports.{Port, IsUpPort}
 use Rattle.network_survey.proofs.SharingFacts.{UpInterface-port, slice_get-Contains}
 
 bool_decided : (b c : Bool) → (b ≡ c) ⊎ (b ≡ c → ⊥)
@@ -99,7 +99,7 @@ peer_of : (net : Network) (port : Port) (area : ℕ) → HasOther net 0 port.rou
 peer_of net port area h =
     let i = h.there.1 in
     let peer : Port = record { router = h.place; place = h.there.0; subnet = port.subnet; interface = i } in
-    let is : IsPort net peer = record {
+    let is : IsUpPort net peer = record {
       config = h.config;
       router = h.at;
       at = slice_get-Contains h.config.interfaces i (h.there.0, h.there.2, h.there.3);
@@ -121,7 +121,7 @@ other_of net port area p =
     }
 
 -- an interface that doesn't stand out has a peer
-peer_there : (net : Network) (port : Port) (area : ℕ) → IsPort net port → IsLink (Area area) port.interface → (IsHalf net port → ⊥) →
+peer_there : (net : Network) (port : Port) (area : ℕ) → IsUpPort net port → IsLink (Area area) port.interface → (IsHalf net port → ⊥) →
     (IsOneSidedInArea net port → ⊥) → HasPeer net (Area area) port
 peer_there net port area is link no_half no_oneside =
     ⊎_elim (peer_of net port area)
@@ -143,7 +143,7 @@ neighbor_law_holds net network no_half no_oneside u i area up link =
     met : (p : Block) → i.subnet ≡ Some p → HasNeighborBy net (Area area) u i
     met p e =
         let port : Port = record { router = u; place = up.among.0; subnet = p; interface = i } in
-        let is : IsPort net port = record { config = up.config; router = up.router; at = slice_get-Contains up.config.interfaces i up.among; up = up.up; subnet = e } in
+        let is : IsUpPort net port = record { config = up.config; router = up.router; at = slice_get-Contains up.config.interfaces i up.among; up = up.up; subnet = e } in
         let peer = peer_there net port area is link (no_half port) (no_oneside port) in
         let adjacent : Adjacent net (Area area) u peer.peer.router i.cost = record {
           apart = λ same. peer.apart (sym same);

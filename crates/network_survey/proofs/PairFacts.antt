@@ -7,16 +7,16 @@ use Rattle.order_core.proofs.WaveLists.{AllPairs-append}
 use Rattle.net_model.proofs.Members.{Contains-in_map, Contains-map, Contains-none}
 use Rattle.network_survey.specs.Pairs.{PortPair, PairBefore}
 use Rattle.network_survey.specs.Pairs.PairBefore.{by_one, by_other}
-use Rattle.network_survey.specs.Ports.{Port, ComesBefore}
+use Rattle.network_survey.specs.Ports.{Port, StandsEarlier}
 use Rattle.network_survey.specs.steps.PortLists.{Selects}
 use Rattle.network_survey.specs.steps.Partners.{IsPairOf, SelectsPairs, pairs_with}
-use Rattle.network_survey.proofs.PortFacts.{AllPairs-front, ComesBefore-last}
+use Rattle.network_survey.proofs.PortFacts.{AllPairs-front, StandsEarlier-last}
 
 pair_of : Port → Port → PortPair
 pair_of one other = record { one = one; other = other }
 
 -- the pairs of one interface with others come in the order of the others
-pairs_with-ascend : (one : Port) (others : List Port) → AllPairs ComesBefore others → AllPairs PairBefore (pairs_with one others)
+pairs_with-ascend : (one : Port) (others : List Port) → AllPairs StandsEarlier others → AllPairs PairBefore (pairs_with one others)
 unfolding pair_of
 pairs_with-ascend one others up i j d lt within =
     let long : length (pairs_with one others) ≡ length others = length-map others (pair_of one) in
@@ -53,11 +53,11 @@ module _ (P : Port → Port → Type 0) (xs others : List Port) (old : List Port
       let whole : Contains (old ++ pairs_with y partners) (record { one = y; other = x.other }) = Contains-append_right old (pairs_with y partners) _ at in
       subst (λ (z : Port). Contains (old ++ pairs_with y partners) (record { one = z; other = x.other })) e whole
 
-  cross : AllPairs ComesBefore (xs ++ y ∷ []) → (x z : PortPair) → Contains old x → Contains (pairs_with y partners) z → PairBefore x z
+  cross : AllPairs StandsEarlier (xs ++ y ∷ []) → (x z : PortPair) → Contains old x → Contains (pairs_with y partners) z → PairBefore x z
   cross up x z in_old in_new =
       let given = Contains-map (λ (o : Port). record { one = y; other = o }) partners z in_new in
-      let before = ComesBefore-last xs y up x.one ((s.exact x).0 in_old).one in
-      by_one (subst (ComesBefore x.one) (ap (λ (p : PortPair). p.one) given.gives) before)
+      let before = StandsEarlier-last xs y up x.one ((s.exact x).0 in_old).one in
+      by_one (subst (StandsEarlier x.one) (ap (λ (p : PortPair). p.one) given.gives) before)
 
   pub SelectsPairs-more : SelectsPairs P (xs ++ y ∷ []) others (old ++ pairs_with y partners)
   SelectsPairs-more = record {

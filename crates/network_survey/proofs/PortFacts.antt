@@ -12,17 +12,17 @@ use Rattle.net_model.specs.Network.{Network, HasConfiguration}
 use Rattle.net_model.specs.declared.interface.Interface.{Interface}
 use Rattle.net_model.proofs.Adjacency.{HasConfiguration-unique}
 use Rattle.net_model.proofs.Members.{Contains-none}
-use Rattle.network_survey.specs.Ports.{Port, IsPort, ComesBefore, ListsPorts}
-use Rattle.network_survey.specs.Ports.ComesBefore.{by_router, by_place}
+use Rattle.network_survey.specs.Ports.{Port, IsUpPort, StandsEarlier, ListsUpPorts}
+use Rattle.network_survey.specs.Ports.StandsEarlier.{by_router, by_place}
 use Rattle.network_survey.specs.steps.PortLists.{IsPortTo, Selects, port_at, port_where}
 use Rattle.network_survey.proofs.ListingFacts.{Contains-at, ListsAll-none, ListsAll-push, ListsAll-same}
 
 -- no port comes before the first router
-pub ListsPorts-none : (net : Network) → ListsPorts (IsPortTo net 0 0) []
-ListsPorts-none net = ListsAll-none ComesBefore (IsPortTo net 0 0) (λ x p. ⊎_elim (λ l. omega (arith, l)) (λ e. omega (arith, e.1)) p.before)
+pub ListsUpPorts-none : (net : Network) → ListsUpPorts (IsPortTo net 0 0) []
+ListsUpPorts-none net = ListsAll-none StandsEarlier (IsPortTo net 0 0) (λ x p. ⊎_elim (λ l. omega (arith, l)) (λ e. omega (arith, e.1)) p.before)
 
 module _ (net : Network) (u k : ℕ) (c : Configuration) (i : Interface) (router : HasConfiguration net u c) (at : slice_get c.interfaces k ≡ Some i) where
-  is_at : (port : Port) → IsPort net port → port.router ≡ u → port.place ≡ k → port.interface ≡ i
+  is_at : (port : Port) → IsUpPort net port → port.router ≡ u → port.place ≡ k → port.interface ≡ i
   is_at port is e f =
       let same_config : is.config ≡ c = HasConfiguration-unique net u is.config c (subst (λ w. HasConfiguration net w is.config) e is.router) router in
       same_Some _ _ (sym (subst (λ w. slice_get c.interfaces w ≡ Some port.interface) f (subst (λ (d : Configuration). slice_get d.interfaces port.place ≡ Some port.interface) same_config is.at)) ∙ at)
@@ -34,22 +34,22 @@ module _ (net : Network) (u k : ℕ) (c : Configuration) (i : Interface) (router
   wider : (port : Port) → IsPortTo net u k port → IsPortTo net u (k + 1) port
   wider port p = record { is = p.is; before = ⊎_elim inl (λ e. inr (e.0, omega (arith, e.1))) p.before }
 
-  earlier : (port : Port) (other : Port) → other.router ≡ u → other.place ≡ k → IsPortTo net u k port → ComesBefore port other
+  earlier : (port : Port) (other : Port) → other.router ≡ u → other.place ≡ k → IsPortTo net u k port → StandsEarlier port other
   earlier port other e f p = ⊎_elim (λ l. by_router (omega (arith, l, e))) (λ g. by_place (g.0 ∙ sym e) (omega (arith, g.1, f))) p.before
 
   -- no port is at the place
-  passed : ((port : Port) → IsPort net port → port.interface ≡ i → ⊥) → (old : List Port) → ListsPorts (IsPortTo net u k) old →
-      ListsPorts (IsPortTo net u (k + 1)) (old ++ [])
+  passed : ((port : Port) → IsUpPort net port → port.interface ≡ i → ⊥) → (old : List Port) → ListsUpPorts (IsPortTo net u k) old →
+      ListsUpPorts (IsPortTo net u (k + 1)) (old ++ [])
   passed none old lists =
       rw (append-nil old)
-      (ListsAll-same ComesBefore (IsPortTo net u k) (IsPortTo net u (k + 1)) old wider
+      (ListsAll-same StandsEarlier (IsPortTo net u k) (IsPortTo net u (k + 1)) old wider
       (λ x q. ⊎_elim (λ p. p) (λ e. absurd (none x q.is (is_at x q.is e.0 e.1))) (later x q)) lists)
 
   -- the port at the place
-  reached : (p : Block) → IsTrue i.up → i.subnet ≡ Some p → (old : List Port) → ListsPorts (IsPortTo net u k) old →
-      ListsPorts (IsPortTo net u (k + 1)) (old ++ record { router = u; place = k; subnet = p; interface = i } ∷ [])
+  reached : (p : Block) → IsTrue i.up → i.subnet ≡ Some p → (old : List Port) → ListsUpPorts (IsPortTo net u k) old →
+      ListsUpPorts (IsPortTo net u (k + 1)) (old ++ record { router = u; place = k; subnet = p; interface = i } ∷ [])
   reached p up subnet old lists =
-      ListsAll-push ComesBefore (IsPortTo net u k) (IsPortTo net u (k + 1)) old one wider
+      ListsAll-push StandsEarlier (IsPortTo net u k) (IsPortTo net u (k + 1)) old one wider
       (λ x q. ⊎_elim inl (λ e. inr (same x q.is e.0 e.1)) (later x q))
       (record { is = record { config = c; router = router; at = at; up = up; subnet = subnet }; before = inr (refl, omega arith) })
       (λ x q. earlier x one refl refl q) lists
@@ -57,29 +57,29 @@ module _ (net : Network) (u k : ℕ) (c : Configuration) (i : Interface) (router
       one : Port
       one = record { router = u; place = k; subnet = p; interface = i }
 
-      same : (x : Port) → IsPort net x → x.router ≡ u → x.place ≡ k → one ≡ x
+      same : (x : Port) → IsUpPort net x → x.router ≡ u → x.place ≡ k → one ≡ x
       same x is e f =
           let g = is_at x is e f in
           let h : p ≡ x.subnet = same_Some _ _ (sym subnet ∙ ap (λ (j : Interface). j.subnet) (sym g) ∙ is.subnet) in
           let made : one ≡ record { router = x.router; place = x.place; subnet = x.subnet; interface = x.interface } = cc in
           made
 
-  added_as : (up : Bool) (subnet : Option Block) → i.up ≡ up → i.subnet ≡ subnet → (old : List Port) → ListsPorts (IsPortTo net u k) old →
-      ListsPorts (IsPortTo net u (k + 1)) (old ++ port_where u k i up subnet)
+  added_as : (up : Bool) (subnet : Option Block) → i.up ≡ up → i.subnet ≡ subnet → (old : List Port) → ListsUpPorts (IsPortTo net u k) old →
+      ListsUpPorts (IsPortTo net u (k + 1)) (old ++ port_where u k i up subnet)
   added_as true None e f old lists = passed (λ x is g. cc (is.subnet, f, ap (λ (j : Interface). j.subnet) g)) old lists
   added_as false None e f old lists = passed (λ x is g. cc (is.subnet, f, ap (λ (j : Interface). j.subnet) g)) old lists
   added_as true (Some p) e f old lists = reached p e f old lists
   added_as false (Some p) e f old lists = passed (λ x is g. cc (is.up, e, ap (λ (j : Interface). j.up) g)) old lists
 
   -- what the place adds
-  pub ListsPorts-more : (old : List Port) → ListsPorts (IsPortTo net u k) old → ListsPorts (IsPortTo net u (k + 1)) (old ++ port_at u k i)
-  ListsPorts-more old lists = added_as i.up i.subnet refl refl old lists
+  pub ListsUpPorts-more : (old : List Port) → ListsUpPorts (IsPortTo net u k) old → ListsUpPorts (IsPortTo net u (k + 1)) (old ++ port_at u k i)
+  ListsUpPorts-more old lists = added_as i.up i.subnet refl refl old lists
 
 -- a router's interfaces that come before its end are those before the next router
-pub ListsPorts-next : (net : Network) (u k : ℕ) (c : Configuration) → HasConfiguration net u c → length c.interfaces ≤ k →
-    (ports : List Port) → ListsPorts (IsPortTo net u k) ports → ListsPorts (IsPortTo net (u + 1) 0) ports
-ListsPorts-next net u k c router end ports =
-    ListsAll-same ComesBefore (IsPortTo net u k) (IsPortTo net (u + 1) 0) ports
+pub ListsUpPorts-next : (net : Network) (u k : ℕ) (c : Configuration) → HasConfiguration net u c → length c.interfaces ≤ k →
+    (ports : List Port) → ListsUpPorts (IsPortTo net u k) ports → ListsUpPorts (IsPortTo net (u + 1) 0) ports
+ListsUpPorts-next net u k c router end ports =
+    ListsAll-same StandsEarlier (IsPortTo net u k) (IsPortTo net (u + 1) 0) ports
     (λ x p. record { is = p.is; before = inl (⊎_elim (λ l. omega (arith, l)) (λ e. omega (arith, e.0)) p.before) })
     (λ x p. record {
       is = p.is;
@@ -88,27 +88,27 @@ ListsPorts-next net u k c router end ports =
           (λ e. absurd (omega (arith, e.1))) p.before;
     })
   where
-    within : (x : Port) → IsPort net x → x.router ≡ u → x.place < length c.interfaces
+    within : (x : Port) → IsUpPort net x → x.router ≡ u → x.place < length c.interfaces
     within x is e =
         let same : is.config ≡ c = HasConfiguration-unique net u is.config c (subst (λ w. HasConfiguration net w is.config) e is.router) router in
         subst (λ (d : Configuration). x.place < length d.interfaces) same (slice_get_within is.config.interfaces x.place x.interface is.at)
 
 -- the interfaces of all routers are those of the network
-pub ListsPorts-all : (net : Network) (ports : List Port) → ListsPorts (IsPortTo net (length net) 0) ports → ListsPorts (IsPort net) ports
-ListsPorts-all net ports =
-    ListsAll-same ComesBefore (IsPortTo net (length net) 0) (IsPort net) ports (λ x p. p.is)
+pub ListsUpPorts-all : (net : Network) (ports : List Port) → ListsUpPorts (IsPortTo net (length net) 0) ports → ListsUpPorts (IsUpPort net) ports
+ListsUpPorts-all net ports =
+    ListsAll-same StandsEarlier (IsPortTo net (length net) 0) (IsUpPort net) ports (λ x p. p.is)
     (λ x is. record { is = is; before = inl (slice_get_within net x.router is.config is.router) })
 
-pub AllPairs-front : (xs : List Port) (y : Port) → AllPairs ComesBefore (xs ++ y ∷ []) → AllPairs ComesBefore xs
+pub AllPairs-front : (xs : List Port) (y : Port) → AllPairs StandsEarlier (xs ++ y ∷ []) → AllPairs StandsEarlier xs
 AllPairs-front xs y a i j d l m =
-    subst (λ z. ComesBefore z (get_or xs j d)) (get_or_append_left xs (y ∷ []) d i (omega arith))
-    (subst (λ z. ComesBefore (get_or (xs ++ y ∷ []) i d) z) (get_or_append_left xs (y ∷ []) d j m) (a i j d l (omega (arith, length_push xs y))))
+    subst (λ z. StandsEarlier z (get_or xs j d)) (get_or_append_left xs (y ∷ []) d i (omega arith))
+    (subst (λ z. StandsEarlier (get_or (xs ++ y ∷ []) i d) z) (get_or_append_left xs (y ∷ []) d j m) (a i j d l (omega (arith, length_push xs y))))
 
-pub ComesBefore-last : (xs : List Port) (y : Port) → AllPairs ComesBefore (xs ++ y ∷ []) → (x : Port) → Contains xs x → ComesBefore x y
-ComesBefore-last xs y a x c =
+pub StandsEarlier-last : (xs : List Port) (y : Port) → AllPairs StandsEarlier (xs ++ y ∷ []) → (x : Port) → Contains xs x → StandsEarlier x y
+StandsEarlier-last xs y a x c =
     let pair = a c.0 (length xs) x c.1 (omega (arith, length_push xs y)) in
-    subst (λ z. ComesBefore z y) (get_or_append_left xs (y ∷ []) x c.0 c.1 ∙ c.2)
-    (subst (ComesBefore (get_or (xs ++ y ∷ []) c.0 x)) (get_or_push xs y x (length xs) refl) pair)
+    subst (λ z. StandsEarlier z y) (get_or_append_left xs (y ∷ []) x c.0 c.1 ∙ c.2)
+    (subst (StandsEarlier (get_or (xs ++ y ∷ []) c.0 x)) (get_or_push xs y x (length xs) refl) pair)
 
 -- of no ports none is selected
 pub Selects-none : (P : Port → Type 0) → Selects P [] []
@@ -127,7 +127,7 @@ Selects-more P xs old y true says s = record {
     λ q. ⊎_elim (λ l. Contains-append_left old _ x ((s.exact x).1 (record { among = l; holds = q.holds })))
         (λ e. subst (Contains (old ++ y ∷ [])) e (Contains-push old y)) (Contains-push_cases xs y x q.among),
   );
-  ascending = λ a. all_pairs_push ComesBefore old y (s.ascending (AllPairs-front xs y a)) (λ k d l. ComesBefore-last xs y a _ ((s.exact _).0 (Contains-at old k d l)).among);
+  ascending = λ a. all_pairs_push StandsEarlier old y (s.ascending (AllPairs-front xs y a)) (λ k d l. StandsEarlier-last xs y a _ ((s.exact _).0 (Contains-at old k d l)).among);
 }
 Selects-more P xs old y false says s = record {
   exact = λ x. (
@@ -136,5 +136,5 @@ Selects-more P xs old y false says s = record {
     λ q. subst (λ l. Contains l x) (sym (append-nil old)) (⊎_elim (λ l. (s.exact x).1 (record { among = l; holds = q.holds }))
         (λ e. absurd (cc (says.1 (subst P (sym e) q.holds)))) (Contains-push_cases xs y x q.among)),
   );
-  ascending = λ a. subst (AllPairs ComesBefore) (sym (append-nil old)) (s.ascending (AllPairs-front xs y a));
+  ascending = λ a. subst (AllPairs StandsEarlier) (sym (append-nil old)) (s.ascending (AllPairs-front xs y a));
 }

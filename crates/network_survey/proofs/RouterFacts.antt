@@ -14,24 +14,24 @@ use Rattle.net_model.specs.Network.{Network, HasConfiguration, RunsArea}
 use Rattle.net_model.proofs.Adjacency.{HasConfiguration-unique}
 use Rattle.net_model.proofs.Members.{Contains-filter_map, Contains-in_filter_map}
 use Rattle.network_survey.specs.Routers.{IsRouterOf, ListsAreas, ListsNumbers}
-use Rattle.network_survey.specs.steps.RouterLists.{IsBelow, area_if_up}
+use Rattle.network_survey.specs.steps.RouterLists.{IsRouterBelow, area_if_up}
 use Rattle.network_survey.proofs.ListingFacts.{ListsAll-none, ListsAll-push, ListsAll-same}
 
-pub ListsNumbers-none : (P : ℕ → Type 0) → ListsNumbers (IsBelow P 0) []
-ListsNumbers-none P = ListsAll-none (λ (m n : ℕ). m < n) (IsBelow P 0) (λ x b. omega (arith, b.below))
+pub ListsNumbers-none : (P : ℕ → Type 0) → ListsNumbers (IsRouterBelow P 0) []
+ListsNumbers-none P = ListsAll-none (λ (m n : ℕ). m < n) (IsRouterBelow P 0) (λ x b. omega (arith, b.below))
 
 module _ (Sort : Configuration → Type 0) (net : Network) where
   pub ListsNumbers-more : (u : ℕ) (c : Configuration) → HasConfiguration net u c → (told : Bool) → IsTrue told ↔ Sort c →
-      (old : List ℕ) → ListsNumbers (IsBelow (IsRouterOf Sort net) u) old →
-      ListsNumbers (IsBelow (IsRouterOf Sort net) (u + 1)) (old ++ (if told then u ∷ [] else []))
+      (old : List ℕ) → ListsNumbers (IsRouterBelow (IsRouterOf Sort net) u) old →
+      ListsNumbers (IsRouterBelow (IsRouterOf Sort net) (u + 1)) (old ++ (if told then u ∷ [] else []))
   ListsNumbers-more u c router true says old lists =
-      ListsAll-push (λ (m n : ℕ). m < n) (IsBelow (IsRouterOf Sort net) u) (IsBelow (IsRouterOf Sort net) (u + 1)) old u
+      ListsAll-push (λ (m n : ℕ). m < n) (IsRouterBelow (IsRouterOf Sort net) u) (IsRouterBelow (IsRouterOf Sort net) (u + 1)) old u
       (λ x b. record { below = omega (arith, b.below); holds = b.holds })
       (λ x b. ⊎_elim (λ l. inl (record { below = l; holds = b.holds })) (λ g. inr (omega (arith, b.below, g))) (cases_lt x u))
       (record { below = omega arith; holds = record { config = c; router = router; sort = says.0 refl } }) (λ x b. b.below) lists
   ListsNumbers-more u c router false says old lists =
       rw (append-nil old)
-      (ListsAll-same (λ (m n : ℕ). m < n) (IsBelow (IsRouterOf Sort net) u) (IsBelow (IsRouterOf Sort net) (u + 1)) old
+      (ListsAll-same (λ (m n : ℕ). m < n) (IsRouterBelow (IsRouterOf Sort net) u) (IsRouterBelow (IsRouterOf Sort net) (u + 1)) old
       (λ x b. record { below = omega (arith, b.below); holds = b.holds })
       (λ x b. ⊎_elim (λ l. record { below = l; holds = b.holds }) (λ g. absurd (other x b.holds (omega (arith, b.below, g)))) (cases_lt x u)) lists)
     where
@@ -40,10 +40,10 @@ module _ (Sort : Configuration → Type 0) (net : Network) where
           let same : is.config ≡ c = HasConfiguration-unique net u is.config c (subst (λ w. HasConfiguration net w is.config) e is.router) router in
           cc (says.1 (subst Sort same is.sort))
 
-  pub ListsNumbers-all : (found : List ℕ) → ListsNumbers (IsBelow (IsRouterOf Sort net) (length net)) found →
+  pub ListsNumbers-all : (found : List ℕ) → ListsNumbers (IsRouterBelow (IsRouterOf Sort net) (length net)) found →
       ListsNumbers (IsRouterOf Sort net) found
   ListsNumbers-all found =
-      ListsAll-same (λ (m n : ℕ). m < n) (IsBelow (IsRouterOf Sort net) (length net)) (IsRouterOf Sort net) found (λ x b. b.holds)
+      ListsAll-same (λ (m n : ℕ). m < n) (IsRouterBelow (IsRouterOf Sort net) (length net)) (IsRouterOf Sort net) found (λ x b. b.holds)
       (λ x is. record { below = slice_get_within net x is.config is.router; holds = is })
 
 if_up : (up : Bool) (area : Option ℕ) (n : ℕ) → (if up then area else None) ≡ Some n → IsTrue up × (area ≡ Some n)

@@ -4,7 +4,7 @@ use Rattle.std.proofs.lemmas.Option.{slice_get_read, slice_get_within, get_or_fr
 use Rattle.net_model.specs.Network.{Network, UpInterface, Connected}
 use Rattle.net_model.specs.declared.zone.Zone.{Zone}
 use Rattle.net_model.specs.declared.zone.Zone.TheVariants.{Area}
-use Rattle.network_survey.specs.Ports.{Port, IsPort, ListsPorts}
+use Rattle.network_survey.specs.Ports.{Port, IsUpPort, ListsUpPorts}
 use Rattle.network_survey.specs.Interfaces.{IsShared, HasPeer, IsHalf, IsOneSided, IsOneSidedInArea}
 use Rattle.network_survey.specs.steps.PortLists.{Selects}
 use Rattle.network_survey.specs.steps.Sharing.{FacesOther, FacesPeer, SeesOther, SeesPeer, SeesNobody, SeesNoPeer, SeesNoPeerInArea}
@@ -18,7 +18,7 @@ slice_get-Contains xs x c = slice_get_read xs (length xs) c.0 x refl c.1 (sym c.
 pub Any-at : {A : Type 0} → (P : A → Type 0) (xs : List A) (x : A) → Contains xs x → P x → Any P xs
 Any-at P xs x c p = (c.0, x, c.1, c.2, p)
 
-pub UpInterface-port : (net : Network) (port : Port) → IsPort net port → UpInterface net port.router port.interface
+pub UpInterface-port : (net : Network) (port : Port) → IsUpPort net port → UpInterface net port.router port.interface
 UpInterface-port net port is = record {
   config = is.config;
   router = is.router;
@@ -26,10 +26,10 @@ UpInterface-port net port is = record {
   up = is.up;
 }
 
-pub Connected-port : (net : Network) (port : Port) → IsPort net port → Connected net port.router port.subnet
+pub Connected-port : (net : Network) (port : Port) → IsUpPort net port → Connected net port.router port.subnet
 Connected-port net port is = record { interface = port.interface; up = UpInterface-port net port is; subnet = is.subnet }
 
-module _ (net : Network) (ports : List Port) (lists : ListsPorts (IsPort net) ports) where
+module _ (net : Network) (ports : List Port) (lists : ListsUpPorts (IsUpPort net) ports) where
   pub IsShared-seen : (port : Port) → SeesOther ports port → IsShared net port
   IsShared-seen port s =
       let is = (lists.exact s.1).0 (s.0, s.2, s.3) in
@@ -39,7 +39,7 @@ module _ (net : Network) (ports : List Port) (lists : ListsPorts (IsPort net) po
   SeesOther-shared port s =
       let to = s.connected in
       let other : Port = record { router = s.other; place = to.up.among.0; subnet = port.subnet; interface = to.interface } in
-      let is : IsPort net other = record {
+      let is : IsUpPort net other = record {
         config = to.up.config;
         router = to.up.router;
         at = slice_get-Contains to.up.config.interfaces to.interface to.up.among;
@@ -63,8 +63,8 @@ module _ (net : Network) (ports : List Port) (lists : ListsPorts (IsPort net) po
       let faces : FacesPeer zone port p.peer = record { faces = record { apart = p.apart; subnet = p.subnet }; link = p.link } in
       Any-at (FacesPeer zone port) ports p.peer ((lists.exact p.peer).1 p.is) faces
 
-  selected : (P Q : Port → Type 0) → ((port : Port) → IsPort net port → P port → Q port) → ((port : Port) → Q port → IsPort net port) →
-      ((port : Port) → Q port → P port) → (found : List Port) → Selects P ports found → ListsPorts Q found
+  selected : (P Q : Port → Type 0) → ((port : Port) → IsUpPort net port → P port → Q port) → ((port : Port) → Q port → IsUpPort net port) →
+      ((port : Port) → Q port → P port) → (found : List Port) → Selects P ports found → ListsUpPorts Q found
   selected P Q into is back found s = record {
     exact = λ x. (
       λ c. let one = (s.exact x).0 c in into x ((lists.exact x).0 one.among) one.holds,
@@ -73,25 +73,25 @@ module _ (net : Network) (ports : List Port) (lists : ListsPorts (IsPort net) po
     ascending = s.ascending lists.ascending;
   }
 
-  pub ListsPorts-half : (found : List Port) → Selects (SeesNobody ports) ports found → ListsPorts (IsHalf net) found
-  ListsPorts-half found s =
+  pub ListsUpPorts-half : (found : List Port) → Selects (SeesNobody ports) ports found → ListsUpPorts (IsHalf net) found
+  ListsUpPorts-half found s =
       selected (SeesNobody ports) (IsHalf net)
       (λ x is n. record { is = is; link = n.link; runs = n.runs; active = n.active; alone = λ h. n.alone (SeesOther-shared x h) })
       (λ x h. h.is)
       (λ x h. record { link = h.link; runs = h.runs; active = h.active; alone = λ n. h.alone (IsShared-seen x n) }) found s
 
-  one_sided : (zone : Zone) (x : Port) → IsPort net x → SeesNoPeer ports zone x → IsOneSided net zone x
+  one_sided : (zone : Zone) (x : Port) → IsUpPort net x → SeesNoPeer ports zone x → IsOneSided net zone x
   one_sided zone x is n = record { is = is; link = n.link; shared = IsShared-seen x n.shared; alone = λ h. n.alone (SeesPeer-has zone x h) }
 
   no_peer : (zone : Zone) (x : Port) → IsOneSided net zone x → SeesNoPeer ports zone x
   no_peer zone x h = record { link = h.link; shared = SeesOther-shared x h.shared; alone = λ n. h.alone (HasPeer-seen zone x n) }
 
-  pub ListsPorts-one_sided : (zone : Zone) (found : List Port) → Selects (SeesNoPeer ports zone) ports found → ListsPorts (IsOneSided net zone) found
-  ListsPorts-one_sided zone found s =
+  pub ListsUpPorts-one_sided : (zone : Zone) (found : List Port) → Selects (SeesNoPeer ports zone) ports found → ListsUpPorts (IsOneSided net zone) found
+  ListsUpPorts-one_sided zone found s =
       selected (SeesNoPeer ports zone) (IsOneSided net zone) (one_sided zone) (λ x h. h.is) (no_peer zone) found s
 
-  pub ListsPorts-one_sided_in_area : (found : List Port) → Selects (SeesNoPeerInArea ports) ports found → ListsPorts (IsOneSidedInArea net) found
-  ListsPorts-one_sided_in_area found s =
+  pub ListsUpPorts-one_sided_in_area : (found : List Port) → Selects (SeesNoPeerInArea ports) ports found → ListsUpPorts (IsOneSidedInArea net) found
+  ListsUpPorts-one_sided_in_area found s =
       selected (SeesNoPeerInArea ports) (IsOneSidedInArea net)
       (λ x is n. record { area = n.area; one_sided = one_sided (Area n.area) x is n.sees })
       (λ x h. h.one_sided.is)

@@ -12,8 +12,8 @@ use Rattle.net_model.specs.declared.refusal.NetRefusal.TheVariants.{Limit, TwoNa
 use Rattle.net_model.specs.declared.refusal.NetRefusal.TheVariants.{OutOfMemory}
 use Rattle.net_model.proofs.BuildFacts.{IsLeastDouble-permutation}
 use Rattle.net_model.proofs.RefusalLaws.{CountsDests-unique, IsLeastDouble-unique, IsNetworkOf-unique, TwoHaveName-none}
-use Rattle.network_survey.specs.AllRefusals.{IsBefore, ListsRefusals, StandsFor}
-use Rattle.network_survey.specs.steps.Kept.{IsAbovePlace, IsChecked, Keeps, ListsAbove}
+use Rattle.network_survey.specs.AllRefusals.{IsRefusedEarlier, ListsRefusals, StandsFor}
+use Rattle.network_survey.specs.steps.Kept.{IsAbovePlace, IsChecked, KeepsRefusal, ListsAbove}
 use Rattle.network_survey.proofs.KeptFacts.{ListsAbove-more}
 use Rattle.network_survey.proofs.ListingFacts.{ListsAll-same}
 use Rattle.network_survey.proofs.StandFacts.{place_of-stands}
@@ -53,7 +53,7 @@ module _ (configs : List Configuration) where
   pub ListsAbove-limit : (what : LimitWhat) (number most : ℕ) (checked : Result (Unit {0}) NetRefusal) (old new : List NetRefusal) →
       IsChecked what number most checked → (IsAbove most number number → StandsFor (Limit what number) configs) →
       (number ≤ most → (n : ℕ) → StandsFor (Limit what n) configs → ⊥) →
-      ListsAbove (λ r. StandsFor r configs) (place_of (Limit what 0)) old → Keeps checked old new →
+      ListsAbove (λ r. StandsFor r configs) (place_of (Limit what 0)) old → KeepsRefusal checked old new →
       ListsAbove (λ r. StandsFor r configs) (place_of (Limit what 0) + 1) new
   ListsAbove-limit what number most (Ok x) old new is stands none lists kept =
       ListsAbove-more (λ r. StandsFor r configs) (place_of (Limit what 0)) (Ok x) old new (none_at what (none is)) tt lists kept
@@ -93,7 +93,7 @@ module _ (configs : List Configuration) where
   -- the check of the names
   pub ListsAbove-names : (net : Network) (checked : Result (Unit {0}) NetRefusal) (old new : List NetRefusal) → IsPermutation configs net →
       OnOk checked (NamesAscend net) → IfErr checked (λ e. RefusesName e net) → ListsAbove (λ r. StandsFor r configs) 3 old →
-      Keeps checked old new → ListsAbove (λ r. StandsFor r configs) 4 new
+      KeepsRefusal checked old new → ListsAbove (λ r. StandsFor r configs) 4 new
   ListsAbove-names net (Ok x) old new same up err lists kept =
       ListsAbove-more (λ r. StandsFor r configs) 3 (Ok x) old new (none_by_names net (record { same = same; ascending = up })) tt lists kept
   ListsAbove-names net (Err e) old new same up err lists kept =
@@ -121,7 +121,7 @@ module _ (configs : List Configuration) where
   ListsRefusals-early [] lists some = absurd (some refl)
   ListsRefusals-early (e ∷ es) lists some =
       let is = (lists.exact e).0 (0, omega arith, refl) in
-      ListsAll-same IsBefore (IsAbovePlace (λ r. StandsFor r configs) 4) (λ r. StandsFor r configs) (e ∷ es) (λ r a. a.holds)
+      ListsAll-same IsRefusedEarlier (IsAbovePlace (λ r. StandsFor r configs) 4) (λ r. StandsFor r configs) (e ∷ es) (λ r a. a.holds)
       (λ r p. record { above = early e is.above is.holds r p; holds = p }) lists
 
   module _ (net : Network) (limits : IsWithinLimits configs) (network : IsNetworkOf configs net) where
@@ -142,14 +142,14 @@ module _ (configs : List Configuration) where
     -- where none is found, what stands is what stands on the network
     pub ListsRefusals-network : (found : List NetRefusal) → ListsAbove (λ r. Stands r net) 11 found → ListsRefusals configs found
     ListsRefusals-network found =
-        ListsAll-same IsBefore (IsAbovePlace (λ r. Stands r net) 11) (λ r. StandsFor r configs) found (λ r a. into r a.holds)
+        ListsAll-same IsRefusedEarlier (IsAbovePlace (λ r. Stands r net) 11) (λ r. StandsFor r configs) found (λ r a. into r a.holds)
         (λ r p. let s = back r p in record { above = omega (arith, (place_of-stands net r s).1); holds = s })
 
 -- where nothing was kept, the check refused nothing
-pub Keeps-none : {T : Type 0} → (checked : Result T NetRefusal) (old new : List NetRefusal) (A : Type 0) → Keeps checked old new → new ≡ [] → OnOk checked A →
+pub KeepsRefusal-none : {T : Type 0} → (checked : Result T NetRefusal) (old new : List NetRefusal) (A : Type 0) → KeepsRefusal checked old new → new ≡ [] → OnOk checked A →
     (old ≡ []) × A
-Keeps-none (Ok _) old new A kept none a = (sym kept ∙ none, a)
-Keeps-none (Err e) old new A kept none a =
+KeepsRefusal-none (Ok _) old new A kept none a = (sym kept ∙ none, a)
+KeepsRefusal-none (Err e) old new A kept none a =
     absurd (omega (arith, ap (λ (l : List NetRefusal). length l) (sym kept.1 ∙ none), length-append old (e ∷ [])))
 
 pub IsChecked-ok : (what : LimitWhat) (number most : ℕ) (checked : Result (Unit {0}) NetRefusal) → IsChecked what number most checked → OnOk checked (number ≤ most)

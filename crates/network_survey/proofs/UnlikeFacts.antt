@@ -5,13 +5,13 @@ use Rattle.net_model.specs.Network.{Network, Connected}
 use Rattle.net_model.specs.declared.zone.Zone.{Zone}
 use Rattle.net_model.specs.declared.zone.Zone.TheVariants.{Area}
 use Rattle.network_survey.specs.Pairs.{PortPair, IsPortPair, DifferInMask, AreUneven, AreUnevenInArea, ListsPairs}
-use Rattle.network_survey.specs.Ports.{Port, IsPort, ListsPorts}
+use Rattle.network_survey.specs.Ports.{Port, IsUpPort, ListsUpPorts}
 use Rattle.network_survey.specs.steps.Partners.{MissMasks, IsThird, MissCosts, MissCostsInArea, SelectsPairs}
 use Rattle.network_survey.proofs.SharingFacts.{Any-at, Connected-port, slice_get-Contains}
 
-module _ (net : Network) (ports : List Port) (lists : ListsPorts (IsPort net) ports) where
+module _ (net : Network) (ports : List Port) (lists : ListsUpPorts (IsUpPort net) ports) where
   chosen : (P : Port → Port → Type 0) (Q : PortPair → Type 0) →
-      ((x : PortPair) → IsPort net x.one → IsPort net x.other → P x.one x.other → Q x) →
+      ((x : PortPair) → IsUpPort net x.one → IsUpPort net x.other → P x.one x.other → Q x) →
       ((x : PortPair) → Q x → IsPortPair net x) → ((x : PortPair) → Q x → P x.one x.other) →
       (found : List PortPair) → SelectsPairs P ports ports found → ListsPairs Q found
   chosen P Q into is back found s = record {
@@ -42,7 +42,7 @@ module _ (net : Network) (ports : List Port) (lists : ListsPorts (IsPort net) po
       third : w ≢ one.router → w ≢ other.router → Any (IsThird one other) ports
       third not_one not_other =
           let port : Port = record { router = w; place = to.up.among.0; subnet = one.subnet; interface = to.interface } in
-          let is : IsPort net port = record {
+          let is : IsUpPort net port = record {
             config = to.up.config;
             router = to.up.router;
             at = slice_get-Contains to.up.config.interfaces to.interface to.up.among;
@@ -58,7 +58,7 @@ module _ (net : Network) (ports : List Port) (lists : ListsPorts (IsPort net) po
       let to = subst (Connected net a.1.router) a.4.subnet (Connected-port net a.1 is) in
       ⊎_elim a.4.not_one a.4.not_other (alone a.1.router to)
 
-  uneven : (zone : Zone) (x : PortPair) → IsPort net x.one → IsPort net x.other → MissCosts ports zone x.one x.other → AreUneven net zone x
+  uneven : (zone : Zone) (x : PortPair) → IsUpPort net x.one → IsUpPort net x.other → MissCosts ports zone x.one x.other → AreUneven net zone x
   uneven zone x one other m = record {
     ports = record { one = one; other = other; order = m.order };
     subnet = m.subnet;

@@ -22,12 +22,12 @@ StandsFor OutOfMemory configs = ⊥
 StandsFor refusal configs = HoldsOfNetwork configs (Stands refusal)
 
 -- one refusal comes before another in their order
-abbrev pub IsBefore : NetRefusal → NetRefusal → Type 0
-IsBefore one other = place_of one < place_of other
+abbrev pub IsRefusedEarlier : NetRefusal → NetRefusal → Type 0
+IsRefusedEarlier one other = place_of one < place_of other
 
 -- all refusals that stand, in their order
 abbrev pub ListsRefusals : List Configuration → List NetRefusal → Type 0
-ListsRefusals configs = ListsAll IsBefore (λ (refusal : NetRefusal). StandsFor refusal configs)
+ListsRefusals configs = ListsAll IsRefusedEarlier (λ (refusal : NetRefusal). StandsFor refusal configs)
 
 -- configurations make this network, or these are all refusals that stand, one or more
 abbrev pub IsSurveyed : List Configuration → Surveyed → Type 0

@@ -4,7 +4,7 @@ use Rattle.net_model.specs.Links.{IsLink}
 use Rattle.net_model.specs.Network.{Network, Connected}
 use Rattle.net_model.specs.declared.zone.Zone.{Zone}
 use Rattle.net_model.specs.declared.zone.Zone.TheVariants.{Area}
-use Rattle.network_survey.specs.Ports.{Port, IsPort}
+use Rattle.network_survey.specs.Ports.{Port, IsUpPort}
 
 -- another router has an up interface of the subnet
 pub record IsShared (net : Network) (port : Port) : Type 0 where
@@ -15,14 +15,14 @@ pub record IsShared (net : Network) (port : Port) : Type 0 where
 -- another router has an up interface of the subnet that may take part in adjacencies of the zone
 pub record HasPeer (net : Network) (zone : Zone) (port : Port) : Type 0 where
   pub peer : Port
-  pub is : IsPort net peer
+  pub is : IsUpPort net peer
   pub apart : peer.router ≢ port.router
   pub subnet : peer.subnet ≡ port.subnet
   pub link : IsLink zone peer.interface
 
 -- an up interface, no loopback and not passive, runs OSPF, and no other router has an up interface of its subnet
 pub record IsHalf (net : Network) (port : Port) : Type 0 where
-  pub is : IsPort net port
+  pub is : IsUpPort net port
   pub link : port.interface.loopback ≡ false
   pub runs : IsSome port.interface.area
   pub active : port.interface.ospf_passive ≡ false
@@ -30,7 +30,7 @@ pub record IsHalf (net : Network) (port : Port) : Type 0 where
 
 -- several routers have an up interface of the subnet, and this one alone may take part in adjacencies of the zone there
 pub record IsOneSided (net : Network) (zone : Zone) (port : Port) : Type 0 where
-  pub is : IsPort net port
+  pub is : IsUpPort net port
   pub link : IsLink zone port.interface
   pub shared : IsShared net port
   pub alone : HasPeer net zone port → ⊥

@@ -4,21 +4,21 @@ use Rattle.net_addr.specs.Addresses.{Block}
 use Rattle.net_model.specs.Network.{Network, Connected}
 
 -- two routers have up interfaces of one subnet
-pub record ShareSubnet (net : Network) (u v : ℕ) : Type 0 where
+pub record MeetOnSubnet (net : Network) (u v : ℕ) : Type 0 where
   pub subnet : Block
   pub one : Connected net u subnet
   pub other : Connected net v subnet
 
 -- a walk leads from router u to router v, each router of it sharing a subnet with the next
-pub data AreJoined (net : Network) (u : ℕ) : ℕ → Type 0 where
-  here : AreJoined net u u
-  further : (v w : ℕ) → AreJoined net u v → ShareSubnet net v w → AreJoined net u w
+pub data AreJoinedRouters (net : Network) (u : ℕ) : ℕ → Type 0 where
+  here : AreJoinedRouters net u u
+  further : (v w : ℕ) → AreJoinedRouters net u v → MeetOnSubnet net v w → AreJoinedRouters net u w
 
 -- no walk joins router v with the first router
 pub record IsCutOff (net : Network) (v : ℕ) : Type 0 where
   pub router : v < length net
-  pub cut : AreJoined net 0 v → ⊥
+  pub cut : AreJoinedRouters net 0 v → ⊥
 
 -- a walk joins each two routers
 abbrev pub AllJoined : Network → Type 0
-AllJoined net = (u v : ℕ) → u < length net → v < length net → AreJoined net u v
+AllJoined net = (u v : ℕ) → u < length net → v < length net → AreJoinedRouters net u v

@@ -6,7 +6,7 @@ use Rattle.net_model.specs.Network.{Network, Connected, cost_in}
 use Rattle.net_model.specs.declared.zone.Zone.{Zone}
 use Rattle.net_model.specs.declared.zone.Zone.TheVariants.{Area}
 use Rattle.network_survey.specs.Listings.{ListsAll}
-use Rattle.network_survey.specs.Ports.{Port, IsPort, ComesBefore}
+use Rattle.network_survey.specs.Ports.{Port, IsUpPort, StandsEarlier}
 
 -- two interfaces
 pub record PortPair : Type 0 where
@@ -15,8 +15,8 @@ pub record PortPair : Type 0 where
 
 -- they are up interfaces of two routers of the network, the lower router's first
 pub record IsPortPair (net : Network) (pair : PortPair) : Type 0 where
-  pub one : IsPort net pair.one
-  pub other : IsPort net pair.other
+  pub one : IsUpPort net pair.one
+  pub other : IsUpPort net pair.other
   pub order : pair.one.router < pair.other.router
 
 -- two up interfaces of two routers, none a loopback, whose subnets differ, and one subnet contains the other's address
@@ -44,8 +44,8 @@ pub record AreUnevenInArea (net : Network) (pair : PortPair) : Type 0 where
 
 -- pairs come in the order of their first interfaces, and those of one in the order of the others
 pub data PairBefore (p q : PortPair) : Type 0 where
-  by_one : ComesBefore p.one q.one → PairBefore p q
-  by_other : p.one ≡ q.one → ComesBefore p.other q.other → PairBefore p q
+  by_one : StandsEarlier p.one q.one → PairBefore p q
+  by_other : p.one ≡ q.one → StandsEarlier p.other q.other → PairBefore p q
 
 -- the pairs of which P holds, in their order
 abbrev pub ListsPairs : (PortPair → Type 0) → List PortPair → Type 0

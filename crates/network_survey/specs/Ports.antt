@@ -14,7 +14,7 @@ pub record Port : Type 0 where
   pub interface : Interface
 
 -- it is an up interface of the network
-pub record IsPort (net : Network) (port : Port) : Type 0 where
+pub record IsUpPort (net : Network) (port : Port) : Type 0 where
   pub config : Configuration
   pub router : HasConfiguration net port.router config
   pub at : slice_get config.interfaces port.place ≡ Some port.interface
@@ -22,10 +22,10 @@ pub record IsPort (net : Network) (port : Port) : Type 0 where
   pub subnet : port.interface.subnet ≡ Some port.subnet
 
 -- interfaces come in the order of the routers, and those of one router in the order of its configuration
-pub data ComesBefore (one other : Port) : Type 0 where
-  by_router : one.router < other.router → ComesBefore one other
-  by_place : one.router ≡ other.router → one.place < other.place → ComesBefore one other
+pub data StandsEarlier (one other : Port) : Type 0 where
+  by_router : one.router < other.router → StandsEarlier one other
+  by_place : one.router ≡ other.router → one.place < other.place → StandsEarlier one other
 
 -- the up interfaces of which P holds, in their order
-abbrev pub ListsPorts : (Port → Type 0) → List Port → Type 0
-ListsPorts = ListsAll ComesBefore
+abbrev pub ListsUpPorts : (Port → Type 0) → List Port → Type 0
+ListsUpPorts = ListsAll StandsEarlier

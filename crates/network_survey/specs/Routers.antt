@@ -11,8 +11,8 @@ abbrev pub runs_ospf : Interface → Bool
 runs_ospf i = i.up && is_some i.area
 
 -- an interface is up and runs a level of IS-IS
-abbrev pub runs_isis : Interface → Bool
-runs_isis i = i.up && (i.level1 || i.level2)
+abbrev pub runs_some_level : Interface → Bool
+runs_some_level i = i.up && (i.level1 || i.level2)
 
 -- how many interfaces of a router are up and run OSPF
 abbrev pub ospf_interfaces : Configuration → ℕ
@@ -20,19 +20,19 @@ ospf_interfaces c = count_by runs_ospf c.interfaces
 
 -- how many run IS-IS
 abbrev pub isis_interfaces : Configuration → ℕ
-isis_interfaces c = count_by runs_isis c.interfaces
+isis_interfaces c = count_by runs_some_level c.interfaces
 
 -- the numbers of which P holds, ascending
 abbrev pub ListsNumbers : (ℕ → Type 0) → List ℕ → Type 0
 ListsNumbers = ListsAll (λ (m n : ℕ). m < n)
 
 -- an up interface of the router runs OSPF in the area
-abbrev pub HasArea : Configuration → ℕ → Type 0
-HasArea c area = Any (RunsArea area) c.interfaces
+abbrev pub HasInterfaceInArea : Configuration → ℕ → Type 0
+HasInterfaceInArea c area = Any (RunsArea area) c.interfaces
 
 -- the areas of a router's up interfaces, ascending
 abbrev pub ListsAreas : Configuration → List ℕ → Type 0
-ListsAreas c = ListsNumbers (HasArea c)
+ListsAreas c = ListsNumbers (HasInterfaceInArea c)
 
 -- router u is of this sort
 pub record IsRouterOf (Sort : Configuration → Type 0) (net : Network) (u : ℕ) : Type 0 where

@@ -2,7 +2,7 @@ ghost use Rattle.std.specs.Prelude.{◌≡◌, IfOk, map};
 ghost use Rattle.net_model.specs.Network.{Network};
 ghost use Rattle.network_survey.specs.Counts.{IsSharedSubnet, IsSubnet};
 ghost use Rattle.network_survey.specs.Listings.{CountsAll};
-ghost use Rattle.network_survey.specs.Ports.{IsPort, ListsPorts};
+ghost use Rattle.network_survey.specs.Ports.{IsUpPort, ListsUpPorts};
 ghost use Rattle.network_survey.specs.steps.Subnets.{IsSubnetOf};
 
 use crate::OutOfMemory;
@@ -14,7 +14,7 @@ use std::alloc::Global;
 
 /// How many subnets the up interfaces of a network have.
 pub fn count_subnets(alloc: Global, ports: &[Port<'_>]) -> Result<usize, OutOfMemory>
-    ensures { IfOk result (λ count. (net : Network) → ListsPorts (IsPort net) ports.now → CountsAll (IsSubnet net) count) }
+    ensures { IfOk result (λ count. (net : Network) → ListsUpPorts (IsUpPort net) ports.now → CountsAll (IsSubnet net) count) }
 {
     let count = count_prefixes(alloc, ports)?;
     Ok(count)
@@ -22,7 +22,7 @@ pub fn count_subnets(alloc: Global, ports: &[Port<'_>]) -> Result<usize, OutOfMe
 
 /// How many of these subnets two or more routers have.
 pub fn count_links(alloc: Global, ports: &[Port<'_>]) -> Result<usize, OutOfMemory>
-    ensures { IfOk result (λ count. (net : Network) → ListsPorts (IsPort net) ports.now → CountsAll (IsSharedSubnet net) count) }
+    ensures { IfOk result (λ count. (net : Network) → ListsUpPorts (IsUpPort net) ports.now → CountsAll (IsSharedSubnet net) count) }
 {
     let shared = odd_ports(alloc, &Shared, ports)?;
     let count = count_prefixes(alloc, shared.as_slice())?;

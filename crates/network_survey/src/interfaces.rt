@@ -1,7 +1,7 @@
 ghost use Rattle.std.specs.Prelude.{◌↔◌, Any, IfOk, IsTrue};
 ghost use Rattle.net_model.specs.Network.{Network};
 ghost use Rattle.network_survey.specs.Interfaces.{IsHalf, IsOneSided, IsOneSidedInArea};
-ghost use Rattle.network_survey.specs.Ports.{IsPort, ListsPorts};
+ghost use Rattle.network_survey.specs.Ports.{IsUpPort, ListsUpPorts};
 ghost use Rattle.network_survey.specs.steps.Sharing.{FacesOther, FacesPeer, SeesNoPeer, SeesOther, SeesPeer};
 
 use crate::OutOfMemory;
@@ -12,7 +12,7 @@ use std::alloc::Global;
 
 /// Of the up interfaces of a network those that run OSPF unpassively where no other router has an up interface of the subnet.
 pub fn half_ports<'a>(alloc: Global, ports: &[Port<'a>]) -> Result<Vec<Port<'a>>, OutOfMemory>
-    ensures { IfOk result (λ found. (net : Network) → ListsPorts (IsPort net) ports.now → ListsPorts (IsHalf net) found.items) }
+    ensures { IfOk result (λ found. (net : Network) → ListsUpPorts (IsUpPort net) ports.now → ListsUpPorts (IsHalf net) found.items) }
 {
     odd_ports(alloc, &Half, ports)
 }
@@ -22,8 +22,8 @@ pub fn one_sided_in_area<'a>(
     alloc: Global,
     ports: &[Port<'a>],
 ) -> Result<Vec<Port<'a>>, OutOfMemory>
-    ensures { IfOk result (λ found. (net : Network) → ListsPorts (IsPort net) ports.now →
-        ListsPorts (IsOneSidedInArea net) found.items) }
+    ensures { IfOk result (λ found. (net : Network) → ListsUpPorts (IsUpPort net) ports.now →
+        ListsUpPorts (IsOneSidedInArea net) found.items) }
 {
     odd_ports(alloc, &OneSidedInArea, ports)
 }
@@ -34,7 +34,7 @@ pub fn one_sided_in<'a>(
     zone: Zone,
     ports: &[Port<'a>],
 ) -> Result<Vec<Port<'a>>, OutOfMemory>
-    ensures { IfOk result (λ found. (net : Network) → ListsPorts (IsPort net) ports.now → ListsPorts (IsOneSided net zone) found.items) }
+    ensures { IfOk result (λ found. (net : Network) → ListsUpPorts (IsUpPort net) ports.now → ListsUpPorts (IsOneSided net zone) found.items) }
 {
     odd_ports(alloc, &OneSided { zone }, ports)
 }

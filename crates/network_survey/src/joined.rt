@@ -3,8 +3,8 @@ ghost use Rattle.net_model.specs.Least.{IsLowest};
 ghost use Rattle.net_model.specs.Network.{Network};
 ghost use Rattle.order_core.specs.Marks.{IsMarked};
 ghost use Rattle.network_survey.specs.Joined.{AllJoined, IsCutOff};
-ghost use Rattle.network_survey.specs.Ports.{IsPort, ListsPorts};
-ghost use Rattle.network_survey.specs.steps.Reached.{AreReached, HasSubnet, HaveMarks, IsLowestUnmarked, IsOpen, MarksWhere, MeetIn};
+ghost use Rattle.network_survey.specs.Ports.{IsUpPort, ListsUpPorts};
+ghost use Rattle.network_survey.specs.steps.Reached.{AreReachedSoFar, HasPortOn, HaveMarks, IsLowestUnmarked, IsUnvisited, MarksWhere, MeetIn};
 
 use crate::OutOfMemory;
 use crate::port::Port;
@@ -19,7 +19,7 @@ pub fn first_cut_off(
     net: &Net,
     ports: &[Port<'_>],
 ) -> Result<Option<u32>, OutOfMemory>
-    requires { ListsPorts (IsPort net.now) ports.now }
+    requires { ListsUpPorts (IsUpPort net.now) ports.now }
     ensures { IfOk result (λ cut. MatchOption cut (AllJoined net.now) (IsLowest (IsCutOff net.now))) }
 {
     let routers = net.routers() as usize;
@@ -35,7 +35,7 @@ fn cut_off_by(ports: &[Port<'_>], reached: &mut [bool], done: &mut [bool]) -> Op
     requires done { (v : ℕ) → ¬ IsMarked done.old v }
     requires count { length done.old ≡ length reached.old }
     requires few { length reached.old < 2 ^ 32 }
-    ensures { (net : Network) → ListsPorts (IsPort net) ports.now → length net ≡ length reached.old →
+    ensures { (net : Network) → ListsUpPorts (IsUpPort net) ports.now → length net ≡ length reached.old →
         MatchOption result (AllJoined net) (IsLowest (IsCutOff net)) }
 {
     mark(reached, 0);
@@ -48,8 +48,8 @@ fn reach(reached: &mut [bool], done: &mut [bool], ports: &[Port<'_>])
     requires reached { HaveMarks ports.now reached.old }
     requires done { length done.old ≡ length reached.old }
     requires few { length reached.old < 2 ^ 32 }
-    ensures reached { (net : Network) → ListsPorts (IsPort net) ports.now → AreReached net reached.old done.old → AreReached net reached.new done.new }
-    ensures all_done { (u : ℕ) → IsOpen reached.new done.new u → ⊥ }
+    ensures reached { (net : Network) → ListsUpPorts (IsUpPort net) ports.now → AreReachedSoFar net reached.old done.old → AreReachedSoFar net reached.new done.new }
+    ensures all_done { (u : ℕ) → IsUnvisited reached.new done.new u → ⊥ }
 {
     while let Some(router) = first_open(reached, done) {
         mark(done, router);
@@ -70,7 +70,7 @@ fn spread(reached: &mut [bool], ports: &[Port<'_>], router: u32)
 /// Marks the routers that have the subnet of the port, if it is one of this router.
 fn spread_over(reached: &mut [bool], ports: &[Port<'_>], port: &Port<'_>, router: u32)
     requires { HaveMarks ports.now reached.old }
-    ensures { MarksWhere (λ v. (port.now.router ≡ router) × HasSubnet ports.now v port.now.subnet) reached.old reached.new }
+    ensures { MarksWhere (λ v. (port.now.router ≡ router) × HasPortOn ports.now v port.now.subnet) reached.old reached.new }
 {
     if port.router == router {
         mark_subnet(reached, ports, port.subnet);
@@ -80,7 +80,7 @@ fn spread_over(reached: &mut [bool], ports: &[Port<'_>], port: &Port<'_>, router
 /// Marks the routers that have the subnet.
 fn mark_subnet(reached: &mut [bool], ports: &[Port<'_>], subnet: Prefix)
     requires { HaveMarks ports.now reached.old }
-    ensures { MarksWhere (λ v. HasSubnet ports.now v subnet) reached.old reached.new }
+    ensures { MarksWhere (λ v. HasPortOn ports.now v subnet) reached.old reached.new }
 {
     for port in ports {
         mark_port(reached, port, subnet);
@@ -116,7 +116,7 @@ fn is_marked(marks: &[bool], router: u32) -> bool
 /// A router that is reached, and not done.
 fn first_open(reached: &[bool], done: &[bool]) -> Option<u32>
     requires { length reached.now < 2 ^ 32 }
-    ensures { MatchOption result ((u : ℕ) → IsOpen reached.now done.now u → ⊥) (IsOpen reached.now done.now) }
+    ensures { MatchOption result ((u : ℕ) → IsUnvisited reached.now done.now u → ⊥) (IsUnvisited reached.now done.now) }
 {
     for router in 0..reached.len() as u32 {
         if is_marked(reached, router) && !is_marked(done, router) {

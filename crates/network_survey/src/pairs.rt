@@ -1,7 +1,7 @@
 ghost use Rattle.std.specs.Prelude.{◌≡◌, ◌++◌, IfOk, OnOk};
 ghost use Rattle.net_model.specs.Network.{Network};
 ghost use Rattle.network_survey.specs.Pairs.{AreUneven, AreUnevenInArea, DifferInMask, ListsPairs};
-ghost use Rattle.network_survey.specs.Ports.{IsPort, ListsPorts};
+ghost use Rattle.network_survey.specs.Ports.{IsUpPort, ListsUpPorts};
 ghost use Rattle.network_survey.specs.steps.PortLists.{Selects};
 ghost use Rattle.network_survey.specs.steps.Partners.{AreUnlike, SelectsPairs, pairs_with};
 
@@ -32,7 +32,7 @@ impl<'a> Model for PortPair<'a> {
 
 /// Of the up interfaces of a network the pairs that are in one another's subnet, but not of one subnet.
 pub fn mask_pairs<'a>(alloc: Global, ports: &[Port<'a>]) -> Result<Vec<PortPair<'a>>, OutOfMemory>
-    ensures { IfOk result (λ found. (net : Network) → ListsPorts (IsPort net) ports.now → ListsPairs (DifferInMask net) found.items) }
+    ensures { IfOk result (λ found. (net : Network) → ListsUpPorts (IsUpPort net) ports.now → ListsPairs (DifferInMask net) found.items) }
 {
     unlike_pairs(alloc, Unlikeness::Masks, ports)
 }
@@ -42,7 +42,7 @@ pub fn uneven_in_area<'a>(
     alloc: Global,
     ports: &[Port<'a>],
 ) -> Result<Vec<PortPair<'a>>, OutOfMemory>
-    ensures { IfOk result (λ found. (net : Network) → ListsPorts (IsPort net) ports.now → ListsPairs (AreUnevenInArea net) found.items) }
+    ensures { IfOk result (λ found. (net : Network) → ListsUpPorts (IsUpPort net) ports.now → ListsPairs (AreUnevenInArea net) found.items) }
 {
     unlike_pairs(alloc, Unlikeness::CostsInArea, ports)
 }
@@ -53,7 +53,7 @@ pub fn uneven_in<'a>(
     zone: Zone,
     ports: &[Port<'a>],
 ) -> Result<Vec<PortPair<'a>>, OutOfMemory>
-    ensures { IfOk result (λ found. (net : Network) → ListsPorts (IsPort net) ports.now → ListsPairs (AreUneven net zone) found.items) }
+    ensures { IfOk result (λ found. (net : Network) → ListsUpPorts (IsUpPort net) ports.now → ListsPairs (AreUneven net zone) found.items) }
 {
     unlike_pairs(alloc, Unlikeness::Costs(zone), ports)
 }

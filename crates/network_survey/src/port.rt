@@ -1,5 +1,5 @@
 ghost use Rattle.std.specs.Prelude.{◌≡◌, ◌+◌, ◌++◌, ◌<◌, length, IfOk, OnOk};
-ghost use Rattle.network_survey.specs.Ports.{IsPort, ListsPorts};
+ghost use Rattle.network_survey.specs.Ports.{IsUpPort, ListsUpPorts};
 ghost use Rattle.network_survey.specs.steps.PortLists.{IsPortTo, port_at};
 
 use crate::OutOfMemory;
@@ -47,7 +47,7 @@ impl<'a> Port<'a> {
 
 /// The up interfaces of a network, in their order.
 pub fn up_ports(alloc: Global, net: &Net) -> Result<Vec<Port<'_>>, OutOfMemory>
-    ensures { IfOk result (λ ports. ListsPorts (IsPort net.now) ports.items) }
+    ensures { IfOk result (λ ports. ListsUpPorts (IsUpPort net.now) ports.items) }
 {
     let mut ports = Vec::new(alloc);
     for router in 0..net.routers() {
@@ -59,8 +59,8 @@ pub fn up_ports(alloc: Global, net: &Net) -> Result<Vec<Port<'_>>, OutOfMemory>
 /// Adds the up interfaces of a router to those of the routers before it.
 fn push_ports<'a>(ports: &mut Vec<Port<'a>>, net: &'a Net, router: u32) -> Result<(), OutOfMemory>
     requires router { router < length net.now }
-    requires before { ListsPorts (IsPortTo net.now router 0) ports.old.items }
-    ensures { OnOk result (ListsPorts (IsPortTo net.now (router + 1) 0) ports.new.items) }
+    requires before { ListsUpPorts (IsPortTo net.now router 0) ports.old.items }
+    ensures { OnOk result (ListsUpPorts (IsPortTo net.now (router + 1) 0) ports.new.items) }
 {
     let interfaces = net.config(router).interfaces.as_slice();
     for place in 0..interfaces.len() {

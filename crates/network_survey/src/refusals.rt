@@ -2,7 +2,7 @@ ghost use Rattle.std.specs.Prelude.{◌≡◌, ◌≤◌, ◌↔◌, [], IsTrue,
 ghost use Rattle.net_model.specs.Limits.{IsWithinLimits};
 ghost use Rattle.net_model.specs.Refusals.{Stands};
 ghost use Rattle.network_survey.specs.AllRefusals.{IsSurveyed, StandsFor};
-ghost use Rattle.network_survey.specs.steps.Kept.{IsChecked, Keeps, ListsAbove};
+ghost use Rattle.network_survey.specs.steps.Kept.{IsChecked, KeepsRefusal, ListsAbove};
 
 use crate::OutOfMemory;
 use net_model::{
@@ -92,9 +92,9 @@ fn network_refusals(alloc: Global, configs: &[Config]) -> Result<Vec<NetRefusal>
     Ok(found)
 }
 
-/// Keeps the refusal of a check. Want of memory isn't kept.
+/// KeepsRefusal the refusal of a check. Want of memory isn't kept.
 fn keep(found: &mut Vec<NetRefusal>, checked: Result<(), NetRefusal>) -> Result<(), OutOfMemory>
-    ensures { OnOk result (Keeps checked found.old.items found.new.items) }
+    ensures { OnOk result (KeepsRefusal checked found.old.items found.new.items) }
 {
     match checked {
         Ok(()) => Ok(()),

@@ -1,8 +1,8 @@
 ghost use Rattle.std.specs.Prelude.{◌≡◌, ◌+◌, ◌++◌, ◌∷◌, [], ◌<◌, ◌↔◌, Any, IfOk, IsTrue, OnOk, length};
 ghost use Rattle.std.specs.List.{filter_map};
 ghost use Rattle.net_model.specs.OffStarts.{IsOffStart};
-ghost use Rattle.network_survey.specs.Routers.{IsOff, IsSilent, LacksOspf, ListsAreas, ListsNumbers, isis_interfaces, ospf_interfaces, runs_isis, runs_ospf};
-ghost use Rattle.network_survey.specs.steps.RouterLists.{AddsIf, IsBelow, area_if_up};
+ghost use Rattle.network_survey.specs.Routers.{IsOff, IsSilent, LacksOspf, ListsAreas, ListsNumbers, isis_interfaces, ospf_interfaces, runs_some_level, runs_ospf};
+ghost use Rattle.network_survey.specs.steps.RouterLists.{AddsIf, IsRouterBelow, area_if_up};
 
 use crate::OutOfMemory;
 use net_model::{Config, Interface, Net, is_off_start};
@@ -43,7 +43,7 @@ pub fn isis_interfaces(config: &Config) -> usize
     ensures { result ≡ isis_interfaces config.now }
 {
     let interfaces = config.interfaces.as_slice();
-    interfaces.iter().filter(|i| runs_isis(i)).count()
+    interfaces.iter().filter(|i| runs_some_level(i)).count()
 }
 
 /// The areas of a router's up interfaces, ascending.
@@ -103,8 +103,8 @@ fn runs_ospf(interface: &Interface) -> bool
 }
 
 /// Whether the interface is up and runs a level of IS-IS.
-fn runs_isis(interface: &Interface) -> bool
-    ensures { result ≡ runs_isis interface.now }
+fn runs_some_level(interface: &Interface) -> bool
+    ensures { result ≡ runs_some_level interface.now }
 {
     interface.up && (interface.level1 || interface.level2)
 }

@@ -6,7 +6,7 @@ use Rattle.net_addr.specs.Addresses.{Block}
 use Rattle.igp_theory.specs.Forwarding.{Usable}
 use Rattle.used_routes.specs.declared.used.Origin.{Origin}
 use Rattle.used_routes.specs.declared.used.UsedRoute.{UsedRoute}
-use Rattle.used_routes.specs.steps.Found.{Counting, HasNone, IsBestRoute, IsFoundRoute, better_route, comes_first}
+use Rattle.used_routes.specs.steps.Found.{Counting, HasNone, IsBestUsed, IsFoundUsed, better_route, comes_first}
 
 -- entries of either kind
 abbrev pub Either : Counting → Counting → Counting
@@ -24,7 +24,7 @@ came_second : (x y : UsedRoute) → comes_first x y ≡ false → ComesBefore y 
 came_second x y h = record { longer = grind (arith, nat_tests); lower = λ e. grind (arith, nat_tests) }
 
 module _ (usable : Origin → Usable) (S T : Counting) (a : ℕ) where
-  first_best : (x y : UsedRoute) → IsBestRoute usable S a x → IsBestRoute usable T a y → ComesBefore x y → IsBestRoute usable (Either S T) a x
+  first_best : (x y : UsedRoute) → IsBestUsed usable S a x → IsBestUsed usable T a y → ComesBefore x y → IsBestUsed usable (Either S T) a x
   first_best x y best other before = record {
     counts = inl best.counts;
     contains = best.contains;
@@ -40,7 +40,7 @@ module _ (usable : Origin → Usable) (S T : Counting) (a : ℕ) where
         omega (arith, low, lower)) h;
   }
 
-  alone : (x : UsedRoute) → IsBestRoute usable S a x → HasNone T a → IsBestRoute usable (Either S T) a x
+  alone : (x : UsedRoute) → IsBestUsed usable S a x → HasNone T a → IsBestUsed usable (Either S T) a x
   alone x best none = record {
     counts = inl best.counts;
     contains = best.contains;
@@ -48,8 +48,8 @@ module _ (usable : Origin → Usable) (S T : Counting) (a : ℕ) where
     lowest = λ q d z h c e. ⊎_elim (λ s. best.lowest q d z s c e) (λ t. absurd (none q d z t c)) h;
   }
 
-turned : (usable : Origin → Usable) (S T : Counting) (a : ℕ) (x : UsedRoute) → IsBestRoute usable (Either S T) a x →
-    IsBestRoute usable (Either T S) a x
+turned : (usable : Origin → Usable) (S T : Counting) (a : ℕ) (x : UsedRoute) → IsBestUsed usable (Either S T) a x →
+    IsBestUsed usable (Either T S) a x
 turned usable S T a x best = record {
   counts = ⊎_elim inr inl best.counts;
   contains = best.contains;
@@ -58,13 +58,13 @@ turned usable S T a x best = record {
 }
 
 chosen : (usable : Origin → Usable) (S T : Counting) (a : ℕ) (x y : UsedRoute) (b : Bool) → comes_first x y ≡ b →
-    IsBestRoute usable S a x → IsBestRoute usable T a y →
-    IsBestRoute usable (Either S T) a (cond b x y)
+    IsBestUsed usable S a x → IsBestUsed usable T a y →
+    IsBestUsed usable (Either S T) a (cond b x y)
 chosen usable S T a x y true is one other = first_best usable S T a x y one other (came_first x y is)
 chosen usable S T a x y false is one other = turned usable T S a y (first_best usable T S a y x other one (came_second x y is))
 
-pub better_found : (usable : Origin → Usable) (S T : Counting) (a : ℕ) (x y : Option UsedRoute) → IsFoundRoute usable S a x →
-    IsFoundRoute usable T a y → IsFoundRoute usable (Either S T) a (better_route x y)
+pub better_found : (usable : Origin → Usable) (S T : Counting) (a : ℕ) (x y : Option UsedRoute) → IsFoundUsed usable S a x →
+    IsFoundUsed usable T a y → IsFoundUsed usable (Either S T) a (better_route x y)
 better_found usable S T a None None one other = λ q d z h c. ⊎_elim (λ s. one q d z s c) (λ t. other q d z t c) h
 better_found usable S T a None (Some y) one other = turned usable T S a y (alone usable T S a y other one)
 better_found usable S T a (Some x) None one other = alone usable S T a x one other

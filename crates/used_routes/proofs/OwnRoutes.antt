@@ -19,7 +19,7 @@ use Rattle.igp_theory.specs.MiddleLaws.{UsesNone}
 use Rattle.used_routes.specs.UsedRoutes.{IsUsedRoute, IsOfTables, entry_at, usable_at}
 use Rattle.used_routes.specs.declared.used.Origin.TheVariants as origin
 use Rattle.used_routes.specs.declared.used.UsedRoute.{UsedRoute}
-use Rattle.used_routes.specs.steps.Found.{HasNone, IsBestRoute, IsFoundRoute, OfConnected, OfNew, OfOld, in_new, in_old, is_connected}
+use Rattle.used_routes.specs.steps.Found.{HasNone, IsBestUsed, IsFoundUsed, OfConnected, OfNew, OfOld, in_new, in_old, is_connected}
 use Rattle.used_routes.proofs.BestRoutes.{Either}
 
 -- ---- the longest entry of a table ----
@@ -59,7 +59,7 @@ connected_at (is_connected h) = h
 
 pub connected_best : (old new : List (Block × Entry)) (net : Network) (u a : ℕ) (p : Block) →
     IsLongestMatch (Connected net u) a p →
-    IsBestRoute (usable_at old new) (OfConnected net u) a (record { prefix = p; distance = 0; origin = origin.Connected })
+    IsBestUsed (usable_at old new) (OfConnected net u) a (record { prefix = p; distance = 0; origin = origin.Connected })
 connected_best old new net u a p best = record {
   counts = is_connected best.is_offered;
   contains = best.contains;
@@ -85,7 +85,7 @@ module _ (net : Network) (table new : List (Block × Entry)) (u : ℕ) (phase : 
 
   pub old_best : (c : Configuration) (place : ℕ) (dest : Block) (entry : Entry) → OldCounts phase → HasConfiguration net u c →
       c.distances.ospf ≢ MOST_DISTANCE → LongestAt (table_prefixes table) a place → slice_get table place ≡ Some (dest, entry) →
-      IsBestRoute (usable_at table new) (OfOld net table u phase) a
+      IsBestUsed (usable_at table new) (OfOld net table u phase) a
       (record { prefix = dest; distance = c.distances.ospf; origin = origin.Old place })
   old_best c place dest entry phase_counts has some at stands =
       let best = longest_at table a place dest entry at stands in
@@ -123,7 +123,7 @@ module _ (old table : List (Block × Entry)) (phase : Phase) (a : ℕ) where
 
   pub new_best : (place : ℕ) (dest : Block) (entry : Entry) → NewCounts phase → LongestAt (table_prefixes table) a place →
       slice_get table place ≡ Some (dest, entry) →
-      IsBestRoute (usable_at old table) (OfNew table phase) a
+      IsBestUsed (usable_at old table) (OfNew table phase) a
       (record { prefix = dest; distance = ISIS_DISTANCE; origin = origin.New place })
   new_best place dest entry phase_counts at stands =
       let best = longest_at table a place dest entry at stands in
@@ -163,7 +163,7 @@ module _ (net : Network) (old new : ℕ → List (Block × Entry)) (u : ℕ) (ph
   of_new (in_new when among) = new_counts when among
 
   pub best_is_used : (a : ℕ) (route : UsedRoute) →
-      IsBestRoute (usable_at (old u) (new u)) (Either (OfConnected net u) (Either (OfOld net (old u) u phase) (OfNew
+      IsBestUsed (usable_at (old u) (new u)) (Either (OfConnected net u) (Either (OfOld net (old u) u phase) (OfNew
       (new u) phase))) a route →
       IsUsedRoute net old new u phase a route
   best_is_used a route best = record {
@@ -185,14 +185,14 @@ module _ (net : Network) (old new : ℕ → List (Block × Entry)) (u : ℕ) (ph
 
   -- what is found of all of them is what it uses
   pub found_none : (a : ℕ) (found : Option UsedRoute) →
-      IsFoundRoute (usable_at (old u) (new u)) (Either (OfConnected net u) (Either (OfOld net (old u) u phase) (OfNew
+      IsFoundUsed (usable_at (old u) (new u)) (Either (OfConnected net u) (Either (OfOld net (old u) u phase) (OfNew
       (new u) phase))) a found →
       IfNone found (UsesNone (listed_migration net old new) u phase a)
   found_none a None none = none_is_used a none
   found_none a (Some route) best = tt
 
   pub found_used : (a : ℕ) (found : Option UsedRoute) →
-      IsFoundRoute (usable_at (old u) (new u)) (Either (OfConnected net u) (Either (OfOld net (old u) u phase) (OfNew
+      IsFoundUsed (usable_at (old u) (new u)) (Either (OfConnected net u) (Either (OfOld net (old u) u phase) (OfNew
       (new u) phase))) a found →
       IfSome found (IsUsedRoute net old new u phase a)
   found_used a None none = tt

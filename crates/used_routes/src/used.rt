@@ -3,7 +3,7 @@ ghost use Rattle.igp_theory.specs.Forwarding.{NewCounts, OldCounts};
 ghost use Rattle.igp_theory.specs.Migrations.{listed_migration};
 ghost use Rattle.igp_theory.specs.MiddleLaws.{UsesNone};
 ghost use Rattle.used_routes.specs.UsedRoutes.{IsOfTables, IsUsedRoute, usable_at};
-ghost use Rattle.used_routes.specs.steps.Found.{IsFoundRoute, OfConnected, OfNew, OfOld};
+ghost use Rattle.used_routes.specs.steps.Found.{IsFoundUsed, OfConnected, OfNew, OfOld};
 
 use crate::better::better;
 use igp_theory::Phase;
@@ -65,7 +65,7 @@ impl<O: RouteSource, N: RouteSource> Sources<'_, O, N> {
     /// The longest connected prefix.
     fn connected(&self, router: u32, a: u32) -> Option<UsedRoute>
         requires { router < length self.now.net.now }
-        ensures found { IsFoundRoute (usable_at (O.table self.now.old.now router) (N.table self.now.new.now router))
+        ensures found { IsFoundUsed (usable_at (O.table self.now.old.now router) (N.table self.now.new.now router))
             (OfConnected self.now.net.now router) a result }
         ensures within { IfSome result (λ r. IsOfTables (O.table self.now.old.now router) (N.table self.now.new.now router)
             r.origin) }
@@ -84,7 +84,7 @@ impl<O: RouteSource, N: RouteSource> Sources<'_, O, N> {
     fn of_old(&self, router: u32, phase: Phase, a: u32) -> Option<UsedRoute>
         requires router { router < length self.now.net.now }
         requires old { O.routers self.now.old.now ≡ length self.now.net.now }
-        ensures found { IsFoundRoute (usable_at (O.table self.now.old.now router) (N.table self.now.new.now router))
+        ensures found { IsFoundUsed (usable_at (O.table self.now.old.now router) (N.table self.now.new.now router))
             (OfOld self.now.net.now (O.table self.now.old.now router) router phase) a result }
         ensures within { IfSome result (λ r. IsOfTables (O.table self.now.old.now router) (N.table self.now.new.now router)
             r.origin) }
@@ -111,7 +111,7 @@ impl<O: RouteSource, N: RouteSource> Sources<'_, O, N> {
     fn of_new(&self, router: u32, phase: Phase, a: u32) -> Option<UsedRoute>
         requires router { router < length self.now.net.now }
         requires new { N.routers self.now.new.now ≡ length self.now.net.now }
-        ensures found { IsFoundRoute (usable_at (O.table self.now.old.now router) (N.table self.now.new.now router))
+        ensures found { IsFoundUsed (usable_at (O.table self.now.old.now router) (N.table self.now.new.now router))
             (OfNew (N.table self.now.new.now router) phase) a result }
         ensures within { IfSome result (λ r. IsOfTables (O.table self.now.old.now router) (N.table self.now.new.now router)
             r.origin) }

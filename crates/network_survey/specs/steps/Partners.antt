@@ -6,7 +6,7 @@ use Rattle.net_model.specs.Network.{cost_in}
 use Rattle.net_model.specs.declared.zone.Zone.{Zone}
 use Rattle.net_model.specs.declared.zone.Zone.TheVariants.{Area}
 use Rattle.network_survey.specs.Pairs.{PortPair, PairBefore}
-use Rattle.network_survey.specs.Ports.{Port, ComesBefore}
+use Rattle.network_survey.specs.Ports.{Port, StandsEarlier}
 use Rattle.network_survey.specs.declared.partners.Unlikeness.{Unlikeness}
 use Rattle.network_survey.specs.declared.partners.Unlikeness.TheVariants.{Masks, CostsInArea, Costs}
 
@@ -53,7 +53,7 @@ pub record IsPairOf (P : Port → Port → Type 0) (ones others : List Port) (pa
 -- all such pairs, in their order
 pub record SelectsPairs (P : Port → Port → Type 0) (ones others : List Port) (found : List PortPair) : Type 0 where
   pub exact : (pair : PortPair) → Contains found pair ↔ IsPairOf P ones others pair
-  pub ascending : AllPairs ComesBefore ones → AllPairs ComesBefore others → AllPairs PairBefore found
+  pub ascending : AllPairs StandsEarlier ones → AllPairs StandsEarlier others → AllPairs PairBefore found
 
 -- a port with each of these
 abbrev pub pairs_with : Port → List Port → List PortPair

@@ -11,6 +11,6 @@ abbrev pub AddsIf : List ℕ → List ℕ → ℕ → Bool → Type 0
 AddsIf old new router told = new ≡ old ++ (if told then router ∷ [] else [])
 
 -- a router below n of which P holds
-pub record IsBelow (P : ℕ → Type 0) (n router : ℕ) : Type 0 where
+pub record IsRouterBelow (P : ℕ → Type 0) (n router : ℕ) : Type 0 where
   pub below : router < n
   pub holds : P router

@@ -30,7 +30,7 @@ pub data OfNew (table : List (Block × Entry)) (phase : Phase) (p : Block) : ℕ
   in_new : {e : Entry} → NewCounts phase → IsListed table p e → OfNew table phase p ISIS_DISTANCE (of_new e)
 
 -- the best of entries: the longest that contains the address, and of these the one of lowest distance
-pub record IsBestRoute (usable : Origin → Usable) (counting : Counting) (a : ℕ) (route : UsedRoute) : Type 0 where
+pub record IsBestUsed (usable : Origin → Usable) (counting : Counting) (a : ℕ) (route : UsedRoute) : Type 0 where
   pub counts : counting route.prefix route.distance (usable route.origin)
   pub contains : ContainsAddress route.prefix a
   pub longest : (q : Block) (d : ℕ) (other : Usable) → counting q d other → ContainsAddress q a → q.len ≤ route.prefix.len
@@ -42,8 +42,8 @@ abbrev pub HasNone : Counting → ℕ → Type 0
 HasNone counting a = (q : Block) (d : ℕ) (other : Usable) → counting q d other → ContainsAddress q a → ⊥
 
 -- the best, if any contains the address
-abbrev pub IsFoundRoute : (Origin → Usable) → Counting → ℕ → Option UsedRoute → Type 0
-IsFoundRoute usable counting a found = MatchOption found (HasNone counting a) (IsBestRoute usable counting a)
+abbrev pub IsFoundUsed : (Origin → Usable) → Counting → ℕ → Option UsedRoute → Type 0
+IsFoundUsed usable counting a found = MatchOption found (HasNone counting a) (IsBestUsed usable counting a)
 
 -- the first of two routes is longer, or as long and of no higher distance
 abbrev pub comes_first : UsedRoute → UsedRoute → Bool

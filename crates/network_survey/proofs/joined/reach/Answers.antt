@@ -1,16 +1,16 @@
 use Rattle.std.proofs.Common.{◌≡◌, ℕ, ◌+◌, ◌-◌, ◌<◌, ◌≤◌, true, Bool, List, length, set, sym, subst, ◌∙◌, arith, length-set}
 use Rattle.order_core.specs.Marks.{marked_count}
 use Rattle.order_core.proofs.Marked.{marked_count-more, marked_count-le, marked_in}
-use Rattle.network_survey.specs.steps.Reached.{AreReached}
-use Rattle.network_survey.proofs.ReachFacts.{AreReached-more}
+use Rattle.network_survey.specs.steps.Reached.{AreReachedSoFar}
+use Rattle.network_survey.proofs.ReachFacts.{AreReachedSoFar-more}
 use Rattle.network_survey.proofs.joined.reach.Goals as goal
 
 pub loop-router-preserved : goal.loop-router-preserved
 loop-router-preserved c net lists before =
     let open_one = c.in-Some.ensures in
-    let made = AreReached-more net c.args.ports.now lists c.loop-router.reached c.spread.new.reached c.loop-router.done c.in-Some.router open_one
+    let made = AreReachedSoFar-more net c.args.ports.now lists c.loop-router.reached c.spread.new.reached c.loop-router.done c.in-Some.router open_one
     c.spread.auto.reached c.spread.ensures (c.loop-router.invariant net lists before) in
-    subst (AreReached net c.spread.new.reached) (sym c.mark.ensures) made
+    subst (AreReachedSoFar net c.spread.new.reached) (sym c.mark.ensures) made
 
 pub loop-router-smaller : goal.loop-router-smaller
 loop-router-smaller c =

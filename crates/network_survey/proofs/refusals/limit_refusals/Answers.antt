@@ -6,7 +6,7 @@ use Rattle.net_model.proofs.RefusalLaws.{CountsDests-unique}
 use Rattle.network_survey.specs.AllRefusals.{StandsFor}
 use Rattle.network_survey.specs.steps.Kept.{ListsAbove}
 use Rattle.network_survey.proofs.KeptFacts.{ListsAbove-first}
-use Rattle.network_survey.proofs.SurveyedFacts.{IsChecked-ok, Keeps-none, ListsAbove-limit}
+use Rattle.network_survey.proofs.SurveyedFacts.{IsChecked-ok, KeepsRefusal-none, ListsAbove-limit}
 use Rattle.network_survey.proofs.refusals.limit_refusals.Goals as goal
 
 pub returns-clause-all : goal.returns-clause-all
@@ -27,11 +27,11 @@ returns-clause-all c =
 
 pub returns-clause-within : goal.returns-clause-within
 returns-clause-within c none =
-    let most3 = Keeps-none c.check_limit-3.result c.keep-2.new.found.items c.keep-3.new.found.items (c.in_ok-dests.dests ≤ MOST_DESTS) c.in_ok-keep-3.ensures none
+    let most3 = KeepsRefusal-none c.check_limit-3.result c.keep-2.new.found.items c.keep-3.new.found.items (c.in_ok-dests.dests ≤ MOST_DESTS) c.in_ok-keep-3.ensures none
     (IsChecked-ok Dests c.in_ok-dests.dests MOST_DESTS c.check_limit-3.result c.check_limit-3.ensures) in
-    let most2 = Keeps-none c.check_limit-2.result c.keep.new.found.items c.keep-2.new.found.items (c.count_interfaces-interfaces.result ≤ MOST_UP_INTERFACES)
+    let most2 = KeepsRefusal-none c.check_limit-2.result c.keep.new.found.items c.keep-2.new.found.items (c.count_interfaces-interfaces.result ≤ MOST_UP_INTERFACES)
     c.in_ok-keep-2.ensures most3.0 (IsChecked-ok Interfaces c.count_interfaces-interfaces.result MOST_UP_INTERFACES c.check_limit-2.result c.check_limit-2.ensures) in
-    let most1 = Keeps-none c.check_limit.result c.new-found.result.items c.keep.new.found.items (length c.args.configs.now ≤ MOST_ROUTERS)
+    let most1 = KeepsRefusal-none c.check_limit.result c.new-found.result.items c.keep.new.found.items (length c.args.configs.now ≤ MOST_ROUTERS)
     c.in_ok-keep.ensures most2.0 (IsChecked-ok Routers (length c.args.configs.now) MOST_ROUTERS c.check_limit.result c.check_limit.ensures) in
     record {
       routers = most1.1;

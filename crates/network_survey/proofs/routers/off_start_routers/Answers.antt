@@ -1,16 +1,16 @@
 use Rattle.std.proofs.Common.{◌≡◌, ◌+◌, length, subst, sym, arith}
 use Rattle.net_model.specs.OffStarts.{IsOffStart}
 use Rattle.network_survey.specs.Routers.{IsOff, ListsNumbers}
-use Rattle.network_survey.specs.steps.RouterLists.{IsBelow}
+use Rattle.network_survey.specs.steps.RouterLists.{IsRouterBelow}
 use Rattle.network_survey.proofs.RouterFacts.{ListsNumbers-none, ListsNumbers-more, ListsNumbers-all}
 use Rattle.network_survey.proofs.routers.off_start_routers.Goals as goal
 
 pub loop-router-init : goal.loop-router-init
-loop-router-init c = subst (ListsNumbers (IsBelow (IsOff c.args.net.now) 0)) (sym c.new-found.ensures.items) (ListsNumbers-none (IsOff c.args.net.now))
+loop-router-init c = subst (ListsNumbers (IsRouterBelow (IsOff c.args.net.now) 0)) (sym c.new-found.ensures.items) (ListsNumbers-none (IsOff c.args.net.now))
 
 pub loop-router-preserved : goal.loop-router-preserved
 loop-router-preserved c =
-    subst (ListsNumbers (IsBelow (IsOff c.args.net.now) (c.loop-router.router + 1))) (sym c.in_ok-add_if.ensures)
+    subst (ListsNumbers (IsRouterBelow (IsOff c.args.net.now) (c.loop-router.router + 1))) (sym c.in_ok-add_if.ensures)
     (ListsNumbers-more IsOffStart c.args.net.now c.loop-router.router c.config.result.now c.config.ensures.router c.is_off_start.result c.is_off_start.ensures
     c.loop-router.found.items c.loop-router.invariant)
 
@@ -18,4 +18,4 @@ pub returns : goal.returns
 returns c =
     let end : c.loop-router.router ≡ length c.args.net.now = omega arith in
     ListsNumbers-all IsOffStart c.args.net.now c.loop-router.found.items
-    (subst (λ u. ListsNumbers (IsBelow (IsOff c.args.net.now) u) c.loop-router.found.items) end c.loop-router.invariant)
+    (subst (λ u. ListsNumbers (IsRouterBelow (IsOff c.args.net.now) u) c.loop-router.found.items) end c.loop-router.invariant)

@@ -4,7 +4,7 @@ use Rattle.route_core.specs.Rows.{listed}
 use Rattle.route_core.specs.declared.entry.Entry.{Entry}
 use Rattle.used_routes.specs.UsedRoutes.{usable_at}
 use Rattle.used_routes.specs.declared.used.Origin.TheVariants as origin
-use Rattle.used_routes.specs.steps.Found.{HasNone, IsBestRoute, OfNew}
+use Rattle.used_routes.specs.steps.Found.{HasNone, IsBestUsed, OfNew}
 use Rattle.used_routes.proofs.OwnRoutes.{new_best, new_none}
 use Rattle.used_routes.proofs.used.Sources.of_new.Goals as goal
 
@@ -17,7 +17,7 @@ returns-in_default-clause-found g c =
 pub returns-clause-found : goal.returns-clause-found
 returns-clause-found g c =
     let old = g.O.RouteSource.table c.args.self.now.old.now c.args.router in
-    subst (λ (t : List (Block × Entry)). IsBestRoute (usable_at old t) (OfNew t c.args.phase) c.args.a
+    subst (λ (t : List (Block × Entry)). IsBestUsed (usable_at old t) (OfNew t c.args.phase) c.args.a
     (record { prefix = c.dest.result; distance = 115; origin = origin.New c.in-Some.place })) c.table-table.ensures.entries
     (new_best old (listed c.table-table.result.now) c.args.phase c.args.a c.in-Some.place c.dest.result c.dest.ensures.0
     (c.new_counts.ensures.0 (search rules)) c.in-Some.ensures.found c.dest.ensures.1)

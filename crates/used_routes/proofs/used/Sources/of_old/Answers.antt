@@ -6,7 +6,7 @@ use Rattle.route_core.specs.Rows.{listed}
 use Rattle.route_core.specs.declared.entry.Entry.{Entry}
 use Rattle.used_routes.specs.UsedRoutes.{usable_at}
 use Rattle.used_routes.specs.declared.used.Origin.TheVariants as origin
-use Rattle.used_routes.specs.steps.Found.{HasNone, IsBestRoute, OfOld}
+use Rattle.used_routes.specs.steps.Found.{HasNone, IsBestUsed, OfOld}
 use Rattle.used_routes.proofs.OwnRoutes.{old_best, old_installs_none, old_none}
 use Rattle.used_routes.proofs.used.Sources.of_old.Goals as goal
 
@@ -35,10 +35,10 @@ returns-clause-found g c =
     let same : c.behind-self.inside.distances.ospf ≡ config.distances.ospf = ap (λ
     (x : Configuration). x.distances.ospf) c.behind-self.view_is in
     let some : config.distances.ospf ≢ MOST_DISTANCE = λ e. c.if-distance.false (same ∙ e) in
-    subst (λ (d : ℕ). IsBestRoute (usable_at (g.O.RouteSource.table c.args.self.now.old.now c.args.router) new)
+    subst (λ (d : ℕ). IsBestUsed (usable_at (g.O.RouteSource.table c.args.self.now.old.now c.args.router) new)
     (OfOld net (g.O.RouteSource.table c.args.self.now.old.now c.args.router) c.args.router c.args.phase) c.args.a
     (record { prefix = c.dest.result; distance = d; origin = origin.Old c.in-Some.place })) (sym same)
-    (subst (λ (t : List (Block × Entry)). IsBestRoute (usable_at t new) (OfOld net t c.args.router c.args.phase) c.args.a
+    (subst (λ (t : List (Block × Entry)). IsBestUsed (usable_at t new) (OfOld net t c.args.router c.args.phase) c.args.a
     (record { prefix = c.dest.result; distance = config.distances.ospf; origin = origin.Old c.in-Some.place }))
     c.table-table.ensures.entries
     (old_best net (listed c.table-table.result.now) new c.args.router c.args.phase c.args.a config c.in-Some.place

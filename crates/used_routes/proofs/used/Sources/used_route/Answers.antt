@@ -1,7 +1,7 @@
 use Rattle.std.proofs.Common.{Option, IfSome, sym, subst}
 use Rattle.used_routes.specs.UsedRoutes.{IsOfTables, usable_at}
 use Rattle.used_routes.specs.declared.used.UsedRoute.{UsedRoute}
-use Rattle.used_routes.specs.steps.Found.{IsFoundRoute, OfConnected, OfNew, OfOld}
+use Rattle.used_routes.specs.steps.Found.{IsFoundUsed, OfConnected, OfNew, OfOld}
 use Rattle.used_routes.proofs.BestRoutes.{Either, better_found, better_within}
 use Rattle.used_routes.proofs.OwnRoutes.{found_none, found_used}
 use Rattle.used_routes.proofs.used.Sources.used_route.Goals as goal
@@ -17,9 +17,9 @@ returns g c =
     let C = OfConnected net u in
     let O = OfOld net (old u) u c.args.phase in
     let N = OfNew (new u) c.args.phase in
-    let both = subst (λ (found : Option UsedRoute). IsFoundRoute own (Either O N) a found) (sym c.better.ensures)
+    let both = subst (λ (found : Option UsedRoute). IsFoundUsed own (Either O N) a found) (sym c.better.ensures)
     (better_found own O N a _ _ c.of_old-old.ensures.found c.of_new-new.ensures.found) in
-    let all = subst (λ (found : Option UsedRoute). IsFoundRoute own (Either C (Either O N)) a found) (sym c.better-2.ensures)
+    let all = subst (λ (found : Option UsedRoute). IsFoundUsed own (Either C (Either O N)) a found) (sym c.better-2.ensures)
     (better_found own C (Either O N) a _ _ c.connected-connected.ensures.found both) in
     let P = IsOfTables (old u) (new u) in
     let within = subst (λ (found : Option UsedRoute). IfSome found (λ r. P r.origin)) (sym c.better.ensures)
