@@ -1,6 +1,6 @@
 -- From a network at its start: in each state the distances of the configurations tell the phases.
-use Rattle.std.proofs.Common.{◌≡◌, ◌≢◌, ℕ, ◌+◌, zero, suc, true, Bool, false, cond, List, [], ◌∷◌, Some, IsTrue, IsSome, refl, sym, ap, ◌∙◌, subst}
-use Rattle.std.proofs.Common.{inl, inr, arith}
+use Rattle.std.proofs.Common.{◌≡◌, ◌≢◌, ℕ, ◌+◌, zero, suc, true, Bool, false, cond, [], ◌∷◌, Some, IsTrue, IsSome, refl, sym, ap, ◌∙◌, subst}
+use Rattle.std.proofs.Common.{inr, arith}
 use Rattle.std.specs.Prelude.{option_map, slice_get, is_some, Option, None}
 use Rattle.std.proofs.lemmas.Option.{same_Some}
 use Rattle.net_addr.specs.Addresses.{Block}
@@ -18,7 +18,7 @@ use Rattle.igp_theory.specs.declared.phase.Phase.{Phase}
 use Rattle.igp_theory.specs.declared.phase.Phase.TheVariants.{Old, Middle, New}
 use Rattle.applied_changes.specs.AppliedTexts.{with_distances, after_first, after_second, in_phase}
 use Rattle.typed_distances.specs.TypedDistances.{CountsByDistance, ospf_counts, isis_counts, network_from, network_in}
-use Rattle.typed_distances.specs.TypedDistances.{HasBarDistances, AreSameBarDistances, AreasHaveProcesses, DistancesTellPhases}
+use Rattle.typed_distances.specs.TypedDistances.{AreSameBarDistances, AreasHaveProcesses, DistancesTellPhases}
 use Rattle.typed_distances.proofs.SameBarDistances.{flip, connected_over, ospf_over, isis_over}
 
 -- ---- a configuration in a phase ----
@@ -28,12 +28,15 @@ either_is f v true x y one other = one
 either_is f v false x y one other = other
 
 -- it differs in its distances alone
+first_alike : (c : Configuration) → with_distances 0 0 (after_first c) ≡ with_distances 0 0 c
+first_alike c = either_is (with_distances 0 0) (with_distances 0 0 c) c.isis (with_distances c.distances.ospf ISIS_DISTANCE c) c refl refl
+
 pub phase_alike : (phase : Phase) (c : Configuration) → with_distances 0 0 (in_phase phase c) ≡ with_distances 0 0 c
 phase_alike Old c = refl
-phase_alike Middle c = either_is (with_distances 0 0) (with_distances 0 0 c) c.isis (with_distances c.distances.ospf ISIS_DISTANCE c) c refl refl
+phase_alike Middle c = first_alike c
 phase_alike New c =
     either_is (with_distances 0 0) (with_distances 0 0 c) (is_some (after_first c).process)
-    (with_distances MOST_DISTANCE (after_first c).distances.isis (after_first c)) (after_first c) (phase_alike Middle c) (phase_alike Middle c)
+    (with_distances MOST_DISTANCE (after_first c).distances.isis (after_first c)) (after_first c) (first_alike c) (first_alike c)
 
 -- the first change lets the distance of OSPF be, and the second one that of IS-IS
 ospf_kept : (c : Configuration) → (after_first c).distances.ospf ≡ c.distances.ospf
@@ -72,9 +75,12 @@ get_from v state (c ∷ net) zero = ap (λ n. Some (in_phase (state n) c)) (let 
 get_from v state (c ∷ net) (suc u) =
     get_from (v + 1) state net u ∙ ap (λ n. option_map (in_phase (state n)) (slice_get net u)) (let e : v + 1 + u ≡ v + suc u = omega arith in e)
 
+get_in : (state : State) (net : Network) (u : ℕ) → slice_get (network_in state net) u ≡ option_map (in_phase (state u)) (slice_get net u)
+get_in state net u = get_from 0 state net u ∙ ap (λ n. option_map (in_phase (state n)) (slice_get net u)) (let e : 0 + u ≡ u = omega arith in e)
+
 router_there : (state : State) (net : Network) (u : ℕ) (c : Configuration) → HasConfiguration net u c →
     HasConfiguration (network_in state net) u (in_phase (state u) c)
-router_there state net u c at = get_from 0 state net u ∙ ap (option_map (in_phase (state u))) at
+router_there state net u c at = get_in state net u ∙ ap (option_map (in_phase (state u))) at
 
 -- the configuration at the start of a router of the state
 pub record CameFrom (state : State) (net : Network) (u : ℕ) (d : Configuration) : Type 0 where
@@ -88,7 +94,7 @@ came_by state net u d None at gives = absurd (let clash : None ≡ Some d = give
 came_by state net u d (Some c) at gives = record { config = c; router = at; leads = same_Some (in_phase (state u) c) d gives }
 
 came_from : (state : State) (net : Network) (u : ℕ) (d : Configuration) → HasConfiguration (network_in state net) u d → CameFrom state net u d
-came_from state net u d at = came_by state net u d (slice_get net u) refl (sym (get_from 0 state net u) ∙ at)
+came_from state net u d at = came_by state net u d (slice_get net u) refl (sym (get_in state net u) ∙ at)
 
 bar_distances : (state : State) (net : Network) → AreSameBarDistances net (network_in state net)
 bar_distances state net = record {

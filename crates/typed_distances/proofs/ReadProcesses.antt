@@ -5,12 +5,11 @@ use Rattle.std.specs.Prelude.{Option, Result, Ok, Err, is_some, flat_map, filter
 use Rattle.net_model.specs.Configuration.{Configuration}
 use Rattle.net_model.specs.declared.interface.Interface.{Interface}
 use Rattle.net_model.proofs.Members.{IsGivenBy, Contains-map}
-use Rattle.ios_lines.specs.Lookups.{first_of}
+use Rattle.ios_lines.specs.InterfaceLines.{counting}
 use Rattle.ios_lines.specs.declared.address.InterfaceAddress.{InterfaceAddress}
 use Rattle.ios_lines.specs.declared.interface_line.ProcessArea.{ProcessArea}
 use Rattle.ios_lines.specs.declared.kind.ReadKind.{ReadKind}
-use Rattle.ios_lines.specs.declared.ospf_line.OspfStatement.{OspfStatement}
-use Rattle.ios_sections.specs.Processes.{as_ospf, process_of, ospf_lines, lines_of_process}
+use Rattle.ios_sections.specs.Processes.{as_ospf, process_of, lines_of_process}
 use Rattle.ios_sections.specs.Sections.{sections_in}
 use Rattle.ios_sections.specs.TextLines.{lines_in, parts_of}
 use Rattle.ios_sections.specs.declared.section.InterfaceSection.{InterfaceSection}
@@ -18,7 +17,7 @@ use Rattle.ios_sections.specs.declared.section.OspfSection.{OspfSection}
 use Rattle.ios_sections.specs.declared.section.Section.{Section}
 use Rattle.ios_reader.specs.Configurations.{configuration_of}
 use Rattle.ios_reader.specs.InterfaceFacts.{facts_of}
-use Rattle.ios_reader.specs.InterfacesAsRead.{address_given, area_by, area_with, interface_area, interface_as_read, network_area}
+use Rattle.ios_reader.specs.InterfacesAsRead.{address_given, area_by, area_with, interface_as_read, network_area}
 use Rattle.ios_reader.specs.Routers.{Router, router_of}
 use Rattle.ios_reader.specs.declared.facts.InterfaceFacts.{InterfaceFacts}
 use Rattle.typed_distances.specs.TypedDistances.{ReadAreasHaveProcesses}
@@ -46,7 +45,8 @@ no_area router none no_lines facts (Some given) =
 read_area : (sections : List Section) → process_of sections ≡ None → (section : InterfaceSection) →
     (interface_as_read (router_of sections) section).area ≡ None
 read_area sections none section =
-    no_area (router_of sections) none (no_lines (process_of sections) none (filter_map as_ospf sections)) _ _
+    no_area (router_of sections) none (no_lines (process_of sections) none (filter_map as_ospf sections))
+    (facts_of (counting section.lines)) (address_given (facts_of (counting section.lines)).address)
 
 by_process : (sections : List Section) (process : Option ℕ) → process_of sections ≡ process → (i : Interface) →
     Contains (configuration_of sections).interfaces i → IsSome i.area → is_some process ≡ true

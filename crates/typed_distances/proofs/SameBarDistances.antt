@@ -1,22 +1,21 @@
 -- The tables of two networks that are the same but for distances.
-use Rattle.std.proofs.Common.{◌≡◌, ◌≢◌, ℕ, ◌≤◌, ◌↔◌, true, false, IsTrue, Contains, refl, sym, ap, ◌∙◌, subst}
-use Rattle.net_addr.specs.Addresses.{Block, Covers}
+use Rattle.std.proofs.Common.{◌≡◌, ℕ, true, false, Contains, sym, ap, ◌∙◌, subst}
+use Rattle.net_addr.specs.Addresses.{Block}
 use Rattle.net_model.specs.Configuration.{Configuration}
 use Rattle.net_model.specs.LevelSets.{has_level_one, has_level_two}
-use Rattle.net_model.specs.Network.{Network, HasConfiguration, UpInterface, Connected, InArea, IsBorderRouter, Adjacent, MayJoin}
+use Rattle.net_model.specs.Network.{Network, UpInterface, Connected, InArea, IsBorderRouter, Adjacent, MayJoin}
 use Rattle.net_model.specs.declared.area.Range.{Range}
 use Rattle.net_model.specs.declared.area.Stub.{Stub}
 use Rattle.net_model.specs.declared.interface.Interface.{Interface}
 use Rattle.net_model.specs.declared.zone.Zone.{Zone}
 use Rattle.net_model.specs.declared.zone.Zone.TheVariants.{Area, One, Two}
 use Rattle.route_core.specs.declared.entry.Entry.{Entry}
-use Rattle.route_core.specs.declared.entry.Entry.TheVariants.{Via, Discard}
 use Rattle.walk_core.specs.Offers.{Offers}
 use Rattle.walk_core.proofs.WalkLaws.{SameArcs, SameOffers, best_cost_over, walks_over}
 use Rattle.igp_theory.specs.Isis.{IsisEntry, level_one, level_two, down, default_route}
 use Rattle.igp_theory.specs.Isis.{RunsLevelOne, RunsLevelTwo, OffersLevelOne, LevelOneCost, LevelOneHop, OffersLevelTwo}
 use Rattle.igp_theory.specs.Isis.{LevelTwoAnnouncement, own, of_level_one, LevelTwoCost, LevelTwoHop, HasLevelOneRoute, HasLevelTwoRoute}
-use Rattle.igp_theory.specs.Isis.{Leaks, DownAnnouncement, DownCost, DownHop, HasDownRoute, IsAttached, OffersDefault, DefaultCost, DefaultHop}
+use Rattle.igp_theory.specs.Isis.{Leaks, DownAnnouncement, DownHop, HasDownRoute, IsAttached, OffersDefault, DefaultCost, DefaultHop}
 use Rattle.igp_theory.specs.Ospf.{OspfEntry, intra_area, discard, inter_area, OffersSubnet, IntraAreaCost, IntraAreaHop, IsIntraArea}
 use Rattle.igp_theory.specs.Ospf.{HasRange, IsComponent, IsActive, IsCompatible, RangeCost, stated, least, greatest}
 use Rattle.igp_theory.specs.Ospf.{SummarizesSubnet, SummarizesRange, BackboneSummary, OfOthers, IsActiveRange, BorderCost}
@@ -50,6 +49,7 @@ module _ {net other : Network} (s : AreSameBarDistances net other) where
       }
 
   up_area : (u : ℕ) (i : Interface) (x : UpInterface net u i) → (up_over u i x).config.isis_area ≡ x.config.isis_area
+  unfolding up_over
   up_area u i x =
       let its : HasBarDistances other u x.config = s.there u x.config x.router in ap (λ (c : Configuration). c.isis_area) its.alike
 
@@ -343,6 +343,7 @@ module _ {net other : Network} (s : AreSameBarDistances net other) where
   }
 
   attached_over : (u : ℕ) → IsAttached net u → IsAttached other u
+  unfolding runs_two_over
   attached_over u x =
       let its : HasBarDistances other x.far x.config = s.there x.far x.config x.router in
       let near : HasBarDistances other u x.runs_level_two.config = s.there u x.runs_level_two.config x.runs_level_two.router in record {

@@ -1,13 +1,12 @@
 -- Texts with the lines of changes put in read as the network of the state.
-use Rattle.std.proofs.Common.{◌≡◌, ℕ, ◌+◌, true, false, Bool, cond, List, [], ◌∷◌, ◌++◌, map, Contains, AllPairs, All, refl, sym, ap, ◌∙◌, subst, inl, inr}
-use Rattle.std.specs.Prelude.{slice_get, bytes_eq, IsSome, is_some, IsPermutation}
+use Rattle.std.proofs.Common.{◌≡◌, ℕ, ◌+◌, true, false, Bool, cond, List, [], ◌∷◌, ◌++◌, map, Contains, AllPairs, All, refl, sym, ap, ◌∙◌, subst, inl, inr, arith}
+use Rattle.std.specs.Prelude.{bytes_eq, IsSome, IsPermutation}
 use Rattle.std.proofs.lemmas.List.{map-append}
 use Rattle.std.proofs.lemmas.List.Elements.{Contains-append_cases}
 use Rattle.std.proofs.lemmas.List.Sorted.{Contains-permutation, IsPermutation-map, IsPermutation-sym}
 use Rattle.std.proofs.lemmas.Option.{slice_get_within, get_or_from_slice_get}
 use Rattle.net_model.specs.Configuration.{Configuration}
-use Rattle.net_model.specs.Network.{Network, HasConfiguration}
-use Rattle.net_model.specs.OffStarts.{StartsOff}
+use Rattle.net_model.specs.Network.{Network}
 use Rattle.net_model.specs.Refusals.{IsBelow, IsNetworkOf, NamesAscend}
 use Rattle.net_model.specs.declared.interface.Interface.{Interface}
 use Rattle.net_model.proofs.Members.{Contains-rest}
@@ -17,7 +16,6 @@ use Rattle.igp_theory.specs.Phases.{State}
 use Rattle.igp_theory.specs.States.{state_of}
 use Rattle.igp_theory.proofs.OrderedLists.{pairs_first, pairs_rest}
 use Rattle.ios_lines.proofs.Picked.{pairs_map}
-use Rattle.ios_reader.specs.Texts.{ReadsText}
 use Rattle.applied_changes.specs.AppliedTexts.{applied_text, in_phase}
 use Rattle.applied_changes.specs.NamedPhases.{phase_from, phase_named}
 use Rattle.applied_changes.proofs.AppliedFacts.{applied_text_reads}
@@ -46,7 +44,7 @@ all_read phases (text ∷ texts) configs reads = record {
 -- a router of some texts has a process where OSPF runs on an interface of it
 read_process : (texts : List (List ℕ)) (configs : List Configuration) → ReadsTexts texts configs → (c : Configuration) → Contains configs c →
     (i : Interface) → Contains c.interfaces i → IsSome i.area → IsSome c.process
-read_process [] configs none c among i inside runs = let empty : Contains [] c = subst (λ l. Contains l c) none among in absurd (omega (empty.1))
+read_process [] configs none c among i inside runs = let empty : Contains [] c = subst (λ l. Contains l c) none among in absurd (omega (arith, empty.1))
 read_process (text ∷ texts) configs reads c among i inside runs =
     elim (Contains-append_cases reads.one reads.others c (subst (λ l. Contains l c) reads.all among)) [
       | inl here ↦ read_areas text reads.one reads.reads c here i inside runs
@@ -70,9 +68,9 @@ further v state first more [] below = refl
 further v state first more (d ∷ rest) below =
     let other : bytes_eq first.name d.name ≡ false = apart (bytes_eq first.name d.name) refl in
     ap (λ b. in_phase (cond b (state v) (phase_from (v + 1) more state d.name)) d
-      ∷ map (λ (x : Configuration). in_phase (phase_from v (first ∷ more) state x.name) x) rest) other
+    ∷ map (λ (x : Configuration). in_phase (phase_from v (first ∷ more) state x.name) x) rest) other
     ∙ ap (λ l. in_phase (phase_from (v + 1) more state d.name) d ∷ l)
-      (further v state first more rest (λ x among. below x (Contains-rest d rest x among)))
+    (further v state first more rest (λ x among. below x (Contains-rest d rest x among)))
   where
     apart : (b : Bool) → bytes_eq first.name d.name ≡ b → b ≡ false
     apart false is = refl
@@ -87,9 +85,9 @@ phases_by_name v state [] ascending = refl
 phases_by_name v state (c ∷ net) ascending =
     let R : Configuration → Configuration → Type 0 = λ x y. IsBelow x.name y.name in
     ap (λ b. in_phase (cond b (state v) (phase_from (v + 1) net state c.name)) c
-      ∷ map (λ (x : Configuration). in_phase (phase_from v (c ∷ net) state x.name) x) net) (text_is c.name c.name refl)
+    ∷ map (λ (x : Configuration). in_phase (phase_from v (c ∷ net) state x.name) x) net) (text_is c.name c.name refl)
     ∙ ap (λ l. in_phase (state v) c ∷ l)
-      (further v state c net net (λ d among. pairs_first R c net ascending d among) ∙ phases_by_name (v + 1) state net (pairs_rest R c net ascending))
+    (further v state c net net (λ d among. pairs_first R c net ascending d among) ∙ phases_by_name (v + 1) state net (pairs_rest R c net ascending))
 
 -- the configurations in their phases are those of the network in the state
 in_state : (configs : List Configuration) (net : Network) (state : State) → IsNetworkOf configs net →

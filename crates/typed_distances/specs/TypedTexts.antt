@@ -1,11 +1,10 @@
 -- The texts of the configurations, with the lines of the changes made by then, read as the network of the state.
-use Rattle.std.specs.Prelude.{ℕ, ◌↔◌, List, length, map}
+use Rattle.std.specs.Prelude.{ℕ, ◌↔◌, List, map}
 use Rattle.net_addr.specs.Addresses.{Block}
 use Rattle.net_model.specs.Configuration.{Configuration}
 use Rattle.net_model.specs.Network.{Network}
 use Rattle.net_model.specs.OffStarts.{StartsOff}
 use Rattle.net_model.specs.Refusals.{IsNetworkOf}
-use Rattle.order_core.specs.Orders.{IsOrder}
 use Rattle.igp_theory.specs.Forwarding.{Usable, Counts}
 use Rattle.igp_theory.specs.Migrations.{ospf_to_isis}
 use Rattle.igp_theory.specs.States.{state_of}

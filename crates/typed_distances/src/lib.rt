@@ -9,4 +9,6 @@
 // That tables read no distances, and that the distances of a state tell the phases.
 mod laws;
 
-pub use laws::{distances_tell_phases, read_areas_have_processes, tables_read_no_distances, typed_texts_forward};
+pub use laws::{
+    distances_tell_phases, read_areas_have_processes, tables_read_no_distances, typed_texts_forward,
+};
