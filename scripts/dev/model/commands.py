@@ -12,6 +12,7 @@ from running_night import observe
 from search import Changes, Routers, Search
 from shown import tables_text
 from tables import isis_tables, ospf_tables
+from surveys import survey
 from trees import tree_text, verdict
 from words import Refused, address_text, number, word_at
 
@@ -29,6 +30,7 @@ COMMANDS = {
     "pairscripts": (1, 2, {}, None), "paircheck": (1, 2, {}, None), "pairrefute": (1, 2, {}, None),
     "prepare": (1, None, {}, None), "delta": (1, None, {}, None), "design": (0, None, COSTS, None),
     "split": (1, None, {}, (1, ROUTERS_MOST)), "tables": (0, None, {}, None),
+    "survey": (0, None, {}, None),
 }
 # Those that ask of no network that a migration begins there.
 WITHOUT_START = ("prepare", "delta", "design", "tables")
@@ -105,6 +107,8 @@ def decide(command, own, files, said):
         return decide_pair(command, own, files, said)
     if command == "observe":
         return observe(*own, files)
+    if command == "survey":
+        return survey(files)
     configurations = [read_configurations(*file) for file in files]
     network = build([each for there in configurations for each in there])
     if command in WITHOUT_START:
