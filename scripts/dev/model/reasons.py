@@ -42,8 +42,7 @@ def packet_way(mixed, fault, spans):
     first one in which it does.
     """
     network = mixed.network
-    target = next((base_of(fault.address, length), length) for length in mixed.lengths
-                  if (base_of(fault.address, length), length) in mixed.targets)
+    target = target_of(mixed, fault.address)
     originators = [name for name, own in zip(network.names, mixed.connected) if target in own]
     if isinstance(fault, Missing):
         phase = next(phase for phase in spans[fault.router] if not leads_on(used(mixed, fault.router, phase, fault.address)))
@@ -55,6 +54,12 @@ def packet_way(mixed, fault, spans):
     return [f"target {prefix_text(target)} at {' '.join(originators)}"] + [
         f"at {network.names[router]} {PHASE_WORDS[phase]} {used_text(network, used(mixed, router, phase, fault.address))}"
         for router, phase in at]
+
+
+def target_of(mixed, address):
+    """The longest prefix with OSPF or IS-IS that holds an address."""
+    prefixes = [(base_of(address, length), length) for length in mixed.lengths]
+    return next(prefix for prefix in prefixes if prefix in mixed.targets)
 
 
 def leads_on(entry):
