@@ -5,6 +5,7 @@
 
 from configurations import read_configurations
 from designs import DESIGN_MOST, LEVEL_WORDS, delta, design, is_area, prepare
+from failures import failures
 from forwarding import NEW, NEW_DISTANCE, OLD, UNUSED_DISTANCE, Missing, Mixed, change_times, router_times
 from networks import ROUTERS_MOST, build, look_at_pair, look_at_start
 from order_files import Departs, Journal, flat_run, is_of_changes, read_changes, read_order
@@ -33,6 +34,7 @@ COMMANDS = {
     "prepare": (1, None, {}, None), "delta": (1, None, {}, None), "design": (0, None, COSTS, None),
     "split": (1, None, {}, (1, ROUTERS_MOST)), "tables": (0, None, {}, None),
     "survey": (0, None, {}, None), "why": (1, None, {}, None), "picture": (1, None, {}, None),
+    "failures": (1, None, {}, None),
 }
 # Those that ask of no network that a migration begins there.
 WITHOUT_START = ("prepare", "delta", "design", "tables")
@@ -126,6 +128,8 @@ def decide(command, own, files, said):
     version, ranks = read_order(own[0], network)
     if command == "check":
         return check(mixed_of(network), version, ranks)
+    if command == "failures":
+        return failures_of(network, version, ranks)
     if command in ("why", "picture"):
         return (why if command == "why" else draw)(mixed_of(network), version, ranks)
     if command == "split":
@@ -208,6 +212,19 @@ def draw(mixed, version, ranks):
     found = fault_of_list(mixed, version, ranks)
     text, code = told_of_list(mixed, version, ranks, found)
     return picture(mixed, ranks, text.rstrip("\n"), found[1] if found else None), code
+
+
+def failures_of(network, version, ranks):
+    """What `check` says, and where that is safe what it says of each network with a link down whose ends are sound."""
+    text, code = check(mixed_of(network), version, ranks)
+    if code:
+        return text, code
+
+    def judge(failed):
+        mixed = mixed_of(failed)
+        return unsound_end(mixed) or check(mixed, version, ranks)
+    more, code = failures(network, judge)
+    return text + more, code
 
 
 def check_changes(network, order):
