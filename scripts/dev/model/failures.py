@@ -25,7 +25,7 @@ def without(network, link):
 
 
 def told_of_link(network, link, judge):
-    """What a link down does, None where the list withstands it. `judge` says it of a network, with a code: 7 of an unsound end."""
+    """What a link down does, None where the list withstands it. `judge` says it of a network, 7 being that an end is unsound."""
     try:
         text, code = judge(without(network, link))
     except Refused as refused:

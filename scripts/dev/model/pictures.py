@@ -106,18 +106,17 @@ def ring_lines(network, fault):
 
 
 def legend(verdict, ranks, areas, links):
-    """A table: the verdict, the colours of the waves, so many in a row, the styles of the areas, and what stands at the ends."""
-    def row(cells):
-        return f"<tr>{cells}</tr>"
-
-    def wide(text, more=""):
-        return row(f'<td colspan="{columns}"{more}>{text}</td>')
-    waves = range(max(ranks) + 1)
-    columns = min(len(waves), LEGEND_COLUMNS)
-    cells = [f'<td bgcolor="{COLORS[wave % len(COLORS)]}">wave {wave + 1}</td>' for wave in waves]
-    rows = [wide(f'<font point-size="16">{verdict}</font>')]
-    rows += [row("".join(cells[first:first + columns])) for first in range(0, len(cells), columns)]
-    rows += [wide(f"area {area}", f' sides="b" {STYLES[place % len(STYLES)][1]}') for place, area in enumerate(areas)]
+    """A table: the verdict, the colours of the waves, the styles of the areas, so many in a row, and what stands at the ends."""
+    waves = [f'<td bgcolor="{COLORS[wave % len(COLORS)]}">wave {wave + 1}</td>' for wave in range(max(ranks) + 1)]
+    styles = [f'<td sides="b" {STYLES[place % len(STYLES)][1]}>area {area}</td>' for place, area in enumerate(areas)]
+    columns = min(max(len(waves), len(areas)), LEGEND_COLUMNS)
+    rows = [wide(columns, f'<font point-size="16">{verdict}</font>')]
+    for cells in (waves, styles):
+        rows += ["".join(cells[first:first + columns]) for first in range(0, len(cells), columns)]
     if links:
-        rows.append(wide("OSPF cost / IS-IS metric"))
-    return f'<table border="0" cellspacing="3">{"".join(rows)}</table>'
+        rows.append(wide(columns, "OSPF cost / IS-IS metric"))
+    return f'<table border="0" cellspacing="3">{"".join(f"<tr>{row}</tr>" for row in rows)}</table>'
+
+
+def wide(columns, text):
+    return f'<td colspan="{columns}">{text}</td>'
