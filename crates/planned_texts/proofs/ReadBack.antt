@@ -8,7 +8,6 @@ use Rattle.order_search.specs.Trees.{branch_count}
 use Rattle.order_search.specs.declared.found.Found.{Found}
 use Rattle.order_search.specs.declared.found.Found.TheVariants.{Waves, Refuted, Spent}
 use Rattle.plan_theory.specs.WavesMeaning.{waves_meaning}
-use Rattle.plan_theory.proofs.Meaning.{seamless_of_good}
 use Rattle.planned_texts.specs.Chains.{IsTaggedChain}
 use Rattle.planned_texts.specs.PlannedTexts.{IsPrintable, planned_text}
 use Rattle.planned_texts.specs.ReadingBack.{HasVerdict, ReadsAsSafeWaves, FoundReadsBack}
@@ -51,7 +50,7 @@ module _ (move : Migration) (budget : ℕ) where
           names = names;
           faultless = λ number kind. no_fault move.net text Two found.ranks number kind network.ascending names;
           alone = λ version other has. one_wave_list move.net text version Two other found.ranks network.ascending has names;
-          seamless = seamless_of_good move found.ranks is.is_good;
+          seamless = is.is_good;
         }
 
     has_verdict : (text : List ℕ) (verdict : Verdict) → IsTextVerdict move text verdict → HasVerdict move text verdict

@@ -10,7 +10,7 @@ use Rattle.plan_theory.specs.WavesMeaning.{waves_meaning}
 use Rattle.order_search.specs.Trees.{Fill, IsTreeNode, Place, Real, branch_count}
 use Rattle.order_search.proofs.Fills.{Fill-append, Fill-weaker}
 use Rattle.order_search.specs.declared.tree.Node.{Node}
-use Rattle.order_search.specs.declared.tree.Node.TheVariants.{Branch, Leaf, Unvisited}
+use Rattle.order_search.specs.declared.tree.Node.TheVariants.{Unvisited}
 use Rattle.refutation_check.specs.TreeTexts.{tree_text}
 use Rattle.refutation_check.specs.Verdicts.{IsClosedText, IsTreeText, IsUnfinishedText, leaf_count, open_count}
 use Rattle.refutation_check.proofs.PrintedTrees.{trees_read_back}
@@ -28,17 +28,11 @@ open_places real (place ∷ places) = (tt, open_places real places)
 open_some : (nodes : List Node) (n : ℕ) → 0 < open_count (nodes ++ replicate (suc n) Unvisited)
 open_some nodes n = omega (arith, open_count-append nodes (replicate (suc n) Unvisited))
 
--- the branches of found nodes are loops of the network
-loop_node : (move : Migration) (place : Place) (node : Node) → IsFoundNode (waves_meaning move) place node → IsTreeNode (IsLoop move) place node
-loop_node move place (Branch a turns) is = (is.is_node.0.is_loop, is.is_node.1)
-loop_node move place (Leaf cycle) is = is.is_node
-loop_node move place Unvisited is = tt
-
 module _ (move : Migration) (budget : ℕ) where
   found_fill : (places left : List Place) (nodes : List Node) → Fill (IsFoundNode (waves_meaning move)) places nodes left →
       Fill (IsTreeNode (IsLoop move)) places nodes left
   found_fill places left nodes fill =
-      Fill-weaker (IsFoundNode (waves_meaning move)) (IsTreeNode (IsLoop move)) (loop_node move) places left nodes fill
+      Fill-weaker (IsFoundNode (waves_meaning move)) (IsTreeNode (IsLoop move)) (λ place node is. is.is_node) places left nodes fill
 
   -- the branches of a refutation are loops of the network
   pub refuted_fill : (tree : List Node) → IsRefutation (waves_meaning move) budget tree →

@@ -6,7 +6,7 @@ use Rattle.igp_theory.specs.Migrations.{Migration}
 use Rattle.igp_theory.specs.Waves.{AreSeamlessWaves, HasNoneSeamless}
 use Rattle.igp_theory.proofs.OnesRuns.{none_without_waves}
 use Rattle.order_search.proofs.TreeRefutes.{closed_tree_refutes}
-use Rattle.plan_theory.proofs.Meaning.{waves_are_decisive}
+use Rattle.plan_theory.proofs.Decided.{waves_are_decisive}
 use Rattle.refutation_check.specs.Verdicts.{IsClosedText, IsTextVerdict, RefutesWhereClosed}
 use Rattle.refutation_check.specs.declared.verdict.Verdict.{Verdict}
 use Rattle.refutation_check.specs.declared.verdict.Verdict.TheVariants.{Closed, Unfinished, Wrong}
