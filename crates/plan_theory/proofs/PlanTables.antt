@@ -170,6 +170,11 @@ module _ (move : Migration) (old' new' : Tables) (same : HaveSameTables move old
         record { wave = told.wave; is_fault = times_fault_over same told.is_fault; named = all_named a turns told.named };
   }
 
+  -- what is real stays so
+  pub real_stays : (items : Items) (a : ℕ) (turns : List Turn) → (night_meaning items move).real a turns → (night_meaning items other).real a turns
+  real_stays Routers = waves_over.real_over
+  real_stays Changes = changes_over.real_over
+
   items_found_over : (items : Items) (budget : ℕ) (found : Found) → IsFound (night_meaning items move) budget found →
       IsFound (night_meaning items other) budget found
   items_found_over Routers = found_over (waves_meaning move) (AreSeamlessWaves other) (IsLoop other) (IsPickedFault other) waves_over
