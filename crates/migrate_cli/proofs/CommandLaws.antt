@@ -4,7 +4,7 @@ use Rattle.igp_theory.specs.Migrations.{ospf_to_isis}
 use Rattle.net_model.specs.Refusals.{NamesAscend}
 use Rattle.migrate_words.specs.declared.command.CommandKind.{CommandKind}
 use Rattle.migrate_words.specs.declared.command.CommandKind.TheVariants.{Check, Prepare, Plan, Refute, Scripts, Replay, Sample}
-use Rattle.migrate_words.specs.declared.command.CommandKind.TheVariants.{Pair, PairScripts, PairCheck, PairRefute}
+use Rattle.migrate_words.specs.declared.command.CommandKind.TheVariants.{Pair, PairScripts, PairCheck, PairRefute, Split}
 use Rattle.migration_report.specs.Outcomes.{IsTellable}
 use Rattle.migration_report.specs.declared.decision.Decision.{Decision}
 use Rattle.net_model.specs.Network.{Network}
@@ -18,6 +18,7 @@ use Rattle.migrate_cli.specs.Reading.{NamedText}
 use Rattle.migrate_cli.specs.RefuteDecision.{IsTreeDecision}
 use Rattle.migrate_cli.specs.ReplayDecision.{IsReplayDecision, journal_of}
 use Rattle.migrate_cli.specs.ScriptsDecision.{IsScriptsDecision}
+use Rattle.migrate_cli.specs.SplitDecision.{IsSplitDecision}
 use Rattle.migrate_cli.proofs.CheckLaws.{check_tellable, one_check_decision}
 use Rattle.migrate_cli.proofs.PairLaws.{one_pair_decision, one_script, pair_tellable, script_tellable}
 use Rattle.migrate_cli.proofs.PlanLaws.{one_plan_decision, one_sample_decision, plan_decision_tellable, sample_tellable}
@@ -25,6 +26,7 @@ use Rattle.migrate_cli.proofs.PrepareLaws.{one_prepare_decision, prepare_tellabl
 use Rattle.migrate_cli.proofs.RefuteLaws.{one_tree_decision, tree_tellable}
 use Rattle.migrate_cli.proofs.ReplayLaws.{one_replay_decision, replay_tellable}
 use Rattle.migrate_cli.proofs.ScriptsLaws.{one_scripts_decision, scripts_tellable}
+use Rattle.migrate_cli.proofs.SplitLaws.{one_split_decision, split_tellable}
 
 -- what is decided of one own file is decided of the other one, where they are the same list
 moved : {own : List NamedText} {one other : NamedText} (P : NamedText → Type 0) → own ≡ one ∷ [] → own ≡ other ∷ [] → P other → P one
@@ -76,6 +78,9 @@ one_decision PairRefute input {e = e} ascending one other =
     one_pair_decision nets (IsTreeDecision (between nets) one.2.text) one_tree_decision one.4
     (redesigned (λ new. IsPairTree (network_pair input.net new) one.2.text e) one.1 other.1
     (moved (λ file. IsPairTree (network_pair input.net other.0) file.text e) one.3 other.3 other.4))
+one_decision Split input {e = e} ascending one other =
+    one_split_decision one.0 input.number input.net ascending one.2
+    (moved (λ file. IsSplitDecision file input.number input.net e) one.1 other.1 other.2)
 
 pub decision_tellable : (kind : CommandKind) (input : Input) (d : Decision) → IsDecision kind input d → IsTellable input.net d
 decision_tellable Check input d is = check_tellable is.2
@@ -90,3 +95,4 @@ decision_tellable PairScripts input d is =
     pair_tellable (network_pair input.net is.0) input.net _ (script_tellable (network_pair input.net is.0) is.2 input.net) is.4
 decision_tellable PairCheck input d is = pair_tellable (network_pair input.net is.0) input.net _ check_tellable is.4
 decision_tellable PairRefute input d is = pair_tellable (network_pair input.net is.0) input.net _ tree_tellable is.4
+decision_tellable Split input d is = split_tellable is.0 input.number input.net is.2

@@ -17,6 +17,7 @@ mod PlanLaws
 mod RefuteLaws
 mod ReplayLaws
 mod ScriptsLaws
+mod SplitLaws
 mod CommandFacts
 mod PairLaws
 mod CommandLaws
@@ -30,6 +31,7 @@ mod DecidedLaws
 mod HeadlineLaws
 mod PlanPromiseLaws
 mod PreparePromiseLaws
+mod SplitPromiseLaws
 mod SamplePromiseLaws
 mod PairPromiseLaws
 mod ClaimLaws

@@ -56,7 +56,7 @@ network_read (text ∷ texts) net settled gives fits some = prepared_texts_read 
 -- ---- what was written is read back ----
 
 -- the one own text is that of the file that is decided on
-own_is : (file : List ℕ) (texts : List (List ℕ)) (design : NamedText) → named_texts (file ∷ []) (take 1 texts) ≡ design ∷ [] →
+pub own_is : (file : List ℕ) (texts : List (List ℕ)) (design : NamedText) → named_texts (file ∷ []) (take 1 texts) ≡ design ∷ [] →
     take 1 texts ≡ design.text ∷ []
 own_is file [] design is = absurd (cc is)
 own_is file (text ∷ texts) design is = let same : named_text file text ≡ design = cc is in ap (λ (d : NamedText). d.text ∷ []) same

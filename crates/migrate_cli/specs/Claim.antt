@@ -13,6 +13,7 @@ use Rattle.migrate_cli.specs.PlanPromise.{PlanPromise}
 use Rattle.migrate_cli.specs.PreparePromise.{PreparePromise}
 use Rattle.migrate_cli.specs.Reading.{LastFailed}
 use Rattle.migrate_cli.specs.SamplePromise.{SamplePromise}
+use Rattle.migrate_cli.specs.SplitPromise.{SplitPromise}
 
 pub record Claim (call : Call) (before after : Outside) (status : Status) : Type 0 where
   -- it asks for its command's files in their order, and what they come to is written whole or cut, or nothing for want of memory
@@ -45,3 +46,5 @@ pub record Claim (call : Call) (before after : Outside) (status : Status) : Type
   pub pair_scripts : PairScriptsWrites call before after status
   -- `sample` sums up the plan of a made network, and reads no file
   pub samples : SamplePromise call before after status
+  -- `split` cuts safe waves into smaller ones, which are safe
+  pub splits : SplitPromise call before after status

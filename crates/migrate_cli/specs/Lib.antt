@@ -11,6 +11,7 @@ pub mod SampleDecision
 pub mod RefuteDecision
 pub mod ReplayDecision
 pub mod ScriptsDecision
+pub mod SplitDecision
 pub mod PairDecision
 pub mod Decisions
 pub mod Outcomes
@@ -20,6 +21,7 @@ pub mod Completeness
 pub mod Headline
 pub mod PlanPromise
 pub mod PreparePromise
+pub mod SplitPromise
 pub mod SamplePromise
 pub mod PairPromise
 pub mod Claim

@@ -16,6 +16,7 @@ use crate::refute::{judge_refute, refute_over};
 use crate::replay::judge_replay;
 use crate::sample::judge_sample;
 use crate::scripts::judge_scripts;
+use crate::split::judge_split;
 use migrate_words::{Command, CommandKind};
 use migration_report::Decision;
 use net_addr::Bytes;
@@ -66,6 +67,10 @@ pub(crate) fn judge_command(
             judge_replay(alloc, file, order, journal, net)
         }
         CommandKind::Sample => judge_sample(alloc, command.number, net),
+        CommandKind::Split => {
+            let (file, order) = first_own(command, own);
+            judge_split(alloc, file, order, command.number, net)
+        }
         _ => unreachable!(),
     }
 }

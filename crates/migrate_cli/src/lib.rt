@@ -10,7 +10,7 @@
 //! | `configurations`, `judging` | configurations and the network, the start, and then the command's own decision |
 //! | `commands` | the commands, and whether one asks for the start of a migration |
 //! | `tables` | the tables of both protocols of a network, and mixed forwarding over them |
-//! | `check`, `plan`, `refute`, `scripts`, `replay`, `prepare`, `sample` | what each command decides |
+//! | `check`, `plan`, `refute`, `scripts`, `split`, `replay`, `prepare`, `pair`, `sample` | what each command decides |
 //! | `sending` | writing in pieces of 4,096 bytes |
 //! | `originated` | how many prefixes a network originates |
 //! | `laws` | that a call has one answer |
@@ -42,6 +42,7 @@ mod refute;
 mod replay;
 mod sample;
 mod scripts;
+mod split;
 
 // what is counted, and laws
 mod laws;

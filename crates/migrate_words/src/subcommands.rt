@@ -13,6 +13,8 @@ pub(crate) enum NumberTaken {
     Budget,
     /// `N`: the number of routers of a network.
     Routers,
+    /// `N`: how many routers a wave has at most.
+    WaveSize,
 }
 
 /// The configuration files that a command takes.
@@ -71,7 +73,7 @@ pub(crate) fn networks() -> &'static [OwnFile]
     &NETWORKS
 }
 
-static SUBCOMMANDS: [Subcommand; 11] = [
+static SUBCOMMANDS: [Subcommand; 12] = [
     Subcommand {
         kind: CommandKind::Check,
         word: "check",
@@ -179,6 +181,15 @@ static SUBCOMMANDS: [Subcommand; 11] = [
         number: NumberTaken::NoNumber,
         own: &[TREE],
         configs: ConfigFiles::Networks,
+    },
+    Subcommand {
+        kind: CommandKind::Split,
+        word: "split",
+        about: "Writes the waves of a safe order or list, cut into waves of N routers at most",
+        usage: "migrate split N ORDER CONFIG...",
+        number: NumberTaken::WaveSize,
+        own: &[ORDER],
+        configs: ConfigFiles::Several,
     },
 ];
 
