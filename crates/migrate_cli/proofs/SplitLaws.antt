@@ -6,7 +6,7 @@ use Rattle.igp_theory.specs.States.{IsSeamless}
 use Rattle.igp_theory.specs.Waves.{AreSeamlessWaves}
 use Rattle.igp_theory.proofs.FlatOrders.{flat_is_seamless}
 use Rattle.net_model.specs.Network.{Network}
-use Rattle.net_model.specs.Refusals.{IsNetwork, NamesAscend}
+use Rattle.net_model.specs.Refusals.{NamesAscend}
 use Rattle.net_model.specs.RouterNames.{names_of}
 use Rattle.order_core.specs.Orders.{AreDistinct}
 use Rattle.order_core.specs.Rankings.{IsRanking, flat_of, wave_count}
@@ -104,11 +104,11 @@ module _ (order : NamedText) (most : ℕ) (net : Network) where
 
 -- ---- what is written is safe ----
 
-pub safely_split : (net : Network) (most : ℕ) (ranks split : List ℕ) → IsNetwork net → 0 < most → AreSeamlessWaves (ospf_to_isis net) ranks →
+pub safely_split : (net : Network) (most : ℕ) (ranks split : List ℕ) → 0 < most → AreSeamlessWaves (ospf_to_isis net) ranks →
     IsCutOf net most ranks split → IsSafelySplit net most ranks (wave_list_text (names_of net) (waves_in split))
-safely_split net most ranks split network some seamless cut =
+safely_split net most ranks split some seamless cut =
     let smaller : AreSmallerWaves most ranks split = cuts_refine.lists (length net) most ranks split some seamless.waves cut.ranking cut.cuts in
-    let reads = lists_read_back net split network cut.ranking in
+    let reads = lists_read_back net split cut.network cut.ranking in
     record {
       split = split;
       reads_back = reads;

@@ -55,7 +55,7 @@ module _ (call : Call) (most : ℕ) (file : List ℕ) (configs : List (List ℕ)
     seamless = seamless;
     written = _;
     adds = writes;
-    is = safely_split it.net most ranks split it.gives.0.make.network some seamless is;
+    is = safely_split it.net most ranks split some seamless is;
   }
 
   pub has_split : {asked : List (List ℕ)} {outcome : Outcome} → IsAnswer call asked outcome →

@@ -1,6 +1,7 @@
 -- What `split` decides of an order file and a network that is at its start.
 use Rattle.std.specs.Prelude.{◌≡◌, ℕ, List, length}
 use Rattle.net_model.specs.Network.{Network}
+use Rattle.net_model.specs.Refusals.{IsNetwork}
 use Rattle.net_model.specs.RouterNames.{names_of}
 use Rattle.igp_theory.specs.Migrations.{ospf_to_isis}
 use Rattle.igp_theory.specs.Waves.{AreSeamlessWaves}
@@ -22,6 +23,7 @@ IsYes _ = ⊥
 
 -- a wave list of a network, cut into waves of at most so many routers
 pub record IsCutOf (net : Network) (most : ℕ) (ranks split : List ℕ) : Type 0 where
+  pub network : IsNetwork net
   pub ranking : IsRanking (length net) split
   pub cuts : waves_in split ≡ cut_waves most ranks
 

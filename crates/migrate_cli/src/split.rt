@@ -51,6 +51,7 @@ fn split_read(
     if !is_yes(&checked) {
         return Ok(checked);
     }
+    let _routers = net.routers();
     let split = split_waves(alloc, &read.waves, most)?;
     let text = wave_list_text(alloc, net, &split)?;
     Ok(Decision::Split { text })
