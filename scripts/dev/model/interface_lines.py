@@ -1,7 +1,7 @@
 """What the lines under `interface` say, and what an interface is by them and by the processes."""
 
 import re
-from dataclasses import dataclass
+from dataclasses import dataclass, field
 
 from process_lines import COST_MOST, LEVELS
 from words import address, area_number, base_of, mask, number, word_at
@@ -26,6 +26,8 @@ class Interface:
     levels: set[int]
     metrics: dict[int, int]
     is_isis_passive: bool
+    # Whether a line says its IS-IS levels or a metric, which an interface without IS-IS may have too.
+    has_isis_line: bool = field(compare=False)
 
 
 class InterfaceLines:
@@ -38,6 +40,7 @@ class InterfaceLines:
         self.has_area_line, self.area = False, None
         self.is_point_to_point, self.runs_isis = None, False
         self.levels, self.metric, self.level_metrics = {1, 2}, None, {}
+        self.has_isis_line = False
 
     def take(self, line, words):
         word, two = words[0], words[:2]
@@ -62,6 +65,7 @@ class InterfaceLines:
             elif (word_at(words, 3) or "") != self.tag:
                 self.tell(line, "SecondProcess")
         elif two == ["isis", "circuit-type"]:
+            self.has_isis_line = True
             if word_at(words, 2) in LEVELS:
                 self.levels = LEVELS[words[2]]
             else:
@@ -113,6 +117,7 @@ class InterfaceLines:
             self.area = area if process is not None and process == self.process else None
 
     def take_metric(self, line, words):
+        self.has_isis_line = True
         value, level = number(word_at(words, 2), COST_MOST, 1), word_at(words, 3)
         if level not in (None, "level-1", "level-2"):
             self.tell(line, "BadLevel")
@@ -140,7 +145,7 @@ class InterfaceLines:
             cost=1 if area is None else self.ospf_cost(name, head_line, is_up, ospf.reference),
             is_ospf_passive=ospf.passive.get(name, ospf.passive_default), levels=levels,
             metrics={level: self.level_metrics.get(f"level-{level}", of_all) if runs else 10 for level in (1, 2)},
-            is_isis_passive=is_isis_passive)
+            is_isis_passive=is_isis_passive, has_isis_line=self.has_isis_line)
 
     def ospf_cost(self, name, head_line, is_up, reference):
         """The cost of its line, or the reference bandwidth over its own, from 1 to 65,535."""
