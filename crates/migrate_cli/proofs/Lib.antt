@@ -11,7 +11,7 @@ mod TableFacts
 mod CheckLaws
 mod NextFacts
 mod PrepareFacts
-mod PrepareLaws
+mod SettlingLaws
 mod OriginatedFacts
 mod PlanLaws
 mod RefuteLaws
@@ -31,6 +31,7 @@ mod DecidedLaws
 mod HeadlineLaws
 mod PlanPromiseLaws
 mod PreparePromiseLaws
+mod DeltaPromiseLaws
 mod SplitPromiseLaws
 mod SamplePromiseLaws
 mod PairPromiseLaws

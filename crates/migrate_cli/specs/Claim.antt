@@ -8,6 +8,7 @@ use Rattle.migrate_cli.specs.AnswerLaws.{EndsByAnswer}
 use Rattle.migrate_cli.specs.Answers.{Answers}
 use Rattle.migrate_cli.specs.Calls.{Call, Outside}
 use Rattle.migrate_cli.specs.Completeness.{CheckDecides, RefuteDecides, ReplayDecides, ScriptsWrites}
+use Rattle.migrate_cli.specs.DeltaPromise.{DeltaPromise}
 use Rattle.migrate_cli.specs.PairPromise.{PairCheckDecides, PairPromise, PairRefuteDecides, PairScriptsWrites}
 use Rattle.migrate_cli.specs.PlanPromise.{PlanPromise}
 use Rattle.migrate_cli.specs.PreparePromise.{PreparePromise}
@@ -48,3 +49,5 @@ pub record Claim (call : Call) (before after : Outside) (status : Status) : Type
   pub samples : SamplePromise call before after status
   -- `split` cuts safe waves into smaller ones, which are safe
   pub splits : SplitPromise call before after status
+  -- `delta` writes the lines alone that `prepare` adds
+  pub deltas : DeltaPromise call before after status

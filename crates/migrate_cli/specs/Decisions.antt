@@ -5,10 +5,11 @@ use Rattle.net_model.specs.Network.{Network}
 use Rattle.migrate_words.specs.declared.command.Command.{Command}
 use Rattle.migrate_words.specs.declared.command.CommandKind.{CommandKind}
 use Rattle.migrate_words.specs.declared.command.CommandKind.TheVariants.{Check, Prepare, Plan, Refute, Scripts, Replay, Sample}
-use Rattle.migrate_words.specs.declared.command.CommandKind.TheVariants.{Pair, PairScripts, PairCheck, PairRefute, Split}
+use Rattle.migrate_words.specs.declared.command.CommandKind.TheVariants.{Pair, PairScripts, PairCheck, PairRefute, Split, Delta}
 use Rattle.migration_report.specs.declared.decision.Decision.{Decision}
 use Rattle.migrate_cli.specs.CommandFiles.{GivenTexts}
 use Rattle.migrate_cli.specs.CheckDecision.{IsCheckDecision}
+use Rattle.migrate_cli.specs.DeltaDecision.{IsDeltaDecision}
 use Rattle.migrate_cli.specs.PrepareDecision.{IsPrepareDecision, configured}
 use Rattle.ospf_pair.specs.NetworkPairs.{network_pair}
 use Rattle.migrate_cli.specs.PairDecision.{IsPairCheck, IsPairPlan, IsPairScripts, IsPairTree}
@@ -64,3 +65,5 @@ IsDecision PairRefute input decision =
     IsPairTree (network_pair input.net new) tree.text decision
 IsDecision Split input decision =
     (order : NamedText) × (input.own ≡ order ∷ []) × IsSplitDecision order input.number input.net decision
+IsDecision Delta input decision =
+    (design : NamedText) × (input.own ≡ design ∷ []) × IsDeltaDecision design (configured input.configs input.net) decision

@@ -4,7 +4,9 @@ pub mod CommandFiles
 pub mod CallWords
 pub mod Configurations
 pub mod CheckDecision
+pub mod SettledDesigns
 pub mod PrepareDecision
+pub mod DeltaDecision
 pub mod PlanDecision
 pub mod OriginatedPrefixes
 pub mod SampleDecision
@@ -21,6 +23,7 @@ pub mod Completeness
 pub mod Headline
 pub mod PlanPromise
 pub mod PreparePromise
+pub mod DeltaPromise
 pub mod SplitPromise
 pub mod SamplePromise
 pub mod PairPromise

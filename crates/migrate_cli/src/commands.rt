@@ -7,6 +7,7 @@ ghost use Rattle.migrate_cli.specs.Reading.{AreShort};
 
 use crate::OutOfMemory;
 use crate::check::{check_over, judge_check};
+use crate::delta::judge_delta;
 use crate::files::FILE_MOST;
 use crate::moves::Move;
 use crate::pair::judge_pair_scripts;
@@ -28,7 +29,7 @@ use std::alloc::Global;
 pub(crate) fn needs_start(kind: CommandKind) -> bool
     ensures { IsTrue result ↔ NeedsStart kind }
 {
-    !matches!(kind, CommandKind::Prepare)
+    !matches!(kind, CommandKind::Prepare | CommandKind::Delta)
 }
 
 /// What a command decides on the texts of its own files, those of configurations, and the network that these make.
@@ -70,6 +71,10 @@ pub(crate) fn judge_command(
         CommandKind::Split => {
             let (file, order) = first_own(command, own);
             judge_split(alloc, file, order, command.number, net)
+        }
+        CommandKind::Delta => {
+            let (file, design) = first_own(command, own);
+            judge_delta(alloc, file, design, configs, net)
         }
         _ => unreachable!(),
     }

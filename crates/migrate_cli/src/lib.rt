@@ -10,7 +10,8 @@
 //! | `configurations`, `judging` | configurations and the network, the start, and then the command's own decision |
 //! | `commands` | the commands, and whether one asks for the start of a migration |
 //! | `tables` | the tables of both protocols of a network, and mixed forwarding over them |
-//! | `check`, `plan`, `refute`, `scripts`, `split`, `replay`, `prepare`, `pair`, `sample` | what each command decides |
+//! | `settling` | what a design settles for a network |
+//! | `check`, `plan`, `refute`, `scripts`, `split`, `replay`, `prepare`, `delta`, `pair`, `sample` | what each command decides |
 //! | `sending` | writing in pieces of 4,096 bytes |
 //! | `originated` | how many prefixes a network originates |
 //! | `laws` | that a call has one answer |
@@ -31,10 +32,12 @@ mod files;
 mod judging;
 mod moves;
 mod reading;
+mod settling;
 mod tables;
 
 // what each command decides
 mod check;
+mod delta;
 mod pair;
 mod plan;
 mod prepare;

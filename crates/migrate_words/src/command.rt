@@ -48,6 +48,8 @@ pub enum CommandKind {
     PairRefute,
     /// `split N ORDER CONFIG...`: the waves of an order that is safe, cut into waves of N routers at most.
     Split,
+    /// `delta DESIGN CONFIG...`: the IS-IS lines alone that `prepare` writes into the configurations.
+    Delta,
 }
 
 /// What a call asks for. Names of files are as they were given.

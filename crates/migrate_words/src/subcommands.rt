@@ -50,6 +50,11 @@ const ORDER: OwnFile = OwnFile {
     help: "The order file: routers in the order of their changes, or waves of routers",
 };
 
+const DESIGN: OwnFile = OwnFile {
+    name: "DESIGN",
+    help: "The design file, in TOML",
+};
+
 const TREE: OwnFile = OwnFile {
     name: "TREE",
     help: "The tree file, as it was printed",
@@ -73,7 +78,7 @@ pub(crate) fn networks() -> &'static [OwnFile]
     &NETWORKS
 }
 
-static SUBCOMMANDS: [Subcommand; 12] = [
+static SUBCOMMANDS: [Subcommand; 13] = [
     Subcommand {
         kind: CommandKind::Check,
         word: "check",
@@ -89,10 +94,7 @@ static SUBCOMMANDS: [Subcommand; 12] = [
         about: "Writes the configurations with the IS-IS lines of a design",
         usage: "migrate prepare DESIGN CONFIG...",
         number: NumberTaken::NoNumber,
-        own: &[OwnFile {
-            name: "DESIGN",
-            help: "The design file, in TOML",
-        }],
+        own: &[DESIGN],
         configs: ConfigFiles::Several,
     },
     Subcommand {
@@ -189,6 +191,15 @@ static SUBCOMMANDS: [Subcommand; 12] = [
         usage: "migrate split N ORDER CONFIG...",
         number: NumberTaken::WaveSize,
         own: &[ORDER],
+        configs: ConfigFiles::Several,
+    },
+    Subcommand {
+        kind: CommandKind::Delta,
+        word: "delta",
+        about: "Writes the new lines of a design alone, router by router",
+        usage: "migrate delta DESIGN CONFIG...",
+        number: NumberTaken::NoNumber,
+        own: &[DESIGN],
         configs: ConfigFiles::Several,
     },
 ];

@@ -122,6 +122,11 @@ pub enum Decision {
         /// The order file of these.
         text: Bytes,
     },
+    /// The lines of a design alone.
+    Delta {
+        /// Router by router.
+        text: Bytes,
+    },
 }
 
 /// How a call ends that decided so.
@@ -145,6 +150,7 @@ pub(crate) fn decision_status(decision: &Decision) -> Status
         Decision::BadOrder { .. } => Status::Refused,
         Decision::BadDesign { .. } => Status::Refused,
         Decision::Split { .. } => Status::Done,
+        Decision::Delta { .. } => Status::Done,
     }
 }
 
@@ -211,6 +217,7 @@ pub(crate) fn decision_text(
             refused_design_text(alloc, file.as_slice(), path.as_slice(), kind)
         }
         Decision::Split { text } => Ok(text),
+        Decision::Delta { text } => Ok(text),
     }
 }
 
