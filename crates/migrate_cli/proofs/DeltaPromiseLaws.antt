@@ -27,7 +27,7 @@ module _ (call : Call) (file : List ℕ) (configs : List (List ℕ)) (outside : 
       AddsBytes outside.before.written outside.after.written (decision_text it.net d) → decision_status d ≡ Done → HasDelta call file configs outside
   by_decision it d is writes done =
       let routers = configured (config_texts (delta_of file configs) it.texts) it.net in
-      let (settled, same, by) = done_is_settled it.is.0 it.net (settled_lines_alone routers) is done in
+      let found = done_is_settled it.is.0 it.net (settled_lines_alone routers) is done in
       record {
         texts = it.texts;
         read = it.read;
@@ -36,12 +36,12 @@ module _ (call : Call) (file : List ℕ) (configs : List (List ℕ)) (outside : 
         gives = it.gives.0;
         text = it.is.0.text;
         text_is = own_is file it.texts it.is.0 it.is.1;
-        design = by.said;
-        says = by.says;
-        settled = settled;
-        settles = by.settles;
-        adds = subst (λ (some : Decision). AddsBytes outside.before.written outside.after.written (decision_text it.net some)) same writes;
-        alone = λ k d within configurations. delta_of_pieces _ it.net settled configurations;
+        design = found.2.said;
+        says = found.2.says;
+        settled = found.0;
+        settles = found.2.settles;
+        adds = subst (λ (some : Decision). AddsBytes outside.before.written outside.after.written (decision_text it.net some)) found.1 writes;
+        alone = λ k d within configurations. delta_of_pieces _ it.net found.0 configurations;
       }
 
   pub new_lines_alone : {asked : List (List ℕ)} {outcome : Outcome} → IsAnswer call asked outcome →

@@ -76,7 +76,7 @@ module _ (call : Call) (file : List ℕ) (configs : List (List ℕ)) (outside : 
       AddsBytes outside.before.written outside.after.written (decision_text it.net d) → decision_status d ≡ Done → HasPrepared call file configs outside
   by_decision it d is writes done =
       let routers = configured (config_texts command it.texts) it.net in
-      let (settled, same, by) = done_is_settled it.is.0 it.net (with_settled_lines routers) is done in
+      let found = done_is_settled it.is.0 it.net (with_settled_lines routers) is done in
       record {
         texts = it.texts;
         read = it.read;
@@ -85,13 +85,13 @@ module _ (call : Call) (file : List ℕ) (configs : List (List ℕ)) (outside : 
         gives = it.gives.0;
         text = it.is.0.text;
         text_is = own_is file it.texts it.is.0 it.is.1;
-        design = by.said;
-        says = by.says;
-        settled = settled;
-        settles = by.settles;
-        written = prepared_texts it.net settled (config_texts command it.texts);
-        adds = subst (λ (some : Decision). AddsBytes outside.before.written outside.after.written (decision_text it.net some)) same writes;
-        reads_back = network_read (config_texts command it.texts) it.net settled it.gives.0 by.fits (some_configs it.texts it.within);
+        design = found.2.said;
+        says = found.2.says;
+        settled = found.0;
+        settles = found.2.settles;
+        written = prepared_texts it.net found.0 (config_texts command it.texts);
+        adds = subst (λ (some : Decision). AddsBytes outside.before.written outside.after.written (decision_text it.net some)) found.1 writes;
+        reads_back = network_read (config_texts command it.texts) it.net found.0 it.gives.0 found.2.fits (some_configs it.texts it.within);
       }
 
   pub reads_back : {asked : List (List ℕ)} {outcome : Outcome} → IsAnswer call asked outcome →
