@@ -27,6 +27,7 @@ use Rattle.migrate_cli.specs.Reading.{LastFailed}
 use Rattle.migrate_cli.specs.SamplePromise.{AcceptsSample}
 use Rattle.migrate_cli.specs.SplitPromise.{DecidesSplit, HasSplit}
 use Rattle.migrate_cli.specs.SplitPromise.DecidesSplit.{no_memory as none_for_split}
+use Rattle.migrate_cli.specs.TablesPromise.{HasTables}
 use Rattle.migrate_cli.proofs.AnswerFacts.{reads_or_not}
 use Rattle.migrate_cli.proofs.CallLaws.{ends_so}
 use Rattle.migrate_cli.proofs.CompletenessLaws.{check_decides, prepare_writes, refute_decides, replay_decides, scripts_write}
@@ -36,6 +37,7 @@ use Rattle.migrate_cli.proofs.PlanPromiseLaws.{answer_means, plan_decides}
 use Rattle.migrate_cli.proofs.PreparePromiseLaws.{reads_back}
 use Rattle.migrate_cli.proofs.SamplePromiseLaws.{sample_decides, sample_means}
 use Rattle.migrate_cli.proofs.SplitPromiseLaws.{has_split, split_is_decided}
+use Rattle.migrate_cli.proofs.TablesPromiseLaws.{has_tables, tables_are_written}
 
 module _ (call : Call) (before after : Outside) where
   -- a write fault is one of the sink
@@ -130,6 +132,11 @@ module _ (call : Call) (before after : Outside) where
           alone = λ file configs asks. wrote_so (λ s. s ≡ Done) (λ _. HasDelta call file configs (course before after)) (λ e. Prim.cc e)
               (λ e. Prim.cc e) (λ outcome is adds done. new_lines_alone call file configs (course before after) asks is adds done) ends;
           writes = λ it calm. calm_so Writes unwritten (delta_writes call it asked) ends fails calm;
+        };
+        tables = record {
+          exact = λ configs asks. wrote_so (λ s. s ≡ Done) (λ _. HasTables call configs (course before after)) (λ e. Prim.cc e) (λ e. Prim.cc e)
+              (λ outcome is adds done. has_tables call configs (course before after) asks is adds done) ends;
+          writes = λ it calm. calm_so Writes unwritten (tables_are_written call it asked) ends fails calm;
         };
       }
 

@@ -4,7 +4,7 @@ use Rattle.igp_theory.specs.Migrations.{ospf_to_isis}
 use Rattle.net_model.specs.Refusals.{NamesAscend}
 use Rattle.migrate_words.specs.declared.command.CommandKind.{CommandKind}
 use Rattle.migrate_words.specs.declared.command.CommandKind.TheVariants.{Check, Prepare, Plan, Refute, Scripts, Replay, Sample}
-use Rattle.migrate_words.specs.declared.command.CommandKind.TheVariants.{Pair, PairScripts, PairCheck, PairRefute, Split, Delta}
+use Rattle.migrate_words.specs.declared.command.CommandKind.TheVariants.{Pair, PairScripts, PairCheck, PairRefute, Split, Delta, Tables}
 use Rattle.migration_report.specs.Outcomes.{IsTellable}
 use Rattle.migration_report.specs.declared.decision.Decision.{Decision}
 use Rattle.net_model.specs.Network.{Network}
@@ -28,6 +28,7 @@ use Rattle.migrate_cli.proofs.ReplayLaws.{one_replay_decision, replay_tellable}
 use Rattle.migrate_cli.proofs.ScriptsLaws.{one_scripts_decision, scripts_tellable}
 use Rattle.migrate_cli.proofs.SettlingLaws.{design_tellable, one_design_decision}
 use Rattle.migrate_cli.proofs.SplitLaws.{one_split_decision, split_tellable}
+use Rattle.migrate_cli.proofs.TablesLaws.{one_tables_decision, tables_tellable}
 
 -- what is decided of one own file is decided of the other one, where they are the same list
 moved : {own : List NamedText} {one other : NamedText} (P : NamedText → Type 0) → own ≡ one ∷ [] → own ≡ other ∷ [] → P other → P one
@@ -85,6 +86,7 @@ one_decision Split input {e = e} ascending one other =
 one_decision Delta input {e = e} ascending one other =
     one_design_decision one.0 input.net (settled_lines_alone (configured input.configs input.net)) one.2
     (moved (λ file. IsDeltaDecision file (configured input.configs input.net) e) one.1 other.1 other.2)
+one_decision Tables input ascending one other = one_tables_decision one other
 
 pub decision_tellable : (kind : CommandKind) (input : Input) (d : Decision) → IsDecision kind input d → IsTellable input.net d
 decision_tellable Check input d is = check_tellable is.2
@@ -103,3 +105,4 @@ decision_tellable PairRefute input d is = pair_tellable (network_pair input.net 
 decision_tellable Split input d is = split_tellable is.0 input.number input.net is.2
 decision_tellable Delta input d is =
     design_tellable is.0 input.net (settled_lines_alone (configured input.configs input.net)) (λ settled. tt) is.2
+decision_tellable Tables input d is = tables_tellable is

@@ -18,6 +18,7 @@ mod RefuteLaws
 mod ReplayLaws
 mod ScriptsLaws
 mod SplitLaws
+mod TablesLaws
 mod CommandFacts
 mod PairLaws
 mod CommandLaws
@@ -33,6 +34,7 @@ mod PlanPromiseLaws
 mod PreparePromiseLaws
 mod DeltaPromiseLaws
 mod SplitPromiseLaws
+mod TablesPromiseLaws
 mod SamplePromiseLaws
 mod PairPromiseLaws
 mod ClaimLaws

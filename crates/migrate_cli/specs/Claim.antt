@@ -15,6 +15,7 @@ use Rattle.migrate_cli.specs.PreparePromise.{PreparePromise}
 use Rattle.migrate_cli.specs.Reading.{LastFailed}
 use Rattle.migrate_cli.specs.SamplePromise.{SamplePromise}
 use Rattle.migrate_cli.specs.SplitPromise.{SplitPromise}
+use Rattle.migrate_cli.specs.TablesPromise.{TablesPromise}
 
 pub record Claim (call : Call) (before after : Outside) (status : Status) : Type 0 where
   -- it asks for its command's files in their order, and what they come to is written whole or cut, or nothing for want of memory
@@ -51,3 +52,5 @@ pub record Claim (call : Call) (before after : Outside) (status : Status) : Type
   pub splits : SplitPromise call before after status
   -- `delta` writes the lines alone that `prepare` adds
   pub deltas : DeltaPromise call before after status
+  -- `tables` writes all entries of the tables of both protocols
+  pub tables : TablesPromise call before after status

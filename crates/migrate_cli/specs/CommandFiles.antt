@@ -2,7 +2,7 @@
 use Rattle.std.specs.Prelude.{ℕ, List, [], ◌∷◌, ◌++◌, codes, length, map, take, drop, true, false}
 use Rattle.migrate_words.specs.declared.command.Command.{Command}
 use Rattle.migrate_words.specs.declared.command.CommandKind.{CommandKind}
-use Rattle.migrate_words.specs.declared.command.CommandKind.TheVariants.{Prepare, Delta, Sample}
+use Rattle.migrate_words.specs.declared.command.CommandKind.TheVariants.{Prepare, Delta, Sample, Tables}
 use Rattle.migrate_words.specs.declared.command.CommandKind.TheVariants.{Pair, PairScripts, PairCheck, PairRefute}
 use Rattle.sample_network.specs.SampleTexts.{sample_text}
 use Rattle.migrate_cli.specs.Reading.{File}
@@ -88,4 +88,5 @@ text_names command = names_for command.kind command.configs
 abbrev pub NeedsStart : CommandKind → Type 0
 NeedsStart Prepare = ⊥
 NeedsStart Delta = ⊥
+NeedsStart Tables = ⊥
 NeedsStart _ = Unit {0}

@@ -5,7 +5,7 @@ use Rattle.net_model.specs.Network.{Network}
 use Rattle.migrate_words.specs.declared.command.Command.{Command}
 use Rattle.migrate_words.specs.declared.command.CommandKind.{CommandKind}
 use Rattle.migrate_words.specs.declared.command.CommandKind.TheVariants.{Check, Prepare, Plan, Refute, Scripts, Replay, Sample}
-use Rattle.migrate_words.specs.declared.command.CommandKind.TheVariants.{Pair, PairScripts, PairCheck, PairRefute, Split, Delta}
+use Rattle.migrate_words.specs.declared.command.CommandKind.TheVariants.{Pair, PairScripts, PairCheck, PairRefute, Split, Delta, Tables}
 use Rattle.migration_report.specs.declared.decision.Decision.{Decision}
 use Rattle.migrate_cli.specs.CommandFiles.{GivenTexts}
 use Rattle.migrate_cli.specs.CheckDecision.{IsCheckDecision}
@@ -20,6 +20,7 @@ use Rattle.migrate_cli.specs.ReplayDecision.{IsReplayDecision, journal_of}
 use Rattle.migrate_cli.specs.SampleDecision.{IsSampleDecision}
 use Rattle.migrate_cli.specs.ScriptsDecision.{IsScriptsDecision}
 use Rattle.migrate_cli.specs.SplitDecision.{IsSplitDecision}
+use Rattle.migrate_cli.specs.TablesDecision.{IsTablesDecision}
 
 -- what a command decides on: its own files, its number, the texts of the configurations, the network that their first group
 -- makes, and those of the other groups
@@ -67,3 +68,4 @@ IsDecision Split input decision =
     (order : NamedText) × (input.own ≡ order ∷ []) × IsSplitDecision order input.number input.net decision
 IsDecision Delta input decision =
     (design : NamedText) × (input.own ≡ design ∷ []) × IsDeltaDecision design (configured input.configs input.net) decision
+IsDecision Tables input decision = IsTablesDecision input.net decision

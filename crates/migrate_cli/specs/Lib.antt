@@ -14,6 +14,7 @@ pub mod RefuteDecision
 pub mod ReplayDecision
 pub mod ScriptsDecision
 pub mod SplitDecision
+pub mod TablesDecision
 pub mod PairDecision
 pub mod Decisions
 pub mod Outcomes
@@ -25,6 +26,7 @@ pub mod PlanPromise
 pub mod PreparePromise
 pub mod DeltaPromise
 pub mod SplitPromise
+pub mod TablesPromise
 pub mod SamplePromise
 pub mod PairPromise
 pub mod Claim

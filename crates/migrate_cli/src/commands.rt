@@ -17,6 +17,7 @@ use crate::refute::{judge_refute, refute_over};
 use crate::replay::judge_replay;
 use crate::sample::judge_sample;
 use crate::scripts::judge_scripts;
+use crate::shown::judge_tables;
 use crate::split::judge_split;
 use migrate_words::{Command, CommandKind};
 use migration_report::Decision;
@@ -29,7 +30,10 @@ use std::alloc::Global;
 pub(crate) fn needs_start(kind: CommandKind) -> bool
     ensures { IsTrue result ↔ NeedsStart kind }
 {
-    !matches!(kind, CommandKind::Prepare | CommandKind::Delta)
+    !matches!(
+        kind,
+        CommandKind::Prepare | CommandKind::Delta | CommandKind::Tables
+    )
 }
 
 /// What a command decides on the texts of its own files, those of configurations, and the network that these make.
@@ -76,6 +80,7 @@ pub(crate) fn judge_command(
             let (file, design) = first_own(command, own);
             judge_delta(alloc, file, design, configs, net)
         }
+        CommandKind::Tables => judge_tables(alloc, net),
         _ => unreachable!(),
     }
 }

@@ -11,7 +11,7 @@
 //! | `commands` | the commands, and whether one asks for the start of a migration |
 //! | `tables` | the tables of both protocols of a network, and mixed forwarding over them |
 //! | `settling` | what a design settles for a network |
-//! | `check`, `plan`, `refute`, `scripts`, `split`, `replay`, `prepare`, `delta`, `pair`, `sample` | what each command decides |
+//! | `check`, `plan`, `refute`, `scripts`, `split`, `replay`, `prepare`, `delta`, `pair`, `sample`, `shown` | what each command decides |
 //! | `sending` | writing in pieces of 4,096 bytes |
 //! | `originated` | how many prefixes a network originates |
 //! | `laws` | that a call has one answer |
@@ -45,6 +45,7 @@ mod refute;
 mod replay;
 mod sample;
 mod scripts;
+mod shown;
 mod split;
 
 // what is counted, and laws

@@ -3,7 +3,7 @@ use Rattle.std.specs.Prelude.{List, [], ◌∷◌, codes}
 use Rattle.clap.specs.Words.{Text}
 use Rattle.migrate_words.specs.declared.command.CommandKind.{CommandKind}
 use Rattle.migrate_words.specs.declared.command.CommandKind.TheVariants.{Check, Prepare, Plan, Refute, Scripts, Replay, Sample}
-use Rattle.migrate_words.specs.declared.command.CommandKind.TheVariants.{Pair, PairScripts, PairCheck, PairRefute, Split, Delta}
+use Rattle.migrate_words.specs.declared.command.CommandKind.TheVariants.{Pair, PairScripts, PairCheck, PairRefute, Split, Delta, Tables}
 use Rattle.migrate_words.specs.declared.subcommands.ConfigFiles.{ConfigFiles}
 use Rattle.migrate_words.specs.declared.subcommands.ConfigFiles.TheVariants.{NoConfigs, Several, Networks}
 use Rattle.migrate_words.specs.declared.subcommands.NumberTaken.{NumberTaken}
@@ -39,7 +39,9 @@ usage_of PairCheck = usage (codes "paircheck") NoNumber (codes "ORDER" ∷ []) N
 usage_of PairRefute = usage (codes "pairrefute") NoNumber (codes "TREE" ∷ []) Networks
 usage_of Split = usage (codes "split") WaveSize (codes "ORDER" ∷ []) Several
 usage_of Delta = usage (codes "delta") NoNumber (codes "DESIGN" ∷ []) Several
+usage_of Tables = usage (codes "tables") NoNumber [] Several
 
 -- the commands, in the order in which help tells them
 abbrev pub kinds : List CommandKind
-kinds = Check ∷ Prepare ∷ Plan ∷ Refute ∷ Scripts ∷ Replay ∷ Sample ∷ Pair ∷ PairScripts ∷ PairCheck ∷ PairRefute ∷ Split ∷ Delta ∷ []
+kinds =
+    Check ∷ Prepare ∷ Plan ∷ Refute ∷ Scripts ∷ Replay ∷ Sample ∷ Pair ∷ PairScripts ∷ PairCheck ∷ PairRefute ∷ Split ∷ Delta ∷ Tables ∷ []

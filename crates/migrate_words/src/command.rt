@@ -50,6 +50,8 @@ pub enum CommandKind {
     Split,
     /// `delta DESIGN CONFIG...`: the IS-IS lines alone that `prepare` writes into the configurations.
     Delta,
+    /// `tables CONFIG...`: the entries of the route tables of both protocols.
+    Tables,
 }
 
 /// What a call asks for. Names of files are as they were given.

@@ -78,7 +78,7 @@ pub(crate) fn networks() -> &'static [OwnFile]
     &NETWORKS
 }
 
-static SUBCOMMANDS: [Subcommand; 13] = [
+static SUBCOMMANDS: [Subcommand; 14] = [
     Subcommand {
         kind: CommandKind::Check,
         word: "check",
@@ -200,6 +200,15 @@ static SUBCOMMANDS: [Subcommand; 13] = [
         usage: "migrate delta DESIGN CONFIG...",
         number: NumberTaken::NoNumber,
         own: &[DESIGN],
+        configs: ConfigFiles::Several,
+    },
+    Subcommand {
+        kind: CommandKind::Tables,
+        word: "tables",
+        about: "Writes the routes of OSPF and of IS-IS that each router has by its configurations",
+        usage: "migrate tables CONFIG...",
+        number: NumberTaken::NoNumber,
+        own: &[],
         configs: ConfigFiles::Several,
     },
 ];

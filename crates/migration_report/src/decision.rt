@@ -127,6 +127,11 @@ pub enum Decision {
         /// Router by router.
         text: Bytes,
     },
+    /// The entries of the route tables of both protocols.
+    Tables {
+        /// A line each.
+        text: Bytes,
+    },
 }
 
 /// How a call ends that decided so.
@@ -151,6 +156,7 @@ pub(crate) fn decision_status(decision: &Decision) -> Status
         Decision::BadDesign { .. } => Status::Refused,
         Decision::Split { .. } => Status::Done,
         Decision::Delta { .. } => Status::Done,
+        Decision::Tables { .. } => Status::Done,
     }
 }
 
@@ -218,6 +224,7 @@ pub(crate) fn decision_text(
         }
         Decision::Split { text } => Ok(text),
         Decision::Delta { text } => Ok(text),
+        Decision::Tables { text } => Ok(text),
     }
 }
 
