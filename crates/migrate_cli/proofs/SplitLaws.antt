@@ -9,11 +9,11 @@ use Rattle.net_model.specs.Network.{Network}
 use Rattle.net_model.specs.Refusals.{NamesAscend}
 use Rattle.net_model.specs.RouterNames.{names_of}
 use Rattle.order_core.specs.Orders.{AreDistinct}
-use Rattle.order_core.specs.Rankings.{IsRanking, flat_of, wave_count}
+use Rattle.order_core.specs.Rankings.{IsRanking, flat_of}
 use Rattle.split_waves.proofs.CutWaves.{cuts_refine}
 use Rattle.split_waves.proofs.OneRouterWaves.{order_of_waves}
 use Rattle.split_waves.proofs.Refinements.{refinement_is_seamless}
-use Rattle.split_waves.specs.Cuts.{AreSmallerWaves}
+use Rattle.split_waves.specs.Cuts.{AreSmallerWaves, cut_waves}
 use Rattle.step_scripts.proofs.TextFacts.{lists_read_back}
 use Rattle.step_scripts.proofs.WaveFileLaws.{no_fault, one_wave_list}
 use Rattle.step_scripts.specs.WaveFiles.{NamesWaves}
@@ -27,7 +27,7 @@ use Rattle.migrate_cli.specs.CheckDecision.{IsCheckDecision, IsCheckOver, IsOrde
 use Rattle.migrate_cli.specs.CheckDecision.IsOrderDecision.{safe, unsafe as unsafe_order}
 use Rattle.migrate_cli.specs.CheckDecision.IsWavesDecision.{safe_waves, unsafe_wave}
 use Rattle.migrate_cli.specs.CheckDecision.IsCheckOver.{faulty_order, of_order, of_waves}
-use Rattle.migrate_cli.specs.Reading.{NamedText, named_text}
+use Rattle.migrate_cli.specs.Reading.{NamedText}
 use Rattle.migrate_cli.specs.SplitDecision.{IsCutOf, IsSplitDecision, IsYes}
 use Rattle.migrate_cli.specs.SplitDecision.IsSplitDecision.{unsafe, cut}
 use Rattle.migrate_cli.specs.SplitPromise.{DecidesSplit, IsSafelySplit}

@@ -1,8 +1,10 @@
 -- What a call of `split` promises.
-use Rattle.std.proofs.Common.{◌≡◌, ◌≢◌, ◌∷◌, ◌∙◌, ◌<◌, [], ℕ, List, ap, arith, refl, subst, sym}
+use Rattle.std.proofs.Common.{◌≡◌, ◌≢◌, ◌<◌, ◌≤◌, [], ℕ, List, arith, subst}
 use Rattle.igp_theory.specs.Migrations.{ospf_to_isis}
 use Rattle.store_edge.specs.Sink.{AddsBytes}
+use Rattle.net_model.specs.RouterNames.{names_of}
 use Rattle.step_scripts.specs.WaveFiles.{NamesWaves}
+use Rattle.step_scripts.specs.WavesTexts.{wave_list_text, waves_in}
 use Rattle.migrate_words.proofs.Ranges.{ranges}
 use Rattle.migrate_words.specs.Asked.{Asks}
 use Rattle.migration_report.specs.Outcomes.{decision_status, decision_text, status_of, outcome_text}
@@ -53,7 +55,7 @@ module _ (call : Call) (most : ℕ) (file : List ℕ) (configs : List (List ℕ)
     ranks = ranks;
     names = names;
     seamless = seamless;
-    written = _;
+    written = wave_list_text (names_of it.net) (waves_in split);
     adds = writes;
     is = safely_split it.net most ranks split some seamless is;
   }
