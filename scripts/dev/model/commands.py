@@ -31,12 +31,8 @@ COMMANDS = {
     "rollback": (2, None, {}, None), "observe": (2, None, {}, None), "pair": (0, 2, BUDGET, None),
     "pairscripts": (1, 2, {}, None), "paircheck": (1, 2, {}, None), "pairrefute": (1, 2, {}, None),
     "prepare": (1, None, {}, None), "delta": (1, None, {}, None), "design": (0, None, COSTS, None),
-<<<<<<< HEAD
     "split": (1, None, {}, (1, WAVE_MOST)), "tables": (0, None, {}, None),
-=======
-    "split": (1, None, {}, (1, ROUTERS_MOST)), "tables": (0, None, {}, None),
     "survey": (0, None, {}, None), "why": (1, None, {}, None),
->>>>>>> 1b3b1d716d71fcbfae7822dcb36f98259e309cac
 }
 # Those that ask of no network that a migration begins there.
 WITHOUT_START = ("prepare", "delta", "design", "tables")
