@@ -13,8 +13,8 @@ use net_addr::Bytes;
 use net_model::Net;
 use std::alloc::Global;
 
-/// What is decided of the text of a design, the texts of configurations and the network that they make: the IS-IS lines alone that
-/// the design adds to them.
+/// What is decided of the text of a design, the texts of configurations and the network that they make: the IS-IS lines alone
+/// that the design adds to them.
 pub(crate) fn judge_delta(
     alloc: Global,
     file: &str,

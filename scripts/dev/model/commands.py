@@ -8,10 +8,12 @@ from designs import DESIGN_MOST, LEVEL_WORDS, delta, design, is_area, prepare
 from forwarding import NEW, NEW_DISTANCE, OLD, UNUSED_DISTANCE, Missing, Mixed, change_times, router_times
 from networks import build, look_at_pair, look_at_start
 from order_files import Departs, Journal, flat_run, is_of_changes, read_changes, read_order
+from reasons import packet_way, reasons, spans_of
 from running_night import observe
 from search import Changes, Routers, Search
 from shown import tables_text
 from tables import isis_tables, ospf_tables
+from surveys import survey
 from trees import tree_text, verdict
 from words import Refused, address_text, number, word_at
 
@@ -30,6 +32,7 @@ COMMANDS = {
     "pairscripts": (1, 2, {}, None), "paircheck": (1, 2, {}, None), "pairrefute": (1, 2, {}, None),
     "prepare": (1, None, {}, None), "delta": (1, None, {}, None), "design": (0, None, COSTS, None),
     "split": (1, None, {}, (1, WAVE_MOST)), "tables": (0, None, {}, None),
+    "survey": (0, None, {}, None), "why": (1, None, {}, None),
 }
 # Those that ask of no network that a migration begins there.
 WITHOUT_START = ("prepare", "delta", "design", "tables")
@@ -106,6 +109,8 @@ def decide(command, own, files, said):
         return decide_pair(command, own, files, said)
     if command == "observe":
         return observe(*own, files)
+    if command == "survey":
+        return survey(files)
     configurations = [read_configurations(*file) for file in files]
     network = build([each for there in configurations for each in there])
     if command in WITHOUT_START:
@@ -121,6 +126,8 @@ def decide(command, own, files, said):
     version, ranks = read_order(own[0], network)
     if command == "check":
         return check(mixed_of(network), version, ranks)
+    if command == "why":
+        return why(mixed_of(network), version, ranks)
     if command == "split":
         return split(mixed_of(network), version, ranks, said["N"])
     if command == "scripts":
@@ -172,13 +179,28 @@ def fault_text(network, fault):
 
 
 def check(mixed, version, ranks):
-    """Of version 1 the states in the order of the file, of version 2 all states of each wave."""
+    return told_of_list(mixed, version, ranks, fault_of_list(mixed, version, ranks))
+
+
+def fault_of_list(mixed, version, ranks):
+    """The first fault with its number: of version 1 of the states in the order of the file, of version 2 of the waves."""
     if version == 2:
-        return told_of_waves(mixed, 2 * mixed.size, ranks, router_times([OLD] * mixed.size, ranks))
-    found = mixed.order_fault(flat_run(ranks))
+        return mixed.times_fault(None, router_times([OLD] * mixed.size, ranks))
+    return mixed.order_fault(flat_run(ranks))
+
+
+def told_of_list(mixed, version, ranks, found):
     if found is None:
-        return f"safe {2 * mixed.size}\n", 0
-    return f"unsafe {found[0]} {fault_text(mixed.network, found[1])}\n", 1
+        return f"safe {2 * mixed.size}" + (f" waves {max(ranks) + 1}" if version == 2 else "") + "\n", 0
+    return f"unsafe {'wave ' if version == 2 else ''}{found[0]} {fault_text(mixed.network, found[1])}\n", 1
+
+
+def why(mixed, version, ranks):
+    """What `check` says, and why it is so."""
+    found = fault_of_list(mixed, version, ranks)
+    text, code = told_of_list(mixed, version, ranks, found)
+    lines = reasons(mixed, ranks) if found is None else packet_way(mixed, found[1], spans_of(version, ranks, found[0]))
+    return text + "".join(line + "\n" for line in lines), code
 
 
 def check_changes(network, order):

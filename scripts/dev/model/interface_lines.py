@@ -30,13 +30,18 @@ class Interface:
     has_isis_line: bool = field(compare=False)
 
 
+def names_area(words):
+    """Whether a line is of the form `ip ospf P area N`."""
+    return words[:2] == ["ip", "ospf"] and word_at(words, 2) not in ("cost", "network") and word_at(words, 3) == "area"
+
+
 class InterfaceLines:
     """The lines of an interface, from all its sections. `process` is the OSPF process, `tag` that of IS-IS, None without it."""
 
     def __init__(self, tell, process, tag):
         self.tell, self.process, self.tag = tell, process, tag
         self.address, self.length, self.address_line = None, None, None
-        self.is_shut, self.bandwidth, self.cost = False, None, None
+        self.is_shut, self.bandwidth, self.has_bandwidth_line, self.cost = False, None, False, None
         self.has_area_line, self.area = False, None
         self.is_point_to_point, self.runs_isis = None, False
         self.levels, self.metric, self.level_metrics = {1, 2}, None, {}
@@ -96,23 +101,24 @@ class InterfaceLines:
         value = number(word, 1000000000, 1)
         if value is None:
             self.tell(line, "NoBandwidth")
-        else:
-            self.bandwidth = value
+        self.bandwidth, self.has_bandwidth_line = value, True
 
     def take_ospf(self, line, words):
         if word_at(words, 2) == "cost":
             value = number(word_at(words, 3), 65535, 1)
             if value is None:
                 self.tell(line, "BadCost")
-            self.cost = value or self.cost or 1
+            self.cost = value or 1
         elif word_at(words, 2) == "network":
             self.is_point_to_point = word_at(words, 3) == "point-to-point"
             if word_at(words, 3) not in ("point-to-point", "broadcast"):
                 self.tell(line, "Unsupported")
-        elif word_at(words, 3) == "area":
+        elif names_area(words):
             area, process = area_number(word_at(words, 4)), number(words[2], 65535, 1)
             if area is None:
                 self.tell(line, "BadArea")
+            elif process is None:
+                self.tell(line, "SecondProcess")
             self.has_area_line = True
             self.area = area if process is not None and process == self.process else None
 
@@ -153,7 +159,7 @@ class InterfaceLines:
             return self.cost or 1
         bandwidth = self.bandwidth or BANDWIDTHS.get(re.match("[A-Za-z]*", name).group())
         if bandwidth is None:
-            if is_up:
+            if is_up and not self.has_bandwidth_line:
                 self.tell(head_line, "NoBandwidth")
             return 1
         return min(65535, max(1, reference * 1000 // bandwidth))
