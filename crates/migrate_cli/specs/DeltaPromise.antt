@@ -1,5 +1,5 @@
--- What a call of `delta` promises: it writes the lines that `prepare` adds to the configurations of its files, each router's behind
--- its name, and nothing else; and where nothing of its input is refused, it writes.
+-- What a call of `delta` promises: it writes the lines that `prepare` adds to the configurations of its files, each router's
+-- behind its name, and nothing else; and where nothing of its input is refused, it writes.
 use Rattle.std.specs.Prelude.{◌≡◌, ℕ, List, [], ◌∷◌, All}
 use Rattle.store_edge.specs.Sink.{AddsBytes}
 use Rattle.net_model.specs.Configuration.{Configuration}
@@ -25,13 +25,15 @@ use Rattle.migrate_cli.specs.Reading.{AreRead, AreWithin}
 abbrev pub delta_of : List ℕ → List (List ℕ) → Command
 delta_of file configs = command_of Delta (file ∷ []) configs 0
 
--- the new lines of a text are those that `prepare` puts before its `end` lines, each configuration's behind the name of its router
+-- the new lines of a text are those that `prepare` puts before its `end` lines, each configuration's behind the name of its
+-- router
 abbrev pub HasNewLinesAlone : Network → List SettledRouter → List ℕ → Type 0
-HasNewLinesAlone net settled text = (configurations : List Configuration) → ReadsText text configurations → IsDeltaOfPieces text net settled configurations
+HasNewLinesAlone net settled text =
+    (configurations : List Configuration) → ReadsText text configurations → IsDeltaOfPieces text net settled configurations
 
--- `delta` of these files has written what it was asked for: its texts were read within the limits; the first one says a design that
--- is settled for the network of the others; and the bytes written are the new lines of these, text by text, which are those alone
--- that `prepare` would add
+-- `delta` of these files has written what it was asked for: its texts were read within the limits; the first one says a design
+-- that is settled for the network of the others; and the bytes written are the new lines of these, text by text, which are
+-- those alone that `prepare` would add
 pub record HasDelta (call : Call) (file : List ℕ) (configs : List (List ℕ)) (outside : Course) : Type 0 where
   pub texts : List (List ℕ)
   pub read : AreRead call.content (files_of (delta_of file configs)) texts
@@ -44,7 +46,8 @@ pub record HasDelta (call : Call) (file : List ℕ) (configs : List (List ℕ)) 
   pub says : SaysDesign text design
   pub settled : List SettledRouter
   pub settles : Settles design net settled
-  pub adds : AddsBytes outside.before.written outside.after.written (delta_texts net settled (config_texts (delta_of file configs) texts))
+  pub adds :
+      AddsBytes outside.before.written outside.after.written (delta_texts net settled (config_texts (delta_of file configs) texts))
   pub alone : All (HasNewLinesAlone net settled) (config_texts (delta_of file configs) texts)
 
 -- `delta` of these files, whose first one says a design that is settled for the network of the others
@@ -61,8 +64,8 @@ pub record AcceptsDelta (call : Call) : Type 0 where
   pub settled : List SettledRouter
   pub settles : Settles design net settled
 
--- where a call asks for `delta` and ends with `Done`, it has done so; and where nothing of its input is refused and no fault rises,
--- it writes
+-- where a call asks for `delta` and ends with `Done`, it has done so; and where nothing of its input is refused and no fault
+-- rises, it writes
 pub record DeltaPromise (call : Call) (before after : Outside) (status : Status) : Type 0 where
   pub alone : (file : List ℕ) (configs : List (List ℕ)) → Asks call.words (delta_of file configs) → status ≡ Done →
       HasDelta call file configs (course before after)

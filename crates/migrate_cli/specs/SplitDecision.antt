@@ -31,5 +31,6 @@ pub record IsCutOf (net : Network) (most : ℕ) (ranks split : List ℕ) : Type 
 -- is seamless, and the order file is written of the waves that it is cut into
 pub data IsSplitDecision (order : NamedText) (most : ℕ) (net : Network) : Decision → Type 0 where
   unsafe : (decision : Decision) → IsCheckDecision order net decision → ¬ IsYes decision → IsSplitDecision order most net decision
-  cut : (version : Version) (ranks split : List ℕ) → NamesWaves net order.text version ranks → AreSeamlessWaves (ospf_to_isis net) ranks →
-      IsCutOf net most ranks split → IsSplitDecision order most net (Split (wave_list_text (names_of net) (waves_in split)))
+  cut : (version : Version) (ranks split : List ℕ) → NamesWaves net order.text version ranks →
+      AreSeamlessWaves (ospf_to_isis net) ranks → IsCutOf net most ranks split →
+      IsSplitDecision order most net (Split (wave_list_text (names_of net) (waves_in split)))

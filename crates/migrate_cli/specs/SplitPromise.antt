@@ -37,8 +37,9 @@ pub record IsSafelySplit (net : Network) (most : ℕ) (ranks written : List ℕ)
   pub smaller : AreSmallerWaves most ranks split
   pub safe : (file : List ℕ) → IsCheckDecision (named_text file written) net (SafeWaves (wave_count split))
 
--- `split` of these files has written what it was asked for: its texts were read within the limits; the first one names a wave list
--- of the network of the others, in version 1 one router a wave; that is seamless; and the bytes written are it, safely split
+-- `split` of these files has written what it was asked for: its texts were read within the limits; the first one names a wave
+-- list of the network of the others, in version 1 one router a wave; that is seamless; and the bytes written are it, safely
+-- split
 pub record HasSplit (call : Call) (most : ℕ) (file : List ℕ) (configs : List (List ℕ)) (outside : Course) : Type 0 where
   pub texts : List (List ℕ)
   pub read : AreRead call.content (files_of (split_of most file configs)) texts
@@ -76,9 +77,11 @@ pub data DecidesSplit (move : Migration) (ranks : List ℕ) : Status → Type 0 
   is_unsafe : ¬ AreSeamlessWaves move ranks → DecidesSplit move ranks Negative
   no_memory : DecidesSplit move ranks Memory
 
--- where a call asks for `split` and ends with `Done`, it has split; and where nothing of its input is refused and no fault rises,
--- it decides
+-- where a call asks for `split` and ends with `Done`, it has split; and where nothing of its input is refused and no fault
+-- rises, it decides
 pub record SplitPromise (call : Call) (before after : Outside) (status : Status) : Type 0 where
-  pub splits : (most : ℕ) (file : List ℕ) (configs : List (List ℕ)) → Asks call.words (split_of most file configs) → status ≡ Done →
+  pub splits :
+      (most : ℕ) (file : List ℕ) (configs : List (List ℕ)) → Asks call.words (split_of most file configs) → status ≡ Done →
       HasSplit call most file configs (course before after)
-  pub decides : (accepts : AcceptsSplit call) → NoFaultRose before after → DecidesSplit (ospf_to_isis accepts.net) accepts.ranks status
+  pub decides :
+      (accepts : AcceptsSplit call) → NoFaultRose before after → DecidesSplit (ospf_to_isis accepts.net) accepts.ranks status

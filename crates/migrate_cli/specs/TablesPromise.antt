@@ -41,5 +41,6 @@ pub record AcceptsTables (call : Call) : Type 0 where
 -- where a call asks for `tables` and ends with `Done`, it has done so; and where nothing of its input is refused and no fault
 -- rises, it writes
 pub record TablesPromise (call : Call) (before after : Outside) (status : Status) : Type 0 where
-  pub exact : (configs : List (List ℕ)) → Asks call.words (tables_of configs) → status ≡ Done → HasTables call configs (course before after)
+  pub exact :
+      (configs : List (List ℕ)) → Asks call.words (tables_of configs) → status ≡ Done → HasTables call configs (course before after)
   pub writes : AcceptsTables call → NoFaultRose before after → Writes status
