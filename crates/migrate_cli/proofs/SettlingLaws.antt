@@ -73,8 +73,8 @@ module _ (design : NamedText) (net : Network) where
     design_tellable tells (is_settled settled _) = tells settled
 
     -- and what is settled is written where that is done
-    pub settled_writes : {d : Decision} (said : Design) (settled : List SettledRouter) → ((some : List SettledRouter) → Writes (decision_status (decided some))) →
-        SaysDesign design.text said → Settles said net settled → IsDesignDecision design net decided d → Writes (decision_status d)
+    pub settled_writes : {d : Decision} (said : Design) (settled : List SettledRouter) →
+        ((some : List SettledRouter) → Writes (decision_status (decided some))) → SaysDesign design.text said → Settles said net settled → IsDesignDecision design net decided d → Writes (decision_status d)
     settled_writes said settled writes says settles (refused _ one) = absurd (refused_or_settled said settled one says settles)
     settled_writes said settled writes says settles (is_settled some _) = writes some
 
