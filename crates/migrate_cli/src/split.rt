@@ -36,12 +36,7 @@ pub(crate) fn judge_split(
 }
 
 /// What is decided of the waves of an order file: what `check` says of them where that is no yes, else these waves, cut.
-fn split_read(
-    alloc: Global,
-    read: &WaveFile,
-    most: u32,
-    net: &Net,
-) -> Result<Decision, OutOfMemory>
+fn split_read(alloc: Global, read: &WaveFile, most: u32, net: &Net) -> Result<Decision, OutOfMemory>
     requires most { 1 ≤ most }
     requires each { length read.now.waves ≡ length net.now }
     ensures { (order : NamedText) → NamesWaves net.now order.text read.now.version read.now.waves →
