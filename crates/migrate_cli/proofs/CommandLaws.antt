@@ -26,7 +26,7 @@ use Rattle.migrate_cli.proofs.PlanLaws.{one_plan_decision, one_sample_decision, 
 use Rattle.migrate_cli.proofs.RefuteLaws.{one_tree_decision, tree_tellable}
 use Rattle.migrate_cli.proofs.ReplayLaws.{one_replay_decision, replay_tellable}
 use Rattle.migrate_cli.proofs.ScriptsLaws.{one_scripts_decision, scripts_tellable}
-use Rattle.migrate_cli.proofs.SettlingLaws.{design_tellable, one_design_decision}
+use Rattle.migrate_cli.proofs.SettlingLaws.{settled_tellable, one_settled_decision}
 use Rattle.migrate_cli.proofs.SplitLaws.{one_split_decision, split_tellable}
 use Rattle.migrate_cli.proofs.TablesLaws.{one_tables_decision, tables_tellable}
 
@@ -47,7 +47,7 @@ pub one_decision : (kind : CommandKind) (input : Input) {d e : Decision} → Nam
 one_decision Check input {e = e} ascending one other =
     one_check_decision (ospf_to_isis input.net) one.0 ascending one.2 (moved (λ file. IsCheckDecision file input.net e) one.1 other.1 other.2)
 one_decision Prepare input {e = e} ascending one other =
-    one_design_decision one.0 input.net (with_settled_lines (configured input.configs input.net)) one.2
+    one_settled_decision one.0 input.net (with_settled_lines (configured input.configs input.net)) one.2
     (moved (λ file. IsPrepareDecision file (configured input.configs input.net) e) one.1 other.1 other.2)
 one_decision Plan input ascending one other = one_plan_decision one other
 one_decision Refute input {e = e} ascending one other =
@@ -84,14 +84,14 @@ one_decision Split input {e = e} ascending one other =
     one_split_decision one.0 input.number input.net ascending one.2
     (moved (λ file. IsSplitDecision file input.number input.net e) one.1 other.1 other.2)
 one_decision Delta input {e = e} ascending one other =
-    one_design_decision one.0 input.net (settled_lines_alone (configured input.configs input.net)) one.2
+    one_settled_decision one.0 input.net (settled_lines_alone (configured input.configs input.net)) one.2
     (moved (λ file. IsDeltaDecision file (configured input.configs input.net) e) one.1 other.1 other.2)
 one_decision Tables input ascending one other = one_tables_decision one other
 
 pub decision_tellable : (kind : CommandKind) (input : Input) (d : Decision) → IsDecision kind input d → IsTellable input.net d
 decision_tellable Check input d is = check_tellable is.2
 decision_tellable Prepare input d is =
-    design_tellable is.0 input.net (with_settled_lines (configured input.configs input.net)) (λ settled. tt) is.2
+    settled_tellable is.0 input.net (with_settled_lines (configured input.configs input.net)) (λ settled. tt) is.2
 decision_tellable Plan input d is = plan_decision_tellable is
 decision_tellable Refute input d is = tree_tellable is.2
 decision_tellable Scripts input d is = scripts_tellable is.0 input.net is.2
@@ -104,5 +104,5 @@ decision_tellable PairCheck input d is = pair_tellable (network_pair input.net i
 decision_tellable PairRefute input d is = pair_tellable (network_pair input.net is.0) input.net _ tree_tellable is.4
 decision_tellable Split input d is = split_tellable is.0 input.number input.net is.2
 decision_tellable Delta input d is =
-    design_tellable is.0 input.net (settled_lines_alone (configured input.configs input.net)) (λ settled. tt) is.2
+    settled_tellable is.0 input.net (settled_lines_alone (configured input.configs input.net)) (λ settled. tt) is.2
 decision_tellable Tables input d is = tables_tellable is

@@ -14,9 +14,9 @@ use Rattle.migration_report.specs.declared.decision.Decision.TheVariants.{Prepar
 use Rattle.migration_report.specs.declared.status.Status.TheVariants.{Done}
 use Rattle.migrate_cli.specs.Completeness.{Writes}
 use Rattle.migrate_cli.specs.Reading.{NamedText}
-use Rattle.migrate_cli.specs.SettledDesigns.{IsDesignDecision, IsSettledBy, RefusesDesignFile}
+use Rattle.migrate_cli.specs.SettledDesigns.{IsSettledDecision, IsSettledBy, RefusesDesignFile}
 use Rattle.migrate_cli.specs.SettledDesigns.RefusesDesignFile.{no_design, unsettled}
-use Rattle.migrate_cli.specs.SettledDesigns.IsDesignDecision.{refused, is_settled}
+use Rattle.migrate_cli.specs.SettledDesigns.IsSettledDecision.{refused, is_settled}
 
 -- a fault is no want of memory
 some_fault : (kind : DesignKind) (path : List ℕ) → Bad kind path ≢ OutOfMemory
@@ -59,27 +59,27 @@ module _ (design : NamedText) (net : Network) where
 
   module _ (decided : List SettledRouter → Decision) where
     -- so one thing is decided
-    pub one_design_decision : {d e : Decision} → IsDesignDecision design net decided d → IsDesignDecision design net decided e → d ≡ e
-    one_design_decision (refused _ one) (refused _ other) = one_refusal one other
-    one_design_decision (refused _ one) (is_settled settled is) = absurd (refused_or_settled is.said settled one is.says is.settles)
-    one_design_decision (is_settled settled is) (refused _ other) = absurd (refused_or_settled is.said settled other is.says is.settles)
-    one_design_decision (is_settled one is) (is_settled other its) = ap decided (one_settling one other is its)
+    pub one_settled_decision : {d e : Decision} → IsSettledDecision design net decided d → IsSettledDecision design net decided e → d ≡ e
+    one_settled_decision (refused _ one) (refused _ other) = one_refusal one other
+    one_settled_decision (refused _ one) (is_settled settled is) = absurd (refused_or_settled is.said settled one is.says is.settles)
+    one_settled_decision (is_settled settled is) (refused _ other) = absurd (refused_or_settled is.said settled other is.says is.settles)
+    one_settled_decision (is_settled one is) (is_settled other its) = ap decided (one_settling one other is its)
 
     -- it has a text where what is decided of what is settled has one
-    pub design_tellable : {d : Decision} → ((settled : List SettledRouter) → IsTellable net (decided settled)) → IsDesignDecision design net decided d →
+    pub settled_tellable : {d : Decision} → ((settled : List SettledRouter) → IsTellable net (decided settled)) → IsSettledDecision design net decided d →
         IsTellable net d
-    design_tellable tells (refused _ (no_design _ _ _)) = tt
-    design_tellable tells (refused _ (unsettled _ _ _ _ _)) = tt
-    design_tellable tells (is_settled settled _) = tells settled
+    settled_tellable tells (refused _ (no_design _ _ _)) = tt
+    settled_tellable tells (refused _ (unsettled _ _ _ _ _)) = tt
+    settled_tellable tells (is_settled settled _) = tells settled
 
     -- and what is settled is written where that is done
     pub settled_writes : {d : Decision} (said : Design) (settled : List SettledRouter) →
-        ((some : List SettledRouter) → Writes (decision_status (decided some))) → SaysDesign design.text said → Settles said net settled → IsDesignDecision design net decided d → Writes (decision_status d)
+        ((some : List SettledRouter) → Writes (decision_status (decided some))) → SaysDesign design.text said → Settles said net settled → IsSettledDecision design net decided d → Writes (decision_status d)
     settled_writes said settled writes says settles (refused _ one) = absurd (refused_or_settled said settled one says settles)
     settled_writes said settled writes says settles (is_settled some _) = writes some
 
     -- where that is done, it isn't refused
-    pub done_is_settled : {d : Decision} → IsDesignDecision design net decided d → decision_status d ≡ Done →
+    pub done_is_settled : {d : Decision} → IsSettledDecision design net decided d → decision_status d ≡ Done →
         (settled : List SettledRouter) × (d ≡ decided settled) × IsSettledBy design.text net settled
     done_is_settled (refused _ (no_design _ _ _)) done = absurd (Prim.cc done)
     done_is_settled (refused _ (unsettled _ _ _ _ _)) done = absurd (Prim.cc done)

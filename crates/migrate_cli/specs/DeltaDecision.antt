@@ -8,7 +8,7 @@ use Rattle.migration_report.specs.declared.decision.Decision.{Decision}
 use Rattle.migration_report.specs.declared.decision.Decision.TheVariants.{Delta}
 use Rattle.migrate_cli.specs.PrepareDecision.{Configured}
 use Rattle.migrate_cli.specs.Reading.{NamedText}
-use Rattle.migrate_cli.specs.SettledDesigns.{IsDesignDecision}
+use Rattle.migrate_cli.specs.SettledDesigns.{IsSettledDecision}
 
 -- the new lines of some texts, one text after the other
 abbrev pub delta_texts : Network → List SettledRouter → List (List ℕ) → List ℕ
@@ -20,4 +20,4 @@ settled_lines_alone routers settled = Delta (delta_texts routers.net settled rou
 
 -- the design is refused, as by `prepare`, or the new lines of the texts are written
 abbrev pub IsDeltaDecision : NamedText → Configured → Decision → Type 0
-IsDeltaDecision design routers decision = IsDesignDecision design routers.net (settled_lines_alone routers) decision
+IsDeltaDecision design routers decision = IsSettledDecision design routers.net (settled_lines_alone routers) decision

@@ -6,7 +6,7 @@ use Rattle.isis_writer.specs.PreparedConfigurations.{prepared_texts}
 use Rattle.migration_report.specs.declared.decision.Decision.{Decision}
 use Rattle.migration_report.specs.declared.decision.Decision.TheVariants.{Prepared}
 use Rattle.migrate_cli.specs.Reading.{NamedText}
-use Rattle.migrate_cli.specs.SettledDesigns.{IsDesignDecision}
+use Rattle.migrate_cli.specs.SettledDesigns.{IsSettledDecision}
 
 -- configurations, and the network that they make
 pub record Configured : Type 0 where
@@ -22,4 +22,4 @@ with_settled_lines routers settled = Prepared (prepared_texts routers.net settle
 
 -- the design is refused, or the texts are prepared
 abbrev pub IsPrepareDecision : NamedText → Configured → Decision → Type 0
-IsPrepareDecision design routers decision = IsDesignDecision design routers.net (with_settled_lines routers) decision
+IsPrepareDecision design routers decision = IsSettledDecision design routers.net (with_settled_lines routers) decision

@@ -27,6 +27,6 @@ pub record IsSettledBy (text : List ℕ) (net : Network) (settled : List Settled
   pub fits : FitsNetwork net settled
 
 -- the file is refused; or it says a design that is settled, and this is decided of what is settled
-pub data IsDesignDecision (design : NamedText) (net : Network) (decided : List SettledRouter → Decision) : Decision → Type 0 where
-  refused : (decision : Decision) → RefusesDesignFile design net decision → IsDesignDecision design net decided decision
-  is_settled : (settled : List SettledRouter) → IsSettledBy design.text net settled → IsDesignDecision design net decided (decided settled)
+pub data IsSettledDecision (design : NamedText) (net : Network) (decided : List SettledRouter → Decision) : Decision → Type 0 where
+  refused : (decision : Decision) → RefusesDesignFile design net decision → IsSettledDecision design net decided decision
+  is_settled : (settled : List SettledRouter) → IsSettledBy design.text net settled → IsSettledDecision design net decided (decided settled)

@@ -3,7 +3,7 @@ use Rattle.migration_report.specs.declared.decision.Decision.TheVariants.{Delta}
 use Rattle.migrate_cli.specs.DeltaDecision.{IsDeltaDecision}
 use Rattle.migrate_cli.specs.PrepareDecision.{configured}
 use Rattle.migrate_cli.specs.Reading.{named_text}
-use Rattle.migrate_cli.specs.SettledDesigns.IsDesignDecision.{is_settled, refused}
+use Rattle.migrate_cli.specs.SettledDesigns.IsSettledDecision.{is_settled, refused}
 use Rattle.migrate_cli.specs.steps.Answering.{IsSettledOrRefused}
 use Rattle.migrate_cli.proofs.delta.judge_delta.Goals as goal
 

@@ -2,7 +2,7 @@ use Rattle.std.proofs.Common.{subst, sym}
 use Rattle.migration_report.specs.declared.decision.Decision.TheVariants.{Prepared}
 use Rattle.migrate_cli.specs.PrepareDecision.{IsPrepareDecision, configured}
 use Rattle.migrate_cli.specs.Reading.{named_text}
-use Rattle.migrate_cli.specs.SettledDesigns.IsDesignDecision.{is_settled, refused}
+use Rattle.migrate_cli.specs.SettledDesigns.IsSettledDecision.{is_settled, refused}
 use Rattle.migrate_cli.specs.steps.Answering.{IsSettledOrRefused}
 use Rattle.migrate_cli.proofs.prepare.judge_prepare.Goals as goal
 
