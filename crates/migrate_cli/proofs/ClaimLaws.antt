@@ -36,6 +36,7 @@ use Rattle.migrate_cli.proofs.PairPromiseLaws.{has_paired, pair_check_decides, p
 use Rattle.migrate_cli.proofs.PlanPromiseLaws.{answer_means, plan_decides}
 use Rattle.migrate_cli.proofs.PreparePromiseLaws.{reads_back}
 use Rattle.migrate_cli.proofs.SamplePromiseLaws.{sample_decides, sample_means}
+use Rattle.migrate_cli.proofs.ScriptsPromiseLaws.{typed_forward}
 use Rattle.migrate_cli.proofs.SplitPromiseLaws.{has_split, split_is_decided}
 use Rattle.migrate_cli.proofs.TablesPromiseLaws.{has_tables, tables_are_written}
 
@@ -104,7 +105,10 @@ module _ (call : Call) (before after : Outside) where
         checks = λ it calm. calm_so Decides memory (check_decides call it asked) ends fails calm;
         refutes = λ it calm. calm_so (DecidesTree (ospf_to_isis it.net) it.tree) none_for_tree (refute_decides call it asked) ends fails calm;
         replays = λ it calm. calm_so Decides memory (replay_decides call it asked) ends fails calm;
-        scripts = λ it calm. calm_so Writes unwritten (scripts_write call it asked) ends fails calm;
+        scripts = record {
+          writes = λ it calm. calm_so Writes unwritten (scripts_write call it asked) ends fails calm;
+          typed = typed_forward call;
+        };
         prepares = record {
           reads_back = λ file configs asks. wrote_so (λ s. s ≡ Done) (λ _. HasPrepared call file configs (course before after)) (λ e. Prim.cc e)
               (λ e. Prim.cc e) (λ outcome is adds done. reads_back call file configs (course before after) asks is adds done) ends;

@@ -33,6 +33,7 @@ mod HeadlineLaws
 mod PlanPromiseLaws
 mod PreparePromiseLaws
 mod DeltaPromiseLaws
+mod ScriptsPromiseLaws
 mod SplitPromiseLaws
 mod TablesPromiseLaws
 mod SamplePromiseLaws

@@ -7,13 +7,14 @@ use Rattle.migration_report.specs.declared.status.Status.TheVariants.{ReadFault,
 use Rattle.migrate_cli.specs.AnswerLaws.{EndsByAnswer}
 use Rattle.migrate_cli.specs.Answers.{Answers}
 use Rattle.migrate_cli.specs.Calls.{Call, Outside}
-use Rattle.migrate_cli.specs.Completeness.{CheckDecides, RefuteDecides, ReplayDecides, ScriptsWrites}
+use Rattle.migrate_cli.specs.Completeness.{CheckDecides, RefuteDecides, ReplayDecides}
 use Rattle.migrate_cli.specs.DeltaPromise.{DeltaPromise}
 use Rattle.migrate_cli.specs.PairPromise.{PairCheckDecides, PairPromise, PairRefuteDecides, PairScriptsWrites}
 use Rattle.migrate_cli.specs.PlanPromise.{PlanPromise}
 use Rattle.migrate_cli.specs.PreparePromise.{PreparePromise}
 use Rattle.migrate_cli.specs.Reading.{LastFailed}
 use Rattle.migrate_cli.specs.SamplePromise.{SamplePromise}
+use Rattle.migrate_cli.specs.ScriptsPromise.{ScriptsPromise}
 use Rattle.migrate_cli.specs.SplitPromise.{SplitPromise}
 use Rattle.migrate_cli.specs.TablesPromise.{TablesPromise}
 
@@ -36,8 +37,8 @@ pub record Claim (call : Call) (before after : Outside) (status : Status) : Type
   pub refutes : RefuteDecides call before after status
   -- `replay` says where a journal stands
   pub replays : ReplayDecides call before after status
-  -- `scripts` writes the lines of each change
-  pub scripts : ScriptsWrites call before after status
+  -- `scripts` writes the lines of each change, and with those of the first changes the configurations forward as was proved
+  pub scripts : ScriptsPromise call before after status
   -- `prepare` writes configurations that read as the same ones with the IS-IS of the design
   pub prepares : PreparePromise call before after status
   -- `pair` plans between two networks of OSPF: its statuses mean the same there

@@ -25,6 +25,7 @@ pub mod Headline
 pub mod PlanPromise
 pub mod PreparePromise
 pub mod DeltaPromise
+pub mod ScriptsPromise
 pub mod SplitPromise
 pub mod TablesPromise
 pub mod SamplePromise
