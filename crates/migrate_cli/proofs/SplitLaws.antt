@@ -1,5 +1,5 @@
 -- `split` decides one thing of an order file, a number of routers and a network, and what it writes is safe.
-use Rattle.std.proofs.Common.{◌≡◌, ◌<◌, ◌∙◌, ℕ, List, ap, refl, subst, sym}
+use Rattle.std.proofs.Common.{◌≡◌, ◌<◌, ◌∙◌, ◌++◌, ℕ, Contains, List, ap, arith, length, refl, subst, sym}
 use Rattle.igp_theory.specs.LoopLaws.{BeginsOld}
 use Rattle.igp_theory.specs.Migrations.{Migration, ospf_to_isis}
 use Rattle.igp_theory.specs.States.{IsSeamless}
@@ -9,14 +9,16 @@ use Rattle.net_model.specs.Network.{Network}
 use Rattle.net_model.specs.Refusals.{NamesAscend}
 use Rattle.net_model.specs.RouterNames.{names_of}
 use Rattle.order_core.specs.Orders.{AreDistinct}
-use Rattle.order_core.specs.Rankings.{IsRanking, flat_of}
+use Rattle.order_core.specs.Rankings.{IsRanking, flat_of, rank_of}
 use Rattle.split_waves.proofs.CutWaves.{cuts_refine}
 use Rattle.split_waves.proofs.OneRouterWaves.{order_of_waves}
 use Rattle.split_waves.proofs.Refinements.{refinement_is_seamless}
 use Rattle.split_waves.specs.Cuts.{AreSmallerWaves, cut_waves}
 use Rattle.step_scripts.proofs.TextFacts.{lists_read_back}
 use Rattle.step_scripts.proofs.WaveFileLaws.{no_fault, one_wave_list}
-use Rattle.step_scripts.specs.WaveFiles.{NamesWaves}
+use Rattle.step_scripts.proofs.NamedWaves.{ranking}
+use Rattle.step_scripts.proofs.WaveLists.{seat_of}
+use Rattle.step_scripts.specs.WaveFiles.{NamesWaves, wave_at}
 use Rattle.step_scripts.specs.WavesTexts.{wave_list_text, waves_in}
 use Rattle.step_scripts.specs.declared.version.Version.{Version}
 use Rattle.step_scripts.specs.declared.version.Version.TheVariants.{One, Two}
@@ -33,6 +35,30 @@ use Rattle.migrate_cli.specs.SplitDecision.IsSplitDecision.{unsafe, cut}
 use Rattle.migrate_cli.specs.SplitPromise.{DecidesSplit, IsSafelySplit}
 use Rattle.migrate_cli.specs.SplitPromise.DecidesSplit.{is_split, is_unsafe}
 use Rattle.migrate_cli.proofs.CheckLaws.{check_tellable, one_check_decision}
+
+-- ---- what an order file names ----
+
+module _ (net : Network) (text : List ℕ) (version : Version) (ranks : List ℕ) (n : NamesWaves net text version ranks) where
+  -- the seat of each router is the wave of its rank
+  seat : (u : ℕ) → u < length net → (rank_of ranks u < length n.are.routers) × Contains (wave_at n.are.routers (rank_of ranks u)) u
+  seat u lt =
+      let its = seat_of n.are.routers u ((n.are.once.all u).1 lt) in
+      let rank : rank_of ranks u ≡ its.0 = n.are.seats its.0 u its.1.among in (
+        omega (arith, rank, its.1.within),
+        subst (λ w. Contains (wave_at n.are.routers w) u) (sym rank) its.1.among,
+      )
+
+  -- it is a ranking
+  pub named_ranking : IsRanking (length net) ranks
+  named_ranking =
+      subst (λ m. IsRanking m ranks) n.are.each
+      (ranking net version (n.lines ++ n.ending) n.are.routers (record {
+        lines = n.lines;
+        ending = n.ending;
+        parts = refl;
+        read = record { waves = n.waves; each = n.each; named = n.are.named; once = n.are.once.once };
+        ends = n.ends;
+      }) ranks (record { each = n.are.each; is_in = λ u lt. record { within = (seat u lt).0; among = (seat u lt).1 } }))
 
 -- ---- what `check` says of a wave list ----
 
@@ -53,16 +79,16 @@ module _ (move : Migration) (begins : BeginsOld move) (order : NamedText) (versi
       absurd (none (subst (AreSeamlessWaves move) (sym (same_waves again)) seamless))
 
   -- and there alone
-  pub yes_is_seamless : {d : Decision} → IsRanking (length move.net) ranks → (version ≡ One → AreDistinct ranks) → IsYes d → IsCheckOver move order d →
+  pub yes_is_seamless : {d : Decision} → (version ≡ One → AreDistinct ranks) → IsCheckOver move order d → IsYes d →
       AreSeamlessWaves move ranks
-  yes_is_seamless ranking ones yes (faulty_order _ _ _) = absurd yes
-  yes_is_seamless ranking ones yes (of_order other _ again (safe seamless)) =
+  yes_is_seamless ones (faulty_order _ _ _) says = absurd says
+  yes_is_seamless ones (of_order other _ again (safe seamless)) says =
       let its : One ≡ version = (one_wave_list move.net order.text One version other ranks ascending again names).0 in
-      order_of_waves move ranks begins ranking (ones (sym its))
+      order_of_waves move ranks begins (named_ranking move.net order.text version ranks names) (ones (sym its))
       (subst (λ (some : List ℕ). IsSeamless move (flat_of some)) (same_waves again) seamless)
-  yes_is_seamless ranking ones yes (of_order _ _ _ (unsafe_order _ _ _ _)) = absurd yes
-  yes_is_seamless ranking ones yes (of_waves other _ again (safe_waves seamless)) = subst (AreSeamlessWaves move) (same_waves again) seamless
-  yes_is_seamless ranking ones yes (of_waves _ _ _ (unsafe_wave _ _ _ _)) = absurd yes
+  yes_is_seamless ones (of_order _ _ _ (unsafe_order _ _ _ _)) says = absurd says
+  yes_is_seamless ones (of_waves other _ again (safe_waves seamless)) says = subst (AreSeamlessWaves move) (same_waves again) seamless
+  yes_is_seamless ones (of_waves _ _ _ (unsafe_wave _ _ _ _)) says = absurd says
 
 -- what is no yes is no
 no_decides : {move : Migration} {order : NamedText} {d : Decision} {version : Version} {ranks : List ℕ} → BeginsOld move → NamesAscend move.net →
@@ -106,13 +132,13 @@ module _ (order : NamedText) (most : ℕ) (net : Network) where
 
 pub safely_split : (net : Network) (most : ℕ) (ranks split : List ℕ) → 0 < most → AreSeamlessWaves (ospf_to_isis net) ranks →
     IsCutOf net most ranks split → IsSafelySplit net most ranks (wave_list_text (names_of net) (waves_in split))
-safely_split net most ranks split some seamless cut =
-    let smaller : AreSmallerWaves most ranks split = cuts_refine.lists (length net) most ranks split some seamless.waves cut.ranking cut.cuts in
-    let reads = lists_read_back net split cut.network cut.ranking in
+safely_split net most ranks split some seamless is =
+    let smaller : AreSmallerWaves most ranks split = cuts_refine.lists (length net) most ranks split some seamless.waves is.ranking is.cuts in
+    let reads = lists_read_back net split is.network is.ranking in
     record {
       split = split;
       reads_back = reads;
-      cuts = cut.cuts;
+      cuts = is.cuts;
       smaller = smaller;
-      safe = λ file. of_waves split _ reads (safe_waves (refinement_is_seamless (ospf_to_isis net) ranks split seamless cut.ranking smaller.refines));
+      safe = λ file. of_waves split _ reads (safe_waves (refinement_is_seamless (ospf_to_isis net) ranks split seamless is.ranking smaller.refines));
     }

@@ -2,6 +2,7 @@
 use Rattle.std.proofs.Common.{◌≡◌, ◌≢◌, ◌<◌, ◌≤◌, [], ℕ, List, arith, subst}
 use Rattle.igp_theory.specs.Migrations.{ospf_to_isis}
 use Rattle.store_edge.specs.Sink.{AddsBytes}
+use Rattle.net_model.specs.Network.{Network}
 use Rattle.net_model.specs.RouterNames.{names_of}
 use Rattle.step_scripts.specs.WaveFiles.{NamesWaves}
 use Rattle.step_scripts.specs.WavesTexts.{wave_list_text, waves_in}
@@ -17,12 +18,12 @@ use Rattle.migrate_cli.specs.CheckDecision.{IsCheckDecision}
 use Rattle.migrate_cli.specs.CheckDecision.IsCheckOver.{faulty_order, of_order, of_waves}
 use Rattle.migrate_cli.specs.CheckDecision.IsOrderDecision.{safe, unsafe as unsafe_order}
 use Rattle.migrate_cli.specs.CheckDecision.IsWavesDecision.{safe_waves, unsafe_wave}
+use Rattle.migrate_cli.specs.Reading.{NamedText}
 use Rattle.migrate_cli.specs.SplitDecision.{IsSplitDecision, IsYes}
 use Rattle.migrate_cli.specs.SplitDecision.IsSplitDecision.{unsafe, cut}
 use Rattle.migrate_cli.specs.SplitPromise.{AcceptsSplit, DecidesSplit, HasSplit, split_of}
 use Rattle.migrate_cli.proofs.CompletenessLaws.{ends_decided, said_of}
 use Rattle.migrate_cli.proofs.DecidedLaws.{HasDecided, answer_decided, done_no_refusal}
-use Rattle.migrate_cli.proofs.GroupLaws.{first_ascends}
 use Rattle.migrate_cli.proofs.PreparePromiseLaws.{own_is}
 use Rattle.migrate_cli.proofs.SplitLaws.{safely_split, split_decides}
 
@@ -73,5 +74,5 @@ pub split_is_decided : (call : Call) → (it : AcceptsSplit call) → (asked : L
     IsAnswer call asked outcome → DecidesSplit (ospf_to_isis it.net) it.ranks (status_of outcome)
 split_is_decided call it =
     ends_decided call (split_of it.most it.file it.configs) it.texts it.net [] it.accepted (DecidesSplit (ospf_to_isis it.net) it.ranks)
-    (λ decision is. split_decides is.0 it.most it.net (first_ascends _ it.net [] it.accepted.gives)
+    (λ decision is. split_decides is.0 it.most it.net it.accepted.gives.0.make.network.ascending
     (said_of it.file (λ t. NamesWaves it.net t it.version it.ranks) it.text_is is.1 it.names) is.2)

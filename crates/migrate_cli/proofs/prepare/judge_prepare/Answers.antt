@@ -10,9 +10,9 @@ pub returns-in_ok-text-in-Ok : goal.returns-in_ok-text-in-Ok
 returns-in_ok-text-in-Ok c =
     let design = named_text c.args.file.now c.args.design.now in
     subst (λ text. IsPrepareDecision design (configured c.args.configs.now c.args.net.now) (Prepared text)) (sym c.in_ok-text-in-Ok.ensures)
-    (is_settled c.in-Ok.settled (subst (IsSettledOrRefused design c.args.net.now) c.in-Ok.is c.in_ok-settle_text.ensures))
+    (is_settled c.in-Ok.settled (subst (IsSettledOrRefused design c.args.net.now) c.in-Ok.is c.in_ok-settled.ensures))
 
 pub returns-in-Err : goal.returns-in-Err
 returns-in-Err c =
     let design = named_text c.args.file.now c.args.design.now in
-    refused c.in-Err.refused (subst (IsSettledOrRefused design c.args.net.now) c.in-Err.is c.in_ok-settle_text.ensures)
+    refused c.in-Err.refused (subst (IsSettledOrRefused design c.args.net.now) c.in-Err.is c.in_ok-settled.ensures)
