@@ -1,0 +1,4 @@
+pub mod OddLines
+pub mod ActingForms
+pub mod ActingLines
+pub mod steps
