@@ -1,3 +1,4 @@
 pub mod NumberFacts
+pub mod WordSteps
 pub mod SectionSteps
 pub mod ActingParts

@@ -4,6 +4,7 @@ use Rattle.std.specs.Prelude.{filter}
 use Rattle.std.specs.List.{list_any}
 use Rattle.std.proofs.lemmas.List.{map-append}
 use Rattle.std.proofs.lemmas.List.Elements.{filter_more}
+use Rattle.std.proofs.lemmas.List.Folds.{list_any_more}
 use Rattle.ios_sections.specs.TextLines.{TextLine}
 use Rattle.survey_lines.specs.steps.Sections.{number_if}
 
@@ -55,3 +56,12 @@ any_choice p false x xs = refl
 pub any_both : (p q : TextLine → Bool) (lines : List TextLine) → list_any p (filter q lines) ≡ list_any (λ (x : TextLine). q x && p x) lines
 any_both p q [] = refl
 any_both p q (x ∷ xs) = any_choice p (q x) x (filter q xs) ∙ ap (λ (t : Bool). (q x && p x) || t) (any_both p q xs)
+
+-- one more line of a loop that tells whether some line passes a test
+pub any_taken : (p : TextLine → Bool) (lines : List TextLine) (i : ℕ) (x : TextLine) (before one after : Bool) → i < length lines → x ≡ get_or lines i x →
+    before ≡ list_any p (take i lines) → one ≡ p x → after ≡ (before || one) → after ≡ list_any p (take (i + 1) lines)
+any_taken p lines i x before one after within read was test made =
+    made
+    ∙ ap (λ (t : Bool). t || one) was
+    ∙ ap (λ (t : Bool). list_any p (take i lines) || t) (test ∙ ap p read)
+    ∙ sym (list_any_more p lines i x within)

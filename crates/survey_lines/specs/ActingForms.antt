@@ -1,10 +1,14 @@
 -- Lines that the planner skips though a router acts on them: the table of docs/profile.md, "Lines that have no meaning here",
 -- a form a line. Authentication, timers, MTU and network types act where two ends differ, and have no form of one line.
-use Rattle.std.specs.Prelude.{Bool, ◌&&◌, ◌||◌, not, false, List, codes}
+use Rattle.std.specs.Prelude.{Bool, ◌&&◌, ◌||◌, not, false, List, bytes_eq, codes}
+use Rattle.std.specs.List.{list_any}
 use Rattle.ios_lines.specs.Words.{Word, says, begins_with_two, begins_with_three, lacks}
-use Rattle.ios_sections.specs.TextLines.{has_word}
 use Rattle.survey_lines.specs.declared.acting_line.Place.{Place}
 use Rattle.survey_lines.specs.declared.acting_line.Place.TheVariants.{Top, OfInterface, OfOspf, OfIsis, Elsewhere}
+
+-- a word is among those of a line
+abbrev pub has_word : Word → List Word → Bool
+has_word word words = list_any (λ (other : Word). bytes_eq other word) words
 
 -- the line begins with these four words
 abbrev pub begins_with_four : List Word → Word → Word → Word → Word → Bool

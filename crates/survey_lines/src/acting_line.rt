@@ -1,6 +1,7 @@
 ghost use Rattle.std.specs.Prelude.{◌≡◌};
 ghost use Rattle.survey_lines.specs.ActingForms.{begins_with_four, acts_on_interface, uses_policy, acts_on_ospf, acts_on_isis, acts_at_top, acts_in, acts_first};
 
+use crate::line_words::has_word;
 use ios_lines::words::Words;
 use ios_sections::text_line::TextLine;
 
@@ -49,7 +50,7 @@ fn uses_policy(line: &TextLine, words: &Words) -> bool
     requires { words.now ≡ line.now.words }
     ensures { result ≡ uses_policy words.now }
 {
-    !words.says(0, b"no") && (line.has_word(b"route-map") || line.has_word(b"prefix-list"))
+    !words.says(0, b"no") && (has_word(line.bytes(), b"route-map") || has_word(line.bytes(), b"prefix-list"))
 }
 
 /// Whether a line of an OSPF process acts.

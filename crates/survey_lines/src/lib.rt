@@ -5,6 +5,7 @@
 //! |---|---|
 //! | `odd` | lines with control bytes (`OddLines`), and texts without an indented line (`FlatTexts`) |
 //! | `acting_line` | which lines act on a router and have no meaning here: the table of `docs/profile.md`, a form a line (`ActingForms`) |
+//! | `line_words` | whether a word is among those of a line |
 //! | `vrf_names` | the interfaces of a configuration that are in a VRF |
 //! | `acting` | the lines of a text that act (`ActingLines`) |
 //!
@@ -13,6 +14,7 @@
 
 // Single lines.
 mod acting_line;
+mod line_words;
 mod odd;
 
 // Lines in their sections.

@@ -69,7 +69,7 @@ fn vrf_name(
 }
 
 /// Takes in a name, where there is one.
-fn add_name(names: &mut NameIndex, alloc: Global, name: Option<Name>) -> Result<(), OutOfMemory>
+fn add_name(alloc: Global, names: &mut NameIndex, name: Option<Name>) -> Result<(), OutOfMemory>
     ensures { OnOk result ((other : List ℕ) → is_among names.new other ≡ (is_among names.old other || is_among_one name other)) }
 {
     if let Some(name) = name {
@@ -86,7 +86,7 @@ pub(crate) fn vrf_names(alloc: Global, lines: &[TextLine]) -> Result<NameIndex, 
     for (i, head) in lines.iter().enumerate() {
         if head.opens_section() {
             let name = vrf_name(alloc, head, &lines[i + 1..])?;
-            add_name(&mut names, alloc, name)?;
+            add_name(alloc, &mut names, name)?;
         }
     }
     Ok(names)
