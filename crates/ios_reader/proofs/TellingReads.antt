@@ -6,7 +6,7 @@ use Rattle.net_model.specs.Configuration.{Configuration}
 use Rattle.ios_lines.specs.declared.fault.Fault.{Fault}
 use Rattle.ios_sections.specs.TextLines.{TextLine, Part, parts_after, rest_after, is_empty, begins_configuration}
 use Rattle.ios_sections.specs.TellingLines.{telling_lines}
-use Rattle.ios_sections.specs.Sections.{sections_in}
+use Rattle.ios_sections.specs.Sections.{first_number, sections_in}
 use Rattle.ios_sections.specs.Statements.{Statements, statements_of}
 use Rattle.ios_sections.proofs.TellingFacts.{told_part, parts_told, rest_told, begins_told, none_told, first_told, statements_told}
 use Rattle.ios_reader.specs.Faults.{fault_further, part_faults}

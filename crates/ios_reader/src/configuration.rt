@@ -1,4 +1,4 @@
-ghost use Rattle.std.specs.Prelude.{◌≡◌, ◌-◌, ◌++◌, map, IfOk, OnOk};
+ghost use Rattle.std.specs.Prelude.{◌≡◌, ◌↔◌, ◌-◌, ◌++◌, [], map, IfOk, IsTrue, OnOk};
 ghost use Rattle.net_model.specs.Configuration.{IsConfiguration};
 ghost use Rattle.ios_sections.specs.Sections.{first_number};
 ghost use Rattle.ios_reader.specs.Faults.{fault_further};
@@ -173,6 +173,13 @@ fn faults_in_text(
     Ok(own)
 }
 
+/// Whether these are no faults.
+pub(crate) fn are_none(faults: &[Fault]) -> bool
+    ensures { IsTrue result ↔ (faults.now ≡ []) }
+{
+    faults.is_empty()
+}
+
 /// The faults of the lines before an `end` line of this number, and where there is none their configuration. The lines are
 /// read as they are counted from the first one that may tell something; only here a fault gets its number in the text.
 pub(crate) fn read_part(
@@ -188,7 +195,7 @@ pub(crate) fn read_part(
     let interfaces = interfaces_of(alloc, &statements, facts)?;
     let ends = counted_ends(lines, ends);
     let found = faults_of(alloc, &statements, interfaces.faults.as_slice(), ends)?;
-    if found.is_empty() {
+    if are_none(found.as_slice()) {
         let config = config_of(alloc, statements, interfaces.all, facts)?;
         return Ok(PartRead {
             config: Some(config),

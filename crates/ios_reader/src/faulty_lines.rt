@@ -71,5 +71,6 @@ pub(crate) fn faulty_lines(alloc: Global, faults: Vec<Fault>) -> Result<Vec<Faul
     ensures { IfOk result (λ told. AreLeastOnLines faults.items told.items) }
 {
     let sorted = in_order(faults);
-    firsts_on_lines(alloc, sorted.as_slice())
+    let told = firsts_on_lines(alloc, sorted.as_slice())?;
+    Ok(told)
 }

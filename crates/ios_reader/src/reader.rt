@@ -7,7 +7,7 @@ ghost use Rattle.ios_reader.specs.Texts.{ReadsText, RefusesConfiguration};
 ghost use Rattle.ios_reader.specs.FaultyLines.{AreFaultyLines};
 
 use crate::OutOfMemory;
-use crate::configuration::{PartRead, read_part};
+use crate::configuration::{PartRead, are_none, read_part};
 use crate::faulty_lines::faulty_lines;
 use crate::refusal::ReadRefusal;
 use ios_lines::fault::{Fault, least_fault, push_fault_if};
@@ -121,7 +121,8 @@ fn read_text(alloc: Global, text: &[u8]) -> Result<Reading, OutOfMemory>
     };
     let reading = read_parts(alloc, told.as_slice())?;
     let last = lines.as_slice().len() as u32;
-    with_end(reading, lacks_end(told.as_slice()), last + 1)
+    let read = with_end(reading, lacks_end(told.as_slice()), last + 1)?;
+    Ok(read)
 }
 
 /// Reads the configurations of a text, each ended by its `end` line.
@@ -154,8 +155,9 @@ pub fn read_or_faults(
     ensures faulty { IfOk result (λ r. IfErr r (λ faults. AreFaultyLines text.now faults.items)) }
 {
     let reading = read_text(alloc, text)?;
-    if reading.faults.is_empty() {
+    if are_none(reading.faults.as_slice()) {
         return Ok(Ok(Configs::from_vec(reading.configs)));
     }
-    Ok(Err(faulty_lines(alloc, reading.faults)?))
+    let told = faulty_lines(alloc, reading.faults)?;
+    Ok(Err(told))
 }

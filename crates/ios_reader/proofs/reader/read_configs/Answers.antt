@@ -1,7 +1,6 @@
-use Rattle.std.proofs.Common.{ap, subst, sym, ◌∙◌}
-use Rattle.ios_lines.specs.FaultOrder.{least_fault}
+use Rattle.std.proofs.Common.{◌≡◌, List, ap, subst, sym, ◌∙◌}
 use Rattle.net_model.specs.Configuration.{Configuration}
-use Rattle.std.proofs.Common.{List}
+use Rattle.ios_lines.specs.FaultOrder.{least_fault}
 use Rattle.ios_reader.specs.steps.Parts.{Reading}
 use Rattle.ios_reader.specs.Texts.{ReadsText}
 use Rattle.ios_reader.proofs.LeastFaults.{none_least}
@@ -9,7 +8,13 @@ use Rattle.ios_reader.proofs.ReadFacts.{text_read, text_refused}
 use Rattle.ios_reader.proofs.reader.read_configs.Goals as goal
 
 pub returns-in-Some-clause-refused : goal.returns-in-Some-clause-refused
-returns-in-Some-clause-refused c = ?
+returns-in-Some-clause-refused c =
+    text_refused c.args.text.now c.in_ok-reading.reading c.in-Some.fault c.in_ok-reading.ensures
+    (sym (c.in-Some.ensures ∙ ap least_fault (c.as_slice.ensures.value ∙ ap (λ (r : Reading). r.faults) c.reading.view_is)))
 
 pub returns-clause-read : goal.returns-clause-read
-returns-clause-read c = ?
+returns-clause-read c =
+    subst (λ (w : List Configuration). ReadsText c.args.text.now w) (sym (c.from_vec.ensures ∙ ap (λ (r : Reading). r.configs) c.reading.view_is))
+    (text_read c.args.text.now c.in_ok-reading.reading c.in_ok-reading.ensures
+    (none_least c.in_ok-reading.reading.faults
+    (sym (c.in-None.ensures ∙ ap least_fault (c.as_slice.ensures.value ∙ ap (λ (r : Reading). r.faults) c.reading.view_is)))))
