@@ -1,6 +1,6 @@
 -- The faulty lines of a text, from its faults in order.
 use Rattle.std.proofs.Common.{sym, ◌≡◌, ℕ, ◌+◌, ◌<◌, ◌≤◌, Bool, true, false, not, List, [], ◌∷◌, ◌++◌, length, take, get_or, Option, Some, None, refl}
-use Rattle.std.proofs.Common.{ap, subst, ◌∙◌, cond, nat_eq, nat_lt, arith, ◌⊎◌, inl, inr, ⊎_elim, zero, suc}
+use Rattle.std.proofs.Common.{ap, subst, ◌∙◌, cond, nat_eq, nat_lt, arith, ⊎_elim, zero, suc}
 use Rattle.std.specs.Prelude.{All, Contains}
 use Rattle.std.specs.List.Sorted.{IsPermutation}
 use Rattle.std.specs.Ordering.{nat_cmp}
@@ -76,16 +76,17 @@ module _ (faults : List Fault) (x : Fault) where
       p.line ≡ x.line → AreLeastOnLines (faults ++ x ∷ []) told
   told_same p told t inside low up same = record {
     ascending = t.ascending;
-    each = λ f.
-        (λ w.
-            let h : IsLeastOnLine faults f = (t.each f).0 w in
-            let behind : UpTo x f = All-contains (UpTo x) faults f up h.among in
-            record {
-              among = Contains-append_left faults (x ∷ []) f h.among;
-              least = All-push (NoLess f) faults x h.least (no_less f x behind);
-            },
-        λ h.
-            ⊎_elim (λ w. (t.each f).1 (least_before f h w)) (λ is. again f h is) (Contains-push_cases faults x f h.among));
+    each = λ f. (
+      λ w.
+          let h : IsLeastOnLine faults f = (t.each f).0 w in
+          let behind : UpTo x f = All-contains (UpTo x) faults f up h.among in
+          record {
+            among = Contains-append_left faults (x ∷ []) f h.among;
+            least = All-push (NoLess f) faults x h.least (no_less f x behind);
+          },
+      λ h.
+          ⊎_elim (λ w. (t.each f).1 (least_before f h w)) (λ is. again f h is) (Contains-push_cases faults x f h.among),
+    );
   }
     where
       again : (f : Fault) → IsLeastOnLine (faults ++ x ∷ []) f → x ≡ f → Contains told f
@@ -104,10 +105,11 @@ module _ (faults : List Fault) (x : Fault) where
   told_more told t low = record {
     ascending = all_pairs_push (λ (f g : Fault). f.line < g.line) told x t.ascending
         (λ k d below. All-contains (Lower x) faults (get_or told k d) low ((t.each (get_or told k d)).0 (Contains-get_or told k d below)).among);
-    each = λ f.
-        (λ w. ⊎_elim (λ v. old f v) (λ is. subst (IsLeastOnLine (faults ++ x ∷ [])) is new) (Contains-push_cases told x f w),
-        λ h. ⊎_elim (λ v. Contains-append_left told (x ∷ []) f ((t.each f).1 (least_before f h v)))
-            (λ is. subst (Contains (told ++ x ∷ [])) is (Contains-push told x)) (Contains-push_cases faults x f h.among));
+    each = λ f. (
+      λ w. ⊎_elim (λ v. old f v) (λ is. subst (IsLeastOnLine (faults ++ x ∷ [])) is new) (Contains-push_cases told x f w),
+      λ h. ⊎_elim (λ v. Contains-append_left told (x ∷ []) f ((t.each f).1 (least_before f h v)))
+          (λ is. subst (Contains (told ++ x ∷ [])) is (Contains-push told x)) (Contains-push_cases faults x f h.among),
+    );
   }
     where
       new : IsLeastOnLine (faults ++ x ∷ []) x
@@ -179,18 +181,19 @@ none_told = record {
 pub told_in_order : (faults sorted told : List Fault) → IsPermutation faults sorted → AreLeastOnLines sorted told → AreLeastOnLines faults told
 told_in_order faults sorted told moved t = record {
   ascending = t.ascending;
-  each = λ f.
-      (λ w.
-          let h : IsLeastOnLine sorted f = (t.each f).0 w in
-          let back : IsPermutation sorted faults = IsPermutation-sym faults sorted moved in
-          record {
-            among = Contains-permutation sorted faults f back h.among;
-            least = All-permutation (NoLess f) sorted faults back h.least;
-          },
-      λ h. (t.each f).1 (record {
-        among = Contains-permutation faults sorted f moved h.among;
-        least = All-permutation (NoLess f) faults sorted moved h.least;
-      }));
+  each = λ f. (
+    λ w.
+        let h : IsLeastOnLine sorted f = (t.each f).0 w in
+        let back : IsPermutation sorted faults = IsPermutation-sym faults sorted moved in
+        record {
+          among = Contains-permutation sorted faults f back h.among;
+          least = All-permutation (NoLess f) sorted faults back h.least;
+        },
+    λ h. (t.each f).1 (record {
+      among = Contains-permutation faults sorted f moved h.among;
+      least = All-permutation (NoLess f) faults sorted moved h.least;
+    }),
+  );
 }
 
 -- a fault comes before another exactly where its place is less

@@ -10,7 +10,7 @@ use Rattle.std.proofs.lemmas.List.Elements.{All-nil, All-cons, All-weaker}
 use Rattle.net_addr.specs.Lines.{is_line_feed, without_empty_last, line_pieces, lines_of, text_lines}
 use Rattle.net_model.specs.Configuration.{Configuration, IsConfiguration}
 use Rattle.ios_lines.specs.Words.{Word}
-use Rattle.ios_sections.specs.TextLines.{TextLine, Part, text_line, lines_in, parts_of, lacks_end}
+use Rattle.ios_sections.specs.TextLines.{Part, text_line, lines_in, parts_of, lacks_end}
 use Rattle.ios_lines.specs.FaultOrder.{faults_if, is_before, lesser_fault, least_fault}
 use Rattle.ios_sections.specs.ProcessFaults.{second_processes, ospf_faults, isis_faults}
 use Rattle.ios_reader.specs.Faults.{interface_faults, section_faults, fault_further, part_faults, faults_in}

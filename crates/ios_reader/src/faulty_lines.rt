@@ -10,14 +10,7 @@ use std::alloc::Global;
 use std::cmp::Ordering;
 
 /// Which of two faults comes first: that on the lesser line, then that with the lesser kind.
-#[tactic(
-    auto,
-    using(
-        crate::proofs::FaultyLineFacts::order_less,
-        crate::proofs::FaultyLineFacts::order_greater,
-        crate::proofs::FaultyLineFacts::order_equal
-    )
-)]
+#[tactic(auto, using(crate::proofs::FaultyLineFacts::order_less, crate::proofs::FaultyLineFacts::order_greater, crate::proofs::FaultyLineFacts::order_equal))]
 fn fault_order(f: &Fault, g: &Fault) -> Ordering
     ensures { result ≡ nat_cmp (order_of f.now) (order_of g.now) }
 {

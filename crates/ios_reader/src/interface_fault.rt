@@ -87,12 +87,7 @@ fn push_long_mask(
     ensures { OnOk result (faults.new.items ≡ faults.old.items ++ long_mask line address) }
 {
     if let Ok(given) = address {
-        push_fault_if(
-            faults,
-            given.len() != 32,
-            line,
-            ReadKind::LoopbackMask,
-        )?;
+        push_fault_if(faults, given.len() != 32, line, ReadKind::LoopbackMask)?;
     }
     Ok(())
 }

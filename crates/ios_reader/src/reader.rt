@@ -42,7 +42,10 @@ fn with_part(reading: Reading, read: PartRead) -> Result<Reading, OutOfMemory>
     ensures configs { IfOk result (λ r. r.configs ≡ reading.configs ++ option_to_list read.config) }
 {
     let Reading { configs, faults } = reading;
-    let PartRead { config, faults: more } = read;
+    let PartRead {
+        config,
+        faults: more,
+    } = read;
     let mut configs = configs;
     let mut faults = faults;
     if let Some(config) = config {

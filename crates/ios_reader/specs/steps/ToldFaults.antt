@@ -1,5 +1,5 @@
 -- The faulty lines of a text, found by their faults in order.
-use Rattle.std.specs.Prelude.{◌≡◌, ℕ, ◌+◌, ◌*◌, ◌≤◌, Bool, true, not, List, [], ◌∷◌, Option, Some, None, nat_eq, All, Contains, MatchOption}
+use Rattle.std.specs.Prelude.{◌≡◌, ℕ, ◌+◌, ◌*◌, ◌≤◌, Bool, true, not, List, [], Option, Some, None, nat_eq, All, Contains, MatchOption}
 use Rattle.std.specs.List.Sorted.{IsNonDecreasingBy}
 use Rattle.ios_lines.specs.FaultOrder.{rank}
 use Rattle.ios_lines.specs.declared.fault.Fault.{Fault}

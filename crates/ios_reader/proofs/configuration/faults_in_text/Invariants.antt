@@ -1,5 +1,4 @@
 use Rattle.std.proofs.Common.{◌≡◌, map, take}
-use Rattle.ios_sections.specs.Sections.{first_number}
 use Rattle.ios_reader.specs.Faults.{fault_further}
 use Rattle.ios_reader.proofs.configuration.faults_in_text.Given as goal
 

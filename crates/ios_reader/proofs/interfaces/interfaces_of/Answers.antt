@@ -2,7 +2,6 @@ use Rattle.std.proofs.Common.{◌≡◌, List, Option, map, ap, ◌∙◌}
 use Rattle.std.specs.Prelude.{flat_map, option_copied}
 use Rattle.ios_lines.specs.Words.{Word}
 use Rattle.ios_lines.specs.declared.ospf_line.OspfStatement.{OspfStatement}
-use Rattle.ios_sections.specs.declared.section.InterfaceSection.{InterfaceSection}
 use Rattle.ios_reader.specs.Faults.{interface_faults}
 use Rattle.ios_reader.specs.InterfacesAsRead.{interface_as_read}
 use Rattle.ios_reader.specs.Routers.{Router, router_with}

@@ -1,4 +1,4 @@
-use Rattle.std.proofs.Common.{◌≡◌, List, ap, subst, sym, ◌∙◌}
+use Rattle.std.proofs.Common.{List, ap, subst, sym, ◌∙◌}
 use Rattle.net_model.specs.Configuration.{Configuration}
 use Rattle.ios_lines.specs.FaultOrder.{least_fault}
 use Rattle.ios_reader.specs.steps.Parts.{Reading}
@@ -12,8 +12,8 @@ returns-in-Some-clause-refused c =
     text_refused c.args.text.now c.in_ok-reading.reading c.in-Some.fault c.in_ok-reading.ensures
     (sym (c.in-Some.ensures ∙ ap least_fault (c.as_slice.ensures.value ∙ ap (λ (r : Reading). r.faults) c.reading.view_is)))
 
-pub returns-clause-read : goal.returns-clause-read
-returns-clause-read c =
+pub returns-in-None-clause-read : goal.returns-in-None-clause-read
+returns-in-None-clause-read c =
     subst (λ (w : List Configuration). ReadsText c.args.text.now w) (sym (c.from_vec.ensures ∙ ap (λ (r : Reading). r.configs) c.reading.view_is))
     (text_read c.args.text.now c.in_ok-reading.reading c.in_ok-reading.ensures
     (none_least c.in_ok-reading.reading.faults
