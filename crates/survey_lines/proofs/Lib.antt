@@ -1,4 +1,0 @@
-pub mod NumberFacts
-pub mod WordSteps
-pub mod SectionSteps
-pub mod ActingParts

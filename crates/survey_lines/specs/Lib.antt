@@ -1,4 +1,0 @@
-pub mod OddLines
-pub mod ActingForms
-pub mod ActingLines
-pub mod steps

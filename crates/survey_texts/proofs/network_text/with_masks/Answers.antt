@@ -1,9 +1,0 @@
-use Rattle.net_model.specs.RouterNames.{names_of}
-use Rattle.survey_texts.specs.Lines.{masks_line}
-use Rattle.survey_texts.proofs.LineSteps.{line_taken}
-use Rattle.survey_texts.proofs.network_text.with_masks.Goals as goal
-
-pub loop-pair-preserved : goal.loop-pair-preserved
-loop-pair-preserved c =
-    line_taken (masks_line (names_of c.args.net.now)) c.args.pairs.now c.loop-pair.pair-index c.pair-item.result c.args.text _ _ _ c.loop-pair-test.true
-    c.pair-item.is c.loop-pair.invariant c.in_ok-masks_line.ensures c.in_ok-text.ensures

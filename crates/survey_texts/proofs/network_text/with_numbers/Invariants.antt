@@ -1,7 +1,0 @@
-use Rattle.std.proofs.Common.{◌≡◌, ◌++◌, map, take}
-use Rattle.std.specs.Prelude.{decimal}
-use Rattle.printed_lines.specs.Words.{spaced}
-use Rattle.survey_texts.proofs.network_text.with_numbers.Given as goal
-
-abbrev pub invariant-loop-number : goal.invariant-loop-number
-invariant-loop-number l = l.line ≡ l.initial.line ++ spaced (map decimal (take l.number-index l.numbers))
