@@ -1,5 +1,5 @@
 -- A timetable is looked at wave by wave.
-use Rattle.std.proofs.Common.{◌≡◌, ℕ, ◌+◌, ◌<◌, ◌≤◌, ◌↔◌, List, length, Option, Some, None, IfSome, IfNone, IsNone, inl, inr, refl, sym, ap, arith}
+use Rattle.std.proofs.Common.{◌≡◌, ℕ, ◌+◌, ◌<◌, ◌≤◌, ◌↔◌, List, length, Option, Some, None, IfSome, IfNone, IsNone, inl, inr, refl, sym, ap, subst, arith}
 use Rattle.std.proofs.lemmas.Bool.{false≢true, cases_lt}
 use Rattle.order_core.specs.Rankings.{IsRanking}
 use Rattle.order_core.specs.declared.turn.Turn.{Turn}
@@ -20,7 +20,7 @@ use Rattle.igp_theory.proofs.WaveFaultLaws.{times_fault_unsound}
 use Rattle.loop_finder.specs.Faults.{told_fault}
 use Rattle.loop_finder.specs.Mixes.{Mix}
 use Rattle.loop_finder.specs.steps.Times.{IsInOrder}
-use Rattle.loop_finder.specs.steps.Verdicts.{SoundWavesBefore, SoundWaves, FaultyWave, FaultyWaves}
+use Rattle.loop_finder.specs.steps.Verdicts.{SoundWave, SoundWavesBefore, SoundWaves, FaultyWave, FaultyWaves}
 use Rattle.loop_finder.specs.declared.fault.Fault.{Fault}
 
 -- behind the last wave there is the state in which it ends alone
@@ -42,6 +42,13 @@ sound_to_last m time last w order some most past sound state is = elim (cases_lt
   | inl before ↦ sound is.wave is.from_one before state is.of_wave
   | inr after ↦ sound last some past state
       (past_last (length m.net) time last is.wave state order most (omega (arith, past, after)) is.of_wave)
+]
+
+-- the waves before the next one are sound too where this one is
+pub sound_more : (m : Mix) (time : Timetable) (w : ℕ) → SoundWavesBefore m time w → SoundWave m time w → SoundWavesBefore m time (w + 1)
+sound_more m time w before here v some less = elim (cases_lt v w) [
+  | inl sooner ↦ before v some sooner
+  | inr later ↦ let is : w ≡ v = omega (arith, less, later) in subst (SoundWave m time) is here
 ]
 
 -- the fault of the first wave that isn't sound

@@ -1,17 +1,17 @@
 -- The phases by the waves of a router's changes, and lists of them.
-use Rattle.std.proofs.Common.{◌≡◌, ℕ, zero, suc, ◌+◌, ◌<◌, ◌≤◌, ◌⊎◌, if◌then◌else◌, Bool, ltb, List, [], ◌∷◌, length, get_or, inl, inr, refl, arith}
-use Rattle.std.proofs.Common.{◌↔◌, Contains, sym, ap, ◌∙◌, subst}
+use Rattle.std.proofs.Common.{◌≡◌, ℕ, zero, suc, ◌+◌, ◌^◌, ◌<◌, ◌≤◌, ◌⊎◌, if◌then◌else◌, Bool, ltb, List, [], ◌∷◌, length, get_or, inl, inr, refl, arith}
+use Rattle.std.proofs.Common.{◌↔◌, set, below_more, Contains, sym, ap, ◌∙◌, subst}
 use Rattle.std.proofs.lemmas.Bool.{lt-ltb, le-ltb, false≢true}
 use Rattle.std.proofs.Common.{true, false, ◌==◌, ◌&&◌, eqb-true}
 use Rattle.net_model.proofs.Members.{Contains-none}
 use Rattle.order_core.specs.Rankings.{IsRanking, rank_of}
 use Rattle.order_core.proofs.WaveLists.{rank_below_count, count_le_length}
 use Rattle.std.proofs.lemmas.Bool.{cases_lt}
-use Rattle.std.proofs.lemmas.List.{get_or_past, get_or_default}
+use Rattle.std.proofs.lemmas.List.{get_or_past, get_or_default, get_or-set_other, get_or-set_same}
 use Rattle.std.proofs.lemmas.List.Elements.{Contains-get_or}
 use Rattle.igp_theory.specs.Changes.{Change, first, second}
 use Rattle.igp_theory.specs.Phases.{State, all_old}
-use Rattle.igp_theory.specs.Timetables.{router_times}
+use Rattle.igp_theory.specs.Timetables.{Timetable, router_times, state_before}
 use Rattle.igp_theory.specs.declared.phase.Phase.{Phase}
 use Rattle.igp_theory.specs.declared.phase.Phase.TheVariants.{Old, Middle, New}
 use Rattle.loop_finder.specs.Faults.{state_in}
@@ -117,12 +117,12 @@ listed (suc n) state = listed_more n state (listed n (λ u. state (suc u)))
 
 -- Ranked routers
 
--- a rank has a successor among the numbers of 32 bits, where so many routers are there
-pub rank_fits : (n : ℕ) (ranks : List ℕ) (u : ℕ) → IsRanking n ranks → rank_of ranks u ≤ n
-rank_fits n ranks u ranking = elim (cases_lt u (length ranks)) [
+-- the number of a router's wave is at most the count of the routers, or 1
+pub rank_fits : (n : ℕ) (ranks : List ℕ) (u : ℕ) → IsRanking n ranks → n < 2 ^ 32 → rank_of ranks u + 1 < 2 ^ 32
+rank_fits n ranks u ranking few = elim (cases_lt u (length ranks)) [
   | inl within ↦
       let count = rank_below_count ranks (rank_of ranks u) (Contains-get_or ranks u 0 within) in
-      omega (arith, count, count_le_length n ranks ranking)
+      omega (arith, count, count_le_length n ranks ranking, few)
   | inr past ↦ let none : rank_of ranks u ≡ 0 = get_or_past ranks u 0 past in omega (arith, none)
 ]
 
@@ -144,3 +144,22 @@ times_of_ranks times ranks many each = λ i c. same c i
     same : (c : Change) → times_in times c ≡ router_times all_old ranks c
     same (first u) = ap (λ (w : ChangeWaves). w.first) (waves u)
     same (second u) = ap (λ (w : ChangeWaves). w.second) (waves u)
+
+-- a router more has them
+pub ranked_more : (times : List ChangeWaves) (ranks : List ℕ) (n : ℕ) → n < length times →
+    ((u : ℕ) → u < n → waves_of times u ≡ record { first = rank_of ranks u + 1; second = rank_of ranks u + 1 }) →
+    (u : ℕ) → u < n + 1 → waves_of (set times n (record { first = rank_of ranks n + 1; second = rank_of ranks n + 1 })) u
+    ≡ record { first = rank_of ranks u + 1; second = rank_of ranks u + 1 }
+ranked_more times ranks n within before =
+    let none : ChangeWaves = record { first = 1; second = 1 } in
+    let here : ChangeWaves = record { first = rank_of ranks n + 1; second = rank_of ranks n + 1 } in
+    below_more (λ (u : ℕ). waves_of (set times n here) u ≡ record { first = rank_of ranks u + 1; second = rank_of ranks u + 1 }) n
+    (λ u below. get_or-set_other times n u here none (λ same. omega (arith, same, below)) ∙ before u below)
+    (get_or-set_same times n here none within)
+
+-- the phases of a router more are written
+pub phases_more : (time : Timetable) (w n : ℕ) (phases : List Phase) (phase : Phase) → n < length phases → phase ≡ state_before time w n →
+    ((u : ℕ) → u < n → state_in phases u ≡ state_before time w u) → (u : ℕ) → u < n + 1 → state_in (set phases n phase) u ≡ state_before time w u
+phases_more time w n phases phase within is before = below_more (λ (u : ℕ). state_in (set phases n phase) u ≡ state_before time w u) n
+    (λ u below. get_or-set_other phases n u phase Old (λ same. omega (arith, same, below)) ∙ before u below)
+    (get_or-set_same phases n phase Old within ∙ is)

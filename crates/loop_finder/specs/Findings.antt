@@ -1,5 +1,5 @@
 -- What a finder keeps from call to call.
-use Rattle.std.specs.Prelude.{◌≡◌, ℕ, Bool, List, length}
+use Rattle.std.specs.Prelude.{◌≡◌, ℕ, ◌^◌, ◌<◌, Bool, List, length}
 use Rattle.std.specs.Bool.{OnTrue}
 use Rattle.loop_finder.specs.Calm.{AreCalm}
 use Rattle.loop_finder.specs.Orders.{AreFirstStates}
@@ -30,6 +30,7 @@ pub record Kept : Type 0 where
 
 -- they are so, and there is room to work in
 pub record IsFinding (m : Mix) (kept : Kept) (room : Room) : Type 0 where
+  pub few : length m.net < 2 ^ 32
   pub parts_are : AreParts m kept.parts (length m.classes.samples)
   pub watch_is : IsWatch kept.parts (length m.net) kept.watch
   pub times_many : length kept.times ≡ length m.net

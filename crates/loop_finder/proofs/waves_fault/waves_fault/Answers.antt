@@ -1,11 +1,9 @@
-use Rattle.std.proofs.Common.{ℕ, length, ap, ◌∙◌, refl, arith, below_more}
+use Rattle.std.proofs.Common.{◌+◌, ◌∙◌, refl, arith}
 use Rattle.loop_finder.specs.Times.{times_in}
-use Rattle.loop_finder.specs.steps.Verdicts.{SoundWave}
 use Rattle.loop_finder.proofs.CalmLaws.{sound_waves_before}
 use Rattle.loop_finder.proofs.OnFalse.{on_true}
-use Rattle.loop_finder.proofs.WaveListFacts.{sound_to_last, first_fault}
+use Rattle.loop_finder.proofs.WaveListFacts.{sound_to_last, sound_more}
 use Rattle.loop_finder.proofs.WaveSteps.{begins_sound}
-use Rattle.loop_finder.specs.Faults.{told_fault}
 use Rattle.loop_finder.specs.Mixes.{mix_of}
 use Rattle.loop_finder.proofs.waves_fault.waves_fault.Goals as goal
 
@@ -23,3 +21,27 @@ loop-wave-init g c = record {
   room = c.requires.room;
   ring = refl;
 }
+
+pub loop-wave-preserved : goal.loop-wave-preserved
+loop-wave-preserved g c = record {
+  some = omega arith;
+  sound = sound_more (mix_of g.O.RouteSource.table g.N.RouteSource.table c.args.mixed.now) (times_in c.args.times.now) c.loop-wave.wave
+      c.loop-wave.invariant.sound c.in_default.ensures.sound;
+  room = c.in_default.ensures.room;
+  ring = c.in_default.ensures.ring ∙ c.loop-wave.invariant.ring;
+}
+
+pub returns-then-wave-end-clause-sound : goal.returns-then-wave-end-clause-sound
+returns-then-wave-end-clause-sound g c =
+    sound_to_last (mix_of g.O.RouteSource.table g.N.RouteSource.table c.args.mixed.now) (times_in c.args.times.now) c.last_wave-end.result
+    (c.loop-wave.wave + 1) c.requires.order c.last_wave-end.ensures.some
+    (λ u within. c.last_wave-end.ensures.last u (omega (arith, within, c.requires.times))) (omega (arith, c.if-wave-end.true))
+    (sound_more (mix_of g.O.RouteSource.table g.N.RouteSource.table c.args.mixed.now) (times_in c.args.times.now) c.loop-wave.wave
+    c.loop-wave.invariant.sound c.in_default.ensures.sound)
+
+pub returns-clause-sound : goal.returns-clause-sound
+returns-clause-sound g c =
+    sound_to_last (mix_of g.O.RouteSource.table g.N.RouteSource.table c.args.mixed.now) (times_in c.args.times.now) c.last_wave-end.result
+    c.loop-wave.wave c.requires.order c.last_wave-end.ensures.some
+    (λ u within. c.last_wave-end.ensures.last u (omega (arith, within, c.requires.times))) (omega (arith, c.loop-wave-test.false))
+    c.loop-wave.invariant.sound

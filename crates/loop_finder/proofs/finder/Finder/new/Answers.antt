@@ -8,6 +8,7 @@ use Rattle.loop_finder.proofs.finder.Finder.new.Goals as goal
 
 pub invariant_of-result : goal.invariant_of-result
 invariant_of-result g c = record {
+  few = omega (arith, c.routers-routers.type_inv, c.routers-routers.ensures.count, ap (λ (n : Network). length n) c.net.ensures);
   parts_are = c.in_ok-parts.ensures;
   watch_is = subst (λ (xs : List ClassPart). IsWatch xs (length c.args.mixed.now.net) c.in_ok-watch.watch.items) c.as_slice.ensures.value
       (subst (λ (n : ℕ). IsWatch c.as_slice.result.now n c.in_ok-watch.watch.items) (c.routers-routers.ensures.count
