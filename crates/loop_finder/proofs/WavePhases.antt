@@ -1,13 +1,13 @@
 -- The phases by the waves of a router's changes, and lists of them.
 use Rattle.std.proofs.Common.{◌≡◌, ℕ, zero, suc, ◌+◌, ◌^◌, ◌<◌, ◌≤◌, ◌⊎◌, if◌then◌else◌, Bool, ltb, List, [], ◌∷◌, length, get_or, inl, inr, refl, arith}
-use Rattle.std.proofs.Common.{◌↔◌, set, below_more, Contains, sym, ap, ◌∙◌, subst}
+use Rattle.std.proofs.Common.{◌↔◌, ◌++◌, take, drop, set, below_more, Contains, sym, ap, ◌∙◌, subst}
 use Rattle.std.proofs.lemmas.Bool.{lt-ltb, le-ltb, false≢true}
 use Rattle.std.proofs.Common.{true, false, ◌==◌, ◌&&◌, eqb-true}
 use Rattle.net_model.proofs.Members.{Contains-none}
 use Rattle.order_core.specs.Rankings.{IsRanking, rank_of}
 use Rattle.order_core.proofs.WaveLists.{rank_below_count, count_le_length}
 use Rattle.std.proofs.lemmas.Bool.{cases_lt}
-use Rattle.std.proofs.lemmas.List.{get_or_past, get_or_default, get_or-set_other, get_or-set_same}
+use Rattle.std.proofs.lemmas.List.{take-append-le, take_all, get_or_past, get_or_default, get_or-set_other, get_or-set_same}
 use Rattle.std.proofs.lemmas.List.Elements.{Contains-get_or}
 use Rattle.igp_theory.specs.Changes.{Change, first, second}
 use Rattle.igp_theory.specs.Phases.{State, all_old}
@@ -19,6 +19,10 @@ use Rattle.loop_finder.specs.Times.{waves_of, times_in, phase_before}
 use Rattle.loop_finder.specs.Parts.{ClassPart, part_hops}
 use Rattle.loop_finder.specs.steps.Times.{IsMovedFrom, AreMovedFrom}
 use Rattle.loop_finder.specs.declared.times.ChangeWaves.{ChangeWaves}
+
+-- a list whose elements are written anew is the new one
+pub written : {A : Type 0} (n : ℕ) (new old : List A) → length new ≡ n → take n (new ++ drop (length new) old) ≡ new
+written n new old many = let within : n ≤ length new = omega (arith, many) in rw take-append-le (take_all n new (omega (arith, many)))
 
 -- what is read of a list of waves
 pub read_waves : (times : List ChangeWaves) (u : ℕ) → u < length times → get_or times u (record { first = 0; second = 0 }) ≡ waves_of times u

@@ -1,4 +1,4 @@
-use Rattle.std.proofs.Common.{◌≡◌, ◌↔◌, IsNone, IfNone, IfSome, length, subst, sym, ap, ◌∙◌}
+use Rattle.std.proofs.Common.{◌≡◌, ◌↔◌, arith, IsNone, IfNone, IfSome, length, subst, sym, ap, ◌∙◌}
 use Rattle.std.specs.Bool.{OnTrue}
 use Rattle.order_core.specs.Rankings.{IsRanking}
 use Rattle.igp_theory.specs.Phases.{all_old}
@@ -14,7 +14,7 @@ use Rattle.loop_finder.specs.steps.Times.{IsInOrder}
 use Rattle.loop_finder.specs.steps.Verdicts.{SoundWaves, FaultyWaves}
 use Rattle.loop_finder.specs.steps.WaveStarts.{BeginsSound}
 use Rattle.loop_finder.proofs.WaveListFacts.{none_seamless}
-use Rattle.loop_finder.proofs.WavePhases.{rank_fits}
+use Rattle.loop_finder.proofs.WavePhases.{rank_fits, written}
 use Rattle.loop_finder.proofs.WaveSteps.{begun_from}
 use Rattle.loop_finder.proofs.finder.Finder.waves_fault.Goals as goal
 
@@ -26,18 +26,21 @@ rank_waves-requires-clause-few g c u = rank_fits (length c.self.inside.mixed.now
 pub times_fault-requires-clause-begun : goal.times_fault-requires-clause-begun
 times_fault-requires-clause-begun g c =
     subst (λ (time : Timetable). OnTrue c.self.inside.begun (BeginsSound (mix_of g.O.RouteSource.table g.N.RouteSource.table c.self.inside.mixed.now) time 1))
-    (sym (ap times_in c.as_slice-3.ensures.value ∙ c.rank_waves.ensures))
+    (sym (ap times_in (c.as_slice-3.ensures.value ∙ written c.self.inside.asked.len c.rank_waves.new.times c.self.inside.asked.items
+    (omega (arith, c.rank_waves.auto.times, c.self.inside.asked.ok.0, c.deref_mut.ensures))) ∙ c.rank_waves.ensures))
     (begun_from (mix_of g.O.RouteSource.table g.N.RouteSource.table c.self.inside.mixed.now) (router_times all_old c.args.ranks.now) all_old
     c.self.inside.begun (routers_have_times (length c.self.inside.mixed.now.net) all_old c.args.ranks.now) c.self.invariant.begun_is)
 
 pub times_fault-requires-clause-order : goal.times_fault-requires-clause-order
 times_fault-requires-clause-order g c =
-    subst IsInOrder (sym (ap times_in c.as_slice-3.ensures.value ∙ c.rank_waves.ensures))
+    subst IsInOrder (sym (ap times_in (c.as_slice-3.ensures.value ∙ written c.self.inside.asked.len c.rank_waves.new.times c.self.inside.asked.items
+    (omega (arith, c.rank_waves.auto.times, c.self.inside.asked.ok.0, c.deref_mut.ensures))) ∙ c.rank_waves.ensures))
     (routers_have_times (length c.self.inside.mixed.now.net) all_old c.args.ranks.now).in_order
 
 pub returns-clause-seamless : goal.returns-clause-seamless
 returns-clause-seamless g c =
-    let times = (ap times_in c.as_slice-3.ensures.value ∙ c.rank_waves.ensures) in
+    let times = (ap times_in (c.as_slice-3.ensures.value ∙ written c.self.inside.asked.len c.rank_waves.new.times c.self.inside.asked.items
+    (omega (arith, c.rank_waves.auto.times, c.self.inside.asked.ok.0, c.deref_mut.ensures))) ∙ c.rank_waves.ensures) in
     subst (λ (x : Finding g.row.O.Denot g.row.N.Denot). IsNone c.times_fault.result
     ↔ AreSeamlessWaves (migration_of g.O.RouteSource.table g.N.RouteSource.table x.mixture) c.args.ranks.now) c.self.view_is
     (none_seamless (migration_of g.O.RouteSource.table g.N.RouteSource.table c.self.inside.mixed.now)
@@ -53,4 +56,5 @@ returns-clause-fault g c =
     IsTimesFault (migration_of g.O.RouteSource.table g.N.RouteSource.table x.mixture) (router_times all_old c.args.ranks.now) found.0
     (told_fault found.1 c.times_fault.new.room.ring.items))) c.self.view_is
     (subst (λ (time : Timetable). IfSome c.times_fault.result (λ found. FaultyWaves (mix_of g.O.RouteSource.table g.N.RouteSource.table c.self.inside.mixed.now) time found.0
-    (told_fault found.1 c.times_fault.new.room.ring.items))) (ap times_in c.as_slice-3.ensures.value ∙ c.rank_waves.ensures) c.times_fault.ensures.fault)
+    (told_fault found.1 c.times_fault.new.room.ring.items))) (ap times_in (c.as_slice-3.ensures.value ∙ written c.self.inside.asked.len c.rank_waves.new.times c.self.inside.asked.items
+    (omega (arith, c.rank_waves.auto.times, c.self.inside.asked.ok.0, c.deref_mut.ensures))) ∙ c.rank_waves.ensures) c.times_fault.ensures.fault)
