@@ -1,3 +1,7 @@
+use Rattle.std.proofs.Common.{ℕ, List, ◌++◌, take, drop}
+use Rattle.loop_finder.specs.Calm.{AreCalm}
+use Rattle.loop_finder.specs.Parts.{ClassPart}
+use Rattle.loop_finder.specs.declared.times.ChangeWaves.{ChangeWaves}
 use Rattle.std.proofs.Common.{◌≡◌, ◌↔◌, arith, IsNone, IfNone, IfSome, length, subst, sym, ap, ◌∙◌}
 use Rattle.std.specs.Bool.{OnTrue}
 use Rattle.order_core.specs.Rankings.{IsRanking}
@@ -58,3 +62,37 @@ returns-clause-fault g c =
     (subst (λ (time : Timetable). IfSome c.times_fault.result (λ found. FaultyWaves (mix_of g.O.RouteSource.table g.N.RouteSource.table c.self.inside.mixed.now) time found.0
     (told_fault found.1 c.times_fault.new.room.ring.items))) (ap times_in (c.as_slice-3.ensures.value ∙ written c.self.inside.asked.len c.rank_waves.new.times c.self.inside.asked.items
     (omega (arith, c.rank_waves.auto.times, c.self.inside.asked.ok.0, c.deref_mut.ensures))) ∙ c.rank_waves.ensures) c.times_fault.ensures.fault)
+
+pub times_fault-requires-clause-calm : goal.times_fault-requires-clause-calm
+times_fault-requires-clause-calm g c =
+    subst (λ (ps : List ClassPart). AreCalm ps (times_in c.deref_mut-2.result.now) c.deref_mut-3.result.now) (sym c.as_slice.ensures.value)
+    (subst (λ (xs : List ChangeWaves). AreCalm c.self.inside.parts.items (times_in xs) c.deref_mut-3.result.now) (sym c.deref_mut-2.ensures.value)
+    (subst (λ (cs : List ℕ). AreCalm c.self.inside.parts.items (times_in c.self.inside.times.items) cs) (sym c.deref_mut-3.ensures.value)
+    c.self.invariant.calm_is))
+
+pub invariant_of-self : goal.invariant_of-self
+invariant_of-self g c =
+    let new_times = c.times_fault.new.kept in
+    let new_calm = c.times_fault.new.calm in
+    let times = written c.self.inside.times.len new_times c.self.inside.times.items
+    (omega (arith, c.times_fault.auto.kept, ap (λ (xs : List ChangeWaves). length xs) c.deref_mut-2.ensures.value, c.self.inside.times.ok.0)) in
+    let calm = written c.self.inside.calm.len new_calm c.self.inside.calm.items
+    (omega (arith, c.times_fault.auto.calm, ap (λ (xs : List ℕ). length xs) c.deref_mut-3.ensures.value, c.self.inside.calm.ok.0)) in
+    record {
+      few = c.self.invariant.few;
+      parts_are = c.self.invariant.parts_are;
+      watch_is = c.self.invariant.watch_is;
+      order_many = c.self.invariant.order_many;
+      order_is = c.self.invariant.order_is;
+      begun_is = c.self.invariant.begun_is;
+      asked_many = c.self.invariant.asked_many;
+      phases_many = c.self.invariant.phases_many;
+      later_many = c.self.invariant.later_many;
+      times_many = subst (λ (xs : List ChangeWaves). length xs ≡ length c.self.inside.mixed.now.net) (sym times)
+          (omega (arith, c.times_fault.auto.kept, ap (λ (xs : List ChangeWaves). length xs) c.deref_mut-2.ensures.value, c.self.invariant.times_many));
+      calm_is = subst (λ (xs : List ChangeWaves). AreCalm c.self.inside.parts.items (times_in xs) (take c.self.inside.calm.len
+          (new_calm ++ drop (length new_calm) c.self.inside.calm.items))) (sym times)
+          (subst (λ (cs : List ℕ). AreCalm c.self.inside.parts.items (times_in new_times) cs) (sym calm)
+          (subst (λ (ps : List ClassPart). AreCalm ps (times_in new_times) new_calm) c.as_slice.ensures.value c.times_fault.ensures.calm));
+      room_is = c.times_fault.ensures.room;
+    }
