@@ -1,16 +1,18 @@
 -- The states between two: their steps are those of both.
-use Rattle.std.proofs.Common.{◌≡◌, ℕ, List, ◌∷◌, length, Option, None, Some, IfNone, inl, inr, refl, sym, subst}
+use Rattle.std.proofs.Common.{◌≡◌, ℕ, ◌⊎◌, List, ◌∷◌, length, Option, None, Some, IfNone, inl, inr, arith, refl, sym, subst}
 use Rattle.igp_theory.specs.Forwarding.{MustForward, HasStep}
 use Rattle.igp_theory.specs.Phases.{State}
 use Rattle.igp_theory.specs.States.{StepsIn}
+use Rattle.igp_theory.specs.Timetables.{IsBetweenPhases}
 use Rattle.igp_theory.specs.declared.phase.Phase.{Phase}
+use Rattle.igp_theory.specs.declared.phase.Phase.TheVariants.{Old, Middle, New}
 use Rattle.igp_theory.proofs.ForwardingLaws.{every_phase_steps}
-use Rattle.igp_theory.proofs.LoopLaws.{old_or_new_step}
+use Rattle.igp_theory.proofs.Phases.{step_of_ends}
 use Rattle.igp_theory.proofs.SameTables.{follows_over}
 use Rattle.order_core.specs.declared.turn.Turn.{Turn}
 use Rattle.loop_finder.specs.Faults.{state_in}
 use Rattle.loop_finder.specs.Mixes.{sample_of, Mix, migration_in}
-use Rattle.loop_finder.specs.steps.ClassSteps.{ClassState, ClassStep, StepsBy, MovesIn, Moves}
+use Rattle.loop_finder.specs.steps.ClassSteps.{ClassState, ClassStep, MovesIn, Moves}
 use Rattle.loop_finder.specs.Soundness.{SoundAt}
 use Rattle.loop_finder.specs.steps.Verdicts.{IsClassVerdict, IsBetween, IsClearAt, two_states}
 use Rattle.loop_finder.specs.declared.fault.Fault.{Fault}
@@ -20,31 +22,47 @@ pub has_step : (c : ClassState) (u : ℕ) (phase : Phase) → MovesIn c u phase 
     → HasStep (migration_in c.mixture) u phase (sample_of c.mixture.classes c.atom)
 has_step c u phase moves must = record { hop = (moves must).0; steps = (moves must).1 }
 
+-- a phase between two is one of them, or the one is Old and the other New
+between_cases : (one other phase : Phase) → IsBetweenPhases one other phase → (phase ≡ one) ⊎ ((phase ≡ other) ⊎ ((one ≡ Old) × (other ≡ New)))
+between_cases Old other Old between = inl refl
+between_cases Middle other Old between = absurd (let from = between.from in omega (arith, from))
+between_cases New other Old between = absurd (let from = between.from in omega (arith, from))
+between_cases Old Old Middle between = absurd (let upto = between.upto in omega (arith, upto))
+between_cases Old Middle Middle between = inr (inl refl)
+between_cases Old New Middle between = inr (inr (refl, refl))
+between_cases Middle other Middle between = inl refl
+between_cases New other Middle between = absurd (let from = between.from in omega (arith, from))
+between_cases one Old New between = absurd (let upto = between.upto in omega (arith, upto))
+between_cases one Middle New between = absurd (let upto = between.upto in omega (arith, upto))
+between_cases one New New between = inr (inl refl)
+
 -- a state is between itself and itself
 pub between_itself : (n : ℕ) (phases : List Phase) → IsBetween n phases phases (state_in phases)
-between_itself n phases u within = inl refl
+between_itself n phases u within = record { from = omega arith; upto = omega arith }
 
 pub step_between : (c : ClassState) (state : State) (u h : ℕ) → IsBetween (length c.mixture.net) c.first c.last state
     → StepsIn (migration_in c.mixture) state (sample_of c.mixture.classes c.atom) u h → ClassStep c u h
-step_between c state u h between steps = elim (between u steps.must.router) [
-  | inl same ↦ inl (subst In same steps)
-  | inr both ↦ elim (old_or_new_step (state u) steps) [ inl one ↦ inl (subst In (sym both.0) one) | inr other ↦ inr (subst In (sym both.1) other) ]
-]
-  where
-    In : Phase → Type 0
-    In phase = StepsBy c u phase h
+step_between c state u h between steps = step_of_ends (state_in c.first u) (state_in c.last u) (state u) (between u steps.must.router) steps
 
 -- a router that moves in both moves in each state between them
 pub moves_between : (c : ClassState) (state : State) (u : ℕ) → IsBetween (length c.mixture.net) c.first c.last state → Moves c u
     → MustForward c.mixture.net (sample_of c.mixture.classes c.atom) u → HasStep (migration_in c.mixture) u (state u) (sample_of c.mixture.classes c.atom)
-moves_between c state u between moves must = elim (between u must.router) [
-  | inl same ↦ subst In (sym same) (has_step c u (state_in c.first u) moves.0 must)
-  | inr both ↦ every_phase_steps (subst In both.0 (has_step c u (state_in c.first u) moves.0 must))
-      (subst In both.1 (has_step c u (state_in c.last u) moves.1 must)) (state u)
+moves_between c state u between moves must = elim (between_cases (state_in c.first u) (state_in c.last u) (state u) (between u must.router)) [
+  | inl same ↦ subst In (sym same) first
+  | inr rest ↦ elim rest [
+    | inl same ↦ subst In (sym same) last
+    | inr both ↦ every_phase_steps (subst In both.0 first) (subst In both.1 last) (state u)
+  ]
 ]
   where
     In : Phase → Type 0
     In phase = HasStep (migration_in c.mixture) u phase (sample_of c.mixture.classes c.atom)
+
+    first : In (state_in c.first u)
+    first = has_step c u (state_in c.first u) moves.0 must
+
+    last : In (state_in c.last u)
+    last = has_step c u (state_in c.last u) moves.1 must
 
 -- where nothing is told of a class, every state between the two is sound for it
 pub clear_told : (m : Mix) (first last : List Phase) (atom : ℕ) (turns : List Turn) → IsClassVerdict (two_states m first last) atom None turns

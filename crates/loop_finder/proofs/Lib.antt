@@ -18,7 +18,7 @@ mod ClassVerdicts
 mod StateVerdicts
 mod ToldOfStates
 mod ToldOfWaves
-mod RankedWaves
+mod WavePhases
 mod WaveListFacts
 mod OrderStates
 mod WaveSteps

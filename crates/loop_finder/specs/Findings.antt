@@ -1,5 +1,5 @@
 -- What a finder keeps from call to call.
-use Rattle.std.specs.Prelude.{◌≡◌, ℕ, Bool, List, length}
+use Rattle.std.specs.Prelude.{◌≡◌, ℕ, ◌^◌, ◌<◌, Bool, List, length}
 use Rattle.std.specs.Bool.{OnTrue}
 use Rattle.loop_finder.specs.Calm.{AreCalm}
 use Rattle.loop_finder.specs.Orders.{AreFirstStates}
@@ -9,31 +9,36 @@ use Rattle.loop_finder.specs.Rooms.{HasRoom}
 use Rattle.loop_finder.specs.Mixes.{Mix}
 use Rattle.loop_finder.specs.Soundness.{Sound}
 use Rattle.loop_finder.specs.Watches.{IsWatch}
+use Rattle.loop_finder.specs.Times.{times_in}
 use Rattle.loop_finder.specs.declared.room.Room.{Room}
+use Rattle.loop_finder.specs.declared.times.ChangeWaves.{ChangeWaves}
 
--- the parts of all classes, for each router those that a change of it concerns, the ranks of the latest wave list and
--- the waves before which parts are calm, the latest order and how many of its first states are sound, whether the state
--- in which every router is Old is sound, and how long the two lists of phases are that there is room for
+-- the parts of all classes, for each router those that a change of it concerns, the waves of the latest timetable and
+-- those before which parts are calm, the latest order and how many of its first states are sound, whether the state
+-- in which every router is Old is sound, and how long the lists of waves and the two of phases are that there is room for
 pub record Kept : Type 0 where
   pub parts : List ClassPart
   pub watch : List (List ℕ)
-  pub ranks : List ℕ
+  pub times : List ChangeWaves
   pub calm : List ℕ
   pub order : List ℕ
   pub sound : ℕ
   pub begun : Bool
+  pub asked : ℕ
   pub phases : ℕ
   pub later : ℕ
 
 -- they are so, and there is room to work in
 pub record IsFinding (m : Mix) (kept : Kept) (room : Room) : Type 0 where
+  pub few : length m.net < 2 ^ 32
   pub parts_are : AreParts m kept.parts (length m.classes.samples)
   pub watch_is : IsWatch kept.parts (length m.net) kept.watch
-  pub ranks_many : length kept.ranks ≡ length m.net
-  pub calm_is : AreCalm kept.parts kept.ranks kept.calm
+  pub times_many : length kept.times ≡ length m.net
+  pub calm_is : AreCalm kept.parts (times_in kept.times) kept.calm
   pub order_many : length kept.order ≡ length m.net
   pub order_is : AreFirstStates (Sound m) kept.order kept.sound
   pub begun_is : OnTrue kept.begun (Sound m all_old)
+  pub asked_many : kept.asked ≡ length m.net
   pub phases_many : kept.phases ≡ length m.net
   pub later_many : kept.later ≡ length m.net
   pub room_is : HasRoom (length m.net) room

@@ -4,6 +4,7 @@ pub use Rattle.igp_theory.specs.Loops
 pub use Rattle.order_core.specs.Turns
 pub mod Faults
 pub mod Mixes
+pub mod Times
 pub mod Rooms
 pub mod Soundness
 pub mod Orders

@@ -6,6 +6,7 @@ pub mod EndPairs
 pub mod Ends
 pub mod Making
 pub mod WaveStarts
+pub mod Times
 pub mod Targets
 pub mod Calm
 pub mod ClassSteps

@@ -4,21 +4,23 @@ ghost use Rattle.order_core.specs.Orders.{IsOrder};
 ghost use Rattle.order_core.specs.Rankings.{IsRanking};
 ghost use Rattle.igp_theory.specs.States.{IsSeamless, IsSound};
 ghost use Rattle.igp_theory.specs.Phases.{all_old};
-ghost use Rattle.igp_theory.specs.Timetables.{router_times};
+ghost use Rattle.igp_theory.specs.Timetables.{IsSoundThroughout, IsTimetable, router_times};
 ghost use Rattle.igp_theory.specs.WaveFaults.{IsTimesFault};
 ghost use Rattle.igp_theory.specs.Waves.{AreSeamlessWaves};
 ghost use Rattle.rib_mix.specs.Mixture.{migration_of};
 ghost use Rattle.loop_finder.specs.Faults.{KeepsRing, state_in, told, told_fault};
+ghost use Rattle.loop_finder.specs.Times.{times_in};
 
-use crate::calm::{none_known, renew};
+use crate::calm::none_known;
 use crate::fault::Fault;
 use crate::known::{shared_states, sound_states};
 use crate::order_fault::{begin_is_sound, order_fault, state_fault};
 use crate::part::Part;
 use crate::parts::parts_of;
 use crate::room::Room;
+use crate::times::{ChangeWaves, rank_waves};
 use crate::watch::{Places, watch_of};
-use crate::waves_fault::waves_fault;
+use crate::waves_fault::times_fault;
 use order_core::Turn;
 use rib_mix::{Mixed, OutOfMemory, Phase};
 use route_core::RouteSource;
@@ -37,10 +39,12 @@ pub struct Finder<'a, O: RouteSource, N: RouteSource> {
     parts: Vec<Part<'a>>,
     /// For each router the parts that a change of it may make unsound.
     watch: Vec<Places>,
-    /// The ranks of the latest wave list.
-    ranks: Vec<u32>,
-    /// For each part a wave of that list before which it is calm.
+    /// The latest timetable.
+    times: Vec<ChangeWaves>,
+    /// For each part a wave of it before which it is calm.
     calm: Vec<u32>,
+    /// Room for the timetable of a wave list.
+    asked: Vec<ChangeWaves>,
     /// The latest order.
     order: Vec<u32>,
     /// How many of its states are sound, from the first on.
@@ -65,12 +69,13 @@ impl<'a, O: RouteSource, N: RouteSource> Model for Finder<'a, O, N> {
     ghost invariant = { λ x. IsFinding (mix_of O.table N.table x.mixed.now) (record {
       parts = x.parts.items;
       watch = x.watch.items;
-      ranks = x.ranks.items;
+      times = x.times.items;
       calm =
           x.calm.items;
       order = x.order.items;
       sound = x.sound;
       begun = x.begun;
+      asked = vec_len x.asked;
       phases = vec_len x.phases;
       later = vec_len x.later;
     }) x.room };
@@ -87,7 +92,12 @@ impl<'a, O: RouteSource, N: RouteSource> Finder<'a, O, N> {
         let later = vec![in alloc; Phase::Old; routers as usize]?;
         let parts = parts_of(alloc, mixed)?;
         let watch = watch_of(alloc, parts.as_slice(), routers)?;
-        let ranks = vec![in alloc; 0; routers as usize]?;
+        let once = ChangeWaves {
+            first: 1,
+            second: 1,
+        };
+        let times = vec![in alloc; once; routers as usize]?;
+        let asked = vec![in alloc; once; routers as usize]?;
         let order = vec![in alloc; 0; routers as usize]?;
         let calm = none_known(alloc, parts.as_slice())?;
         let mut room = Room::new(alloc, routers)?;
@@ -97,8 +107,9 @@ impl<'a, O: RouteSource, N: RouteSource> Finder<'a, O, N> {
             mixed,
             parts,
             watch,
-            ranks,
+            times,
             calm,
+            asked,
             order,
             sound: 0,
             begun,
@@ -163,21 +174,42 @@ impl<'a, O: RouteSource, N: RouteSource> Finder<'a, O, N> {
         ensures ring { KeepsRing (told result) self.old.ring self.new.ring }
         ensures mixture { self.new.mixture ≡ self.old.mixture }
     {
-        renew(
-            self.parts.as_slice(),
-            self.watch.as_slice(),
-            self.mixed.net().routers(),
-            ranks,
-            &mut self.ranks,
-            &mut self.calm,
-            &mut self.room,
-        );
-        waves_fault(
+        rank_waves(ranks, &mut self.asked);
+        times_fault(
             self.mixed,
             self.parts.as_slice(),
+            self.watch.as_slice(),
             self.begun,
-            ranks,
-            self.calm.as_slice(),
+            self.asked.as_slice(),
+            &mut self.times,
+            &mut self.calm,
+            &mut self.phases,
+            &mut self.later,
+            &mut self.room,
+        )
+    }
+
+    /// The number of the first wave with an unsound state of the timetable in which each router makes its changes in the
+    /// waves at its place, with that wave's fault; none where the migration is sound throughout it.
+    pub fn times_fault(&mut self, times: &[ChangeWaves]) -> Option<(u32, Fault)>
+        requires many { length times.now ≡ length self.old.mixture.net }
+        requires table { IsTimetable (length self.old.mixture.net) all_old (times_in times.now) }
+        ensures sound { IsNone result
+            ↔ IsSoundThroughout (migration_of O.table N.table self.old.mixture) (times_in times.now) }
+        ensures fault { IfSome result (λ found.
+            IsTimesFault (migration_of O.table N.table self.old.mixture) (times_in times.now) found.0
+            (told_fault found.1 self.new.ring)) }
+        ensures ring { KeepsRing (told result) self.old.ring self.new.ring }
+        ensures mixture { self.new.mixture ≡ self.old.mixture }
+    {
+        times_fault(
+            self.mixed,
+            self.parts.as_slice(),
+            self.watch.as_slice(),
+            self.begun,
+            times,
+            &mut self.times,
+            &mut self.calm,
             &mut self.phases,
             &mut self.later,
             &mut self.room,

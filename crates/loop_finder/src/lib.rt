@@ -1,4 +1,4 @@
-//! The faults of states, of orders and of wave lists: routers without a step, and loops with their rings.
+//! The faults of states, of orders, of wave lists and of timetables: routers without a step, and loops with their rings.
 //!
 //! `Finder::new` looks at each class of addresses once. A class is kept as a *part* where some state may be unsound for it:
 //! its routers to which a walk over the steps of both networks may return, with their hops in each phase. All other classes
@@ -14,13 +14,13 @@
 //! | `parts`, `part` | the parts |
 //! | `watch`, `known` | which parts a change of a router concerns, and what is known of the latest order |
 //! | `order_fault`, `change`, `follow`, `returns` | orders: after a change only walks through the router changed |
-//! | `waves_fault`, `calm` | wave lists: before which wave each part is calm |
+//! | `times`, `waves_fault`, `calm` | timetables: before which wave each part is calm |
 //! | `class_fault`, `classes_fault`, `class_steps` | the exact fault: a router without a step, or a ring |
 //! | `graph`, `live`, `ring`, `tags` | steps of any kind and walks over them, and a ring with its tags |
 //!
 //! `new` takes time of classes times routers, of classes times parts, and of the steps to which steps lead from routers that
 //! don't do the same as for the class before; an order that of its changes and of the walks behind the first place at which it
-//! differs from the latest one; a wave list that of the waves from the first changed rank on. No call takes memory after `new`.
+//! differs from the latest one; a timetable that of the waves from the first changed one on. No call takes memory after `new`.
 #![tactic(auto)]
 
 // the finder
@@ -49,6 +49,7 @@ mod follow;
 mod known;
 mod order_fault;
 mod returns;
+mod times;
 mod waves_fault;
 
 // the exact fault of a class
@@ -62,3 +63,4 @@ mod tags;
 pub use fault::Fault;
 pub use finder::Finder;
 pub use rib_mix::OutOfMemory;
+pub use times::ChangeWaves;

@@ -1,99 +1,136 @@
-ghost use Rattle.std.specs.Prelude.{◌≡◌, ◌+◌, ◌<◌, ◌≤◌, ◌^◌, ◌↔◌, ◌⊎◌, ℕ, Contains, IfNone, IfSome, IsTrue, length, slice_index, true};
+ghost use Rattle.std.specs.Prelude.{◌≡◌, ◌+◌, ◌<◌, ◌≤◌, ◌⊎◌, ℕ, All, IfNone, IfSome, length, slice_index, true};
 ghost use Rattle.std.specs.Bool.{OnTrue};
-ghost use Rattle.order_core.specs.Rankings.{IsRanking};
 ghost use Rattle.loop_finder.specs.Mixes.{mix_of};
 ghost use Rattle.loop_finder.specs.Calm.{AreCalm};
 ghost use Rattle.loop_finder.specs.Faults.{KeepsRing, told, told_fault};
-ghost use Rattle.igp_theory.specs.Phases.{all_old};
 ghost use Rattle.loop_finder.specs.Parts.{AreParts};
 ghost use Rattle.loop_finder.specs.Rooms.{HasRoom};
-ghost use Rattle.loop_finder.specs.Soundness.{Sound};
+ghost use Rattle.loop_finder.specs.Times.{times_in};
+ghost use Rattle.loop_finder.specs.Watches.{IsWatch};
+ghost use Rattle.loop_finder.specs.steps.Times.{IsInOrder};
 ghost use Rattle.loop_finder.specs.steps.Verdicts.{FaultyWave, FaultyWaves, IsClearAt, SoundWave, SoundWaves, Told, two_states};
-ghost use Rattle.loop_finder.specs.steps.WaveStarts.{AreSwitchedBefore};
 ghost use Rattle.loop_finder.specs.steps.WaveStarts.{AreClearParts, BeginsSound};
 
-use crate::calm::least_of;
+use crate::calm::{least_of, renew};
 use crate::class_fault::class_fault;
 use crate::classes_fault::classes_fault;
 use crate::fault::Fault;
 use crate::part::Part;
 use crate::room::Room;
+use crate::times::{ChangeWaves, begin_wave, end_wave, last_wave};
+use crate::watch::Places;
 use rib_mix::{Mixed, Phase};
 use route_core::RouteSource;
 
-/// The number, from 1, of the first wave with an unsound state, with its fault. `begun` tells that the state in which
-/// every router is in its old phase is sound.
+/// The number of the first wave with an unsound state, with its fault. `begun` tells that the state in which the first wave
+/// begins is sound.
+///
+/// `kept` is the latest timetable, and `calm` tells for each part before which of its waves it is calm; afterwards they are
+/// those of this one.
+pub(crate) fn times_fault<O: RouteSource, N: RouteSource>(
+    mixed: &Mixed<'_, O, N>,
+    parts: &[Part<'_>],
+    watch: &[Places],
+    begun: bool,
+    times: &[ChangeWaves],
+    kept: &mut [ChangeWaves],
+    calm: &mut [u32],
+    first: &mut [Phase],
+    last: &mut [Phase],
+    room: &mut Room,
+) -> Option<(u32, Fault)>
+    requires parts { AreParts (mix_of O.table N.table mixed.now) parts.now (length mixed.now.classes.samples) }
+    requires watch { IsWatch parts.now (length mixed.now.net) watch.now }
+    requires begun { OnTrue begun (BeginsSound (mix_of O.table N.table mixed.now) (times_in times.now) 1) }
+    requires times { length times.now ≡ length mixed.now.net }
+    requires order { IsInOrder (times_in times.now) }
+    requires kept { length kept.old ≡ length mixed.now.net }
+    requires calm { AreCalm parts.now (times_in kept.old) calm.old }
+    requires first { length first.old ≡ length mixed.now.net }
+    requires last { length last.old ≡ length mixed.now.net }
+    requires room { HasRoom (length mixed.now.net) room.old }
+    ensures kept { kept.new ≡ times.now }
+    ensures calm { AreCalm parts.now (times_in kept.new) calm.new }
+    ensures room { HasRoom (length mixed.now.net) room.new }
+    ensures sound { IfNone result (SoundWaves (mix_of O.table N.table mixed.now) (times_in times.now)) }
+    ensures fault { IfSome result (λ found.
+        FaultyWaves (mix_of O.table N.table mixed.now) (times_in times.now) found.0 (told_fault found.1 room.new.ring.items)) }
+    ensures ring { KeepsRing (told result) room.old.ring.items room.new.ring.items }
+{
+    renew(parts, watch, mixed.net().routers(), times, kept, calm, room);
+    waves_fault(mixed, parts, begun, times, calm, first, last, room)
+}
+
+/// The number of the first wave with an unsound state, with its fault. `begun` tells that the state in which the first wave
+/// begins is sound.
 ///
 /// `calm` tells for each part before which wave it is calm: where the first state of such a wave is sound, all its states
 /// are sound for the class of the part.
-pub(crate) fn waves_fault<O: RouteSource, N: RouteSource>(
+fn waves_fault<O: RouteSource, N: RouteSource>(
     mixed: &Mixed<'_, O, N>,
     parts: &[Part<'_>],
     begun: bool,
-    ranks: &[u32],
+    times: &[ChangeWaves],
     calm: &[u32],
     first: &mut [Phase],
     last: &mut [Phase],
     room: &mut Room,
 ) -> Option<(u32, Fault)>
     requires parts { AreParts (mix_of O.table N.table mixed.now) parts.now (length mixed.now.classes.samples) }
-    requires begun { OnTrue begun (Sound (mix_of O.table N.table mixed.now) all_old) }
-    requires ranks { IsRanking (length mixed.now.net) ranks.now }
-    requires calm { AreCalm parts.now ranks.now calm.now }
+    requires begun { OnTrue begun (BeginsSound (mix_of O.table N.table mixed.now) (times_in times.now) 1) }
+    requires times { length times.now ≡ length mixed.now.net }
+    requires order { IsInOrder (times_in times.now) }
+    requires calm { AreCalm parts.now (times_in times.now) calm.now }
     requires first { length first.old ≡ length mixed.now.net }
     requires last { length last.old ≡ length mixed.now.net }
     requires room { HasRoom (length mixed.now.net) room.old }
     ensures room { HasRoom (length mixed.now.net) room.new }
-    ensures sound { IfNone result (SoundWaves (mix_of O.table N.table mixed.now) ranks.now) }
-    ensures fault { IfSome result (λ found. FaultyWaves (mix_of O.table N.table mixed.now) ranks.now found.0 (told_fault found.1 room.new.ring.items)) }
+    ensures sound { IfNone result (SoundWaves (mix_of O.table N.table mixed.now) (times_in times.now)) }
+    ensures fault { IfSome result (λ found.
+        FaultyWaves (mix_of O.table N.table mixed.now) (times_in times.now) found.0 (told_fault found.1 room.new.ring.items)) }
     ensures ring { KeepsRing (told result) room.old.ring.items room.new.ring.items }
 {
-    let start = first_stirred(begun, calm);
-    for wave in start..mixed.net().routers() {
-        if !is_wave(ranks, wave) {
+    let end = last_wave(times);
+    let mut wave = first_stirred(begun, calm);
+    while wave <= end {
+        let known = begins_sound(begun, wave);
+        if let Some(fault) = wave_fault(mixed, parts, known, times, calm, wave, first, last, room) {
+            return Some((wave, fault));
+        }
+        if wave == end {
             return None;
         }
-        let known = begins_sound(begun, wave);
-        if let Some(fault) = wave_fault(mixed, parts, known, ranks, calm, wave, first, last, room) {
-            return Some((wave + 1, fault));
-        }
+        wave += 1;
     }
     None
 }
 
-/// Whether some router stands in a wave.
-fn is_wave(ranks: &[u32], wave: u32) -> bool
-    ensures { IsTrue result ↔ Contains ranks.now wave }
-{
-    ranks.contains(&wave)
-}
-
-/// Whether the first state of a wave is known to be sound: it is the last one of the wave before.
+/// Whether the state in which a wave begins is known to be sound: the wave before ends in it.
 fn begins_sound(begun: bool, wave: u32) -> bool
-    ensures { OnTrue result ((begun ≡ true) ⊎ (0 < wave)) }
+    ensures { OnTrue result ((begun ≡ true) ⊎ (1 < wave)) }
 {
-    begun || wave > 0
+    begun || wave > 1
 }
 
-/// The first wave of which it isn't known that all parts are calm in it; where it isn't known that the state in which
-/// every router is in its old phase is sound, the first of all.
+/// The first wave of which it isn't known that all parts are calm in it; where it isn't known that the state in which the
+/// first wave begins is sound, that one.
 fn first_stirred(begun: bool, calm: &[u32]) -> u32
-    ensures begun { 0 < result → begun ≡ true }
-    ensures calm { (p : ℕ) → p < length calm.now → result ≤ slice_index calm.now p }
+    ensures some { 1 ≤ result }
+    ensures begun { 1 < result → begun ≡ true }
+    ensures calm { 1 < result → (p : ℕ) → p < length calm.now → result ≤ slice_index calm.now p }
 {
     if !begun {
-        return 0;
+        return 1;
     }
-    least_of(calm)
+    least_of(calm).max(1)
 }
 
-/// The fault of the states of a wave. In its first state none of its routers is begun, in its last all are switched.
-/// `begun` tells that the first one is sound.
+/// The fault of the states of a wave. `begun` tells that the one in which it begins is sound.
 fn wave_fault<O: RouteSource, N: RouteSource>(
     mixed: &Mixed<'_, O, N>,
     parts: &[Part<'_>],
     begun: bool,
-    ranks: &[u32],
+    times: &[ChangeWaves],
     calm: &[u32],
     wave: u32,
     first: &mut [Phase],
@@ -101,20 +138,22 @@ fn wave_fault<O: RouteSource, N: RouteSource>(
     room: &mut Room,
 ) -> Option<Fault>
     requires parts { AreParts (mix_of O.table N.table mixed.now) parts.now (length mixed.now.classes.samples) }
-    requires begun { OnTrue begun (BeginsSound (mix_of O.table N.table mixed.now) ranks.now wave) }
-    requires wave { wave + 1 < 2 ^ 32 }
-    requires ranks { length ranks.now ≡ length mixed.now.net }
-    requires calm { AreCalm parts.now ranks.now calm.now }
+    requires begun { OnTrue begun (BeginsSound (mix_of O.table N.table mixed.now) (times_in times.now) wave) }
+    requires wave { 1 ≤ wave }
+    requires times { length times.now ≡ length mixed.now.net }
+    requires order { IsInOrder (times_in times.now) }
+    requires calm { AreCalm parts.now (times_in times.now) calm.now }
     requires first { length first.old ≡ length mixed.now.net }
     requires last { length last.old ≡ length mixed.now.net }
     requires room { HasRoom (length mixed.now.net) room.old }
     ensures room { HasRoom (length mixed.now.net) room.new }
-    ensures sound { IfNone result (SoundWave (mix_of O.table N.table mixed.now) ranks.now wave) }
-    ensures fault { IfSome result (λ fault. FaultyWave (mix_of O.table N.table mixed.now) ranks.now wave (told_fault fault room.new.ring.items)) }
+    ensures sound { IfNone result (SoundWave (mix_of O.table N.table mixed.now) (times_in times.now) wave) }
+    ensures fault { IfSome result (λ fault.
+        FaultyWave (mix_of O.table N.table mixed.now) (times_in times.now) wave (told_fault fault room.new.ring.items)) }
     ensures ring { KeepsRing result room.old.ring.items room.new.ring.items }
 {
-    switch_before(first, ranks, wave);
-    switch_before(last, ranks, wave + 1);
+    begin_wave(first, times, wave);
+    end_wave(last, times, wave);
     if begun {
         stirred_fault(mixed, parts, calm, wave, first, last, room)
     } else {
@@ -152,18 +191,4 @@ fn stirred_fault<O: RouteSource, N: RouteSource>(
         }
     }
     None
-}
-
-/// The routers of the waves before one are switched, the others not begun.
-fn switch_before(phases: &mut [Phase], ranks: &[u32], wave: u32)
-    requires { length phases.old ≡ length ranks.now }
-    ensures { AreSwitchedBefore ranks.now wave phases.new }
-{
-    for router in 0..ranks.len() {
-        phases[router] = if ranks[router] < wave {
-            Phase::New
-        } else {
-            Phase::Old
-        };
-    }
 }

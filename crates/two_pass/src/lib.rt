@@ -27,6 +27,7 @@ mod writing;
 // Laws.
 mod laws;
 
+pub use items::{is_change_word, item_of};
 pub use kind::{TwoKind, TwoRefusal};
 pub use laws::two_laws;
 pub use reading::read_two;

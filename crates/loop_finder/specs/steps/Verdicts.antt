@@ -1,12 +1,11 @@
 -- What is told of a class, of a state and of an order, over what is mixed.
-use Rattle.std.specs.Prelude.{◌≡◌, ℕ, ◌+◌, ◌<◌, ◌⊎◌, Bool, List, length, Option, Some, None}
+use Rattle.std.specs.Prelude.{◌≡◌, ℕ, ◌≤◌, ◌<◌, Bool, List, length, Option, Some, None}
 use Rattle.igp_theory.specs.Loops.{Fault as WholeFault, AroundRing, IsFoundRing, IsFault, IsFirstFault}
-use Rattle.igp_theory.specs.Phases.{State, all_old}
+use Rattle.igp_theory.specs.Phases.{State}
 use Rattle.igp_theory.specs.WaveFaults.{IsFaultOver, IsTimesFault}
 use Rattle.igp_theory.specs.TimetableLaws.{IsStateOfSomeWave}
-use Rattle.igp_theory.specs.Timetables.{IsStateOfWave, router_times}
+use Rattle.igp_theory.specs.Timetables.{Timetable, IsBetweenStates, IsStateOfWave}
 use Rattle.igp_theory.specs.declared.phase.Phase.{Phase}
-use Rattle.igp_theory.specs.declared.phase.Phase.TheVariants.{Old, New}
 use Rattle.order_core.specs.Turns.{routers_of}
 use Rattle.order_core.specs.declared.turn.Turn.{Turn}
 use Rattle.loop_finder.specs.Faults.{state_in, told_fault}
@@ -49,10 +48,9 @@ pub record IsClassVerdict (s : TwoStates) (atom : ℕ) (result : Option Fault) (
 abbrev pub SoundBelow : Mix → State → ℕ → Type 0
 SoundBelow m state a = (b : ℕ) → b < a → SoundAt m state b
 
--- a state of n routers is between two others: each router has its phase in the first, or it is Old in the first and
--- New in the last, and has any phase
+-- a state of n routers is between two others: each router is in a phase from the first's up to the last's
 abbrev pub IsBetween : ℕ → List Phase → List Phase → State → Type 0
-IsBetween n first last state = (u : ℕ) → u < n → (state u ≡ state_in first u) ⊎ ((state_in first u ≡ Old) × (state_in last u ≡ New))
+IsBetween n first last = IsBetweenStates n (state_in first) (state_in last)
 
 -- the states between two are sound for a class
 abbrev pub IsClearAt : Mix → List Phase → List Phase → ℕ → Type 0
@@ -82,26 +80,22 @@ Faulty m state fault turns = IsFault (migration_in m) state (told_fault fault tu
 abbrev pub FirstFaulty : Mix → List ℕ → ℕ → WholeFault → Type 0
 FirstFaulty m order k fault = IsFirstFault (migration_in m) order k fault
 
--- the states of a wave, which is numbered from 0 here
-abbrev pub IsOfWave : ℕ → List ℕ → ℕ → State → Type 0
-IsOfWave n ranks w = IsStateOfWave n (router_times all_old ranks) (w + 1)
-
 -- every state of a wave is sound
-abbrev pub SoundWave : Mix → List ℕ → ℕ → Type 0
-SoundWave m ranks w = (state : State) → IsOfWave (length m.net) ranks w state → Sound m state
+abbrev pub SoundWave : Mix → Timetable → ℕ → Type 0
+SoundWave m time w = (state : State) → IsStateOfWave (length m.net) time w state → Sound m state
 
 -- every state of the waves before one is sound
-abbrev pub SoundWavesBefore : Mix → List ℕ → ℕ → Type 0
-SoundWavesBefore m ranks w = (v : ℕ) → v < w → SoundWave m ranks v
+abbrev pub SoundWavesBefore : Mix → Timetable → ℕ → Type 0
+SoundWavesBefore m time w = (v : ℕ) → 1 ≤ v → v < w → SoundWave m time v
 
--- every state of a wave list is sound
-abbrev pub SoundWaves : Mix → List ℕ → Type 0
-SoundWaves m ranks = (state : State) → IsStateOfSomeWave (length m.net) (router_times all_old ranks) state → Sound m state
+-- every state of a timetable is sound
+abbrev pub SoundWaves : Mix → Timetable → Type 0
+SoundWaves m time = (state : State) → IsStateOfSomeWave (length m.net) time state → Sound m state
 
 -- the fault of the states of a wave
-abbrev pub FaultyWave : Mix → List ℕ → ℕ → WholeFault → Type 0
-FaultyWave m ranks w fault = IsFaultOver (migration_in m) (IsOfWave (length m.net) ranks w) fault
+abbrev pub FaultyWave : Mix → Timetable → ℕ → WholeFault → Type 0
+FaultyWave m time w fault = IsFaultOver (migration_in m) (IsStateOfWave (length m.net) time w) fault
 
--- the fault of a wave list, with the number of the wave from 1
-abbrev pub FaultyWaves : Mix → List ℕ → ℕ → WholeFault → Type 0
-FaultyWaves m ranks number fault = IsTimesFault (migration_in m) (router_times all_old ranks) number fault
+-- the fault of a timetable, with the number of the wave
+abbrev pub FaultyWaves : Mix → Timetable → ℕ → WholeFault → Type 0
+FaultyWaves m time number fault = IsTimesFault (migration_in m) time number fault

@@ -1,21 +1,19 @@
 -- The states in which waves begin, and the classes of parts that are calm in a wave.
-use Rattle.std.specs.Prelude.{◌≡◌, ℕ, ◌<◌, ◌≤◌, List, length, slice_index, slice_index_or}
-use Rattle.order_core.specs.Rankings.{rank_of}
+use Rattle.std.specs.Prelude.{◌≡◌, ℕ, ◌<◌, List, length, slice_index, slice_index_or}
+use Rattle.igp_theory.specs.Timetables.{Timetable, state_before}
 use Rattle.igp_theory.specs.declared.phase.Phase.{Phase}
-use Rattle.igp_theory.specs.declared.phase.Phase.TheVariants.{Old, New}
 use Rattle.loop_finder.specs.Faults.{state_in}
 use Rattle.loop_finder.specs.Parts.{ClassPart}
 use Rattle.loop_finder.specs.Mixes.{Mix}
 use Rattle.loop_finder.specs.Soundness.{Sound}
 
--- the waves before w are switched, the others not begun: every router of the former is New, every other Old
-pub record AreSwitchedBefore (ranks : List ℕ) (w : ℕ) (phases : List Phase) : Type 0 where
-  pub switched : (u : ℕ) → u < length ranks → rank_of ranks u < w → state_in phases u ≡ New
-  pub others : (u : ℕ) → u < length ranks → w ≤ rank_of ranks u → state_in phases u ≡ Old
+-- n routers have the phases in which they begin wave w
+abbrev pub BeginWave : ℕ → Timetable → ℕ → List Phase → Type 0
+BeginWave n time w phases = (u : ℕ) → u < n → state_in phases u ≡ state_before time w u
 
--- the state in which the waves before w are switched and the others not begun is sound
-abbrev pub BeginsSound : Mix → List ℕ → ℕ → Type 0
-BeginsSound m ranks w = (phases : List Phase) → length phases ≡ length ranks → AreSwitchedBefore ranks w phases → Sound m (state_in phases)
+-- the state in which wave w begins is sound
+abbrev pub BeginsSound : Mix → Timetable → ℕ → Type 0
+BeginsSound m time w = Sound m (state_before time w)
 
 -- something holds of the classes of the parts that are calm in wave w
 abbrev pub AreClearParts : (ℕ → Type 0) → List ClassPart → List ℕ → ℕ → Type 0

@@ -2,21 +2,24 @@ use Rattle.std.proofs.Common.{ℕ, List, length, ap, ◌∙◌, arith, subst}
 use Rattle.net_model.specs.Network.{Network}
 use Rattle.loop_finder.specs.Calm.{AreCalm}
 use Rattle.loop_finder.specs.Parts.{ClassPart}
+use Rattle.loop_finder.specs.Times.{times_in}
 use Rattle.loop_finder.specs.Watches.{IsWatch}
 use Rattle.loop_finder.proofs.finder.Finder.new.Goals as goal
 
 pub invariant_of-result : goal.invariant_of-result
 invariant_of-result g c = record {
+  few = omega (arith, c.routers-routers.type_inv, c.routers-routers.ensures.count, ap (λ (n : Network). length n) c.net.ensures);
   parts_are = c.in_ok-parts.ensures;
   watch_is = subst (λ (xs : List ClassPart). IsWatch xs (length c.args.mixed.now.net) c.in_ok-watch.watch.items) c.as_slice.ensures.value
       (subst (λ (n : ℕ). IsWatch c.as_slice.result.now n c.in_ok-watch.watch.items) (c.routers-routers.ensures.count
       ∙ ap (λ (n : Network). length n) c.net.ensures) c.in_ok-watch.ensures);
-  ranks_many = omega (arith, c.in_ok-ranks.ensures.len, c.routers-routers.ensures.count, ap (λ (n : Network). length n) c.net.ensures);
-  calm_is = subst (λ (xs : List ClassPart). AreCalm xs c.in_ok-ranks.ranks.items c.in_ok-calm.calm.items) c.as_slice-2.ensures.value
-      (c.in_ok-calm.ensures c.in_ok-ranks.ranks.items);
+  times_many = omega (arith, c.in_ok-times.ensures.len, c.routers-routers.ensures.count, ap (λ (n : Network). length n) c.net.ensures);
+  calm_is = subst (λ (xs : List ClassPart). AreCalm xs (times_in c.in_ok-times.times.items) c.in_ok-calm.calm.items) c.as_slice-2.ensures.value
+      (c.in_ok-calm.ensures (times_in c.in_ok-times.times.items));
   order_many = omega (arith, c.in_ok-order.ensures.len, c.routers-routers.ensures.count, ap (λ (n : Network). length n) c.net.ensures);
   order_is = λ k less. absurd (omega (arith, less));
   begun_is = c.begin_is_sound-begun.ensures.sound;
+  asked_many = omega (arith, c.in_ok-asked.ensures.len, c.routers-routers.ensures.count, ap (λ (n : Network). length n) c.net.ensures);
   phases_many = omega (arith, c.in_ok-phases.ensures.len, c.routers-routers.ensures.count, ap (λ (n : Network). length n) c.net.ensures);
   later_many = omega (arith, c.in_ok-later.ensures.len, c.routers-routers.ensures.count, ap (λ (n : Network). length n) c.net.ensures);
   room_is = record {

@@ -1,0 +1,71 @@
+use Rattle.std.proofs.Common.{ℕ, List, ◌++◌, take, drop}
+use Rattle.loop_finder.specs.Calm.{AreCalm}
+use Rattle.loop_finder.specs.Parts.{ClassPart}
+use Rattle.loop_finder.specs.declared.times.ChangeWaves.{ChangeWaves}
+use Rattle.std.proofs.Common.{◌≡◌, ◌↔◌, arith, ap, IsNone, IfSome, length, subst, sym}
+use Rattle.igp_theory.specs.Phases.{all_old}
+use Rattle.igp_theory.specs.Timetables.{IsTimetable, IsSoundThroughout}
+use Rattle.rib_mix.specs.Mixture.{migration_of}
+use Rattle.loop_finder.specs.Faults.{Finding, told_fault}
+use Rattle.loop_finder.specs.Mixes.{mix_of}
+use Rattle.loop_finder.specs.Times.{times_in}
+use Rattle.loop_finder.proofs.WaveListFacts.{none_throughout}
+use Rattle.igp_theory.specs.WaveFaults.{IsTimesFault}
+use Rattle.loop_finder.proofs.WavePhases.{written}
+use Rattle.loop_finder.proofs.WaveSteps.{begun_from}
+use Rattle.loop_finder.proofs.finder.Finder.times_fault.Goals as goal
+
+pub times_fault-requires-clause-begun : goal.times_fault-requires-clause-begun
+times_fault-requires-clause-begun g c =
+    begun_from (mix_of g.O.RouteSource.table g.N.RouteSource.table c.self.inside.mixed.now) (times_in c.args.times.now) all_old
+    c.self.inside.begun
+    (subst (λ (x : Finding g.row.O.Denot g.row.N.Denot). IsTimetable (length x.mixture.net) all_old (times_in c.args.times.now)) (sym c.self.view_is)
+    c.requires.table) c.self.invariant.begun_is
+
+pub returns-clause-sound : goal.returns-clause-sound
+returns-clause-sound g c = subst (λ (x : Finding g.row.O.Denot g.row.N.Denot). IsNone c.times_fault.result
+    ↔ IsSoundThroughout (migration_of g.O.RouteSource.table g.N.RouteSource.table x.mixture) (times_in c.args.times.now)) c.self.view_is
+    (none_throughout (migration_of g.O.RouteSource.table g.N.RouteSource.table c.self.inside.mixed.now)
+    (times_in c.args.times.now) c.times_fault.result c.times_fault.new.room.ring.items
+    (subst (λ (x : Finding g.row.O.Denot g.row.N.Denot). IsTimetable (length x.mixture.net) all_old (times_in c.args.times.now)) (sym c.self.view_is)
+    c.requires.table) c.times_fault.ensures.sound c.times_fault.ensures.fault)
+
+pub times_fault-requires-clause-calm : goal.times_fault-requires-clause-calm
+times_fault-requires-clause-calm g c =
+    subst (λ (ps : List ClassPart). AreCalm ps (times_in c.deref_mut.result.now) c.deref_mut-2.result.now) (sym c.as_slice.ensures.value)
+    (subst (λ (xs : List ChangeWaves). AreCalm c.self.inside.parts.items (times_in xs) c.deref_mut-2.result.now) (sym c.deref_mut.ensures.value)
+    (subst (λ (cs : List ℕ). AreCalm c.self.inside.parts.items (times_in c.self.inside.times.items) cs) (sym c.deref_mut-2.ensures.value)
+    c.self.invariant.calm_is))
+
+pub invariant_of-self : goal.invariant_of-self
+invariant_of-self g c =
+    let new_times = c.times_fault.new.kept in
+    let new_calm = c.times_fault.new.calm in
+    let times = written c.self.inside.times.len new_times c.self.inside.times.items
+    (omega (arith, c.times_fault.auto.kept, ap (λ (xs : List ChangeWaves). length xs) c.deref_mut.ensures.value, c.self.inside.times.ok.0)) in
+    let calm = written c.self.inside.calm.len new_calm c.self.inside.calm.items
+    (omega (arith, c.times_fault.auto.calm, ap (λ (xs : List ℕ). length xs) c.deref_mut-2.ensures.value, c.self.inside.calm.ok.0)) in
+    record {
+      few = c.self.invariant.few;
+      parts_are = c.self.invariant.parts_are;
+      watch_is = c.self.invariant.watch_is;
+      order_many = c.self.invariant.order_many;
+      order_is = c.self.invariant.order_is;
+      begun_is = c.self.invariant.begun_is;
+      asked_many = c.self.invariant.asked_many;
+      phases_many = c.self.invariant.phases_many;
+      later_many = c.self.invariant.later_many;
+      times_many = subst (λ (xs : List ChangeWaves). length xs ≡ length c.self.inside.mixed.now.net) (sym times)
+          (omega (arith, c.times_fault.auto.kept, ap (λ (xs : List ChangeWaves). length xs) c.deref_mut.ensures.value, c.self.invariant.times_many));
+      calm_is = subst (λ (xs : List ChangeWaves). AreCalm c.self.inside.parts.items (times_in xs) (take c.self.inside.calm.len
+          (new_calm ++ drop (length new_calm) c.self.inside.calm.items))) (sym times)
+          (subst (λ (cs : List ℕ). AreCalm c.self.inside.parts.items (times_in new_times) cs) (sym calm)
+          (subst (λ (ps : List ClassPart). AreCalm ps (times_in new_times) new_calm) c.as_slice.ensures.value c.times_fault.ensures.calm));
+      room_is = c.times_fault.ensures.room;
+    }
+
+pub returns-clause-fault : goal.returns-clause-fault
+returns-clause-fault g c =
+    subst (λ (x : Finding g.row.O.Denot g.row.N.Denot). IfSome c.times_fault.result (λ found.
+    IsTimesFault (migration_of g.O.RouteSource.table g.N.RouteSource.table x.mixture) (times_in c.args.times.now) found.0
+    (told_fault found.1 c.times_fault.new.room.ring.items))) c.self.view_is c.times_fault.ensures.fault
