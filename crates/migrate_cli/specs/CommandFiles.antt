@@ -2,7 +2,7 @@
 use Rattle.std.specs.Prelude.{ℕ, List, [], ◌∷◌, ◌++◌, codes, length, map, take, drop, true, false}
 use Rattle.migrate_words.specs.declared.command.Command.{Command}
 use Rattle.migrate_words.specs.declared.command.CommandKind.{CommandKind}
-use Rattle.migrate_words.specs.declared.command.CommandKind.TheVariants.{Prepare, Sample}
+use Rattle.migrate_words.specs.declared.command.CommandKind.TheVariants.{Prepare, Delta, Sample, Tables}
 use Rattle.migrate_words.specs.declared.command.CommandKind.TheVariants.{Pair, PairScripts, PairCheck, PairRefute}
 use Rattle.sample_network.specs.SampleTexts.{sample_text}
 use Rattle.migrate_cli.specs.Reading.{File}
@@ -23,6 +23,7 @@ command_of kind own configs number = record { kind = kind; own = own; configs = 
 -- how many bytes a file of a command's own has at most
 abbrev pub own_most : CommandKind → ℕ
 own_most Prepare = DESIGN_MOST
+own_most Delta = DESIGN_MOST
 own_most _ = FILE_MOST
 
 -- a file of a command's own: an order, a tree, a journal or a design
@@ -86,4 +87,6 @@ text_names command = names_for command.kind command.configs
 -- the commands that ask that every router is where a migration starts
 abbrev pub NeedsStart : CommandKind → Type 0
 NeedsStart Prepare = ⊥
+NeedsStart Delta = ⊥
+NeedsStart Tables = ⊥
 NeedsStart _ = Unit {0}

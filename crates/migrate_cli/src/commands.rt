@@ -7,6 +7,7 @@ ghost use Rattle.migrate_cli.specs.Reading.{AreShort};
 
 use crate::OutOfMemory;
 use crate::check::{check_over, judge_check};
+use crate::delta::judge_delta;
 use crate::files::FILE_MOST;
 use crate::moves::Move;
 use crate::pair::judge_pair_scripts;
@@ -16,6 +17,8 @@ use crate::refute::{judge_refute, refute_over};
 use crate::replay::judge_replay;
 use crate::sample::judge_sample;
 use crate::scripts::judge_scripts;
+use crate::shown::judge_tables;
+use crate::split::judge_split;
 use migrate_words::{Command, CommandKind};
 use migration_report::Decision;
 use net_addr::Bytes;
@@ -27,7 +30,10 @@ use std::alloc::Global;
 pub(crate) fn needs_start(kind: CommandKind) -> bool
     ensures { IsTrue result ↔ NeedsStart kind }
 {
-    !matches!(kind, CommandKind::Prepare)
+    !matches!(
+        kind,
+        CommandKind::Prepare | CommandKind::Delta | CommandKind::Tables
+    )
 }
 
 /// What a command decides on the texts of its own files, those of configurations, and the network that these make.
@@ -66,6 +72,15 @@ pub(crate) fn judge_command(
             judge_replay(alloc, file, order, journal, net)
         }
         CommandKind::Sample => judge_sample(alloc, command.number, net),
+        CommandKind::Split => {
+            let (file, order) = first_own(command, own);
+            judge_split(alloc, file, order, command.number, net)
+        }
+        CommandKind::Delta => {
+            let (file, design) = first_own(command, own);
+            judge_delta(alloc, file, design, configs, net)
+        }
+        CommandKind::Tables => judge_tables(alloc, net),
         _ => unreachable!(),
     }
 }

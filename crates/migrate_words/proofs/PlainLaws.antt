@@ -26,7 +26,7 @@ use Rattle.net_addr.specs.Numerals.{IsNumeral}
 use Rattle.migrate_words.specs.Asked.{Asks, HasConfigs, HaveTexts, IsGivenNumber}
 use Rattle.migrate_words.specs.CommandLine.{budget_option, command_line, config_rules, number_rules, one_text, rules_of}
 use Rattle.migrate_words.specs.Laws.{PlainWordsLaw}
-use Rattle.migrate_words.specs.PlainWords.{ArePlainConfigs, IsPlainName, WritesNumber, no_number, usual_budget, budget, routers}
+use Rattle.migrate_words.specs.PlainWords.{ArePlainConfigs, IsPlainName, WritesNumber, no_number, usual_budget, budget, routers, wave_size}
 use Rattle.migrate_words.specs.Usages.{Usage, network_names, usage, usage_of}
 use Rattle.migrate_words.specs.declared.command.CommandKind.{CommandKind}
 use Rattle.migrate_words.specs.declared.command.CommandKind.TheVariants.{Check}
@@ -224,6 +224,32 @@ numeral_plain : (word : Text) (n : ℕ) → IsNumeral word n → IsPlainName wor
 numeral_plain [] n numeral = absurd (omega (arith, numeral.some))
 numeral_plain (x ∷ xs) n numeral = λ hyphen. let digit = All-head IsAsciiDigit x xs numeral.digits in omega (arith, digit, hyphen)
 
+-- a number that is the first argument of a line, a text of its own
+number_front : (own : List Text) (configs : ConfigFiles)
+    → Behind (filled_from 1 ((one_text (codes "N") ∷ map one_text own ++ config_rules configs) ++ help_rule ∷ [])) 2 (codes "N" ∷ [])
+    (map one_text own ++ (config_rules configs ++ help_rule ∷ []))
+number_front own configs = record {
+  front = text_at 1 (codes "N") ∷ [];
+  rules_are = ap (λ (rules : List Rule). filled_from 1 (one_text (codes "N") ∷ rules)) (rules_behind own configs);
+  under = (omega arith, tt);
+  names = refl;
+}
+
+module _ (word : Text) (own : List Text) (configs : ConfigFiles) where
+  abbrev with_number_first : Shape
+  with_number_first = built_line (usage word Routers own configs)
+
+  number_first : (number : Text) (rest : List Text) (final : List Row) → IsPlainName number
+      → ((h : Held) → Settles with_number_first h (text_row (codes "N") (number ∷ []) ∷ [])
+      → Ends with_number_first (before h false 2) rest final)
+      → Ends with_number_first (before nothing_held false 1) (number ∷ rest) final
+  number_first [] rest final plain follows = absurd plain
+  number_first (x ∷ xs) rest final plain follows =
+      ends_after_word with_number_first nothing_held [] false 1 (text_at 1 (codes "N")) x xs rest final (nothing_settles with_number_first)
+      (ne_eqb x 45 plain) refl refl refl
+      (follows (held_text [] (codes "N") (x ∷ xs))
+      (text_settles with_number_first (text_at 1 (codes "N")) (codes "N") (x ∷ xs) [] refl refl (takes_text 1 (codes "N")) refl))
+
 number_walk : (word : Text) (number : NumberTaken) (own : List Text) (configs : ConfigFiles) (words : List Text) (n : ℕ)
     → WritesNumber number words n
     → AreApart (usage word number own configs) → NumberWalk (usage word number own configs) words n
@@ -288,28 +314,21 @@ number_walk word _ own configs _ _ (routers text n is) are = record {
   small = omega arith;
   seen = codes "N" ∷ [];
   apart = are.behind_number;
-  behind = record {
-    front = text_at 1 (codes "N") ∷ [];
-    rules_are = ap (λ (rules : List Rule). filled_from 1 (one_text (codes "N") ∷ rules)) (rules_behind own configs);
-    under = (omega arith, tt);
-    names = refl;
-  };
-  walk = λ rest final follows. routers_first text rest final (numeral_plain text n is.numeral.numeral) follows;
+  behind = number_front own configs;
+  walk = λ rest final follows. number_first word own configs text rest final (numeral_plain text n is.numeral.numeral) follows;
   given = λ more none. (is, refl);
 }
-  where
-    line : Shape
-    line = built_line (usage word Routers own configs)
-
-    routers_first : (number : Text) (rest : List Text) (final : List Row) → IsPlainName number
-        → ((h : Held) → Settles line h (text_row (codes "N") (number ∷ []) ∷ []) → Ends line (before h false 2) rest final)
-        → Ends line (before nothing_held false 1) (number ∷ rest) final
-    routers_first [] rest final plain follows = absurd plain
-    routers_first (x ∷ xs) rest final plain follows =
-        ends_after_word line nothing_held [] false 1 (text_at 1 (codes "N")) x xs rest final (nothing_settles line)
-        (ne_eqb x 45 plain) refl refl refl
-        (follows (held_text [] (codes "N") (x ∷ xs))
-        (text_settles line (text_at 1 (codes "N")) (codes "N") (x ∷ xs) [] refl refl (takes_text 1 (codes "N")) refl))
+number_walk word _ own configs _ _ (wave_size text n is) are = record {
+  rows = text_row (codes "N") (text ∷ []) ∷ [];
+  new = are.behind_number;
+  place = 2;
+  small = omega arith;
+  seen = codes "N" ∷ [];
+  apart = are.behind_number;
+  behind = number_front own configs;
+  walk = λ rest final follows. number_first word own configs text rest final (numeral_plain text n is.numeral.numeral) follows;
+  given = λ more none. (is, refl);
+}
 
 -- ---- a whole line
 

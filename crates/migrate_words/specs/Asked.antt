@@ -7,11 +7,11 @@ use Rattle.migrate_words.specs.CommandLine.{command_line}
 use Rattle.migrate_words.specs.Usages.{network_names, usage_of}
 use Rattle.migrate_words.specs.declared.command.Command.{Command}
 use Rattle.migrate_words.specs.declared.command.CommandKind.{CommandKind}
-use Rattle.migrate_words.specs.declared.command.TheConstants.{LEAST_BUDGET, MOST_BUDGET, USUAL_BUDGET, LEAST_SAMPLE, MOST_SAMPLE}
+use Rattle.migrate_words.specs.declared.command.TheConstants.{LEAST_BUDGET, MOST_BUDGET, USUAL_BUDGET, LEAST_SAMPLE, MOST_SAMPLE, LEAST_WAVE, MOST_WAVE}
 use Rattle.migrate_words.specs.declared.subcommands.ConfigFiles.{ConfigFiles}
 use Rattle.migrate_words.specs.declared.subcommands.ConfigFiles.TheVariants.{NoConfigs, Several, Networks}
 use Rattle.migrate_words.specs.declared.subcommands.NumberTaken.{NumberTaken}
-use Rattle.migrate_words.specs.declared.subcommands.NumberTaken.TheVariants.{NoNumber, Budget, Routers}
+use Rattle.migrate_words.specs.declared.subcommands.NumberTaken.TheVariants.{NoNumber, Budget, Routers, WaveSize}
 
 -- the word is a decimal numeral whose value n is in this range
 pub record IsNumberIn (least most : ℕ) (word : Text) (n : ℕ) : Type 0 where
@@ -25,6 +25,8 @@ IsGivenNumber Budget None n = n ≡ USUAL_BUDGET
 IsGivenNumber Budget (Some word) n = IsNumberIn LEAST_BUDGET MOST_BUDGET word n
 IsGivenNumber Routers None n = ⊥
 IsGivenNumber Routers (Some word) n = IsNumberIn LEAST_SAMPLE MOST_SAMPLE word n
+IsGivenNumber WaveSize None n = ⊥
+IsGivenNumber WaveSize (Some word) n = IsNumberIn LEAST_WAVE MOST_WAVE word n
 
 -- the argument of this name has this text
 abbrev pub HasText : List Row → Text → Text → Type 0
@@ -75,6 +77,7 @@ abbrev pub IsNumberInRange : NumberTaken → ℕ → Type 0
 IsNumberInRange NoNumber n = n ≡ 0
 IsNumberInRange Budget n = (LEAST_BUDGET ≤ n) × (n ≤ MOST_BUDGET)
 IsNumberInRange Routers n = (LEAST_SAMPLE ≤ n) × (n ≤ MOST_SAMPLE)
+IsNumberInRange WaveSize n = (LEAST_WAVE ≤ n) × (n ≤ MOST_WAVE)
 
 -- there is a configuration file, none where none are taken, or one of each of two networks
 abbrev pub AreConfigsInRange : ConfigFiles → List Text → Type 0

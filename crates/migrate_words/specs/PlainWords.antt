@@ -4,11 +4,11 @@ use Rattle.clap.specs.Words.{Text}
 use Rattle.migrate_words.specs.Asked.{IsNumberIn}
 use Rattle.migrate_words.specs.Usages.{usage_of}
 use Rattle.migrate_words.specs.declared.command.Command.{Command}
-use Rattle.migrate_words.specs.declared.command.TheConstants.{LEAST_BUDGET, MOST_BUDGET, USUAL_BUDGET, LEAST_SAMPLE, MOST_SAMPLE}
+use Rattle.migrate_words.specs.declared.command.TheConstants.{LEAST_BUDGET, MOST_BUDGET, USUAL_BUDGET, LEAST_SAMPLE, MOST_SAMPLE, LEAST_WAVE, MOST_WAVE}
 use Rattle.migrate_words.specs.declared.subcommands.ConfigFiles.{ConfigFiles}
 use Rattle.migrate_words.specs.declared.subcommands.ConfigFiles.TheVariants.{NoConfigs, Several, Networks}
 use Rattle.migrate_words.specs.declared.subcommands.NumberTaken.{NumberTaken}
-use Rattle.migrate_words.specs.declared.subcommands.NumberTaken.TheVariants.{NoNumber, Budget, Routers}
+use Rattle.migrate_words.specs.declared.subcommands.NumberTaken.TheVariants.{NoNumber, Budget, Routers, WaveSize}
 
 -- a plain name: it isn't empty, and it doesn't begin with `-`
 abbrev pub IsPlainName : Text → Type 0
@@ -27,6 +27,7 @@ pub data WritesNumber : NumberTaken → List Text → ℕ → Type 0 where
   budget : (word : Text) (n : ℕ) → IsNumberIn LEAST_BUDGET MOST_BUDGET word n
       → WritesNumber Budget (codes "--budget" ∷ word ∷ []) n
   routers : (word : Text) (n : ℕ) → IsNumberIn LEAST_SAMPLE MOST_SAMPLE word n → WritesNumber Routers (word ∷ []) n
+  wave_size : (word : Text) (n : ℕ) → IsNumberIn LEAST_WAVE MOST_WAVE word n → WritesNumber WaveSize (word ∷ []) n
 
 -- two plain names
 pub record AreTwoNames (names : List Text) : Type 0 where

@@ -5,7 +5,9 @@ ghost use Rattle.migrate_words.specs.declared.subcommands.ConfigFiles.TheVariant
 ghost use Rattle.migrate_words.specs.steps.Reading.{ReadsAs};
 ghost use Rattle.migrate_words.specs.steps.Seen.{argument_names};
 
-use crate::command::{LEAST_BUDGET, LEAST_SAMPLE, MOST_BUDGET, MOST_SAMPLE, USUAL_BUDGET};
+use crate::command::{
+    LEAST_BUDGET, LEAST_SAMPLE, LEAST_WAVE, MOST_BUDGET, MOST_SAMPLE, MOST_WAVE, USUAL_BUDGET,
+};
 use crate::subcommands::{ConfigFiles, NumberTaken, OwnFile, networks};
 use crate::{FileNames, WordsRefused};
 use clap::ArgMatches;
@@ -80,6 +82,8 @@ pub(crate) fn number_of(given: &ArgMatches<'_>, number: NumberTaken) -> Result<u
         (NumberTaken::Budget, Some(word)) => number_in(word, LEAST_BUDGET, MOST_BUDGET),
         (NumberTaken::Routers, None) => Err(WordsRefused::Number),
         (NumberTaken::Routers, Some(word)) => number_in(word, LEAST_SAMPLE, MOST_SAMPLE),
+        (NumberTaken::WaveSize, None) => Err(WordsRefused::Number),
+        (NumberTaken::WaveSize, Some(word)) => number_in(word, LEAST_WAVE, MOST_WAVE),
     }
 }
 

@@ -1,3 +1,3 @@
 mod Sorting
 mod TableEntries
-mod InOrder
+pub mod InOrder
