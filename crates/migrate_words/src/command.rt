@@ -1,4 +1,4 @@
-use crate::FileNames;
+use crate::{FileNames, Scheme};
 
 /// The least budget of branches that a command takes.
 pub const LEAST_BUDGET: u32 = 1;
@@ -40,6 +40,8 @@ pub enum CommandKind {
     PairCheck,
     /// `pairrefute TREE OLD NEW`: the verdict on a tree that is to show that no order between the two networks is safe.
     PairRefute,
+    /// `design [--area AREA] [--level L] CONFIG...`: a design in which the IS-IS metrics are the OSPF costs.
+    Design,
 }
 
 /// What a call asks for. Names of files are as they were given.
@@ -53,4 +55,6 @@ pub struct Command<'a> {
     pub configs: FileNames<'a>,
     /// The budget of branches or the number of routers, 0 where the command takes no number.
     pub number: u32,
+    /// What a design is asked to say of every router, the usual scheme where the command takes none.
+    pub scheme: Scheme<'a>,
 }

@@ -4,7 +4,7 @@ ghost use Rattle.migrate_words.specs.steps.Seen.{argument_names, kind_of_entry, 
 
 use crate::CommandKind;
 
-/// The number that a command takes.
+/// The number that a command takes, or the options in its place.
 #[derive(Clone, Copy, Debug, PartialEq, Eq)]
 pub(crate) enum NumberTaken {
     /// None.
@@ -13,6 +13,8 @@ pub(crate) enum NumberTaken {
     Budget,
     /// `N`: the number of routers of a network.
     Routers,
+    /// The options `--area AREA` and `--level L`: no number, but what a design says of every router.
+    DesignOptions,
 }
 
 /// The configuration files that a command takes.
@@ -71,7 +73,7 @@ pub(crate) fn networks() -> &'static [OwnFile]
     &NETWORKS
 }
 
-static SUBCOMMANDS: [Subcommand; 11] = [
+static SUBCOMMANDS: [Subcommand; 12] = [
     Subcommand {
         kind: CommandKind::Check,
         word: "check",
@@ -179,6 +181,15 @@ static SUBCOMMANDS: [Subcommand; 11] = [
         number: NumberTaken::NoNumber,
         own: &[TREE],
         configs: ConfigFiles::Networks,
+    },
+    Subcommand {
+        kind: CommandKind::Design,
+        word: "design",
+        about: "Writes a design in which the IS-IS metrics are the OSPF costs",
+        usage: "migrate design [--area AREA] [--level L] CONFIG...",
+        number: NumberTaken::DesignOptions,
+        own: &[],
+        configs: ConfigFiles::Several,
     },
 ];
 
