@@ -4,7 +4,7 @@ use Rattle.igp_theory.specs.Migrations.{ospf_to_isis}
 use Rattle.net_model.specs.Refusals.{NamesAscend}
 use Rattle.migrate_words.specs.declared.command.CommandKind.{CommandKind}
 use Rattle.migrate_words.specs.declared.command.CommandKind.TheVariants.{Check, Prepare, Plan, Refute, Scripts, Replay, Sample}
-use Rattle.migrate_words.specs.declared.command.CommandKind.TheVariants.{Pair, PairScripts, PairCheck, PairRefute}
+use Rattle.migrate_words.specs.declared.command.CommandKind.TheVariants.{Pair, PairScripts, PairCheck, PairRefute, Design}
 use Rattle.migration_report.specs.Outcomes.{IsTellable}
 use Rattle.migration_report.specs.declared.decision.Decision.{Decision}
 use Rattle.net_model.specs.Network.{Network}
@@ -19,6 +19,7 @@ use Rattle.migrate_cli.specs.RefuteDecision.{IsTreeDecision}
 use Rattle.migrate_cli.specs.ReplayDecision.{IsReplayDecision, journal_of}
 use Rattle.migrate_cli.specs.ScriptsDecision.{IsScriptsDecision}
 use Rattle.migrate_cli.proofs.CheckLaws.{check_tellable, one_check_decision}
+use Rattle.migrate_cli.proofs.DesignLaws.{design_tellable, one_design_decision}
 use Rattle.migrate_cli.proofs.PairLaws.{one_pair_decision, one_script, pair_tellable, script_tellable}
 use Rattle.migrate_cli.proofs.PlanLaws.{one_plan_decision, one_sample_decision, plan_decision_tellable, sample_tellable}
 use Rattle.migrate_cli.proofs.PrepareLaws.{one_prepare_decision, prepare_tellable}
@@ -76,6 +77,7 @@ one_decision PairRefute input {e = e} ascending one other =
     one_pair_decision nets (IsTreeDecision (between nets) one.2.text) one_tree_decision one.4
     (redesigned (λ new. IsPairTree (network_pair input.net new) one.2.text e) one.1 other.1
     (moved (λ file. IsPairTree (network_pair input.net other.0) file.text e) one.3 other.3 other.4))
+one_decision Design input ascending one other = one_design_decision one other
 
 pub decision_tellable : (kind : CommandKind) (input : Input) (d : Decision) → IsDecision kind input d → IsTellable input.net d
 decision_tellable Check input d is = check_tellable is.2
@@ -90,3 +92,4 @@ decision_tellable PairScripts input d is =
     pair_tellable (network_pair input.net is.0) input.net _ (script_tellable (network_pair input.net is.0) is.2 input.net) is.4
 decision_tellable PairCheck input d is = pair_tellable (network_pair input.net is.0) input.net _ check_tellable is.4
 decision_tellable PairRefute input d is = pair_tellable (network_pair input.net is.0) input.net _ tree_tellable is.4
+decision_tellable Design input d is = design_tellable is

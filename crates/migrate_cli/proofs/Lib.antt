@@ -19,6 +19,7 @@ mod ReplayLaws
 mod ScriptsLaws
 mod CommandFacts
 mod PairLaws
+mod DesignLaws
 mod CommandLaws
 mod OutcomeLaws
 mod AnswerFacts
@@ -32,4 +33,5 @@ mod PlanPromiseLaws
 mod PreparePromiseLaws
 mod SamplePromiseLaws
 mod PairPromiseLaws
+mod DesignPromiseLaws
 mod ClaimLaws

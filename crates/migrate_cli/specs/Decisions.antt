@@ -2,13 +2,15 @@
 use Rattle.std.specs.Prelude.{◌≡◌, ℕ, List, [], ◌∷◌}
 use Rattle.igp_theory.specs.Migrations.{ospf_to_isis}
 use Rattle.net_model.specs.Network.{Network}
+use Rattle.migrate_words.specs.Schemes.{AskedScheme}
 use Rattle.migrate_words.specs.declared.command.Command.{Command}
 use Rattle.migrate_words.specs.declared.command.CommandKind.{CommandKind}
 use Rattle.migrate_words.specs.declared.command.CommandKind.TheVariants.{Check, Prepare, Plan, Refute, Scripts, Replay, Sample}
-use Rattle.migrate_words.specs.declared.command.CommandKind.TheVariants.{Pair, PairScripts, PairCheck, PairRefute}
+use Rattle.migrate_words.specs.declared.command.CommandKind.TheVariants.{Pair, PairScripts, PairCheck, PairRefute, Design}
 use Rattle.migration_report.specs.declared.decision.Decision.{Decision}
 use Rattle.migrate_cli.specs.CommandFiles.{GivenTexts}
 use Rattle.migrate_cli.specs.CheckDecision.{IsCheckDecision}
+use Rattle.migrate_cli.specs.DesignDecision.{IsDesignDecision}
 use Rattle.migrate_cli.specs.PrepareDecision.{IsPrepareDecision, configured}
 use Rattle.ospf_pair.specs.NetworkPairs.{network_pair}
 use Rattle.migrate_cli.specs.PairDecision.{IsPairCheck, IsPairPlan, IsPairScripts, IsPairTree}
@@ -19,11 +21,12 @@ use Rattle.migrate_cli.specs.ReplayDecision.{IsReplayDecision, journal_of}
 use Rattle.migrate_cli.specs.SampleDecision.{IsSampleDecision}
 use Rattle.migrate_cli.specs.ScriptsDecision.{IsScriptsDecision}
 
--- what a command decides on: its own files, its number, the texts of the configurations, the network that their first group
--- makes, and those of the other groups
+-- what a command decides on: its own files, its number and its scheme, the texts of the configurations, the network that their
+-- first group makes, and those of the other groups
 pub record Input : Type 0 where
   pub own : List NamedText
   pub number : ℕ
+  pub scheme : AskedScheme
   pub configs : List (List ℕ)
   pub net : Network
   pub others : List Network
@@ -32,6 +35,7 @@ abbrev pub input_of : Command → GivenTexts → Network → List Network → In
 input_of command texts net others = record {
   own = named_texts command.own texts.own;
   number = command.number;
+  scheme = command.scheme;
   configs = texts.configs;
   net = net;
   others = others;
@@ -61,3 +65,4 @@ IsDecision PairCheck input decision =
 IsDecision PairRefute input decision =
     (new : Network) × (input.others ≡ new ∷ []) × (tree : NamedText) × (input.own ≡ tree ∷ []) ×
     IsPairTree (network_pair input.net new) tree.text decision
+IsDecision Design input decision = IsDesignDecision input.scheme input.net decision

@@ -12,6 +12,7 @@ pub mod RefuteDecision
 pub mod ReplayDecision
 pub mod ScriptsDecision
 pub mod PairDecision
+pub mod DesignDecision
 pub mod Decisions
 pub mod Outcomes
 pub mod Answers
@@ -22,5 +23,6 @@ pub mod PlanPromise
 pub mod PreparePromise
 pub mod SamplePromise
 pub mod PairPromise
+pub mod DesignPromise
 pub mod Claim
 pub mod steps

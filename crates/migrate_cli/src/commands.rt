@@ -1,4 +1,5 @@
 ghost use Rattle.std.specs.Prelude.{◌≡◌, ◌≤◌, ◌<◌, ◌↔◌, ℕ, List, [], ◌∷◌, All, IfOk, IsTrue, length, slice_index_or};
+ghost use Rattle.design_writer.specs.CostDesigns.{HaveTextNames};
 ghost use Rattle.migrate_words.specs.Asked.{IsInRange};
 ghost use Rattle.ospf_pair.specs.PairRefusals.{MakePair};
 ghost use Rattle.migrate_cli.specs.CommandFiles.{NeedsStart, OverNetworks, given_texts, own_files};
@@ -7,6 +8,7 @@ ghost use Rattle.migrate_cli.specs.Reading.{AreShort};
 
 use crate::OutOfMemory;
 use crate::check::{check_over, judge_check};
+use crate::design::judge_design;
 use crate::files::FILE_MOST;
 use crate::moves::Move;
 use crate::pair::judge_pair_scripts;
@@ -27,7 +29,7 @@ use std::alloc::Global;
 pub(crate) fn needs_start(kind: CommandKind) -> bool
     ensures { IsTrue result ↔ NeedsStart kind }
 {
-    !matches!(kind, CommandKind::Prepare)
+    !matches!(kind, CommandKind::Prepare | CommandKind::Design)
 }
 
 /// What a command decides on the texts of its own files, those of configurations, and the network that these make.
@@ -43,6 +45,7 @@ pub(crate) fn judge_command(
     requires some { 0 < length net.now }
     requires own { AreShort (own_files command.now) own.now }
     requires configs { All (λ text. length text ≤ FILE_MOST) configs.now }
+    requires names { HaveTextNames net.now }
     ensures { IfOk result (IsDecision command.now.kind (input_of command.now (given_texts own.now configs.now) net.now [])) }
 {
     match command.kind {
@@ -66,6 +69,7 @@ pub(crate) fn judge_command(
             judge_replay(alloc, file, order, journal, net)
         }
         CommandKind::Sample => judge_sample(alloc, command.number, net),
+        CommandKind::Design => judge_design(alloc, &command.scheme, net),
         _ => unreachable!(),
     }
 }

@@ -10,7 +10,7 @@
 //! | `configurations`, `judging` | configurations and the network, the start, and then the command's own decision |
 //! | `commands` | the commands, and whether one asks for the start of a migration |
 //! | `tables` | the tables of both protocols of a network, and mixed forwarding over them |
-//! | `check`, `plan`, `refute`, `scripts`, `replay`, `prepare`, `sample` | what each command decides |
+//! | `check`, `plan`, `refute`, `scripts`, `replay`, `prepare`, `design`, `sample` | what each command decides |
 //! | `sending` | writing in pieces of 4,096 bytes |
 //! | `originated` | how many prefixes a network originates |
 //! | `laws` | that a call has one answer |
@@ -35,6 +35,7 @@ mod tables;
 
 // what each command decides
 mod check;
+mod design;
 mod pair;
 mod plan;
 mod prepare;
