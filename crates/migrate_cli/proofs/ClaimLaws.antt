@@ -18,6 +18,7 @@ use Rattle.migrate_cli.specs.Completeness.{Decides, DecidesTree, NoFaultRose, Wr
 use Rattle.migrate_cli.specs.Completeness.Decides.{memory}
 use Rattle.migrate_cli.specs.Completeness.DecidesTree.{no_memory as none_for_tree}
 use Rattle.migrate_cli.specs.Completeness.Writes.{unwritten}
+use Rattle.migrate_cli.specs.DeltaPromise.{HasDelta}
 use Rattle.migrate_cli.specs.DesignPromise.{HasDesigned}
 use Rattle.migrate_cli.specs.PairPromise.{HasPaired}
 use Rattle.migrate_cli.specs.PlanPromise.{HasPlanned, IsOfPlan, PlansOrNot}
@@ -25,14 +26,20 @@ use Rattle.migrate_cli.specs.PlanPromise.PlansOrNot.{no_memory as none_planned}
 use Rattle.migrate_cli.specs.PreparePromise.{HasPrepared}
 use Rattle.migrate_cli.specs.Reading.{LastFailed}
 use Rattle.migrate_cli.specs.SamplePromise.{AcceptsSample}
+use Rattle.migrate_cli.specs.SplitPromise.{DecidesSplit, HasSplit}
+use Rattle.migrate_cli.specs.SplitPromise.DecidesSplit.{no_memory as none_for_split}
+use Rattle.migrate_cli.specs.TablesPromise.{HasTables}
 use Rattle.migrate_cli.proofs.AnswerFacts.{reads_or_not}
 use Rattle.migrate_cli.proofs.CallLaws.{ends_so}
 use Rattle.migrate_cli.proofs.CompletenessLaws.{check_decides, prepare_writes, refute_decides, replay_decides, scripts_write}
+use Rattle.migrate_cli.proofs.DeltaPromiseLaws.{delta_writes, new_lines_alone}
 use Rattle.migrate_cli.proofs.DesignPromiseLaws.{design_writes, has_designed}
 use Rattle.migrate_cli.proofs.PairPromiseLaws.{has_paired, pair_check_decides, pair_decides, pair_refute_decides, pair_scripts_write}
 use Rattle.migrate_cli.proofs.PlanPromiseLaws.{answer_means, plan_decides}
 use Rattle.migrate_cli.proofs.PreparePromiseLaws.{reads_back}
 use Rattle.migrate_cli.proofs.SamplePromiseLaws.{sample_decides, sample_means}
+use Rattle.migrate_cli.proofs.SplitPromiseLaws.{has_split, split_is_decided}
+use Rattle.migrate_cli.proofs.TablesPromiseLaws.{has_tables, tables_are_written}
 
 module _ (call : Call) (before after : Outside) where
   -- a write fault is one of the sink
@@ -122,6 +129,21 @@ module _ (call : Call) (before after : Outside) where
         samples = record {
           means = sample_means call before after status answers;
           decides = λ it calm. sample_so it ends fails calm;
+        };
+        splits = record {
+          splits = λ most file configs asks. wrote_so (λ s. s ≡ Done) (λ _. HasSplit call most file configs (course before after)) (λ e. Prim.cc e)
+              (λ e. Prim.cc e) (λ outcome is adds done. has_split call most file configs (course before after) asks is adds done) ends;
+          decides = λ it calm. calm_so (DecidesSplit (ospf_to_isis it.net) it.ranks) none_for_split (split_is_decided call it asked) ends fails calm;
+        };
+        deltas = record {
+          alone = λ file configs asks. wrote_so (λ s. s ≡ Done) (λ _. HasDelta call file configs (course before after)) (λ e. Prim.cc e)
+              (λ e. Prim.cc e) (λ outcome is adds done. new_lines_alone call file configs (course before after) asks is adds done) ends;
+          writes = λ it calm. calm_so Writes unwritten (delta_writes call it asked) ends fails calm;
+        };
+        tables = record {
+          exact = λ configs asks. wrote_so (λ s. s ≡ Done) (λ _. HasTables call configs (course before after)) (λ e. Prim.cc e) (λ e. Prim.cc e)
+              (λ outcome is adds done. has_tables call configs (course before after) asks is adds done) ends;
+          writes = λ it calm. calm_so Writes unwritten (tables_are_written call it asked) ends fails calm;
         };
       }
 

@@ -4,7 +4,7 @@ use Rattle.igp_theory.specs.Migrations.{ospf_to_isis}
 use Rattle.net_model.specs.Refusals.{NamesAscend}
 use Rattle.migrate_words.specs.declared.command.CommandKind.{CommandKind}
 use Rattle.migrate_words.specs.declared.command.CommandKind.TheVariants.{Check, Prepare, Plan, Refute, Scripts, Replay, Sample}
-use Rattle.migrate_words.specs.declared.command.CommandKind.TheVariants.{Pair, PairScripts, PairCheck, PairRefute, Design}
+use Rattle.migrate_words.specs.declared.command.CommandKind.TheVariants.{Pair, PairScripts, PairCheck, PairRefute, Design, Split, Delta, Tables}
 use Rattle.migration_report.specs.Outcomes.{IsTellable}
 use Rattle.migration_report.specs.declared.decision.Decision.{Decision}
 use Rattle.net_model.specs.Network.{Network}
@@ -13,19 +13,23 @@ use Rattle.migrate_cli.specs.CheckDecision.{IsCheckDecision, IsCheckOver}
 use Rattle.migrate_cli.specs.PairDecision.{IsPairCheck, IsPairPlan, IsPairScripts, IsPairTree, IsScriptOfPair, between}
 use Rattle.migrate_cli.specs.PlanDecision.{IsPlanOver}
 use Rattle.migrate_cli.specs.Decisions.{Input, IsDecision}
-use Rattle.migrate_cli.specs.PrepareDecision.{IsPrepareDecision, configured}
+use Rattle.migrate_cli.specs.DeltaDecision.{IsDeltaDecision, settled_lines_alone}
+use Rattle.migrate_cli.specs.PrepareDecision.{IsPrepareDecision, configured, with_settled_lines}
 use Rattle.migrate_cli.specs.Reading.{NamedText}
 use Rattle.migrate_cli.specs.RefuteDecision.{IsTreeDecision}
 use Rattle.migrate_cli.specs.ReplayDecision.{IsReplayDecision, journal_of}
 use Rattle.migrate_cli.specs.ScriptsDecision.{IsScriptsDecision}
+use Rattle.migrate_cli.specs.SplitDecision.{IsSplitDecision}
 use Rattle.migrate_cli.proofs.CheckLaws.{check_tellable, one_check_decision}
 use Rattle.migrate_cli.proofs.DesignLaws.{design_tellable, one_design_decision}
 use Rattle.migrate_cli.proofs.PairLaws.{one_pair_decision, one_script, pair_tellable, script_tellable}
 use Rattle.migrate_cli.proofs.PlanLaws.{one_plan_decision, one_sample_decision, plan_decision_tellable, sample_tellable}
-use Rattle.migrate_cli.proofs.PrepareLaws.{one_prepare_decision, prepare_tellable}
 use Rattle.migrate_cli.proofs.RefuteLaws.{one_tree_decision, tree_tellable}
 use Rattle.migrate_cli.proofs.ReplayLaws.{one_replay_decision, replay_tellable}
 use Rattle.migrate_cli.proofs.ScriptsLaws.{one_scripts_decision, scripts_tellable}
+use Rattle.migrate_cli.proofs.SettlingLaws.{settled_tellable, one_settled_decision}
+use Rattle.migrate_cli.proofs.SplitLaws.{one_split_decision, split_tellable}
+use Rattle.migrate_cli.proofs.TablesLaws.{one_tables_decision, tables_tellable}
 
 -- what is decided of one own file is decided of the other one, where they are the same list
 moved : {own : List NamedText} {one other : NamedText} (P : NamedText → Type 0) → own ≡ one ∷ [] → own ≡ other ∷ [] → P other → P one
@@ -44,7 +48,7 @@ pub one_decision : (kind : CommandKind) (input : Input) {d e : Decision} → Nam
 one_decision Check input {e = e} ascending one other =
     one_check_decision (ospf_to_isis input.net) one.0 ascending one.2 (moved (λ file. IsCheckDecision file input.net e) one.1 other.1 other.2)
 one_decision Prepare input {e = e} ascending one other =
-    one_prepare_decision one.0.file one.0.text input.configs input.net one.2
+    one_settled_decision one.0 input.net (with_settled_lines (configured input.configs input.net)) one.2
     (moved (λ file. IsPrepareDecision file (configured input.configs input.net) e) one.1 other.1 other.2)
 one_decision Plan input ascending one other = one_plan_decision one other
 one_decision Refute input {e = e} ascending one other =
@@ -77,11 +81,19 @@ one_decision PairRefute input {e = e} ascending one other =
     one_pair_decision nets (IsTreeDecision (between nets) one.2.text) one_tree_decision one.4
     (redesigned (λ new. IsPairTree (network_pair input.net new) one.2.text e) one.1 other.1
     (moved (λ file. IsPairTree (network_pair input.net other.0) file.text e) one.3 other.3 other.4))
+one_decision Split input {e = e} ascending one other =
+    one_split_decision one.0 input.number input.net ascending one.2
+    (moved (λ file. IsSplitDecision file input.number input.net e) one.1 other.1 other.2)
+one_decision Delta input {e = e} ascending one other =
+    one_settled_decision one.0 input.net (settled_lines_alone (configured input.configs input.net)) one.2
+    (moved (λ file. IsDeltaDecision file (configured input.configs input.net) e) one.1 other.1 other.2)
+one_decision Tables input ascending one other = one_tables_decision one other
 one_decision Design input ascending one other = one_design_decision one other
 
 pub decision_tellable : (kind : CommandKind) (input : Input) (d : Decision) → IsDecision kind input d → IsTellable input.net d
 decision_tellable Check input d is = check_tellable is.2
-decision_tellable Prepare input d is = prepare_tellable is.2
+decision_tellable Prepare input d is =
+    settled_tellable is.0 input.net (with_settled_lines (configured input.configs input.net)) (λ settled. tt) is.2
 decision_tellable Plan input d is = plan_decision_tellable is
 decision_tellable Refute input d is = tree_tellable is.2
 decision_tellable Scripts input d is = scripts_tellable is.0 input.net is.2
@@ -92,4 +104,8 @@ decision_tellable PairScripts input d is =
     pair_tellable (network_pair input.net is.0) input.net _ (script_tellable (network_pair input.net is.0) is.2 input.net) is.4
 decision_tellable PairCheck input d is = pair_tellable (network_pair input.net is.0) input.net _ check_tellable is.4
 decision_tellable PairRefute input d is = pair_tellable (network_pair input.net is.0) input.net _ tree_tellable is.4
+decision_tellable Split input d is = split_tellable is.0 input.number input.net is.2
+decision_tellable Delta input d is =
+    settled_tellable is.0 input.net (settled_lines_alone (configured input.configs input.net)) (λ settled. tt) is.2
+decision_tellable Tables input d is = tables_tellable is
 decision_tellable Design input d is = design_tellable is

@@ -30,6 +30,7 @@ use Rattle.migrate_cli.specs.Configurations.{GiveNetwork, GiveNetworks, IsAtStar
 use Rattle.migrate_cli.specs.Decisions.{Input, IsDecision, input_of}
 use Rattle.migrate_cli.specs.Outcomes.{IsOutcome}
 use Rattle.migrate_cli.specs.Outcomes.IsOutcome.{faulty_configuration, no_network, off_start, decided}
+use Rattle.migrate_cli.specs.PrepareDecision.{configured, with_settled_lines}
 use Rattle.migrate_cli.specs.PreparePromise.{AcceptsPrepare}
 use Rattle.migrate_cli.specs.Reading.{NamedText, named_text, named_texts}
 use Rattle.migrate_cli.specs.RefuteDecision.{IsTreeDecision}
@@ -42,7 +43,7 @@ use Rattle.migrate_cli.proofs.CallLaws.{OfFiles, OfWords, question, few_or_many,
 use Rattle.migrate_cli.proofs.CallLaws.OfFiles.{above, stopped, all_read}
 use Rattle.migrate_cli.proofs.CallLaws.OfWords.{refused, asks}
 use Rattle.migrate_cli.proofs.GroupLaws.{given_unrefused, none_refuses, same_networks}
-use Rattle.migrate_cli.proofs.PrepareLaws.{settled_writes}
+use Rattle.migrate_cli.proofs.SettlingLaws.{settled_writes}
 use Rattle.migrate_cli.proofs.RefuteLaws.{tree_decides}
 use Rattle.migrate_cli.proofs.StopLaws.{one_list, told_files, told_with, IsToldOf}
 
@@ -200,4 +201,5 @@ pub prepare_writes : (call : Call) → AcceptsPrepare call → (asked : List (Li
     IsAnswer call asked outcome → Writes (status_of outcome)
 prepare_writes call it =
     ends_decided call (command_of Prepare (it.file ∷ []) it.configs 0) it.texts it.net [] it.accepted Writes
-    (λ decision is. settled_writes it.design it.settled (said_of it.file (λ t. SaysDesign t it.design) it.text_is is.1 it.says) it.settles is.2)
+    (λ decision is. settled_writes is.0 it.net (with_settled_lines (configured (config_texts (command_of Prepare (it.file ∷ []) it.configs 0) it.texts) it.net))
+    it.design it.settled (λ some. written) (said_of it.file (λ t. SaysDesign t it.design) it.text_is is.1 it.says) it.settles is.2)

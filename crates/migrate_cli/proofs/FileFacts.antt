@@ -9,7 +9,7 @@ use Rattle.migrate_words.specs.Usages.{usage_of}
 use Rattle.migrate_words.specs.declared.command.TheConstants.{LEAST_SAMPLE, MOST_SAMPLE}
 use Rattle.migrate_words.specs.declared.command.Command.{Command}
 use Rattle.migrate_words.specs.declared.command.CommandKind.{CommandKind}
-use Rattle.migrate_words.specs.declared.command.CommandKind.TheVariants.{Prepare, Sample}
+use Rattle.migrate_words.specs.declared.command.CommandKind.TheVariants.{Prepare, Delta, Sample}
 use Rattle.migrate_cli.specs.Reading.{File, AreShort}
 use Rattle.migrate_cli.specs.CommandFiles.{config_file, config_texts, files_of, given_texts, made_texts, names_for, own_file, own_files, own_most, own_texts, text_names}
 use Rattle.migrate_cli.specs.steps.FilesRead.{ReadsFiles}
@@ -27,6 +27,7 @@ small_configs (n ∷ names) = All-cons IsSmall (config_file n) (map config_file 
 
 pub most_small : (kind : CommandKind) → own_most kind ≤ 16777216
 most_small Prepare = lit≤ tt
+most_small Delta = lit≤ tt
 most_small _ = lit≤ tt
 
 small_own : (kind : CommandKind) (names : List (List ℕ)) → All IsSmall (map (own_file kind) names)

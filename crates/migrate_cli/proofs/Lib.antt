@@ -11,12 +11,14 @@ mod TableFacts
 mod CheckLaws
 mod NextFacts
 mod PrepareFacts
-mod PrepareLaws
+mod SettlingLaws
 mod OriginatedFacts
 mod PlanLaws
 mod RefuteLaws
 mod ReplayLaws
 mod ScriptsLaws
+mod SplitLaws
+mod TablesLaws
 mod CommandFacts
 mod PairLaws
 mod DesignLaws
@@ -31,6 +33,9 @@ mod DecidedLaws
 mod HeadlineLaws
 mod PlanPromiseLaws
 mod PreparePromiseLaws
+mod DeltaPromiseLaws
+mod SplitPromiseLaws
+mod TablesPromiseLaws
 mod SamplePromiseLaws
 mod PairPromiseLaws
 mod DesignPromiseLaws

@@ -2,6 +2,9 @@
 use Rattle.std.proofs.Common.{◌≡◌, ◌∙◌, ◌+◌, ◌-◌, ◌<◌, ◌++◌, ◌∷◌, [], ℕ, zero, suc, Bool, true, List, Option, Some, None}
 use Rattle.std.proofs.Common.{Result, Ok, Err, IfOk, ap, append-nil, append_assoc, arith, get_or, length, refl, subst, sym, take}
 use Rattle.std.specs.Prelude.{slice_get}
+use Rattle.std.proofs.lemmas.Grind.{flat_map-append}
+use Rattle.std.proofs.lemmas.List.{take_more}
+use Rattle.std.specs.List.{flat_map}
 use Rattle.std.specs.declared.alloc.AllocError.{AllocError}
 use Rattle.net_addr.specs.JoinedLines.{is_of_whole_lines}
 use Rattle.net_addr.specs.Lines.{is_line_feed}
@@ -11,13 +14,14 @@ use Rattle.design_file.specs.declared.design.Design.{Design}
 use Rattle.design_file.specs.declared.refusal.DesignRefusal.{DesignRefusal}
 use Rattle.design_file.specs.declared.refusal.DesignRefusal.TheVariants.{Bad, OutOfMemory}
 use Rattle.design_file.specs.declared.settled.SettledRouter.{SettledRouter}
+use Rattle.isis_writer.specs.Deltas.{delta_text}
 use Rattle.isis_writer.specs.Prepared.{prepared_text}
 use Rattle.isis_writer.specs.PreparedConfigurations.{prepared_texts, with_last_feed}
 use Rattle.migration_report.specs.declared.decision.Decision.{Decision}
-use Rattle.migrate_cli.specs.PrepareDecision.{IsPrepareDecision, configured}
-use Rattle.migrate_cli.specs.PrepareDecision.IsPrepareDecision.{no_design, unsettled}
-use Rattle.migrate_cli.specs.steps.Answering.{RefusesDesignSo}
-use Rattle.migrate_cli.specs.Reading.{named_text}
+use Rattle.migrate_cli.specs.DeltaDecision.{delta_texts}
+use Rattle.migrate_cli.specs.Reading.{NamedText}
+use Rattle.migrate_cli.specs.SettledDesigns.RefusesDesignFile.{no_design, unsettled}
+use Rattle.migrate_cli.specs.steps.Answering.{IsSettledOrRefused, RefusesDesignSo}
 
 -- whether a text whose last byte is this one is of whole lines
 abbrev pub ends_whole : Option ℕ → Bool
@@ -48,19 +52,27 @@ prepared_more net settled (t ∷ texts) (suc i) text within at =
     ∙ sym (append_assoc (with_last_feed (prepared_text t net settled)) (prepared_texts net settled (take i texts))
     (with_last_feed (prepared_text text net settled)))
 
+-- one text more, by its new lines alone
+pub delta_more : (net : Network) (settled : List SettledRouter) (texts : List (List ℕ)) (i : ℕ) (text : List ℕ) →
+    i < length texts → text ≡ get_or texts i text →
+    delta_texts net settled (take (i + 1) texts) ≡ delta_texts net settled (take i texts) ++ delta_text text net settled
+delta_more net settled texts i text within at =
+    let new : List ℕ → List ℕ = λ t. delta_text t net settled in
+    ap (flat_map new) (take_more texts i text within) ∙ flat_map-append new (take i texts) (get_or texts i text ∷ [])
+    ∙ ap (λ more. flat_map new (take i texts) ++ more) (append-nil (new (get_or texts i text)) ∙ ap new (sym at))
+
 -- ---- what is decided where a design is refused ----
 
-pub text_refused : (file design : List ℕ) (configs : List (List ℕ)) (net : Network) (refusal : DesignRefusal) (r : Result Decision AllocError) →
-    RefusesText design refusal → IfOk r (RefusesDesignSo file refusal) → IfOk r (IsPrepareDecision (named_text file design) (configured configs net))
-text_refused file design configs net (Bad kind path) (Ok d) refuses so =
-    subst (IsPrepareDecision (named_text file design) (configured configs net)) (sym so) (no_design kind path refuses)
-text_refused file design configs net OutOfMemory (Ok d) refuses so = absurd so
-text_refused file design configs net refusal (Err e) refuses so = tt
+pub text_refused : (design : NamedText) (net : Network) (refusal : DesignRefusal) (r : Result (Result (List SettledRouter) Decision) AllocError) →
+    RefusesText design.text refusal → IfOk r (RefusesDesignSo design.file refusal) → IfOk r (IsSettledOrRefused design net)
+text_refused design net (Bad kind path) (Ok d) refuses so = subst (IsSettledOrRefused design net) (sym so) (no_design kind path refuses)
+text_refused design net OutOfMemory (Ok d) refuses so = absurd so
+text_refused design net refusal (Err e) refuses so = tt
 
-pub design_refused : (file design : List ℕ) (configs : List (List ℕ)) (net : Network) (said : Design) (refusal : DesignRefusal)
-    (r : Result Decision AllocError) → SaysDesign design said → RefusesDesign said net refusal → IfOk r (RefusesDesignSo file refusal) →
-    IfOk r (IsPrepareDecision (named_text file design) (configured configs net))
-design_refused file design configs net said (Bad kind path) (Ok d) says refuses so =
-    subst (IsPrepareDecision (named_text file design) (configured configs net)) (sym so) (unsettled said kind path says refuses)
-design_refused file design configs net said OutOfMemory (Ok d) says refuses so = absurd so
-design_refused file design configs net said refusal (Err e) says refuses so = tt
+pub design_refused : (design : NamedText) (net : Network) (said : Design) (refusal : DesignRefusal)
+    (r : Result (Result (List SettledRouter) Decision) AllocError) → SaysDesign design.text said → RefusesDesign said net refusal →
+    IfOk r (RefusesDesignSo design.file refusal) → IfOk r (IsSettledOrRefused design net)
+design_refused design net said (Bad kind path) (Ok d) says refuses so =
+    subst (IsSettledOrRefused design net) (sym so) (unsettled said kind path says refuses)
+design_refused design net said OutOfMemory (Ok d) says refuses so = absurd so
+design_refused design net said refusal (Err e) says refuses so = tt

@@ -21,12 +21,12 @@ use Rattle.migrate_cli.specs.Answers.{IsAnswer}
 use Rattle.migrate_cli.specs.Calls.{Call, Course}
 use Rattle.migrate_cli.specs.CommandFiles.{command_of, config_texts, files_of, own_file}
 use Rattle.migrate_cli.specs.Configurations.{GiveNetwork}
-use Rattle.migrate_cli.specs.PrepareDecision.{IsPrepareDecision, configured}
-use Rattle.migrate_cli.specs.PrepareDecision.IsPrepareDecision.{no_design, unsettled, prepared}
+use Rattle.migrate_cli.specs.PrepareDecision.{IsPrepareDecision, configured, with_settled_lines}
 use Rattle.migrate_cli.specs.PreparePromise.{HasPrepared}
 use Rattle.migrate_cli.specs.Reading.{AreWithin, NamedText, named_text, named_texts}
 use Rattle.migrate_cli.proofs.DecidedLaws.{HasDecided, answer_decided, done_no_refusal}
 use Rattle.migrate_cli.proofs.FileFacts.{files_length, short_length}
+use Rattle.migrate_cli.proofs.SettlingLaws.{done_is_settled}
 
 -- ---- `prepare` has configuration files ----
 
@@ -56,7 +56,7 @@ network_read (text ∷ texts) net settled gives fits some = prepared_texts_read 
 -- ---- what was written is read back ----
 
 -- the one own text is that of the file that is decided on
-own_is : (file : List ℕ) (texts : List (List ℕ)) (design : NamedText) → named_texts (file ∷ []) (take 1 texts) ≡ design ∷ [] →
+pub own_is : (file : List ℕ) (texts : List (List ℕ)) (design : NamedText) → named_texts (file ∷ []) (take 1 texts) ≡ design ∷ [] →
     take 1 texts ≡ design.text ∷ []
 own_is file [] design is = absurd (cc is)
 own_is file (text ∷ texts) design is = let same : named_text file text ≡ design = cc is in ap (λ (d : NamedText). d.text ∷ []) same
@@ -74,24 +74,25 @@ module _ (call : Call) (file : List ℕ) (configs : List (List ℕ)) (outside : 
   by_decision : {outcome : Outcome} (it : HasDecided call command outcome) (d : Decision) →
       IsPrepareDecision it.is.0 (configured (config_texts command it.texts) it.net) d →
       AddsBytes outside.before.written outside.after.written (decision_text it.net d) → decision_status d ≡ Done → HasPrepared call file configs outside
-  by_decision it d (no_design _ _ _) writes e = absurd (Prim.cc e)
-  by_decision it d (unsettled _ _ _ _ _) writes e = absurd (Prim.cc e)
-  by_decision it d (prepared said settled says settles fits) writes e = record {
-    texts = it.texts;
-    read = it.read;
-    within = it.within;
-    net = it.net;
-    gives = it.gives.0;
-    text = it.is.0.text;
-    text_is = own_is file it.texts it.is.0 it.is.1;
-    design = said;
-    says = says;
-    settled = settled;
-    settles = settles;
-    written = prepared_texts it.net settled (config_texts command it.texts);
-    adds = writes;
-    reads_back = network_read (config_texts command it.texts) it.net settled it.gives.0 fits (some_configs it.texts it.within);
-  }
+  by_decision it d is writes done =
+      let routers = configured (config_texts command it.texts) it.net in
+      let found = done_is_settled it.is.0 it.net (with_settled_lines routers) is done in
+      record {
+        texts = it.texts;
+        read = it.read;
+        within = it.within;
+        net = it.net;
+        gives = it.gives.0;
+        text = it.is.0.text;
+        text_is = own_is file it.texts it.is.0 it.is.1;
+        design = found.2.said;
+        says = found.2.says;
+        settled = found.0;
+        settles = found.2.settles;
+        written = prepared_texts it.net found.0 (config_texts command it.texts);
+        adds = subst (λ (some : Decision). AddsBytes outside.before.written outside.after.written (decision_text it.net some)) found.1 writes;
+        reads_back = network_read (config_texts command it.texts) it.net found.0 it.gives.0 found.2.fits (some_configs it.texts it.within);
+      }
 
   pub reads_back : {asked : List (List ℕ)} {outcome : Outcome} → IsAnswer call asked outcome →
       AddsBytes outside.before.written outside.after.written (outcome_text outcome) → status_of outcome ≡ Done → HasPrepared call file configs outside

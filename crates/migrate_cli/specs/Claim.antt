@@ -8,12 +8,15 @@ use Rattle.migrate_cli.specs.AnswerLaws.{EndsByAnswer}
 use Rattle.migrate_cli.specs.Answers.{Answers}
 use Rattle.migrate_cli.specs.Calls.{Call, Outside}
 use Rattle.migrate_cli.specs.Completeness.{CheckDecides, RefuteDecides, ReplayDecides, ScriptsWrites}
+use Rattle.migrate_cli.specs.DeltaPromise.{DeltaPromise}
 use Rattle.migrate_cli.specs.DesignPromise.{DesignPromise}
 use Rattle.migrate_cli.specs.PairPromise.{PairCheckDecides, PairPromise, PairRefuteDecides, PairScriptsWrites}
 use Rattle.migrate_cli.specs.PlanPromise.{PlanPromise}
 use Rattle.migrate_cli.specs.PreparePromise.{PreparePromise}
 use Rattle.migrate_cli.specs.Reading.{LastFailed}
 use Rattle.migrate_cli.specs.SamplePromise.{SamplePromise}
+use Rattle.migrate_cli.specs.SplitPromise.{SplitPromise}
+use Rattle.migrate_cli.specs.TablesPromise.{TablesPromise}
 
 pub record Claim (call : Call) (before after : Outside) (status : Status) : Type 0 where
   -- it asks for its command's files in their order, and what they come to is written whole or cut, or nothing for want of memory
@@ -48,3 +51,9 @@ pub record Claim (call : Call) (before after : Outside) (status : Status) : Type
   pub pair_scripts : PairScriptsWrites call before after status
   -- `sample` sums up the plan of a made network, and reads no file
   pub samples : SamplePromise call before after status
+  -- `split` cuts safe waves into smaller ones, which are safe
+  pub splits : SplitPromise call before after status
+  -- `delta` writes the lines alone that `prepare` adds
+  pub deltas : DeltaPromise call before after status
+  -- `tables` writes all entries of the tables of both protocols
+  pub tables : TablesPromise call before after status

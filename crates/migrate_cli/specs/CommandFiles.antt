@@ -3,7 +3,7 @@ use Rattle.std.specs.Prelude.{ℕ, List, [], ◌∷◌, ◌++◌, codes, length,
 use Rattle.migrate_words.specs.Schemes.{AskedScheme, usual_scheme}
 use Rattle.migrate_words.specs.declared.command.Command.{Command}
 use Rattle.migrate_words.specs.declared.command.CommandKind.{CommandKind}
-use Rattle.migrate_words.specs.declared.command.CommandKind.TheVariants.{Prepare, Sample}
+use Rattle.migrate_words.specs.declared.command.CommandKind.TheVariants.{Prepare, Sample, Delta, Tables}
 use Rattle.migrate_words.specs.declared.command.CommandKind.TheVariants.{Pair, PairScripts, PairCheck, PairRefute, Design}
 use Rattle.sample_network.specs.SampleTexts.{sample_text}
 use Rattle.migrate_cli.specs.Reading.{File}
@@ -28,6 +28,7 @@ design_of scheme configs = record { kind = Design; own = []; configs = configs; 
 -- how many bytes a file of a command's own has at most
 abbrev pub own_most : CommandKind → ℕ
 own_most Prepare = DESIGN_MOST
+own_most Delta = DESIGN_MOST
 own_most _ = FILE_MOST
 
 -- a file of a command's own: an order, a tree, a journal or a design
@@ -91,5 +92,7 @@ text_names command = names_for command.kind command.configs
 -- the commands that ask that every router is where a migration starts
 abbrev pub NeedsStart : CommandKind → Type 0
 NeedsStart Prepare = ⊥
+NeedsStart Delta = ⊥
+NeedsStart Tables = ⊥
 NeedsStart Design = ⊥
 NeedsStart _ = Unit {0}

@@ -6,10 +6,11 @@ use Rattle.migrate_words.specs.Schemes.{AskedScheme}
 use Rattle.migrate_words.specs.declared.command.Command.{Command}
 use Rattle.migrate_words.specs.declared.command.CommandKind.{CommandKind}
 use Rattle.migrate_words.specs.declared.command.CommandKind.TheVariants.{Check, Prepare, Plan, Refute, Scripts, Replay, Sample}
-use Rattle.migrate_words.specs.declared.command.CommandKind.TheVariants.{Pair, PairScripts, PairCheck, PairRefute, Design}
+use Rattle.migrate_words.specs.declared.command.CommandKind.TheVariants.{Pair, PairScripts, PairCheck, PairRefute, Split, Delta, Tables, Design}
 use Rattle.migration_report.specs.declared.decision.Decision.{Decision}
 use Rattle.migrate_cli.specs.CommandFiles.{GivenTexts}
 use Rattle.migrate_cli.specs.CheckDecision.{IsCheckDecision}
+use Rattle.migrate_cli.specs.DeltaDecision.{IsDeltaDecision}
 use Rattle.migrate_cli.specs.DesignDecision.{IsDesignDecision}
 use Rattle.migrate_cli.specs.PrepareDecision.{IsPrepareDecision, configured}
 use Rattle.ospf_pair.specs.NetworkPairs.{network_pair}
@@ -20,6 +21,8 @@ use Rattle.migrate_cli.specs.RefuteDecision.{IsTreeDecision}
 use Rattle.migrate_cli.specs.ReplayDecision.{IsReplayDecision, journal_of}
 use Rattle.migrate_cli.specs.SampleDecision.{IsSampleDecision}
 use Rattle.migrate_cli.specs.ScriptsDecision.{IsScriptsDecision}
+use Rattle.migrate_cli.specs.SplitDecision.{IsSplitDecision}
+use Rattle.migrate_cli.specs.TablesDecision.{IsTablesDecision}
 
 -- what a command decides on: its own files, its number and its scheme, the texts of the configurations, the network that their
 -- first group makes, and those of the other groups
@@ -65,4 +68,9 @@ IsDecision PairCheck input decision =
 IsDecision PairRefute input decision =
     (new : Network) × (input.others ≡ new ∷ []) × (tree : NamedText) × (input.own ≡ tree ∷ []) ×
     IsPairTree (network_pair input.net new) tree.text decision
+IsDecision Split input decision =
+    (order : NamedText) × (input.own ≡ order ∷ []) × IsSplitDecision order input.number input.net decision
+IsDecision Delta input decision =
+    (design : NamedText) × (input.own ≡ design ∷ []) × IsDeltaDecision design (configured input.configs input.net) decision
+IsDecision Tables input decision = IsTablesDecision input.net decision
 IsDecision Design input decision = IsDesignDecision input.scheme input.net decision

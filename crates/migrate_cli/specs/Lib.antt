@@ -4,13 +4,17 @@ pub mod CommandFiles
 pub mod CallWords
 pub mod Configurations
 pub mod CheckDecision
+pub mod SettledDesigns
 pub mod PrepareDecision
+pub mod DeltaDecision
 pub mod PlanDecision
 pub mod OriginatedPrefixes
 pub mod SampleDecision
 pub mod RefuteDecision
 pub mod ReplayDecision
 pub mod ScriptsDecision
+pub mod SplitDecision
+pub mod TablesDecision
 pub mod PairDecision
 pub mod DesignDecision
 pub mod Decisions
@@ -21,6 +25,9 @@ pub mod Completeness
 pub mod Headline
 pub mod PlanPromise
 pub mod PreparePromise
+pub mod DeltaPromise
+pub mod SplitPromise
+pub mod TablesPromise
 pub mod SamplePromise
 pub mod PairPromise
 pub mod DesignPromise

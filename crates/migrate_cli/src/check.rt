@@ -53,7 +53,11 @@ pub(crate) fn check_over(
 }
 
 /// What is decided of the waves of an order file.
-fn check_read(alloc: Global, read: &WaveFile, of: &Move<'_>) -> Result<Decision, OutOfMemory>
+pub(crate) fn check_read(
+    alloc: Global,
+    read: &WaveFile,
+    of: &Move<'_>,
+) -> Result<Decision, OutOfMemory>
     requires { length read.now.waves ≡ length of.now.net }
     ensures { (order : NamedText) → NamesWaves of.now.net order.text read.now.version read.now.waves →
         IfOk result (IsCheckOver (move_of of.now) order) }

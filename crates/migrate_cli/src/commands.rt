@@ -8,6 +8,7 @@ ghost use Rattle.migrate_cli.specs.Reading.{AreShort};
 
 use crate::OutOfMemory;
 use crate::check::{check_over, judge_check};
+use crate::delta::judge_delta;
 use crate::design::judge_design;
 use crate::files::FILE_MOST;
 use crate::moves::Move;
@@ -18,6 +19,8 @@ use crate::refute::{judge_refute, refute_over};
 use crate::replay::judge_replay;
 use crate::sample::judge_sample;
 use crate::scripts::judge_scripts;
+use crate::shown::judge_tables;
+use crate::split::judge_split;
 use migrate_words::{Command, CommandKind};
 use migration_report::Decision;
 use net_addr::Bytes;
@@ -29,7 +32,13 @@ use std::alloc::Global;
 pub(crate) fn needs_start(kind: CommandKind) -> bool
     ensures { IsTrue result ↔ NeedsStart kind }
 {
-    !matches!(kind, CommandKind::Prepare | CommandKind::Design)
+    !matches!(
+        kind,
+        CommandKind::Prepare
+            | CommandKind::Delta
+            | CommandKind::Tables
+            | CommandKind::Design
+    )
 }
 
 /// What a command decides on the texts of its own files, those of configurations, and the network that these make.
@@ -69,6 +78,15 @@ pub(crate) fn judge_command(
             judge_replay(alloc, file, order, journal, net)
         }
         CommandKind::Sample => judge_sample(alloc, command.number, net),
+        CommandKind::Split => {
+            let (file, order) = first_own(command, own);
+            judge_split(alloc, file, order, command.number, net)
+        }
+        CommandKind::Delta => {
+            let (file, design) = first_own(command, own);
+            judge_delta(alloc, file, design, configs, net)
+        }
+        CommandKind::Tables => judge_tables(alloc, net),
         CommandKind::Design => judge_design(alloc, &command.scheme, net),
         _ => unreachable!(),
     }

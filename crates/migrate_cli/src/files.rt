@@ -55,7 +55,7 @@ fn own_most(kind: CommandKind) -> u64
     ensures { result ≡ own_most kind }
 {
     match kind {
-        CommandKind::Prepare => DESIGN_MOST,
+        CommandKind::Prepare | CommandKind::Delta => DESIGN_MOST,
         _ => FILE_MOST,
     }
 }

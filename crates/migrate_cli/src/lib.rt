@@ -10,7 +10,9 @@
 //! | `configurations`, `judging` | configurations and the network, the start, and then the command's own decision |
 //! | `commands` | the commands, and whether one asks for the start of a migration |
 //! | `tables` | the tables of both protocols of a network, and mixed forwarding over them |
-//! | `check`, `plan`, `refute`, `scripts`, `replay`, `prepare`, `design`, `sample` | what each command decides |
+//! | `settling` | what a design settles for a network |
+//! | `design`, `prepare`, `delta`, `shown`, `plan`, `check`, `refute` | what each command decides, `tables` in `shown` |
+//! | `split`, `scripts`, `replay`, `pair`, `sample` | the same of those for the night, and of the others |
 //! | `sending` | writing in pieces of 4,096 bytes |
 //! | `originated` | how many prefixes a network originates |
 //! | `laws` | that a call has one answer |
@@ -31,10 +33,12 @@ mod files;
 mod judging;
 mod moves;
 mod reading;
+mod settling;
 mod tables;
 
 // what each command decides
 mod check;
+mod delta;
 mod design;
 mod pair;
 mod plan;
@@ -43,6 +47,8 @@ mod refute;
 mod replay;
 mod sample;
 mod scripts;
+mod shown;
+mod split;
 
 // what is counted, and laws
 mod laws;

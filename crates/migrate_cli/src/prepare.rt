@@ -2,17 +2,17 @@ ghost use Rattle.std.specs.Prelude.{◌≡◌, ◌≤◌, ◌++◌, All, IfOk, O
 ghost use Rattle.net_addr.specs.JoinedLines.{is_of_whole_lines};
 ghost use Rattle.isis_writer.specs.PreparedConfigurations.{prepared_texts, with_last_feed};
 ghost use Rattle.migrate_cli.specs.PrepareDecision.{IsPrepareDecision, configured};
-ghost use Rattle.migrate_cli.specs.steps.Answering.{RefusesDesignSo};
 ghost use Rattle.migrate_cli.specs.Reading.{named_text};
 
 use crate::OutOfMemory;
-use crate::files::{FILE_MOST, name_bytes};
-use design_file::{DesignRefusal, Settled, read_design, settle};
+use crate::files::FILE_MOST;
+use crate::settling::settle_text;
+use design_file::Settled;
 use isis_writer::prepared_text;
 use migration_report::Decision;
 use net_addr::Bytes;
 use net_model::Net;
-use std::alloc::{AllocError, Global};
+use std::alloc::Global;
 
 /// What is decided of the text of a design, the texts of configurations and the network that they make: the texts with the
 /// IS-IS lines of the design.
@@ -26,28 +26,12 @@ pub(crate) fn judge_prepare(
     requires { All (λ text. length text ≤ FILE_MOST) configs.now }
     ensures { IfOk result (IsPrepareDecision (named_text file.now design.now) (configured configs.now net.now)) }
 {
-    let design = match read_design(alloc, design.as_slice()) {
-        Ok(design) => design,
-        Err(refusal) => return refuse_design(alloc, file, refusal),
-    };
-    let settled = match settle(alloc, &design, net) {
-        Ok(settled) => settled,
-        Err(refusal) => return refuse_design(alloc, file, refusal),
-    };
-    let text = prepared_texts(alloc, configs, net, &settled)?;
-    Ok(Decision::Prepared { text })
-}
-
-/// What is decided where a design is refused.
-fn refuse_design(alloc: Global, file: &str, refusal: DesignRefusal) -> Result<Decision, OutOfMemory>
-    ensures { IfOk result (RefusesDesignSo file.now refusal) }
-{
-    match refusal {
-        DesignRefusal::Bad { kind, path } => {
-            let file = name_bytes(alloc, file)?;
-            Ok(Decision::BadDesign { file, path, kind })
+    match settle_text(alloc, file, design, net)? {
+        Ok(settled) => {
+            let text = prepared_texts(alloc, configs, net, &settled)?;
+            Ok(Decision::Prepared { text })
         }
-        DesignRefusal::OutOfMemory => Err(AllocError),
+        Err(refused) => Ok(refused),
     }
 }
 

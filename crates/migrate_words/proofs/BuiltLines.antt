@@ -19,7 +19,7 @@ use Rattle.migrate_words.specs.declared.command.CommandKind.{CommandKind}
 use Rattle.migrate_words.specs.declared.subcommands.ConfigFiles.{ConfigFiles}
 use Rattle.migrate_words.specs.declared.subcommands.ConfigFiles.TheVariants.{NoConfigs, Several, Networks}
 use Rattle.migrate_words.specs.declared.subcommands.NumberTaken.{NumberTaken}
-use Rattle.migrate_words.specs.declared.subcommands.NumberTaken.TheVariants.{NoNumber, Budget, Routers, DesignOptions}
+use Rattle.migrate_words.specs.declared.subcommands.NumberTaken.TheVariants.{NoNumber, Budget, Routers, DesignOptions, WaveSize}
 use Rattle.migrate_words.proofs.RowFacts.{some_is}
 use Rattle.migrate_words.proofs.TakenWalk.{line_of_taken}
 
@@ -77,6 +77,7 @@ each_number : (P : Rule → Type 0) → OfArguments P → (number : NumberTaken)
 each_number P of NoNumber = tt
 each_number P of Budget = (of.budget, tt)
 each_number P of Routers = (of.text (codes "N"), tt)
+each_number P of WaveSize = (of.text (codes "N"), tt)
 each_number P of DesignOptions = (of.area, (of.level, tt))
 
 each_config : (P : Rule → Type 0) → OfArguments P → (configs : ConfigFiles) → EachFilled P (config_rules configs)

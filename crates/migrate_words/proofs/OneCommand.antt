@@ -11,7 +11,7 @@ use Rattle.migrate_words.specs.declared.command.CommandKind.{CommandKind}
 use Rattle.migrate_words.specs.declared.subcommands.ConfigFiles.{ConfigFiles}
 use Rattle.migrate_words.specs.declared.subcommands.ConfigFiles.TheVariants.{NoConfigs, Several, Networks}
 use Rattle.migrate_words.specs.declared.subcommands.NumberTaken.{NumberTaken}
-use Rattle.migrate_words.specs.declared.subcommands.NumberTaken.TheVariants.{NoNumber, Budget, Routers, DesignOptions}
+use Rattle.migrate_words.specs.declared.subcommands.NumberTaken.TheVariants.{NoNumber, Budget, Routers, DesignOptions, WaveSize}
 use Rattle.migrate_words.proofs.Entries.{same_kind}
 use Rattle.migrate_words.proofs.RowFacts.{one_value, some_is}
 
@@ -25,6 +25,8 @@ one_number Budget None n m one two = one ∙ sym two
 one_number Budget (Some word) n m one two = one_in_range 1 100000 word n m one two
 one_number Routers None n m one two = absurd one
 one_number Routers (Some word) n m one two = one_in_range 3 60 word n m one two
+one_number WaveSize None n m one two = absurd one
+one_number WaveSize (Some word) n m one two = one_in_range 1 4294967295 word n m one two
 one_number DesignOptions word n m one two = one ∙ sym two
 
 one_area : (word : Option Text) (area other : Text) → IsGivenArea word area → IsGivenArea word other → area ≡ other

@@ -31,7 +31,7 @@ use Rattle.migrate_words.specs.Schemes.{AskedScheme, scheme_of, usual_scheme}
 use Rattle.migrate_words.specs.CommandLine.{area_option, budget_option, command_line, config_rules, level_option, number_rules, one_text, rules_of}
 use Rattle.migrate_words.specs.Laws.{PlainWordsLaw}
 use Rattle.migrate_words.specs.PlainWords.{ArePlainConfigs, IsPlainName, WritesArea, WritesLevels, WritesNumber}
-use Rattle.migrate_words.specs.PlainWords.{area, budget, level, no_number, options, routers, usual_area, usual_budget, usual_levels}
+use Rattle.migrate_words.specs.PlainWords.{area, budget, level, no_number, options, routers, usual_area, usual_budget, usual_levels, wave_size}
 use Rattle.migrate_words.specs.Usages.{Usage, network_names, usage, usage_of}
 use Rattle.migrate_words.specs.declared.command.CommandKind.{CommandKind}
 use Rattle.migrate_words.specs.declared.command.CommandKind.TheVariants.{Check}
@@ -269,6 +269,32 @@ module _ (word : Text) (own : List Text) (configs : ConfigFiles) where
 numeral_plain : (word : Text) (n : ℕ) → IsNumeral word n → IsPlainName word
 numeral_plain [] n numeral = absurd (omega (arith, numeral.some))
 numeral_plain (x ∷ xs) n numeral = λ hyphen. let digit = All-head IsAsciiDigit x xs numeral.digits in omega (arith, digit, hyphen)
+
+-- a number that is the first argument of a line, a text of its own
+number_front : (own : List Text) (configs : ConfigFiles)
+    → Behind (filled_from 1 ((one_text (codes "N") ∷ map one_text own ++ config_rules configs) ++ help_rule ∷ [])) 2 (codes "N" ∷ [])
+    (map one_text own ++ (config_rules configs ++ help_rule ∷ []))
+number_front own configs = record {
+  front = text_at 1 (codes "N") ∷ [];
+  rules_are = ap (λ (rules : List Rule). filled_from 1 (one_text (codes "N") ∷ rules)) (rules_behind own configs);
+  under = (omega arith, tt);
+  names = refl;
+}
+
+module _ (word : Text) (own : List Text) (configs : ConfigFiles) where
+  abbrev with_number_first : Shape
+  with_number_first = built_line (usage word Routers own configs)
+
+  number_first : (number : Text) (rest : List Text) (final : List Row) → IsPlainName number
+      → ((h : Held) → Settles with_number_first h (text_row (codes "N") (number ∷ []) ∷ [])
+      → Ends with_number_first (before h false 2) rest final)
+      → Ends with_number_first (before nothing_held false 1) (number ∷ rest) final
+  number_first [] rest final plain follows = absurd plain
+  number_first (x ∷ xs) rest final plain follows =
+      ends_after_word with_number_first nothing_held [] false 1 (text_at 1 (codes "N")) x xs rest final (nothing_settles with_number_first)
+      (ne_eqb x 45 plain) refl refl refl
+      (follows (held_text [] (codes "N") (x ∷ xs))
+      (text_settles with_number_first (text_at 1 (codes "N")) (codes "N") (x ∷ xs) [] refl refl (takes_text 1 (codes "N")) refl))
 
 -- an area begins with a digit, and so does a word for levels
 area_plain : (word : Text) → is_area word ≡ true → IsPlainName word
@@ -514,28 +540,21 @@ number_walk word _ own configs _ _ _ (routers text n is) are = record {
   small = omega arith;
   seen = codes "N" ∷ [];
   apart = are.behind_number;
-  behind = record {
-    front = text_at 1 (codes "N") ∷ [];
-    rules_are = ap (λ (rules : List Rule). filled_from 1 (one_text (codes "N") ∷ rules)) (rules_behind own configs);
-    under = (omega arith, tt);
-    names = refl;
-  };
-  walk = λ rest final follows. routers_first text rest final (numeral_plain text n is.numeral.numeral) follows;
+  behind = number_front own configs;
+  walk = λ rest final follows. number_first word own configs text rest final (numeral_plain text n is.numeral.numeral) follows;
   given = λ more none. (is, refl, refl);
 }
-  where
-    line : Shape
-    line = built_line (usage word Routers own configs)
-
-    routers_first : (number : Text) (rest : List Text) (final : List Row) → IsPlainName number
-        → ((h : Held) → Settles line h (text_row (codes "N") (number ∷ []) ∷ []) → Ends line (before h false 2) rest final)
-        → Ends line (before nothing_held false 1) (number ∷ rest) final
-    routers_first [] rest final plain follows = absurd plain
-    routers_first (x ∷ xs) rest final plain follows =
-        ends_after_word line nothing_held [] false 1 (text_at 1 (codes "N")) x xs rest final (nothing_settles line)
-        (ne_eqb x 45 plain) refl refl refl
-        (follows (held_text [] (codes "N") (x ∷ xs))
-        (text_settles line (text_at 1 (codes "N")) (codes "N") (x ∷ xs) [] refl refl (takes_text 1 (codes "N")) refl))
+number_walk word _ own configs _ _ _ (wave_size text n is) are = record {
+  rows = text_row (codes "N") (text ∷ []) ∷ [];
+  new = are.behind_number;
+  place = 2;
+  small = omega arith;
+  seen = codes "N" ∷ [];
+  apart = are.behind_number;
+  behind = number_front own configs;
+  walk = λ rest final follows. number_first word own configs text rest final (numeral_plain text n is.numeral.numeral) follows;
+  given = λ more none. (is, refl, refl);
+}
 
 -- ---- a whole line
 

@@ -14,7 +14,7 @@ use Rattle.migrate_words.specs.Usages.{network_names, usage_of}
 use Rattle.migrate_words.specs.declared.subcommands.ConfigFiles.{ConfigFiles}
 use Rattle.migrate_words.specs.declared.subcommands.ConfigFiles.TheVariants.{NoConfigs, Several, Networks}
 use Rattle.migrate_words.specs.declared.subcommands.NumberTaken.{NumberTaken}
-use Rattle.migrate_words.specs.declared.subcommands.NumberTaken.TheVariants.{NoNumber, Budget, Routers, DesignOptions}
+use Rattle.migrate_words.specs.declared.subcommands.NumberTaken.TheVariants.{NoNumber, Budget, Routers, DesignOptions, WaveSize}
 use Rattle.migrate_words.proofs.FullRows.{Full, HasSome}
 use Rattle.migrate_words.proofs.BuiltLines.{built_of, enters_line}
 use Rattle.migrate_words.proofs.RowFacts.{some_is}
@@ -41,6 +41,8 @@ number_in_range Budget None n is = (omega (arith, is), omega (arith, is))
 number_in_range Budget (Some word) n is = (is.above, is.numeral.within)
 number_in_range Routers None n is = absurd is
 number_in_range Routers (Some word) n is = (is.above, is.numeral.within)
+number_in_range WaveSize None n is = absurd is
+number_in_range WaveSize (Some word) n is = (is.above, is.numeral.within)
 number_in_range DesignOptions word n is = is
 
 given_area : (word : Option Text) (area : Text) → IsGivenArea word area → is_area area ≡ true

@@ -28,7 +28,7 @@ use Rattle.migrate_words.specs.declared.command.CommandKind.{CommandKind}
 use Rattle.migrate_words.specs.declared.subcommands.ConfigFiles.{ConfigFiles}
 use Rattle.migrate_words.specs.declared.subcommands.ConfigFiles.TheVariants.{NoConfigs, Several, Networks}
 use Rattle.migrate_words.specs.declared.subcommands.NumberTaken.{NumberTaken}
-use Rattle.migrate_words.specs.declared.subcommands.NumberTaken.TheVariants.{NoNumber, Budget, Routers, DesignOptions}
+use Rattle.migrate_words.specs.declared.subcommands.NumberTaken.TheVariants.{NoNumber, Budget, Routers, DesignOptions, WaveSize}
 use Rattle.migrate_words.proofs.Entries.{same_kind}
 use Rattle.migrate_words.proofs.FullRows.{Full, HasSome, WantsValue, cons_not_nil, full_rows, second_none}
 use Rattle.migrate_words.proofs.BuiltLines.{OfArguments, built_line, built_of, each_of_line, enters_line}
@@ -162,6 +162,9 @@ number_is_off Budget rows full none nothing = go (first_of (codes "N") rows) ref
 number_is_off Routers rows full none nothing =
     let word = has_text (codes "N") rows full (not-false _ (or_left _ _ none)) in
     number_off word.0 word.1 (λ n is. nothing n (subst (λ (given : Option Text). IsGivenNumber Routers given n) (sym word.1) is))
+number_is_off WaveSize rows full none nothing =
+    let word = has_text (codes "N") rows full (not-false _ (or_left _ _ none)) in
+    number_off word.0 word.1 (λ n is. nothing n (subst (λ (given : Option Text). IsGivenNumber WaveSize given n) (sym word.1) is))
 number_is_off DesignOptions rows full none nothing = absurd (nothing 0 refl)
 
 -- there is an area, or it is off

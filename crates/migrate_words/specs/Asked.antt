@@ -10,11 +10,11 @@ use Rattle.migrate_words.specs.Schemes.{AskedScheme, usual_scheme}
 use Rattle.migrate_words.specs.Usages.{network_names, usage_of}
 use Rattle.migrate_words.specs.declared.command.Command.{Command}
 use Rattle.migrate_words.specs.declared.command.CommandKind.{CommandKind}
-use Rattle.migrate_words.specs.declared.command.TheConstants.{LEAST_BUDGET, MOST_BUDGET, USUAL_BUDGET, LEAST_SAMPLE, MOST_SAMPLE}
+use Rattle.migrate_words.specs.declared.command.TheConstants.{LEAST_BUDGET, MOST_BUDGET, USUAL_BUDGET, LEAST_SAMPLE, MOST_SAMPLE, LEAST_WAVE, MOST_WAVE}
 use Rattle.migrate_words.specs.declared.subcommands.ConfigFiles.{ConfigFiles}
 use Rattle.migrate_words.specs.declared.subcommands.ConfigFiles.TheVariants.{NoConfigs, Several, Networks}
 use Rattle.migrate_words.specs.declared.subcommands.NumberTaken.{NumberTaken}
-use Rattle.migrate_words.specs.declared.subcommands.NumberTaken.TheVariants.{NoNumber, Budget, Routers, DesignOptions}
+use Rattle.migrate_words.specs.declared.subcommands.NumberTaken.TheVariants.{NoNumber, Budget, Routers, DesignOptions, WaveSize}
 
 -- the word is a decimal numeral whose value n is in this range
 pub record IsNumberIn (least most : ℕ) (word : Text) (n : ℕ) : Type 0 where
@@ -28,6 +28,8 @@ IsGivenNumber Budget None n = n ≡ USUAL_BUDGET
 IsGivenNumber Budget (Some word) n = IsNumberIn LEAST_BUDGET MOST_BUDGET word n
 IsGivenNumber Routers None n = ⊥
 IsGivenNumber Routers (Some word) n = IsNumberIn LEAST_SAMPLE MOST_SAMPLE word n
+IsGivenNumber WaveSize None n = ⊥
+IsGivenNumber WaveSize (Some word) n = IsNumberIn LEAST_WAVE MOST_WAVE word n
 IsGivenNumber DesignOptions word n = n ≡ 0
 
 -- the area that is given: the word, which is an area, or the usual one where there is no word
@@ -100,6 +102,7 @@ abbrev pub IsNumberInRange : NumberTaken → ℕ → Type 0
 IsNumberInRange NoNumber n = n ≡ 0
 IsNumberInRange Budget n = (LEAST_BUDGET ≤ n) × (n ≤ MOST_BUDGET)
 IsNumberInRange Routers n = (LEAST_SAMPLE ≤ n) × (n ≤ MOST_SAMPLE)
+IsNumberInRange WaveSize n = (LEAST_WAVE ≤ n) × (n ≤ MOST_WAVE)
 IsNumberInRange DesignOptions n = n ≡ 0
 
 -- there is a configuration file, none where none are taken, or one of each of two networks

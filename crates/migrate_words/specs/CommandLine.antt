@@ -8,7 +8,7 @@ use Rattle.migrate_words.specs.declared.command.CommandKind.{CommandKind}
 use Rattle.migrate_words.specs.declared.subcommands.ConfigFiles.{ConfigFiles}
 use Rattle.migrate_words.specs.declared.subcommands.ConfigFiles.TheVariants.{NoConfigs, Several, Networks}
 use Rattle.migrate_words.specs.declared.subcommands.NumberTaken.{NumberTaken}
-use Rattle.migrate_words.specs.declared.subcommands.NumberTaken.TheVariants.{NoNumber, Budget, Routers, DesignOptions}
+use Rattle.migrate_words.specs.declared.subcommands.NumberTaken.TheVariants.{NoNumber, Budget, Routers, DesignOptions, WaveSize}
 
 -- a required positional of one text
 abbrev pub one_text : Text → Rule
@@ -34,6 +34,7 @@ abbrev pub number_rules : NumberTaken → List Rule
 number_rules NoNumber = []
 number_rules Budget = budget_option ∷ []
 number_rules Routers = one_text (codes "N") ∷ []
+number_rules WaveSize = one_text (codes "N") ∷ []
 number_rules DesignOptions = area_option ∷ level_option ∷ []
 
 -- the arguments for configuration files

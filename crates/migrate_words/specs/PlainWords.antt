@@ -8,11 +8,11 @@ use Rattle.migrate_words.specs.Asked.{IsNumberIn}
 use Rattle.migrate_words.specs.Schemes.{AskedScheme, scheme_of, usual_scheme}
 use Rattle.migrate_words.specs.Usages.{usage_of}
 use Rattle.migrate_words.specs.declared.command.Command.{Command}
-use Rattle.migrate_words.specs.declared.command.TheConstants.{LEAST_BUDGET, MOST_BUDGET, USUAL_BUDGET, LEAST_SAMPLE, MOST_SAMPLE}
+use Rattle.migrate_words.specs.declared.command.TheConstants.{LEAST_BUDGET, MOST_BUDGET, USUAL_BUDGET, LEAST_SAMPLE, MOST_SAMPLE, LEAST_WAVE, MOST_WAVE}
 use Rattle.migrate_words.specs.declared.subcommands.ConfigFiles.{ConfigFiles}
 use Rattle.migrate_words.specs.declared.subcommands.ConfigFiles.TheVariants.{NoConfigs, Several, Networks}
 use Rattle.migrate_words.specs.declared.subcommands.NumberTaken.{NumberTaken}
-use Rattle.migrate_words.specs.declared.subcommands.NumberTaken.TheVariants.{NoNumber, Budget, Routers, DesignOptions}
+use Rattle.migrate_words.specs.declared.subcommands.NumberTaken.TheVariants.{NoNumber, Budget, Routers, DesignOptions, WaveSize}
 
 -- a plain name: it isn't empty, and it doesn't begin with `-`
 abbrev pub IsPlainName : Text → Type 0
@@ -42,6 +42,7 @@ pub data WritesNumber : NumberTaken → List Text → ℕ → AskedScheme → Ty
   budget : (word : Text) (n : ℕ) → IsNumberIn LEAST_BUDGET MOST_BUDGET word n
       → WritesNumber Budget (codes "--budget" ∷ word ∷ []) n usual_scheme
   routers : (word : Text) (n : ℕ) → IsNumberIn LEAST_SAMPLE MOST_SAMPLE word n → WritesNumber Routers (word ∷ []) n usual_scheme
+  wave_size : (word : Text) (n : ℕ) → IsNumberIn LEAST_WAVE MOST_WAVE word n → WritesNumber WaveSize (word ∷ []) n usual_scheme
   options : (area_words level_words : List Text) (its_area : Text) (its_levels : Levels) → WritesArea area_words its_area
       → WritesLevels level_words its_levels
       → WritesNumber DesignOptions (area_words ++ level_words) 0 (scheme_of its_area its_levels)

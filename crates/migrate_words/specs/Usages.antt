@@ -3,11 +3,11 @@ use Rattle.std.specs.Prelude.{List, [], ◌∷◌, codes}
 use Rattle.clap.specs.Words.{Text}
 use Rattle.migrate_words.specs.declared.command.CommandKind.{CommandKind}
 use Rattle.migrate_words.specs.declared.command.CommandKind.TheVariants.{Check, Prepare, Plan, Refute, Scripts, Replay, Sample}
-use Rattle.migrate_words.specs.declared.command.CommandKind.TheVariants.{Pair, PairScripts, PairCheck, PairRefute, Design}
+use Rattle.migrate_words.specs.declared.command.CommandKind.TheVariants.{Pair, PairScripts, PairCheck, PairRefute, Design, Split, Delta, Tables}
 use Rattle.migrate_words.specs.declared.subcommands.ConfigFiles.{ConfigFiles}
 use Rattle.migrate_words.specs.declared.subcommands.ConfigFiles.TheVariants.{NoConfigs, Several, Networks}
 use Rattle.migrate_words.specs.declared.subcommands.NumberTaken.{NumberTaken}
-use Rattle.migrate_words.specs.declared.subcommands.NumberTaken.TheVariants.{NoNumber, Budget, Routers, DesignOptions}
+use Rattle.migrate_words.specs.declared.subcommands.NumberTaken.TheVariants.{NoNumber, Budget, Routers, DesignOptions, WaveSize}
 
 -- a usage line: the word of the command, the number that it takes or the options in its place, the names of the files of its own in their order, and the
 -- configuration files that come last
@@ -37,8 +37,13 @@ usage_of Pair = usage (codes "pair") Budget [] Networks
 usage_of PairScripts = usage (codes "pairscripts") NoNumber (codes "ORDER" ∷ []) Networks
 usage_of PairCheck = usage (codes "paircheck") NoNumber (codes "ORDER" ∷ []) Networks
 usage_of PairRefute = usage (codes "pairrefute") NoNumber (codes "TREE" ∷ []) Networks
+usage_of Split = usage (codes "split") WaveSize (codes "ORDER" ∷ []) Several
+usage_of Delta = usage (codes "delta") NoNumber (codes "DESIGN" ∷ []) Several
+usage_of Tables = usage (codes "tables") NoNumber [] Several
 usage_of Design = usage (codes "design") DesignOptions [] Several
 
 -- the commands, in the order in which help tells them
 abbrev pub kinds : List CommandKind
-kinds = Check ∷ Prepare ∷ Plan ∷ Refute ∷ Scripts ∷ Replay ∷ Sample ∷ Pair ∷ PairScripts ∷ PairCheck ∷ PairRefute ∷ Design ∷ []
+kinds =
+    Check ∷ Prepare ∷ Plan ∷ Refute ∷ Scripts ∷ Replay ∷ Sample ∷ Pair ∷ PairScripts ∷ PairCheck ∷ PairRefute ∷ Split ∷ Delta ∷ Tables
+    ∷ Design ∷ []

@@ -7,7 +7,9 @@ ghost use Rattle.migrate_words.specs.declared.subcommands.NumberTaken.TheVariant
 ghost use Rattle.migrate_words.specs.steps.Reading.{ReadsAs};
 ghost use Rattle.migrate_words.specs.steps.Seen.{argument_names};
 
-use crate::command::{LEAST_BUDGET, LEAST_SAMPLE, MOST_BUDGET, MOST_SAMPLE, USUAL_BUDGET};
+use crate::command::{
+    LEAST_BUDGET, LEAST_SAMPLE, LEAST_WAVE, MOST_BUDGET, MOST_SAMPLE, MOST_WAVE, USUAL_BUDGET,
+};
 use crate::scheme::{USUAL_AREA, USUAL_LEVELS};
 use crate::subcommands::{ConfigFiles, NumberTaken, OwnFile, networks};
 use crate::{FileNames, Scheme, WordsRefused};
@@ -85,6 +87,8 @@ pub(crate) fn number_of(given: &ArgMatches<'_>, number: NumberTaken) -> Result<u
         (NumberTaken::Budget, Some(word)) => number_in(word, LEAST_BUDGET, MOST_BUDGET),
         (NumberTaken::Routers, None) => Err(WordsRefused::Number),
         (NumberTaken::Routers, Some(word)) => number_in(word, LEAST_SAMPLE, MOST_SAMPLE),
+        (NumberTaken::WaveSize, None) => Err(WordsRefused::Number),
+        (NumberTaken::WaveSize, Some(word)) => number_in(word, LEAST_WAVE, MOST_WAVE),
         (NumberTaken::DesignOptions, _) => Ok(0),
     }
 }

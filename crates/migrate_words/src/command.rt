@@ -15,6 +15,12 @@ pub const LEAST_SAMPLE: u32 = 3;
 /// The most routers of a network that `sample` makes.
 pub const MOST_SAMPLE: u32 = 60;
 
+/// The fewest routers that a wave may be cut to.
+pub const LEAST_WAVE: u32 = 1;
+
+/// The most routers that a wave may be cut to, the greatest number of its type: such a number cuts no wave.
+pub const MOST_WAVE: u32 = 4_294_967_295;
+
 /// The commands of the program.
 #[derive(Clone, Copy, Debug, PartialEq, Eq)]
 pub enum CommandKind {
@@ -40,6 +46,12 @@ pub enum CommandKind {
     PairCheck,
     /// `pairrefute TREE OLD NEW`: the verdict on a tree that is to show that no order between the two networks is safe.
     PairRefute,
+    /// `split N ORDER CONFIG...`: the waves of an order that is safe, cut into waves of N routers at most.
+    Split,
+    /// `delta DESIGN CONFIG...`: the IS-IS lines alone that `prepare` writes into the configurations.
+    Delta,
+    /// `tables CONFIG...`: the entries of the route tables of both protocols.
+    Tables,
     /// `design [--area AREA] [--level L] CONFIG...`: a design in which the IS-IS metrics are the OSPF costs.
     Design,
 }
@@ -53,7 +65,7 @@ pub struct Command<'a> {
     pub own: FileNames<'a>,
     /// The configurations: one file or more, or one of each of two networks, where the command takes any.
     pub configs: FileNames<'a>,
-    /// The budget of branches or the number of routers, 0 where the command takes no number.
+    /// The budget of branches, the number of routers, or how many a wave has at most; 0 where the command takes no number.
     pub number: u32,
     /// What a design is asked to say of every router, the usual scheme where the command takes none.
     pub scheme: Scheme<'a>,

@@ -34,7 +34,8 @@ mod reading;
 mod laws;
 
 pub use command::{
-    Command, CommandKind, LEAST_BUDGET, LEAST_SAMPLE, MOST_BUDGET, MOST_SAMPLE, USUAL_BUDGET,
+    Command, CommandKind, LEAST_BUDGET, LEAST_SAMPLE, LEAST_WAVE, MOST_BUDGET, MOST_SAMPLE,
+    MOST_WAVE, USUAL_BUDGET,
 };
 pub use file_names::FileNames;
 pub use laws::words_laws;

@@ -77,6 +77,10 @@ fn with_number<'a>(
             let routers = one_text(alloc, "N", "The number of routers, from 3 to 60");
             with_argument(line, routers)
         }
+        NumberTaken::WaveSize => {
+            let size = one_text(alloc, "N", "The most routers of a wave, 1 or more");
+            with_argument(line, size)
+        }
         NumberTaken::DesignOptions => with_design_options(alloc, line),
     }
 }

@@ -13,6 +13,8 @@ pub(crate) enum NumberTaken {
     Budget,
     /// `N`: the number of routers of a network.
     Routers,
+    /// `N`: how many routers a wave has at most.
+    WaveSize,
     /// The options `--area AREA` and `--level L`: no number, but what a design says of every router.
     DesignOptions,
 }
@@ -50,6 +52,11 @@ const ORDER: OwnFile = OwnFile {
     help: "The order file: routers in the order of their changes, or waves of routers",
 };
 
+const DESIGN: OwnFile = OwnFile {
+    name: "DESIGN",
+    help: "The design file, in TOML",
+};
+
 const TREE: OwnFile = OwnFile {
     name: "TREE",
     help: "The tree file, as it was printed",
@@ -73,7 +80,7 @@ pub(crate) fn networks() -> &'static [OwnFile]
     &NETWORKS
 }
 
-static SUBCOMMANDS: [Subcommand; 12] = [
+static SUBCOMMANDS: [Subcommand; 15] = [
     Subcommand {
         kind: CommandKind::Check,
         word: "check",
@@ -89,10 +96,7 @@ static SUBCOMMANDS: [Subcommand; 12] = [
         about: "Writes the configurations with the IS-IS lines of a design",
         usage: "migrate prepare DESIGN CONFIG...",
         number: NumberTaken::NoNumber,
-        own: &[OwnFile {
-            name: "DESIGN",
-            help: "The design file, in TOML",
-        }],
+        own: &[DESIGN],
         configs: ConfigFiles::Several,
     },
     Subcommand {
@@ -181,6 +185,33 @@ static SUBCOMMANDS: [Subcommand; 12] = [
         number: NumberTaken::NoNumber,
         own: &[TREE],
         configs: ConfigFiles::Networks,
+    },
+    Subcommand {
+        kind: CommandKind::Split,
+        word: "split",
+        about: "Writes the waves of a safe order or list, cut into waves of N routers at most",
+        usage: "migrate split N ORDER CONFIG...",
+        number: NumberTaken::WaveSize,
+        own: &[ORDER],
+        configs: ConfigFiles::Several,
+    },
+    Subcommand {
+        kind: CommandKind::Delta,
+        word: "delta",
+        about: "Writes the new lines of a design alone, router by router",
+        usage: "migrate delta DESIGN CONFIG...",
+        number: NumberTaken::NoNumber,
+        own: &[DESIGN],
+        configs: ConfigFiles::Several,
+    },
+    Subcommand {
+        kind: CommandKind::Tables,
+        word: "tables",
+        about: "Writes the routes of OSPF and of IS-IS that each router has by its configurations",
+        usage: "migrate tables CONFIG...",
+        number: NumberTaken::NoNumber,
+        own: &[],
+        configs: ConfigFiles::Several,
     },
     Subcommand {
         kind: CommandKind::Design,

@@ -25,7 +25,7 @@ use Rattle.migration_report.specs.Texts.{read_fault_text, safe_text, unsafe_text
 use Rattle.migration_report.specs.TreeVerdictTexts.{verdict_text}
 use Rattle.migration_report.specs.declared.decision.Decision.{Decision}
 use Rattle.migration_report.specs.declared.decision.Decision.TheVariants.{Safe, SafeWaves, Unsafe, UnsafeWave, Plan, Summary, Tree, Script}
-use Rattle.migration_report.specs.declared.decision.Decision.TheVariants.{Reached, Departs, Prepared, PairScript, Designed, BadPair, BadOrder, BadDesign}
+use Rattle.migration_report.specs.declared.decision.Decision.TheVariants.{Reached, Departs, Prepared, PairScript, Designed, BadPair, BadOrder, BadDesign, Split, Delta, Tables}
 use Rattle.migration_report.specs.declared.ends.End.TheVariants.{Old, New}
 use Rattle.migration_report.specs.declared.outcome.Outcome.{Outcome}
 use Rattle.migration_report.specs.declared.outcome.Outcome.TheVariants.{Refused, Decided}
@@ -103,6 +103,9 @@ decision_status (Designed text) = status.Done
 decision_status (BadPair refusal) = status.Refused
 decision_status (BadOrder file line kind) = status.Refused
 decision_status (BadDesign file path kind) = status.Refused
+decision_status (Split text) = status.Done
+decision_status (Delta text) = status.Done
+decision_status (Tables text) = status.Done
 
 -- and what it writes of the network; each router has two changes
 abbrev pub decision_text : Network → Decision → List ℕ
@@ -122,6 +125,9 @@ decision_text net (Designed text) = text
 decision_text net (BadPair refusal) = pair_refusal_text refusal
 decision_text net (BadOrder file line kind) = faulty_text file line (order_kind_name kind)
 decision_text net (BadDesign file path kind) = refused_design_text file path kind
+decision_text net (Split text) = text
+decision_text net (Delta text) = text
+decision_text net (Tables text) = text
 
 -- a plan has a text: it is of the routers of the network
 abbrev pub IsPlanTellable : Network → Planned → Type 0

@@ -122,6 +122,21 @@ pub enum Decision {
         /// What is wrong.
         kind: DesignKind,
     },
+    /// The waves of an order file are safe, and are cut into smaller ones.
+    Split {
+        /// The order file of these.
+        text: Bytes,
+    },
+    /// The lines of a design alone.
+    Delta {
+        /// Router by router.
+        text: Bytes,
+    },
+    /// The entries of the route tables of both protocols.
+    Tables {
+        /// A line each.
+        text: Bytes,
+    },
 }
 
 /// How a call ends that decided so.
@@ -145,6 +160,9 @@ pub(crate) fn decision_status(decision: &Decision) -> Status
         Decision::BadPair { .. } => Status::Refused,
         Decision::BadOrder { .. } => Status::Refused,
         Decision::BadDesign { .. } => Status::Refused,
+        Decision::Split { .. } => Status::Done,
+        Decision::Delta { .. } => Status::Done,
+        Decision::Tables { .. } => Status::Done,
     }
 }
 
@@ -211,6 +229,9 @@ pub(crate) fn decision_text(
         Decision::BadDesign { file, path, kind } => {
             refused_design_text(alloc, file.as_slice(), path.as_slice(), kind)
         }
+        Decision::Split { text } => Ok(text),
+        Decision::Delta { text } => Ok(text),
+        Decision::Tables { text } => Ok(text),
     }
 }
 

@@ -1,6 +1,7 @@
 ghost use Rattle.std.specs.Prelude.{◌≡◌, ◌+◌, ◌<◌, ◌^◌, IfOk, All, length};
 ghost use Rattle.std.specs.Int.{div_ceil};
 ghost use Rattle.order_core.specs.Orders.{AreDistinct};
+ghost use Rattle.order_core.specs.Rankings.{IsRanking};
 ghost use Rattle.step_scripts.specs.WavesTexts.{waves_in};
 ghost use Rattle.split_waves.specs.Cuts.{cut_waves};
 ghost use Rattle.split_waves.specs.steps.Seats.{AreRankedByCuts, seating};
@@ -11,7 +12,8 @@ use std::alloc::{AllocError, Global};
 /// The list in which each wave is cut into waves of so many routers, in their order, and a rest.
 pub fn split_waves(alloc: Global, waves: &Waves, most: u32) -> Result<Waves, AllocError>
     requires { 0 < most }
-    ensures { IfOk result (λ split. waves_in split ≡ cut_waves most waves.now) }
+    ensures ranking { IfOk result (λ split. IsRanking (length waves.now) split) }
+    ensures cuts { IfOk result (λ split. waves_in split ≡ cut_waves most waves.now) }
 {
     let mut ranks = Vec::from_slice(alloc, waves.ranks())?;
     let mut count = 0;

@@ -6,7 +6,7 @@
 from configurations import read_configurations
 from designs import DESIGN_MOST, LEVEL_WORDS, delta, design, is_area, prepare
 from forwarding import NEW, NEW_DISTANCE, OLD, UNUSED_DISTANCE, Missing, Mixed, change_times, router_times
-from networks import ROUTERS_MOST, build, look_at_pair, look_at_start
+from networks import build, look_at_pair, look_at_start
 from order_files import Departs, Journal, flat_run, is_of_changes, read_changes, read_order
 from reasons import packet_way, reasons, spans_of
 from running_night import observe
@@ -18,6 +18,7 @@ from trees import tree_text, verdict
 from words import Refused, address_text, number, word_at
 
 FILE_MOST, TOTAL_MOST, FILES_MOST = 16777216, 67108864, 200
+WAVE_MOST = 4294967295
 # What an option says, None where it is off its range, and what holds where it isn't given.
 BUDGET = {"--budget": (lambda word: number(word, 100000, 1), 10000)}
 COSTS = {"--area": (lambda word: word if is_area(word) else None, "49.0001"),
@@ -30,7 +31,7 @@ COMMANDS = {
     "rollback": (2, None, {}, None), "observe": (2, None, {}, None), "pair": (0, 2, BUDGET, None),
     "pairscripts": (1, 2, {}, None), "paircheck": (1, 2, {}, None), "pairrefute": (1, 2, {}, None),
     "prepare": (1, None, {}, None), "delta": (1, None, {}, None), "design": (0, None, COSTS, None),
-    "split": (1, None, {}, (1, ROUTERS_MOST)), "tables": (0, None, {}, None),
+    "split": (1, None, {}, (1, WAVE_MOST)), "tables": (0, None, {}, None),
     "survey": (0, None, {}, None), "why": (1, None, {}, None),
 }
 # Those that ask of no network that a migration begins there.

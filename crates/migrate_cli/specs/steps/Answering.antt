@@ -2,8 +2,10 @@
 use Rattle.std.specs.Prelude.{◌≡◌, ℕ, List, [], ◌++◌, Result, Ok, Err, string_bytes}
 use Rattle.std.specs.declared.alloc.AllocError.{AllocError}
 use Rattle.store_edge.specs.Files.{ReadsSoFar}
+use Rattle.net_model.specs.Network.{Network}
 use Rattle.design_file.specs.declared.refusal.DesignRefusal.{DesignRefusal}
 use Rattle.design_file.specs.declared.refusal.DesignRefusal.TheVariants.{Bad, OutOfMemory as NoMemoryForDesign}
+use Rattle.design_file.specs.declared.settled.SettledRouter.{SettledRouter}
 use Rattle.migrate_words.specs.declared.refusal.WordsRefused.{WordsRefused}
 use Rattle.migrate_words.specs.declared.refusal.WordsRefused.TheVariants.{Words as NotTaken, Number, OutOfMemory as NoMemoryForWords}
 use Rattle.migration_report.specs.Outcomes.{status_of}
@@ -14,13 +16,20 @@ use Rattle.migration_report.specs.declared.outcome.Outcome.TheVariants.{Refused}
 use Rattle.migration_report.specs.declared.refusal.Refusal.TheVariants as refusal
 use Rattle.migrate_cli.specs.Answers.{IsAnswer, MayAsk, MayFail, ReadsAgree}
 use Rattle.migrate_cli.specs.Calls.{Call}
+use Rattle.migrate_cli.specs.Reading.{NamedText}
+use Rattle.migrate_cli.specs.SettledDesigns.{IsSettledBy, RefusesDesignFile}
 use Rattle.migrate_cli.specs.declared.reading.Stop.{Stop}
 use Rattle.migrate_cli.specs.declared.reading.Stop.TheVariants.{Fault, Long, Total, OutOfMemory}
 
 -- what is decided where a design is refused
-abbrev pub RefusesDesignSo : List ℕ → DesignRefusal → Decision → Type 0
-RefusesDesignSo file (Bad kind path) decision = decision ≡ BadDesign file path kind
-RefusesDesignSo file NoMemoryForDesign decision = ⊥
+abbrev pub RefusesDesignSo : List ℕ → DesignRefusal → Result (List SettledRouter) Decision → Type 0
+RefusesDesignSo file (Bad kind path) answer = answer ≡ Err (BadDesign file path kind)
+RefusesDesignSo file NoMemoryForDesign answer = ⊥
+
+-- what a design file comes to for a network: what is settled, or what is decided where it is refused
+abbrev pub IsSettledOrRefused : NamedText → Network → Result (List SettledRouter) Decision → Type 0
+IsSettledOrRefused design net (Ok settled) = IsSettledBy design.text net settled
+IsSettledOrRefused design net (Err decision) = RefusesDesignFile design net decision
 
 -- what a call comes to where reading stopped
 abbrev pub StopsSo : Stop → Outcome → Type 0

@@ -3,7 +3,7 @@ use Rattle.std.proofs.lemmas.Result.{IfOk-weaker}
 use Rattle.std.specs.Prelude.{slice_index_or, []}
 use Rattle.igp_theory.specs.Migrations.{ospf_to_isis}
 use Rattle.migrate_words.specs.declared.command.CommandKind.{CommandKind}
-use Rattle.migrate_words.specs.declared.command.CommandKind.TheVariants.{Check, Prepare, Refute, Replay, Scripts}
+use Rattle.migrate_words.specs.declared.command.CommandKind.TheVariants.{Check, Prepare, Refute, Replay, Scripts, Split, Delta}
 use Rattle.migrate_cli.specs.CommandFiles.{given_texts}
 use Rattle.migrate_cli.specs.Decisions.{Input, IsDecision, input_of}
 use Rattle.migrate_cli.specs.Reading.{named_text}
@@ -31,6 +31,16 @@ first_own-requires-in-Scripts-clause-texts c =
 pub first_own-requires-in-Replay-clause-texts : goal.first_own-requires-in-Replay-clause-texts
 first_own-requires-in-Replay-clause-texts c =
     let count : length c.args.own.now ≡ 2 = text_count c.args.command.now c.args.own.now Replay c.in-Replay.is c.requires.range c.requires.own in
+    omega (arith, count)
+
+pub first_own-requires-in-Split-clause-texts : goal.first_own-requires-in-Split-clause-texts
+first_own-requires-in-Split-clause-texts c =
+    let count : length c.args.own.now ≡ 1 = text_count c.args.command.now c.args.own.now Split c.in-Split.is c.requires.range c.requires.own in
+    omega (arith, count)
+
+pub first_own-requires-in-Delta-clause-texts : goal.first_own-requires-in-Delta-clause-texts
+first_own-requires-in-Delta-clause-texts c =
+    let count : length c.args.own.now ≡ 1 = text_count c.args.command.now c.args.own.now Delta c.in-Delta.is c.requires.range c.requires.own in
     omega (arith, count)
 
 pub bounds-own-0 : goal.bounds-own-0

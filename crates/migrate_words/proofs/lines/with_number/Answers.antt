@@ -11,3 +11,7 @@ returns-in-Budget c = rw c.in-Budget.is
 pub returns-in-Routers : goal.returns-in-Routers
 returns-in-Routers c = rw c.in-Routers.is (IfOk-weaker c.with_argument-in-Routers.result _ _
     (λ r more shape line. more shape (one_text (codes "N")) line c.one_text-routers.ensures) c.with_argument-in-Routers.ensures)
+
+pub returns-in-WaveSize : goal.returns-in-WaveSize
+returns-in-WaveSize c = rw c.in-WaveSize.is (IfOk-weaker c.with_argument-in-WaveSize.result _ _
+    (λ r more shape line. more shape (one_text (codes "N")) line c.one_text-size.ensures) c.with_argument-in-WaveSize.ensures)

@@ -47,8 +47,16 @@ from_ranks-requires-clause-ranking c =
     subst (λ l. IsRanking (length l) l) (sym c.as_slice.ensures.value)
     (split_ranking c.args.most c.args.waves.now c.requires c.loop-wave.wave c.loop-wave.count c.loop-wave.ranks.items all c.loop-wave.invariant)
 
-pub returns : goal.returns
-returns c =
+pub returns-clause-ranking : goal.returns-clause-ranking
+returns-clause-ranking c =
+    let all : c.loop-wave.wave ≡ wave_count c.args.waves.now = omega (arith, c.loop-wave-test.false, c.loop-wave.auto.wave-end, c.count-wave-end.ensures) in
+    let ranking = split_ranking c.args.most c.args.waves.now c.requires c.loop-wave.wave c.loop-wave.count c.loop-wave.ranks.items all c.loop-wave.invariant in
+    let long = subst (λ n. IsRanking n c.loop-wave.ranks.items) c.loop-wave.invariant.each ranking in
+    IfOk-weaker c.from_ranks.result _ _ (λ split same. subst (IsRanking (length c.args.waves.now)) (sym (same ∙ c.as_slice.ensures.value)) long)
+    c.from_ranks.ensures
+
+pub returns-clause-cuts : goal.returns-clause-cuts
+returns-clause-cuts c =
     let all : c.loop-wave.wave ≡ wave_count c.args.waves.now = omega (arith, c.loop-wave-test.false, c.loop-wave.auto.wave-end, c.count-wave-end.ensures) in
     let are = split_waves_are c.args.most c.args.waves.now c.requires c.loop-wave.wave c.loop-wave.count c.loop-wave.ranks.items all c.loop-wave.invariant in
     IfOk-weaker c.from_ranks.result _ _ (λ split same. ap waves_in (same ∙ c.as_slice.ensures.value) ∙ are) c.from_ranks.ensures
