@@ -43,7 +43,7 @@ one_scheme DesignOptions rows scheme other one two =
     ap₂ scheme_of (one_area (first_of (codes "AREA") rows) scheme.area other.area one.0 two.0)
     (same_levels (first_of (codes "L") rows) scheme.levels other.levels one.1 two.1)
 one_scheme NoNumber rows scheme other one two = one ∙ sym two
-one_scheme number rows scheme other one two = one ∙ sym two
+one_scheme _ rows scheme other one two = one ∙ sym two
 
 same_texts : (rows : List Row) (ids texts others : List Text) → HaveTexts rows ids texts → HaveTexts rows ids others
     → texts ≡ others

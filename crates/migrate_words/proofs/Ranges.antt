@@ -52,7 +52,7 @@ given_area (Some word) area is = ap is_area is.0 ∙ is.1
 area_in_range : (number : NumberTaken) (rows : List Row) (scheme : AskedScheme) → IsGivenScheme number rows scheme → is_area scheme.area ≡ true
 area_in_range DesignOptions rows scheme is = given_area (first_of (codes "AREA") rows) scheme.area is.0
 area_in_range NoNumber rows scheme is = ap (λ (s : AskedScheme). is_area s.area) is
-area_in_range number rows scheme is = ap (λ (s : AskedScheme). is_area s.area) is
+area_in_range _ rows scheme is = ap (λ (s : AskedScheme). is_area s.area) is
 
 configs_in_range : (configs : ConfigFiles) (rows : List Row) (names : List Text) → Full rows → HasConfigs configs rows names
     → AreConfigsInRange configs names

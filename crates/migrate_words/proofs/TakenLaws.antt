@@ -225,13 +225,13 @@ value_off words taken nothing =
 
 off_gives_nothing : (number : NumberTaken) (rows : List Row) → IsValueOff number rows → (n : ℕ) (scheme : AskedScheme)
     → IsGivenNumber number (first_of (codes "N") rows) n → ¬ IsGivenScheme number rows scheme
-off_gives_nothing number rows (number_off word has off) n scheme is of =
-    off n (subst (λ (o : Option Text). IsGivenNumber number o n) has is)
-off_gives_nothing number rows (area_off word options has bad) n scheme is of =
+off_gives_nothing taken rows (number_off word has off) n scheme is of =
+    off n (subst (λ (o : Option Text). IsGivenNumber taken o n) has is)
+off_gives_nothing _ rows (area_off word options has bad) n scheme is of =
     let given = subst (λ (k : NumberTaken). IsGivenScheme k rows scheme) options of in
     let area = subst (λ (o : Option Text). IsGivenArea o scheme.area) has given.0 in
     true≢false (sym area.1 ∙ bad)
-off_gives_nothing number rows (level_off word options has bad) n scheme is of =
+off_gives_nothing _ rows (level_off word options has bad) n scheme is of =
     let given = subst (λ (k : NumberTaken). IsGivenScheme k rows scheme) options of in
     let levels = subst (λ (o : Option Text). AreGivenLevels o scheme.levels) has given.1 in
     true≢false (ap is_some (sym levels ∙ bad))
