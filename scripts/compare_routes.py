@@ -1,20 +1,14 @@
 #!/usr/bin/env python3
-"""Lays what routers say of their routes beside the tables that the planner works out of their configurations.
+"""Compares what routers say of their routes with what `migrate tables` says of them.
 
-    ./migrate tables before/*.cfg > tables.txt
-    scripts/compare_routes.py tables.txt --configs before/*.cfg --shown routes/*.txt
+    scripts/compare_routes.py [--isis] TABLES ROUTES CONFIG...
 
-A file of routes is what a terminal shows of one router of IOS or IOS XE: its prompt with `show ip route` (or `show ip route
-ospf`, or `show ip route isis`), and what that prints. A file without a prompt is that of the router that its name names, as
-`R1.txt`. The configurations tell whose address a next hop is. For each router the routes of OSPF, of IS-IS, or of both are
-compared, whichever it shows; an installed route hides that of the other protocol, so of a prefix that the one shows nothing is
-asked of the other. Each difference is a line:
+TABLES has what `migrate tables CONFIG...` printed, ROUTES is a folder with a file NAME.txt for each router that was asked, which
+has its `show ip route`, and the configurations tell whose an address of a hop is. The routes of OSPF are compared, and with
+`--isis` those of IS-IS: before the first change of a router it has those of OSPF, behind its second one those of IS-IS.
 
-    R1 ospf 10.0.0.3/32 planned via R2 shown via R3
-    R1 ospf 10.0.0.3/32 planned via R2 not shown
-    R1 ospf 10.9.0.0/24 not planned shown via R2
-
-It ends with 0 where there is none, with 1 where there are some, with 2 where it can't compare. Nothing of it is proved.
+Each difference is a line, and so is each route of another protocol, of which the tables know nothing. The status is 1 where
+there is one. Nothing here is proved.
 """
 
 import argparse
@@ -22,144 +16,111 @@ import pathlib
 import re
 import sys
 
-PROMPT = re.compile(r"^(?P<name>[^\s#>]+)[#>]\s*sh\w*\s+ip\s+ro\w*")
-CODED = re.compile(r"^(?P<code>[Oi])[ *]*(?P<kind>IA|L1|L2|ia|su|N1|N2|E1|E2)?[ *]+(?P<rest>\d.*)$")
-ONE_MASK = re.compile(r"^\s+[\d.]+/(?P<length>\d+) is subnetted")
-PREFIX = re.compile(r"^(?P<base>\d+\.\d+\.\d+\.\d+)(?:/(?P<length>\d+))?\s*(?P<rest>.*)$")
-VIA = re.compile(r"via (?P<hop>\d+\.\d+\.\d+\.\d+)")
-PROTOCOLS = {"O": "ospf", "i": "isis"}
+ADDRESS = r"\d+\.\d+\.\d+\.\d+"
+# The letters of a route, as `O`, `O IA`, `i L2`, `i*L1`, and `B*`.
+CODE = r"[A-Za-z%+][A-Za-z0-9*%+ ]{0,7}"
+CONNECTED = ("C", "L")
 
 
-class Unreadable(Exception):
-    """What a file can't be compared for."""
+def prefix_of(address, length):
+    """A prefix as text, by any address in it."""
+    value = int.from_bytes(map(int, address.split(".")), "big") >> (32 - length) << (32 - length)
+    return f"{'.'.join(map(str, value.to_bytes(4, 'big')))}/{length}"
 
 
-def planned_tables(text):
-    """The entries of `migrate tables`: for each router and protocol the hops of each prefix, or `discard`."""
-    tables = {}
-    for number, line in enumerate(text.splitlines(), 1):
+def tables_of(text, protocol):
+    """For each router what it does with each prefix: the names of its hops, or `discard`."""
+    found = {}
+    for line in text.splitlines():
+        router, word, prefix, does, *hops = line.split(" ")
+        routes = found.setdefault(router, {})
+        if word == protocol:
+            routes[prefix] = frozenset(hops) if does == "via" else "discard"
+    return found
+
+
+def addresses_in(text):
+    """The addresses of the interfaces of configurations, each with its router."""
+    found, waiting, router = {}, [], None
+    for line in text.splitlines():
         words = line.split()
-        if len(words) < 4 or words[1] not in PROTOCOLS.values() or words[3] not in ("via", "discard"):
-            raise Unreadable(f"line {number} of the tables is no entry: {line}")
-        hops = "discard" if words[3] == "discard" else frozenset(words[4:])
-        tables.setdefault((words[0], words[1]), {})[words[2]] = hops
-    return tables
+        if words[:1] == ["hostname"]:
+            router = words[1]
+        elif words[:2] == ["ip", "address"] and len(words) > 3:
+            waiting.append(words[2])
+        elif words == ["end"]:
+            found |= {address: router for address in waiting}
+            waiting, router = [], None
+    return found
 
 
-def owners_of(texts):
-    """The router of each interface address of some configurations."""
-    owners = {}
-    for text in texts:
-        name = None
-        for line in text.splitlines():
-            words = line.split()
-            if words[:1] == ["hostname"] and len(words) > 1:
-                name = words[1]
-            if words[:2] == ["ip", "address"] and len(words) > 3 and name:
-                owners[words[2]] = name
-            if words == ["end"]:
-                name = None
-    return owners
-
-
-def shown_routes(text, owners):
-    """The routes that a router shows: for each protocol the hops of each prefix, or `discard`."""
-    routes = {"ospf": {}, "isis": {}}
-    one_length, current = None, None
+def lines_of(text):
+    """The lines of a capture; one that begins with blanks and has no code goes on from the one before it."""
+    lines = []
     for line in text.splitlines():
-        mask = ONE_MASK.match(line)
-        if mask:
-            one_length = mask["length"]
-        elif "is variably subnetted" in line:
-            one_length = None
-        coded = CODED.match(line)
-        if coded:
-            found = PREFIX.match(coded["rest"])
-            length = found["length"] or one_length
-            if length is None:
-                raise Unreadable(f"a route without a length: {line}")
-            current = (PROTOCOLS[coded["code"]], f"{found['base']}/{length}")
-            add_hops(routes, current, found["rest"], owners)
-        elif current and line.startswith(" ") and line.strip().startswith("["):
-            add_hops(routes, current, line, owners)
-        else:
-            current = None
-    return routes
+        if re.match(r"\s+\[|\s+via ", line) and lines:
+            lines[-1] += " " + line.strip()
+        elif line.strip():
+            lines.append(line.rstrip())
+    return lines
 
 
-def add_hops(routes, current, rest, owners):
-    """Adds the hops of a line to those of its route."""
-    protocol, prefix = current
-    if "Null0" in rest:
-        routes[protocol][prefix] = "discard"
-        return
-    old = routes[protocol].get(prefix, frozenset())
-    hops = {owners.get(hop, hop) for hop in VIA.findall(rest)}
-    routes[protocol][prefix] = frozenset(old | hops)
+def routes_in(text):
+    """The routes of a capture: for each prefix the letters of its code, and the addresses of its hops or `discard`."""
+    found, length = {}, None
+    for line in lines_of(text):
+        head = re.match(rf"\s+{ADDRESS}/(\d+) is (variably )?subnetted", line)
+        route = re.match(rf"({CODE}?)\s+({ADDRESS})(/\d+)?\s+(.*)", line)
+        if head:
+            # Routes below may be without a length, which is that of all then.
+            length = None if head[2] else int(head[1])
+        elif route and (route[3] or length is not None):
+            does = "discard" if "Null0" in route[4] else frozenset(re.findall(rf"via ({ADDRESS})", route[4]))
+            own = int(route[3][1:]) if route[3] else length
+            found[prefix_of(route[2], own)] = (re.match("[A-Za-z]*", route[1])[0], does)
+    return found
 
 
-def said(hops):
-    """Hops in the words of a table."""
-    return "discard" if hops == "discard" else " ".join(["via", *sorted(hops, key=str.encode)])
+def told(does):
+    return "nothing" if does is None else does if does == "discard" else "via " + " ".join(sorted(does))
 
 
-def differences(name, tables, routes):
-    """The lines that tell where a router's routes aren't those of its tables."""
-    anywhere = set(routes["ospf"]) | set(routes["isis"])
-    for protocol in ("ospf", "isis"):
-        shown = routes[protocol]
-        if not shown:
-            continue
-        planned = tables.get((name, protocol), {})
-        for prefix in sorted(set(planned) | set(shown), key=place_of):
-            if prefix not in planned:
-                yield f"{name} {protocol} {prefix} not planned shown {said(shown[prefix])}"
-            elif prefix in shown and planned[prefix] != shown[prefix]:
-                yield f"{name} {protocol} {prefix} planned {said(planned[prefix])} shown {said(shown[prefix])}"
-            elif prefix not in anywhere:
-                yield f"{name} {protocol} {prefix} planned {said(planned[prefix])} not shown"
-
-
-def place_of(prefix):
-    """Where a prefix stands among others: by its address, the shorter one first."""
-    base, length = prefix.split("/")
-    return [int(part) for part in base.split(".")], int(length)
-
-
-def router_of(path, text):
-    """The router of a file of routes: that of its prompt, else that of its name."""
-    for line in text.splitlines():
-        prompt = PROMPT.match(line)
-        if prompt:
-            return prompt["name"]
-    return path.stem
+def differences(router, told_by_tables, capture, owners, letter):
+    """The lines about a router: its routes that differ, and those of other protocols."""
+    routes, lines = routes_in(capture), []
+    there = {prefix: does if does == "discard" else frozenset(owners.get(hop, hop) for hop in does)
+             for prefix, (code, does) in routes.items() if code == letter}
+    for prefix in sorted(told_by_tables.keys() | there.keys(), key=lambda text: [int(part) for part in re.split("[./]", text)]):
+        by_tables, by_router = told_by_tables.get(prefix), there.get(prefix)
+        if by_tables != by_router:
+            lines.append(f"{router} {prefix}: tables {told(by_tables)}, router {told(by_router)}")
+    lines += [f"{router} {prefix}: of another protocol, {code}" for prefix, (code, _) in routes.items()
+              if code not in ("O", "i", *CONNECTED)]
+    return lines
 
 
 def main():
     parser = argparse.ArgumentParser(description=__doc__.split("\n")[0])
-    parser.add_argument("tables", type=pathlib.Path, help="what `migrate tables` printed")
-    parser.add_argument("--configs", nargs="+", type=pathlib.Path, required=True, help="the configurations of all routers")
-    parser.add_argument("--shown", nargs="+", type=pathlib.Path, required=True, help="what routers show, a file each")
-    words = parser.parse_args()
-    try:
-        tables = planned_tables(words.tables.read_text())
-        owners = owners_of(path.read_text() for path in words.configs)
-        told = []
-        for path in words.shown:
-            text = path.read_text()
-            routes = shown_routes(text, owners)
-            name = router_of(path, text)
-            if name not in owners.values():
-                raise Unreadable(f"{path}: no configuration is of {name}")
-            if not routes["ospf"] and not routes["isis"]:
-                raise Unreadable(f"{path}: no route of OSPF or of IS-IS is shown")
-            told += differences(name, tables, routes)
-    except (OSError, UnicodeDecodeError, Unreadable) as fault:
-        print(fault, file=sys.stderr)
-        return 2
-    for line in told:
-        print(line)
-    return 1 if told else 0
+    parser.add_argument("--isis", action="store_true", help="compare the routes of IS-IS")
+    parser.add_argument("tables", type=pathlib.Path, metavar="TABLES")
+    parser.add_argument("routes", type=pathlib.Path, metavar="ROUTES")
+    parser.add_argument("configs", type=pathlib.Path, nargs="+", metavar="CONFIG")
+    options = parser.parse_args()
+    tables = tables_of(options.tables.read_text(), "isis" if options.isis else "ospf")
+    owners, names = {}, set()
+    for config in options.configs:
+        text = config.read_text(encoding="latin-1")
+        owners |= addresses_in(text)
+        names |= set(re.findall(r"^hostname[ \t]+(\S+)", text, re.MULTILINE))
+    lines, asked = [], sorted(options.routes.glob("*.txt"))
+    for path in asked:
+        if path.stem in names:
+            capture = path.read_text(encoding="latin-1")
+            lines += differences(path.stem, tables.get(path.stem, {}), capture, owners, "i" if options.isis else "O")
+        else:
+            lines.append(f"{path.stem}: no router of the configurations has this name")
+    print("".join(line + "\n" for line in lines) + f"{len(asked)} routers, {len(lines)} differences")
+    return 1 if lines else 0
 
 
 if __name__ == "__main__":

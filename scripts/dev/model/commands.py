@@ -5,9 +5,11 @@
 
 from configurations import read_configurations
 from designs import DESIGN_MOST, LEVEL_WORDS, delta, design, is_area, prepare
+from failures import failures
 from forwarding import NEW, NEW_DISTANCE, OLD, UNUSED_DISTANCE, Missing, Mixed, change_times, router_times
 from networks import build, look_at_pair, look_at_start
 from order_files import Departs, Journal, flat_run, is_of_changes, read_changes, read_order
+from pictures import picture
 from reasons import packet_way, reasons, spans_of
 from running_night import observe
 from search import Changes, Routers, Search
@@ -32,7 +34,8 @@ COMMANDS = {
     "pairscripts": (1, 2, {}, None), "paircheck": (1, 2, {}, None), "pairrefute": (1, 2, {}, None),
     "prepare": (1, None, {}, None), "delta": (1, None, {}, None), "design": (0, None, COSTS, None),
     "split": (1, None, {}, (1, WAVE_MOST)), "tables": (0, None, {}, None),
-    "survey": (0, None, {}, None), "why": (1, None, {}, None),
+    "survey": (0, None, {}, None), "why": (1, None, {}, None), "picture": (1, None, {}, None),
+    "failures": (1, None, {}, None),
 }
 # Those that ask of no network that a migration begins there.
 WITHOUT_START = ("prepare", "delta", "design", "tables")
@@ -126,8 +129,10 @@ def decide(command, own, files, said):
     version, ranks = read_order(own[0], network)
     if command == "check":
         return check(mixed_of(network), version, ranks)
-    if command == "why":
-        return why(mixed_of(network), version, ranks)
+    if command == "failures":
+        return failures_of(network, version, ranks)
+    if command in ("why", "picture"):
+        return (why if command == "why" else draw)(mixed_of(network), version, ranks)
     if command == "split":
         return split(mixed_of(network), version, ranks, said["N"])
     if command == "scripts":
@@ -201,6 +206,26 @@ def why(mixed, version, ranks):
     text, code = told_of_list(mixed, version, ranks, found)
     lines = reasons(mixed, ranks) if found is None else packet_way(mixed, found[1], spans_of(version, ranks, found[0]))
     return text + "".join(line + "\n" for line in lines), code
+
+
+def draw(mixed, version, ranks):
+    """What `check` says, as a picture."""
+    found = fault_of_list(mixed, version, ranks)
+    text, code = told_of_list(mixed, version, ranks, found)
+    return picture(mixed, ranks, text.rstrip("\n"), found[1] if found else None), code
+
+
+def failures_of(network, version, ranks):
+    """What `check` says, and where that is safe what it says of each network with a link down whose ends are sound."""
+    text, code = check(mixed_of(network), version, ranks)
+    if code:
+        return text, code
+
+    def judge(failed):
+        mixed = mixed_of(failed)
+        return unsound_end(mixed) or check(mixed, version, ranks)
+    more, code = failures(network, judge)
+    return text + more, code
 
 
 def check_changes(network, order):

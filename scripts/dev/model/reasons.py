@@ -1,4 +1,4 @@
-"""Why a list of waves is as it is: of a safe one what keeps each router from an earlier wave, of an unsafe one the packet's way."""
+"""Why a list of waves is as it is: of a safe one what keeps routers from an earlier wave, of an unsafe one the packet's way."""
 
 from forwarding import CONNECTED_DISTANCE, MIDDLE, NEW, NEW_DISTANCE, OLD, UNUSED_DISTANCE, Missing, flat_phases
 from forwarding import phase_before, router_times
@@ -20,13 +20,14 @@ def reasons(mixed, ranks):
         rank = ranks[router]
         if rank == 0:
             continue
-        found = mixed.times_fault(None, router_times([OLD] * mixed.size, [*ranks[:router], rank - 1, *ranks[router + 1:]]))
+        earlier = [*ranks[:router], rank - 1, *ranks[router + 1:]]
+        found = mixed.times_fault(None, router_times([OLD] * mixed.size, earlier))
         if found is None:
             lines.append(f"{names[router]} wave {rank + 1} may be earlier")
             continue
         wave, loop = found
         before = [other for other, tag in loop.turns if tag == "O" and ranks[other] == rank - 1]
-        # The law of reasons: the wave before its own is the first one with a fault, a loop that makes the router wait for another.
+        # The law of reasons: the wave before its own is the first one with a fault, a loop that makes it wait for another router.
         assert wave == rank and (router, "N") in loop.turns and before
         assert all(ranks[other] >= rank - 1 for other, tag in loop.turns if tag == "O")
         ring = " ".join(f"{names[other]}:{tag}" for other, tag in loop.turns)
@@ -37,12 +38,11 @@ def reasons(mixed, ranks):
 def packet_way(mixed, fault, spans):
     """The target, its originators, and what the routers of a fault use, in one state of those in which it stands.
 
-    In a ring a router that is tagged N has the last phase of its span, another one the first; a router that has to lack a step has
-    the first one in which it does.
+    In a ring a router that is tagged N has the last phase of its span, another one the first; a router that lacks a step has the
+    first one in which it does.
     """
     network = mixed.network
-    target = next((base_of(fault.address, length), length) for length in mixed.lengths
-                  if (base_of(fault.address, length), length) in mixed.targets)
+    target = target_of(mixed, fault.address)
     originators = [name for name, own in zip(network.names, mixed.connected) if target in own]
     if isinstance(fault, Missing):
         phase = next(phase for phase in spans[fault.router] if not leads_on(used(mixed, fault.router, phase, fault.address)))
@@ -54,6 +54,12 @@ def packet_way(mixed, fault, spans):
     return [f"target {prefix_text(target)} at {' '.join(originators)}"] + [
         f"at {network.names[router]} {PHASE_WORDS[phase]} {used_text(network, used(mixed, router, phase, fault.address))}"
         for router, phase in at]
+
+
+def target_of(mixed, address):
+    """The longest prefix with OSPF or IS-IS that holds an address."""
+    prefixes = [(base_of(address, length), length) for length in mixed.lengths]
+    return next(prefix for prefix in prefixes if prefix in mixed.targets)
 
 
 def leads_on(entry):
