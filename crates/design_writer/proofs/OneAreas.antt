@@ -1,8 +1,8 @@
 -- A network of one OSPF area that is prepared with its design by costs has equal costs.
-use Rattle.std.proofs.Common.{◌≡◌, ◌≢◌, ◌⊎◌, ℕ, ◌+◌, ◌<◌, suc, zero, Bool, true, false, ◌&&◌, ◌||◌, cond, List, [], ◌∷◌, Option, Some, None, Contains}
-use Rattle.std.proofs.Common.{AllPairs, arith, option_map, find, filter, map, slice_get, refl, sym, ap, ◌∙◌, subst, inl, inr, true≢false}
-use Rattle.std.specs.Prelude.{IsSome, IsTrue, is_some, bytes_eq}
-use Rattle.std.proofs.lemmas.Bool.{and_parts, cases_Bool}
+use Rattle.std.proofs.Common.{◌≡◌, ◌≢◌, ◌⊎◌, ℕ, ◌+◌, Bool, true, false, ◌&&◌, ◌||◌, cond, List, [], ◌∷◌, Option, Some, None, Contains}
+use Rattle.std.proofs.Common.{option_map, filter, map, slice_get, refl, sym, ap, ◌∙◌, subst, inl, inr, true≢false}
+use Rattle.std.specs.Prelude.{IsTrue, is_some, bytes_eq}
+use Rattle.std.proofs.lemmas.Bool.{cases_Bool}
 use Rattle.std.proofs.lemmas.List.Elements.{All-contains}
 use Rattle.std.proofs.lemmas.Option.{same_Some, slice_get-map}
 use Rattle.net_model.specs.Configuration.{Configuration, IsConfiguration, IsInterface}
@@ -65,7 +65,7 @@ prepared_router area net c names among =
 -- ---- an interface ----
 
 text_apart : (a b : Word) → a ≢ b → bytes_eq a b ≡ false
-text_apart a b apart = elim (cases_Bool (bytes_eq a b)) [ | inl same ↦ absurd (apart (same_text a b same)) | inr other ↦ other ]
+text_apart a b apart = elim (cases_Bool (bytes_eq a b)) [ inl same ↦ absurd (apart (same_text a b same)) | inr other ↦ other ]
 
 -- what is settled for another interface is passed over
 passed_over : (j : Interface) (name : Word) (settled : List SettledInterface) → j.name ≢ name →
@@ -127,10 +127,10 @@ equal_by_cost : (i : Interface) → IsInterface i → IsTrue i.up → i.level2 �
 equal_by_cost i is up off = by (is_some i.subnet) (is_some i.area) refl refl
   where
     none : is_some i.area ≡ false → HasEqualCosts i
-    none no = record {
-      runs = (λ on. absurd (true≢false (sym on ∙ off)), λ area. absurd (true≢false (sym area ∙ no)));
-      metric = λ area. absurd (true≢false (sym area ∙ no));
-      passive = λ area _. absurd (true≢false (sym area ∙ no));
+    none without = record {
+      runs = (λ on. absurd (true≢false (sym on ∙ off)), λ area. absurd (true≢false (sym area ∙ without)));
+      metric = λ area. absurd (true≢false (sym area ∙ without));
+      passive = λ area _. absurd (true≢false (sym area ∙ without));
     }
 
     by : (s a : Bool) → is_some i.subnet ≡ s → is_some i.area ≡ a →

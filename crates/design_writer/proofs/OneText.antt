@@ -109,9 +109,17 @@ of_router c =
     of_table (member (codes "interfaces") (table interfaces) no_members) (of_table interfaces all, tt)
 
 of_document : (area : Word) (levels : Levels) (net : Network) → HavePlainLines (document_by_costs area levels net)
-of_document area levels net =
-    (of_string area, (of_string (level_text levels), (of_table (with_routers no_members net)
-    (routers_hold (λ _ d. HasPlainLines d) net no_members (λ c _. of_router c) tt), tt)))
+of_document area levels net = (
+  of_string area,
+  (
+    of_string (level_text levels),
+    (
+      of_table (with_routers no_members net)
+          (routers_hold (λ _ d. HasPlainLines d) net no_members (λ c _. of_router c) tt),
+      tt,
+    ),
+  ),
+)
 
 pub one_text : OneCostDesignLaw
 one_text area levels net text other one two =

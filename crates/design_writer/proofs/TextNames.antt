@@ -1,7 +1,6 @@
 -- The names of routers and of interfaces are text: their bytes are printable ASCII.
-use Rattle.std.proofs.Common.{◌≡◌, ◌<◌, ◌≤◌, ℕ, zero, suc, true, List, [], ◌∷◌, All, IsUtf8, get_or, length, arith, subst, sym}
+use Rattle.std.proofs.Common.{◌≡◌, ◌<◌, ◌≤◌, ℕ, nat_le, zero, suc, true, List, [], ◌∷◌, All, IsUtf8, get_or, length, arith, subst, sym}
 use Rattle.std.specs.List.{list_all}
-use Rattle.std.specs.Str.{IsAscii}
 use Rattle.std.proofs.lemmas.Bool.{and_parts, leb-true}
 use Rattle.std.proofs.lemmas.List.Elements.{All-nil, All-append, All-map}
 use Rattle.std.proofs.lemmas.List.Sorted.{All-permutation}
@@ -14,7 +13,6 @@ use Rattle.ios_lines.specs.Words.{Word, is_printable}
 use Rattle.ios_sections.specs.Processes.{interfaces_in}
 use Rattle.ios_sections.specs.Sections.{sections_in}
 use Rattle.ios_sections.specs.TextLines.{Part, lines_in, parts_of}
-use Rattle.ios_sections.specs.declared.section.InterfaceSection.{InterfaceSection}
 use Rattle.ios_reader.specs.Configurations.{configuration_of}
 use Rattle.ios_reader.specs.InterfacesAsRead.{interface_as_read}
 use Rattle.ios_reader.specs.Routers.{router_of}
@@ -37,7 +35,9 @@ router_text name is = small_text name (λ k within. name_byte_small (get_or name
 printed_small : (bytes : Word) → list_all is_printable bytes ≡ true → (k : ℕ) → k < length bytes → get_or bytes k 0 < 128
 printed_small [] all k within = absurd (omega (arith, within))
 printed_small (b ∷ bytes) all zero within =
-    let most : b ≤ 126 = leb-true b 126 (and_parts _ _ (and_parts _ _ all).0).1 in omega (arith, most)
+    let printed : is_printable b ≡ true = (and_parts (is_printable b) (list_all is_printable bytes) all).0 in
+    let most : b ≤ 126 = leb-true b 126 (and_parts (nat_le 33 b) (nat_le b 126) printed).1 in
+    omega (arith, most)
 printed_small (b ∷ bytes) all (suc k) within = printed_small bytes (and_parts (is_printable b) _ all).1 k (omega (arith, within))
 
 pub interface_text : (name : Word) → is_interface_name name ≡ true → IsUtf8 name

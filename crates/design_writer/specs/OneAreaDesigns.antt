@@ -1,6 +1,6 @@
 -- Networks of one OSPF area that are prepared with their design by costs: IS-IS gives there what OSPF gives (RFC 2328; RFC 1195,
 -- RFC 5305).
-use Rattle.std.specs.Prelude.{◌≡◌, ◌⊎◌, ℕ, List, false, map, None, Some}
+use Rattle.std.specs.Prelude.{◌≡◌, ◌⊎◌, ℕ, false, map, None, Some}
 use Rattle.net_model.specs.Network.{Network, UpInterface}
 use Rattle.net_model.specs.Refusals.{IsNetwork}
 use Rattle.net_model.specs.declared.config.Levels.TheVariants.{Two}

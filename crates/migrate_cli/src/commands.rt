@@ -34,10 +34,7 @@ pub(crate) fn needs_start(kind: CommandKind) -> bool
 {
     !matches!(
         kind,
-        CommandKind::Prepare
-            | CommandKind::Delta
-            | CommandKind::Tables
-            | CommandKind::Design
+        CommandKind::Prepare | CommandKind::Delta | CommandKind::Tables | CommandKind::Design
     )
 }
 
