@@ -13,6 +13,6 @@ loop-text-preserved c =
     let before = delta_texts net settled (take c.loop-text.text-index texts) in
     let same : c.as_slice-in-loop-text.result.now ≡ delta_text text net settled =
     c.as_slice-in-loop-text.ensures ∙ c.in_ok-delta.ensures ∙ ap (λ t. delta_text t net settled) c.as_slice.ensures in
-    c.in_ok-extend_from_slice.ensures ∙ ap (λ all. all ++ c.as_slice-in-loop-text.result.now) c.loop-text.invariant
+    c.in_ok-extend_from_slice.ensures.items ∙ ap (λ all. all ++ c.as_slice-in-loop-text.result.now) c.loop-text.invariant
     ∙ ap (λ t. before ++ t) same
     ∙ sym (delta_more net settled texts c.loop-text.text-index text c.loop-text-test.true c.text-item.is)

@@ -17,8 +17,8 @@ returns-in-Ok-settle c = record {
   fits = c.in-Ok-settle.ensures.fits;
 }
 
-pub returns-in-Err-settle : goal.returns-in-Err-settle
-returns-in-Err-settle c =
+pub returns : goal.returns
+returns c =
     let said = c.in-Ok.design in
     design_refused (named_text c.args.file.now c.args.design.now) c.args.net.now said c.in-Err-settle.refusal c.refuse_design-in-Err-settle.result
     (subst (λ (text : List ℕ). SaysDesign text said) c.as_slice.ensures c.in-Ok.ensures.ok) c.in-Err-settle.ensures.err c.refuse_design-in-Err-settle.ensures
