@@ -16,6 +16,7 @@ pub mod ScriptsDecision
 pub mod SplitDecision
 pub mod TablesDecision
 pub mod PairDecision
+pub mod DesignDecision
 pub mod Decisions
 pub mod Outcomes
 pub mod Answers
@@ -29,5 +30,6 @@ pub mod SplitPromise
 pub mod TablesPromise
 pub mod SamplePromise
 pub mod PairPromise
+pub mod DesignPromise
 pub mod Claim
 pub mod steps
