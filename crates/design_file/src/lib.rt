@@ -48,3 +48,4 @@ pub use reading::read_design;
 pub use refusal::{DesignKind, DesignRefusal};
 pub use settled::{Settled, SettledInterface, SettledInterfaces, SettledRouter};
 pub use settling::settle;
+pub use value::{is_area, levels_named};

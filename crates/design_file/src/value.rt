@@ -11,15 +11,15 @@ use toml::Value;
 /// The most bytes of an area: two digits, and six groups of a dot and four digits.
 const MOST_AREA: usize = 32;
 
-/// Whether a word is an area.
-fn is_area(word: &str) -> bool
+/// Whether a word is an area: two hexadecimal digits, then at most six groups of a dot and four hexadecimal digits.
+pub fn is_area(word: &str) -> bool
     ensures { result ≡ is_area word.now }
 {
     word.len() <= MOST_AREA && is_area_address(word.as_bytes())
 }
 
-/// The levels that a word says.
-fn levels_of(word: &str) -> Option<Levels>
+/// The levels that a word says: `1`, `2`, or `1-2` for both.
+pub fn levels_named(word: &str) -> Option<Levels>
     ensures { result ≡ levels_named word.now }
 {
     match word {
@@ -56,7 +56,7 @@ pub(crate) fn levels_in(value: &Value) -> Option<Levels>
     ensures { result ≡ as_levels (view value.now) }
 {
     match value {
-        Value::String(word) => levels_of(word.as_str()),
+        Value::String(word) => levels_named(word.as_str()),
         _ => None,
     }
 }
@@ -95,7 +95,7 @@ fn value_fault(key: Key, value: &Value) -> Option<DesignKind>
     match (key, value) {
         (Key::Area, Value::String(word)) => unless(is_area(word.as_str()), DesignKind::BadArea),
         (Key::Level, Value::String(word)) => {
-            unless(levels_of(word.as_str()).is_some(), DesignKind::BadLevel)
+            unless(levels_named(word.as_str()).is_some(), DesignKind::BadLevel)
         }
         (Key::Metric, Value::Integer(number)) => {
             unless(metric_of(*number).is_some(), DesignKind::BadMetric)

@@ -12,8 +12,8 @@ use Rattle.toml.specs.Data.{Data, Members, get_member, member, no_members}
 use Rattle.design_file.specs.Designs.{each_said}
 use Rattle.design_file.proofs.NetworkLookups.{same_text, text_is}
 use Rattle.design_file.proofs.MetricTables.{AllMembers}
-use Rattle.design_writer.specs.CostDesigns.{has_cost}
-use Rattle.design_writer.specs.steps.CostTables.{cost_data, put_member, router_data, with_cost, with_interfaces, with_routers}
+use Rattle.design_writer.specs.CostTables.{has_cost}
+use Rattle.design_writer.specs.CostTables.{cost_data, put_member, router_data, with_cost, with_interfaces, with_routers}
 use Rattle.design_writer.proofs.MemberPuts.{found, passed, put_elsewhere, put_here}
 
 -- ---- what is said of a name ----
@@ -68,11 +68,11 @@ at_none k [] ms apart = refl
 at_none k (i ∷ interfaces) ms apart =
     at_none k interfaces (with_cost i ms) (λ j among. apart j (Contains-rest i interfaces j among)) ∙ at_other k i ms (apart i (Contains-first i interfaces))
 
-first_apart : (i : Interface) (interfaces : List Interface) → AreNamedApart (i ∷ interfaces) → (j : Interface) → Contains interfaces j → i.name ≢ j.name
+pub first_apart : (i : Interface) (interfaces : List Interface) → AreNamedApart (i ∷ interfaces) → (j : Interface) → Contains interfaces j → i.name ≢ j.name
 first_apart i interfaces apart j among =
     subst (λ (k : Interface). i.name ≢ k.name) among.2 (apart 0 (suc among.0) j (omega arith) (omega (arith, among.1)))
 
-rest_apart : (i : Interface) (interfaces : List Interface) → AreNamedApart (i ∷ interfaces) → AreNamedApart interfaces
+pub rest_apart : (i : Interface) (interfaces : List Interface) → AreNamedApart (i ∷ interfaces) → AreNamedApart interfaces
 rest_apart i interfaces apart j k d before within = apart (suc j) (suc k) d (omega (arith, before)) (omega (arith, within))
 
 -- the table of an interface with a cost, and nothing of another one

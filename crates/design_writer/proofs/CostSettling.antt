@@ -27,8 +27,8 @@ use Rattle.design_file.specs.declared.design.DesignRouter.{DesignRouter}
 use Rattle.design_file.specs.declared.settled.SettledInterface.{SettledInterface}
 use Rattle.design_file.specs.declared.settled.SettledRouter.{SettledRouter}
 use Rattle.design_file.proofs.MetricTables.{AllMembers, metric_is}
-use Rattle.design_writer.specs.CostDesigns.{has_cost, interface_by_cost, router_by_costs, settled_by_costs}
-use Rattle.design_writer.specs.steps.CostTables.{cost_data, document_by_costs, level_text, router_data, with_interfaces, with_routers}
+use Rattle.design_writer.specs.CostDesigns.{interface_by_cost, router_by_costs, settled_by_costs}
+use Rattle.design_writer.specs.CostTables.{cost_data, document_by_costs, has_cost, level_text, router_data, with_interfaces, with_routers}
 use Rattle.design_writer.proofs.CostLookups.{AreRoutersApart, at_interface, at_router, find_said, said_from}
 use Rattle.design_writer.proofs.CostTables.{cost_is_metric, interfaces_hold, routers_hold}
 
@@ -46,7 +46,7 @@ levels_said Two = refl
 at_place : (net : Network) (c : Configuration) (among : Contains net c) → HasConfiguration net among.0 c
 at_place net c among = slice_get-get_or net among.0 c among.1 ∙ ap Some among.2
 
-at_contains : (net : Network) (u : ℕ) (c : Configuration) → HasConfiguration net u c → Contains net c
+pub at_contains : (net : Network) (u : ℕ) (c : Configuration) → HasConfiguration net u c → Contains net c
 at_contains net u c at = (u, slice_get_within net u c at, get_or_from_slice_get net u c c at)
 
 -- what it says of an interface

@@ -13,8 +13,8 @@ use Rattle.ios_lines.specs.Words.{Word}
 use Rattle.toml.specs.Data.{Data, Members, depth, has_valid_dates, member, members_depth, members_have_valid_dates, no_members}
 use Rattle.design_file.specs.Designs.{IsMetric}
 use Rattle.design_file.specs.Values.{levels_named}
-use Rattle.design_writer.specs.CostDesigns.{has_cost}
-use Rattle.design_writer.specs.steps.CostTables.{cost_data, document_by_costs, level_text, put_member, router_data, with_cost, with_interfaces, with_routers}
+use Rattle.design_writer.specs.CostTables.{has_cost}
+use Rattle.design_writer.specs.CostTables.{cost_data, document_by_costs, level_text, put_member, router_data, with_cost, with_interfaces, with_routers}
 use Rattle.design_file.proofs.MetricTables.{AllMembers, IsMetricTable, IsMetricsTable}
 use Rattle.design_writer.proofs.MemberPuts.{put_all_hold}
 

@@ -3,3 +3,6 @@ pub mod CostTables
 pub mod CostLookups
 pub mod CostSettling
 pub mod CostTexts
+pub mod OneText
+pub mod TextNames
+pub mod OneAreas

@@ -14,7 +14,7 @@ use Rattle.toml.specs.View.{members_view, view}
 use Rattle.toml.specs.declared.value.Value.{Value}
 use Rattle.toml.proofs.Views.{Entry}
 use Rattle.design_file.proofs.MetricTables.{AllMembers}
-use Rattle.design_writer.specs.steps.CostTables.{put_member}
+use Rattle.design_writer.specs.CostTables.{put_member}
 
 -- ---- a map's insert ----
 

@@ -1,2 +1,4 @@
+pub mod CostTables
 pub mod CostDesigns
-pub mod steps
+pub mod Laws
+pub mod OneAreaDesigns

@@ -3,7 +3,9 @@
 //! | Notion | Definition | Code |
 //! |---|---|---|
 //! | what such a design settles, and which text is one | `specs/CostDesigns.antt` | `design_text` (`writing.rt`) |
-//! | its tables | `specs/steps/CostTables.antt` | `tables.rt` |
+//! | its document | `specs/CostTables.antt` | `tables.rt` |
+//! | that there is one text, and names that are text | `specs/Laws.antt` | `cost_design_laws` |
+//! | that in one OSPF area every wave list is seamless with it | `specs/OneAreaDesigns.antt` | `one_area_laws` |
 //!
 //! The text is printed by the kit's `toml`, whose contract says that it is read as the tables that were printed; what `design_file`
 //! then says of these tables is proved here (`proofs/CostTables.antt`: nothing is wrong in them; `CostLookups`, `CostSettling`: what
@@ -26,5 +28,9 @@ mod tables;
 // Their text.
 mod writing;
 
+// That there is one, and what it means for a migration.
+mod laws;
+
+pub use laws::{cost_design_laws, one_area_laws};
 pub use std::alloc::AllocError as OutOfMemory;
 pub use writing::design_text;

@@ -2,9 +2,9 @@ ghost use Rattle.std.specs.Prelude.{◌≡◌, IfOk, OnOk, All, IsUtf8};
 ghost use Rattle.net_model.specs.Refusals.{IsNetwork};
 ghost use Rattle.toml.specs.Data.{no_members};
 ghost use Rattle.toml.specs.View.{table_view, view};
-ghost use Rattle.design_writer.specs.CostDesigns.{AreTextNames, IsTextNamed};
-ghost use Rattle.design_writer.specs.steps.CostTables.{document_by_costs, level_text, put_member, router_data};
-ghost use Rattle.design_writer.specs.steps.CostTables.{with_cost, with_interfaces, with_routers};
+ghost use Rattle.design_writer.specs.CostDesigns.{HasTextNames, HaveTextNames};
+ghost use Rattle.design_writer.specs.CostTables.{document_by_costs, level_text, put_member, router_data};
+ghost use Rattle.design_writer.specs.CostTables.{with_cost, with_interfaces, with_routers};
 
 use crate::OutOfMemory;
 use net_model::{Config, Interface, Levels, Net};
@@ -18,7 +18,7 @@ pub(crate) fn document(
     area: &str,
     levels: Levels,
 ) -> Result<Table, OutOfMemory>
-    requires { AreTextNames net.now }
+    requires { HaveTextNames net.now }
     ensures document { IfOk result (λ table. table_view table ≡ document_by_costs area.now levels net.now) }
     ensures network { OnOk result (IsNetwork net.now) }
 {
@@ -61,7 +61,7 @@ fn put(alloc: Global, table: &mut Table, key: &str, value: Value) -> Result<(), 
 
 /// The tables of all routers.
 fn routers_table(alloc: Global, net: &Net) -> Result<Table, OutOfMemory>
-    requires { AreTextNames net.now }
+    requires { HaveTextNames net.now }
     ensures tables { IfOk result (λ table. table_view table ≡ with_routers no_members net.now) }
     ensures network { OnOk result (IsNetwork net.now) }
 {
@@ -74,7 +74,8 @@ fn routers_table(alloc: Global, net: &Net) -> Result<Table, OutOfMemory>
 
 /// Adds the table of a router.
 fn add_router(alloc: Global, table: &mut Table, config: &Config) -> Result<(), OutOfMemory>
-    requires { IsTextNamed config.now }
+    requires name { IsUtf8 config.now.name }
+    requires interfaces { HasTextNames config.now }
     ensures { OnOk result (table_view table.new ≡ put_member config.now.name (router_data config.now) (table_view table.old)) }
 {
     let interfaces = interfaces_table(alloc, config.interfaces.as_slice())?;

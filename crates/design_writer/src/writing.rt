@@ -1,6 +1,6 @@
 ghost use Rattle.std.specs.Prelude.{◌≡◌, IfOk, IsTrue};
 ghost use Rattle.design_file.specs.Values.{is_area};
-ghost use Rattle.design_writer.specs.CostDesigns.{AreTextNames, IsDesignByCosts};
+ghost use Rattle.design_writer.specs.CostDesigns.{HaveTextNames, IsDesignByCosts};
 
 use crate::OutOfMemory;
 use crate::tables::document;
@@ -17,7 +17,7 @@ pub fn design_text(
     levels: Levels,
 ) -> Result<Bytes, OutOfMemory>
     requires area { IsTrue (is_area area.now) }
-    requires names { AreTextNames net.now }
+    requires names { HaveTextNames net.now }
     ensures { IfOk result (IsDesignByCosts area.now levels net.now) }
 {
     let document = document(alloc, net, area, levels)?;

@@ -3,7 +3,7 @@ use Rattle.std.proofs.Common.{◌≡◌, ℕ, inl, inr, true, false, List, [], �
 use Rattle.std.proofs.lemmas.Bool.{false≢true}
 use Rattle.net_addr.specs.Addresses.{Block}
 use Rattle.net_model.specs.LevelSets.{has_level_one, has_level_two}
-use Rattle.net_model.specs.Network.{Network, UpInterface, Connected, InArea, IsBorderRouter, Adjacent}
+use Rattle.net_model.specs.Network.{Network, UpInterface, Connected, InArea, IsBorderRouter, Adjacent, RunsIn}
 use Rattle.net_model.specs.declared.interface.Interface.{Interface}
 use Rattle.net_model.specs.declared.zone.Zone.TheVariants.{Area, Two}
 use Rattle.route_core.specs.declared.entry.Entry.{Entry}
@@ -70,8 +70,15 @@ module _ (net : Network) (n : ℕ) (is : IsOneAreaAtEqualCosts net n) where
   runs_level : (u : ℕ) (i : Interface) (area : ℕ) → UpInterface net u i → i.area ≡ Some area → IsTrue i.level2
   runs_level u i area up in_area = (is.equal u i up).runs.1 (subst IsSome (sym in_area) refl)
 
+  passive_alike : (u : ℕ) (i : Interface) → UpInterface net u i → i.area ≡ Some n → i.loopback ≡ false → i.isis_passive ≡ i.ospf_passive
+  passive_alike u i up in_area link = (is.equal u i up).passive (subst IsSome (sym in_area) refl) link
+
   costs_alike : (u : ℕ) (i : Interface) (area : ℕ) → UpInterface net u i → i.area ≡ Some area → i.metric2 ≡ i.cost
   costs_alike u i area up in_area = (is.equal u i up).metric (subst IsSome (sym in_area) refl)
+
+  -- an interface that runs level 2 actively runs the area so
+  back : (u : ℕ) (i : Interface) → UpInterface net u i → i.loopback ≡ false → RunsIn Two i → RunsIn (Area n) i
+  back u i up link runs = let area = runs_area u i up runs.0 in (area, sym (passive_alike u i up area link) ∙ runs.1)
 
   -- the adjacencies of the area are those of level 2
   same_arcs : SameArcs (Adjacent net (Area n)) (Adjacent net Two)
@@ -87,8 +94,8 @@ module _ (net : Network) (n : ℕ) (is : IsOneAreaAtEqualCosts net n) where
       far_subnet = a.far_subnet;
       near_link = a.near_link;
       far_link = a.far_link;
-      near_runs = (runs_level u a.near n a.near_up a.near_runs.0, (is.equal u a.near a.near_up).passive a.near_link ∙ a.near_runs.1);
-      far_runs = (runs_level v a.far n a.far_up a.far_runs.0, (is.equal v a.far a.far_up).passive a.far_link ∙ a.far_runs.1);
+      near_runs = (runs_level u a.near n a.near_up a.near_runs.0, passive_alike u a.near a.near_up a.near_runs.0 a.near_link ∙ a.near_runs.1);
+      far_runs = (runs_level v a.far n a.far_up a.far_runs.0, passive_alike v a.far a.far_up a.far_runs.0 a.far_link ∙ a.far_runs.1);
       joined = tt;
       costs = costs_alike u a.near n a.near_up a.near_runs.0 ∙ a.costs;
     },
@@ -103,8 +110,8 @@ module _ (net : Network) (n : ℕ) (is : IsOneAreaAtEqualCosts net n) where
       far_subnet = a.far_subnet;
       near_link = a.near_link;
       far_link = a.far_link;
-      near_runs = (runs_area u a.near a.near_up a.near_runs.0, sym ((is.equal u a.near a.near_up).passive a.near_link) ∙ a.near_runs.1);
-      far_runs = (runs_area v a.far a.far_up a.far_runs.0, sym ((is.equal v a.far a.far_up).passive a.far_link) ∙ a.far_runs.1);
+      near_runs = back u a.near a.near_up a.near_link a.near_runs;
+      far_runs = back v a.far a.far_up a.far_link a.far_runs;
       joined = tt;
       costs = sym (costs_alike u a.near n a.near_up (runs_area u a.near a.near_up a.near_runs.0)) ∙ a.costs;
     },

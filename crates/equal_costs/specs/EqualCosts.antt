@@ -12,12 +12,12 @@ use Rattle.igp_theory.specs.Phases.{State, all_old}
 use Rattle.igp_theory.specs.Routes.{HaveSameEntries}
 use Rattle.igp_theory.specs.States.{IsSound}
 
--- an interface runs level 2 exactly where it runs OSPF, its metric is its OSPF cost then, and if it isn't a loopback it is
+-- an interface runs level 2 exactly where it runs OSPF; then its metric is its OSPF cost, and if it isn't a loopback it is
 -- passive for the one where it is for the other
 pub record HasEqualCosts (i : Interface) : Type 0 where
   pub runs : IsTrue i.level2 ↔ IsSome i.area
   pub metric : IsSome i.area → i.metric2 ≡ i.cost
-  pub passive : i.loopback ≡ false → i.isis_passive ≡ i.ospf_passive
+  pub passive : IsSome i.area → i.loopback ≡ false → i.isis_passive ≡ i.ospf_passive
 
 -- a network of one OSPF area, in which each router runs IS-IS in level 2 alone, and each up interface has equal costs
 pub record IsOneAreaAtEqualCosts (net : Network) (area : ℕ) : Type 0 where

@@ -51,7 +51,7 @@ contained_at : (net : Network) (c : Configuration) → Contains net c → (v : �
 contained_at net c among = (among.0, slice_get_read net (length net) among.0 c refl among.1 (sym among.2))
 
 -- the first router of the name of a configuration of the network has this configuration
-number_is : (net : Network) (c : Configuration) (u : ℕ) → NamesAscend net → Contains net c → numbered_from 0 c.name net ≡ Some u →
+pub number_is : (net : Network) (c : Configuration) (u : ℕ) → NamesAscend net → Contains net c → numbered_from 0 c.name net ≡ Some u →
     HasConfiguration net u c
 number_is net c u names among e =
     let found : NumberedAt net 0 c.name u = numbered_at net 0 c.name u e in

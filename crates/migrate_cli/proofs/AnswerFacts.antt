@@ -25,7 +25,7 @@ use Rattle.migrate_cli.specs.Answers.IsAnswer.{refused_words, many_files, read_f
 use Rattle.migrate_cli.specs.Answers.MayAsk.{asks_none, asks_some}
 use Rattle.migrate_cli.specs.Answers.MayFail.{last_failed, none_failed}
 use Rattle.migrate_cli.specs.Calls.{Call}
-use Rattle.migrate_cli.specs.CallWords.AreRefused.{not_taken, number_off}
+use Rattle.migrate_cli.specs.CallWords.AreRefused.{not_taken, value_off}
 use Rattle.migrate_cli.specs.CommandFiles.{GivenTexts, NeedsStart, config_texts, files_of, given_texts, groups_of, own_texts, text_names}
 use Rattle.migrate_cli.specs.Configurations.{GiveNetworks, IsAtStart, RefusesFirst}
 use Rattle.migrate_cli.specs.Decisions.{IsDecision, input_of}
@@ -69,7 +69,7 @@ answered_at_once call before r answer = answered call before before [] r (sym (a
 words_refused_so : (call : Call) (refused : WordsRefused) (outcome : Outcome) → IsRefusal call.words refused → RefusesSo refused outcome
     → IsAnswer call [] outcome
 words_refused_so call (NotTaken detail) outcome is so = subst (IsAnswer call []) (sym so) (refused_words _ (not_taken _ is))
-words_refused_so call Number outcome is so = subst (IsAnswer call []) (sym so) (refused_words [] (number_off is.1))
+words_refused_so call Number outcome is so = subst (IsAnswer call []) (sym so) (refused_words [] (value_off is.1))
 words_refused_so call NoMemoryForWords outcome is so = absurd so
 
 pub refusal_answer : (call : Call) (before : List (List ℕ)) (refused : WordsRefused) (r : Result Outcome AllocError) → IsRefusal call.words refused

@@ -16,7 +16,7 @@ use Rattle.migrate_cli.specs.Answers.{IsAnswer}
 use Rattle.migrate_cli.specs.Answers.IsAnswer.{refused_words, many_files, read_fault, long_file, long_files, judged}
 use Rattle.migrate_cli.specs.Calls.{Call}
 use Rattle.migrate_cli.specs.CallWords.{AreRefused}
-use Rattle.migrate_cli.specs.CallWords.AreRefused.{not_taken, number_off}
+use Rattle.migrate_cli.specs.CallWords.AreRefused.{not_taken, value_off}
 use Rattle.migrate_cli.specs.CommandFiles.{config_texts, files_of, own_texts, given_texts}
 use Rattle.migrate_cli.specs.Outcomes.{IsOutcome}
 use Rattle.migrate_cli.specs.Reading.{Contents, File, AreRead, AreWithin, file_names}
@@ -133,7 +133,7 @@ steps_of read (judged command texts _ ask reads within is) = asks command ask.as
 -- words that are refused ask for nothing
 pub refused_or_asks : (words : List (List ℕ)) (detail : List ℕ) (command : Command) → AreRefused words detail → Asks words command → ⊥
 refused_or_asks words detail command (not_taken _ none) ask = none ask.taken
-refused_or_asks words detail command (number_off off) ask = (numbers words).none off command ask
+refused_or_asks words detail command (value_off off) ask = (numbers words).none off command ask
 
 one_of_words : (call : Call) {p q : List (List ℕ)} {one other : Outcome} → All (IsFileTold call.content) p → OfWords call p one
     → OfWords call q other → SameAnswer p q one other

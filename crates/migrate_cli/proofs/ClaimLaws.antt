@@ -19,6 +19,7 @@ use Rattle.migrate_cli.specs.Completeness.Decides.{memory}
 use Rattle.migrate_cli.specs.Completeness.DecidesTree.{no_memory as none_for_tree}
 use Rattle.migrate_cli.specs.Completeness.Writes.{unwritten}
 use Rattle.migrate_cli.specs.DeltaPromise.{HasDelta}
+use Rattle.migrate_cli.specs.DesignPromise.{HasDesigned}
 use Rattle.migrate_cli.specs.PairPromise.{HasPaired}
 use Rattle.migrate_cli.specs.PlanPromise.{HasPlanned, IsOfPlan, PlansOrNot}
 use Rattle.migrate_cli.specs.PlanPromise.PlansOrNot.{no_memory as none_planned}
@@ -32,6 +33,7 @@ use Rattle.migrate_cli.proofs.AnswerFacts.{reads_or_not}
 use Rattle.migrate_cli.proofs.CallLaws.{ends_so}
 use Rattle.migrate_cli.proofs.CompletenessLaws.{check_decides, prepare_writes, refute_decides, replay_decides, scripts_write}
 use Rattle.migrate_cli.proofs.DeltaPromiseLaws.{delta_writes, new_lines_alone}
+use Rattle.migrate_cli.proofs.DesignPromiseLaws.{design_writes, has_designed}
 use Rattle.migrate_cli.proofs.PairPromiseLaws.{has_paired, pair_check_decides, pair_decides, pair_refute_decides, pair_scripts_write}
 use Rattle.migrate_cli.proofs.PlanPromiseLaws.{answer_means, plan_decides}
 use Rattle.migrate_cli.proofs.PreparePromiseLaws.{reads_back}
@@ -113,6 +115,11 @@ module _ (call : Call) (before after : Outside) where
           reads_back = λ file configs asks. wrote_so (λ s. s ≡ Done) (λ _. HasPrepared call file configs (course before after)) (λ e. Prim.cc e)
               (λ e. Prim.cc e) (λ outcome is adds done. reads_back call file configs (course before after) asks is adds done) ends;
           writes = λ it calm. calm_so Writes unwritten (prepare_writes call it asked) ends fails calm;
+        };
+        designs = record {
+          designs = λ scheme configs asks. wrote_so (λ s. s ≡ Done) (λ _. HasDesigned call scheme configs (course before after)) (λ e. Prim.cc e)
+              (λ e. Prim.cc e) (λ outcome is adds done. has_designed call scheme configs (course before after) asks is adds done) ends;
+          writes = λ it calm. calm_so Writes unwritten (design_writes call it asked) ends fails calm;
         };
         pairs = record {
           means = λ budget old new asks. wrote_so IsOfPlan (HasPaired call budget old new (course before after)) (λ q. q) (λ q. q)

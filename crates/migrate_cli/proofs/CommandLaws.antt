@@ -4,7 +4,7 @@ use Rattle.igp_theory.specs.Migrations.{ospf_to_isis}
 use Rattle.net_model.specs.Refusals.{NamesAscend}
 use Rattle.migrate_words.specs.declared.command.CommandKind.{CommandKind}
 use Rattle.migrate_words.specs.declared.command.CommandKind.TheVariants.{Check, Prepare, Plan, Refute, Scripts, Replay, Sample}
-use Rattle.migrate_words.specs.declared.command.CommandKind.TheVariants.{Pair, PairScripts, PairCheck, PairRefute, Split, Delta, Tables}
+use Rattle.migrate_words.specs.declared.command.CommandKind.TheVariants.{Pair, PairScripts, PairCheck, PairRefute, Design, Split, Delta, Tables}
 use Rattle.migration_report.specs.Outcomes.{IsTellable}
 use Rattle.migration_report.specs.declared.decision.Decision.{Decision}
 use Rattle.net_model.specs.Network.{Network}
@@ -21,6 +21,7 @@ use Rattle.migrate_cli.specs.ReplayDecision.{IsReplayDecision, journal_of}
 use Rattle.migrate_cli.specs.ScriptsDecision.{IsScriptsDecision}
 use Rattle.migrate_cli.specs.SplitDecision.{IsSplitDecision}
 use Rattle.migrate_cli.proofs.CheckLaws.{check_tellable, one_check_decision}
+use Rattle.migrate_cli.proofs.DesignLaws.{design_tellable, one_design_decision}
 use Rattle.migrate_cli.proofs.PairLaws.{one_pair_decision, one_script, pair_tellable, script_tellable}
 use Rattle.migrate_cli.proofs.PlanLaws.{one_plan_decision, one_sample_decision, plan_decision_tellable, sample_tellable}
 use Rattle.migrate_cli.proofs.RefuteLaws.{one_tree_decision, tree_tellable}
@@ -87,6 +88,7 @@ one_decision Delta input {e = e} ascending one other =
     one_settled_decision one.0 input.net (settled_lines_alone (configured input.configs input.net)) one.2
     (moved (λ file. IsDeltaDecision file (configured input.configs input.net) e) one.1 other.1 other.2)
 one_decision Tables input ascending one other = one_tables_decision one other
+one_decision Design input ascending one other = one_design_decision one other
 
 pub decision_tellable : (kind : CommandKind) (input : Input) (d : Decision) → IsDecision kind input d → IsTellable input.net d
 decision_tellable Check input d is = check_tellable is.2
@@ -106,3 +108,4 @@ decision_tellable Split input d is = split_tellable is.0 input.number input.net 
 decision_tellable Delta input d is =
     settled_tellable is.0 input.net (settled_lines_alone (configured input.configs input.net)) (λ settled. tt) is.2
 decision_tellable Tables input d is = tables_tellable is
+decision_tellable Design input d is = design_tellable is

@@ -21,6 +21,7 @@ mod SplitLaws
 mod TablesLaws
 mod CommandFacts
 mod PairLaws
+mod DesignLaws
 mod CommandLaws
 mod OutcomeLaws
 mod AnswerFacts
@@ -38,4 +39,5 @@ mod SplitPromiseLaws
 mod TablesPromiseLaws
 mod SamplePromiseLaws
 mod PairPromiseLaws
+mod DesignPromiseLaws
 mod ClaimLaws

@@ -9,7 +9,7 @@ use Rattle.refutation_check.specs.declared.verdict.Verdict.TheVariants.{Closed, 
 use Rattle.migration_report.specs.Outcomes.{decision_status, found_status, plan_status, verdict_status}
 use Rattle.migration_report.specs.declared.decision.Decision.{Decision}
 use Rattle.migration_report.specs.declared.decision.Decision.TheVariants.{Safe, SafeWaves, Unsafe, UnsafeWave, Plan, Summary, Tree, Script}
-use Rattle.migration_report.specs.declared.decision.Decision.TheVariants.{Reached, Departs, Prepared, PairScript, BadPair, BadOrder, BadDesign, Split, Delta, Tables}
+use Rattle.migration_report.specs.declared.decision.Decision.TheVariants.{Reached, Departs, Prepared, PairScript, Designed, BadPair, BadOrder, BadDesign, Split, Delta, Tables}
 use Rattle.migration_report.specs.declared.status.Status.{Status}
 use Rattle.migration_report.specs.declared.status.Status.TheVariants as status
 
@@ -60,6 +60,7 @@ decision_no_fault (Reached made nexts) = done_no_fault
 decision_no_fault (Departs line) = negative_no_fault
 decision_no_fault (Prepared text) = done_no_fault
 decision_no_fault (PairScript text) = done_no_fault
+decision_no_fault (Designed text) = done_no_fault
 decision_no_fault (BadPair refusal) = refused_no_fault
 decision_no_fault (BadOrder file line kind) = refused_no_fault
 decision_no_fault (BadDesign file path kind) = refused_no_fault

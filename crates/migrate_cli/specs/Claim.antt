@@ -9,6 +9,7 @@ use Rattle.migrate_cli.specs.Answers.{Answers}
 use Rattle.migrate_cli.specs.Calls.{Call, Outside}
 use Rattle.migrate_cli.specs.Completeness.{CheckDecides, RefuteDecides, ReplayDecides}
 use Rattle.migrate_cli.specs.DeltaPromise.{DeltaPromise}
+use Rattle.migrate_cli.specs.DesignPromise.{DesignPromise}
 use Rattle.migrate_cli.specs.PairPromise.{PairCheckDecides, PairPromise, PairRefuteDecides, PairScriptsWrites}
 use Rattle.migrate_cli.specs.PlanPromise.{PlanPromise}
 use Rattle.migrate_cli.specs.PreparePromise.{PreparePromise}
@@ -41,6 +42,8 @@ pub record Claim (call : Call) (before after : Outside) (status : Status) : Type
   pub scripts : ScriptsPromise call before after status
   -- `prepare` writes configurations that read as the same ones with the IS-IS of the design
   pub prepares : PreparePromise call before after status
+  -- `design` writes a design that is read, and that gives each interface with an OSPF area its OSPF cost as its metric
+  pub designs : DesignPromise call before after status
   -- `pair` plans between two networks of OSPF: its statuses mean the same there
   pub pairs : PairPromise call before after status
   -- `paircheck`, `pairrefute` and `pairscripts` do there what `check`, `refute` and `scripts` do

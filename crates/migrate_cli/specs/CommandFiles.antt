@@ -1,9 +1,10 @@
 -- What each command reads, and the texts of its configurations.
 use Rattle.std.specs.Prelude.{ℕ, List, [], ◌∷◌, ◌++◌, codes, length, map, take, drop, true, false}
+use Rattle.migrate_words.specs.Schemes.{AskedScheme, usual_scheme}
 use Rattle.migrate_words.specs.declared.command.Command.{Command}
 use Rattle.migrate_words.specs.declared.command.CommandKind.{CommandKind}
-use Rattle.migrate_words.specs.declared.command.CommandKind.TheVariants.{Prepare, Delta, Sample, Tables}
-use Rattle.migrate_words.specs.declared.command.CommandKind.TheVariants.{Pair, PairScripts, PairCheck, PairRefute}
+use Rattle.migrate_words.specs.declared.command.CommandKind.TheVariants.{Prepare, Sample, Delta, Tables}
+use Rattle.migrate_words.specs.declared.command.CommandKind.TheVariants.{Pair, PairScripts, PairCheck, PairRefute, Design}
 use Rattle.sample_network.specs.SampleTexts.{sample_text}
 use Rattle.migrate_cli.specs.Reading.{File}
 use Rattle.migrate_cli.specs.declared.files.TheConstants.{FILE_MOST, DESIGN_MOST}
@@ -18,7 +19,11 @@ given_texts own configs = record { own = own; configs = configs }
 
 -- the command of these files and this number
 abbrev pub command_of : CommandKind → List (List ℕ) → List (List ℕ) → ℕ → Command
-command_of kind own configs number = record { kind = kind; own = own; configs = configs; number = number }
+command_of kind own configs number = record { kind = kind; own = own; configs = configs; number = number; scheme = usual_scheme }
+
+-- `design` of this scheme and these configurations
+abbrev pub design_of : AskedScheme → List (List ℕ) → Command
+design_of scheme configs = record { kind = Design; own = []; configs = configs; number = 0; scheme = scheme }
 
 -- how many bytes a file of a command's own has at most
 abbrev pub own_most : CommandKind → ℕ
@@ -89,4 +94,5 @@ abbrev pub NeedsStart : CommandKind → Type 0
 NeedsStart Prepare = ⊥
 NeedsStart Delta = ⊥
 NeedsStart Tables = ⊥
+NeedsStart Design = ⊥
 NeedsStart _ = Unit {0}

@@ -2,14 +2,16 @@
 use Rattle.std.specs.Prelude.{◌≡◌, ℕ, List, [], ◌∷◌}
 use Rattle.igp_theory.specs.Migrations.{ospf_to_isis}
 use Rattle.net_model.specs.Network.{Network}
+use Rattle.migrate_words.specs.Schemes.{AskedScheme}
 use Rattle.migrate_words.specs.declared.command.Command.{Command}
 use Rattle.migrate_words.specs.declared.command.CommandKind.{CommandKind}
 use Rattle.migrate_words.specs.declared.command.CommandKind.TheVariants.{Check, Prepare, Plan, Refute, Scripts, Replay, Sample}
-use Rattle.migrate_words.specs.declared.command.CommandKind.TheVariants.{Pair, PairScripts, PairCheck, PairRefute, Split, Delta, Tables}
+use Rattle.migrate_words.specs.declared.command.CommandKind.TheVariants.{Pair, PairScripts, PairCheck, PairRefute, Split, Delta, Tables, Design}
 use Rattle.migration_report.specs.declared.decision.Decision.{Decision}
 use Rattle.migrate_cli.specs.CommandFiles.{GivenTexts}
 use Rattle.migrate_cli.specs.CheckDecision.{IsCheckDecision}
 use Rattle.migrate_cli.specs.DeltaDecision.{IsDeltaDecision}
+use Rattle.migrate_cli.specs.DesignDecision.{IsDesignDecision}
 use Rattle.migrate_cli.specs.PrepareDecision.{IsPrepareDecision, configured}
 use Rattle.ospf_pair.specs.NetworkPairs.{network_pair}
 use Rattle.migrate_cli.specs.PairDecision.{IsPairCheck, IsPairPlan, IsPairScripts, IsPairTree}
@@ -22,11 +24,12 @@ use Rattle.migrate_cli.specs.ScriptsDecision.{IsScriptsDecision}
 use Rattle.migrate_cli.specs.SplitDecision.{IsSplitDecision}
 use Rattle.migrate_cli.specs.TablesDecision.{IsTablesDecision}
 
--- what a command decides on: its own files, its number, the texts of the configurations, the network that their first group
--- makes, and those of the other groups
+-- what a command decides on: its own files, its number and its scheme, the texts of the configurations, the network that their
+-- first group makes, and those of the other groups
 pub record Input : Type 0 where
   pub own : List NamedText
   pub number : ℕ
+  pub scheme : AskedScheme
   pub configs : List (List ℕ)
   pub net : Network
   pub others : List Network
@@ -35,6 +38,7 @@ abbrev pub input_of : Command → GivenTexts → Network → List Network → In
 input_of command texts net others = record {
   own = named_texts command.own texts.own;
   number = command.number;
+  scheme = command.scheme;
   configs = texts.configs;
   net = net;
   others = others;
@@ -69,3 +73,4 @@ IsDecision Split input decision =
 IsDecision Delta input decision =
     (design : NamedText) × (input.own ≡ design ∷ []) × IsDeltaDecision design (configured input.configs input.net) decision
 IsDecision Tables input decision = IsTablesDecision input.net decision
+IsDecision Design input decision = IsDesignDecision input.scheme input.net decision

@@ -16,6 +16,7 @@ pub mod ScriptsDecision
 pub mod SplitDecision
 pub mod TablesDecision
 pub mod PairDecision
+pub mod DesignDecision
 pub mod Decisions
 pub mod Outcomes
 pub mod Answers
@@ -30,5 +31,6 @@ pub mod SplitPromise
 pub mod TablesPromise
 pub mod SamplePromise
 pub mod PairPromise
+pub mod DesignPromise
 pub mod Claim
 pub mod steps

@@ -1,4 +1,5 @@
 ghost use Rattle.std.specs.Prelude.{◌≡◌, ◌≤◌, ◌<◌, ◌↔◌, ℕ, List, [], ◌∷◌, All, IfOk, IsTrue, length, slice_index_or};
+ghost use Rattle.design_writer.specs.CostDesigns.{HaveTextNames};
 ghost use Rattle.migrate_words.specs.Asked.{IsInRange};
 ghost use Rattle.ospf_pair.specs.PairRefusals.{MakePair};
 ghost use Rattle.migrate_cli.specs.CommandFiles.{NeedsStart, OverNetworks, given_texts, own_files};
@@ -8,6 +9,7 @@ ghost use Rattle.migrate_cli.specs.Reading.{AreShort};
 use crate::OutOfMemory;
 use crate::check::{check_over, judge_check};
 use crate::delta::judge_delta;
+use crate::design::judge_design;
 use crate::files::FILE_MOST;
 use crate::moves::Move;
 use crate::pair::judge_pair_scripts;
@@ -32,7 +34,7 @@ pub(crate) fn needs_start(kind: CommandKind) -> bool
 {
     !matches!(
         kind,
-        CommandKind::Prepare | CommandKind::Delta | CommandKind::Tables
+        CommandKind::Prepare | CommandKind::Delta | CommandKind::Tables | CommandKind::Design
     )
 }
 
@@ -49,6 +51,7 @@ pub(crate) fn judge_command(
     requires some { 0 < length net.now }
     requires own { AreShort (own_files command.now) own.now }
     requires configs { All (λ text. length text ≤ FILE_MOST) configs.now }
+    requires names { HaveTextNames net.now }
     ensures { IfOk result (IsDecision command.now.kind (input_of command.now (given_texts own.now configs.now) net.now [])) }
 {
     match command.kind {
@@ -81,6 +84,7 @@ pub(crate) fn judge_command(
             judge_delta(alloc, file, design, configs, net)
         }
         CommandKind::Tables => judge_tables(alloc, net),
+        CommandKind::Design => judge_design(alloc, &command.scheme, net),
         _ => unreachable!(),
     }
 }

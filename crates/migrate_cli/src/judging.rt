@@ -3,6 +3,7 @@ ghost use Rattle.net_model.specs.Configuration.{Configuration};
 ghost use Rattle.net_model.specs.Network.{HasConfiguration};
 ghost use Rattle.net_model.specs.OffStarts.{IsLowestOffStart};
 ghost use Rattle.sample_network.specs.SampleTexts.{sample_text};
+ghost use Rattle.design_writer.specs.CostDesigns.{HaveTextNames};
 ghost use Rattle.migrate_words.specs.Asked.{IsInRange};
 ghost use Rattle.migrate_cli.specs.CommandFiles.{NeedsStart, OverNetworks, config_texts, files_of, given_texts, groups_of};
 ghost use Rattle.migrate_cli.specs.CommandFiles.{own_files, own_texts, text_names};
@@ -214,6 +215,7 @@ fn judge_network(
     requires own { AreShort (own_files command.now) own.now }
     requires one { OverNetworks command.now.kind → ⊥ }
     requires configs { All (λ text. length text ≤ FILE_MOST) configs.now }
+    requires names { HaveTextNames net }
     ensures { IfOk result (λ outcome. GiveNetwork configs.now net →
         IsOutcome command.now (given_texts own.now configs.now) outcome) }
 {

@@ -11,7 +11,7 @@
 //! | `commands` | the commands, and whether one asks for the start of a migration |
 //! | `tables` | the tables of both protocols of a network, and mixed forwarding over them |
 //! | `settling` | what a design settles for a network |
-//! | `prepare`, `delta`, `shown`, `plan`, `check`, `refute` | what each command decides, `tables` in `shown` |
+//! | `design`, `prepare`, `delta`, `shown`, `plan`, `check`, `refute` | what each command decides, `tables` in `shown` |
 //! | `split`, `scripts`, `replay`, `pair`, `sample` | the same of those for the night, and of the others |
 //! | `sending` | writing in pieces of 4,096 bytes |
 //! | `originated` | how many prefixes a network originates |
@@ -39,6 +39,7 @@ mod tables;
 // what each command decides
 mod check;
 mod delta;
+mod design;
 mod pair;
 mod plan;
 mod prepare;

@@ -8,7 +8,7 @@ use Rattle.migrate_words.specs.CommandLine.{command_line}
 use Rattle.migrate_words.specs.Asked.{AreTaken}
 use Rattle.migrate_words.specs.Refusals.{AnswersWords, IsRefusal}
 use Rattle.migrate_words.specs.steps.Reading.{IsEntered, IsToldCause, ReadsAs}
-use Rattle.migrate_words.proofs.TakenLaws.{number_off}
+use Rattle.migrate_words.proofs.TakenLaws.{value_off}
 use Rattle.migrate_words.specs.declared.command.Command.{Command}
 use Rattle.migrate_words.specs.declared.refusal.WordsRefused.{WordsRefused}
 use Rattle.migrate_words.specs.declared.refusal.WordsRefused.TheVariants.{Words, Number, OutOfMemory}
@@ -19,7 +19,7 @@ pub answer_of_matches : (words : List Text) (matches : ArgMatches) (read : Resul
 answer_of_matches words matches (Ok command) taken same entered = record { taken = taken; rows = entered.0; entered = sym same ∙ entered.1; given = entered.2 }
 answer_of_matches words matches (Err (Words detail)) taken same none = absurd none
 answer_of_matches words matches (Err Number) taken same none =
-    (taken, number_off words taken (λ command asks. none command (asks.rows, same ∙ asks.entered, asks.given)))
+    (taken, value_off words taken (λ command asks. none command (asks.rows, same ∙ asks.entered, asks.given)))
 answer_of_matches words matches (Err OutOfMemory) taken same none = tt
 
 among_none : (cause : ErrorKind) (kinds : Kinds) → kinds ≡ [] → IsAmong cause kinds → ⊥

@@ -12,14 +12,14 @@ use Rattle.clap.specs.Simple.{built_leaf, filled, filled_from, help_rule, help_s
 use Rattle.clap.specs.Simple.{with_index}
 use Rattle.clap.specs.Faults.{level_fault}
 use Rattle.migrate_words.specs.Asked.{AreTaken, Enters}
-use Rattle.migrate_words.specs.CommandLine.{budget_option, command_line, config_files, config_rules, number_rules, one_text}
+use Rattle.migrate_words.specs.CommandLine.{area_option, budget_option, command_line, config_files, config_rules, level_option, number_rules, one_text}
 use Rattle.migrate_words.specs.CommandLine.{rules_of}
 use Rattle.migrate_words.specs.Usages.{Usage, kinds, network_names, usage_of}
 use Rattle.migrate_words.specs.declared.command.CommandKind.{CommandKind}
 use Rattle.migrate_words.specs.declared.subcommands.ConfigFiles.{ConfigFiles}
 use Rattle.migrate_words.specs.declared.subcommands.ConfigFiles.TheVariants.{NoConfigs, Several, Networks}
 use Rattle.migrate_words.specs.declared.subcommands.NumberTaken.{NumberTaken}
-use Rattle.migrate_words.specs.declared.subcommands.NumberTaken.TheVariants.{NoNumber, Budget, Routers, WaveSize}
+use Rattle.migrate_words.specs.declared.subcommands.NumberTaken.TheVariants.{NoNumber, Budget, Routers, DesignOptions, WaveSize}
 use Rattle.migrate_words.proofs.RowFacts.{some_is}
 use Rattle.migrate_words.proofs.TakenWalk.{line_of_taken}
 
@@ -60,6 +60,8 @@ each_filled P i (a ∷ rest) each = (each.0 i, each_filled P (index_after i a) r
 pub record OfArguments (P : Rule → Type 0) : Type 0 where
   pub text : (id : Text) (i : ℕ) → P (with_index i (filled (one_text id)))
   pub budget : (i : ℕ) → P (with_index i (filled budget_option))
+  pub area : (i : ℕ) → P (with_index i (filled area_option))
+  pub level : (i : ℕ) → P (with_index i (filled level_option))
   pub files : (i : ℕ) → P (with_index i (filled config_files))
   pub help : (i : ℕ) → P (with_index i (filled help_rule))
 
@@ -76,6 +78,7 @@ each_number P of NoNumber = tt
 each_number P of Budget = (of.budget, tt)
 each_number P of Routers = (of.text (codes "N"), tt)
 each_number P of WaveSize = (of.text (codes "N"), tt)
+each_number P of DesignOptions = (of.area, (of.level, tt))
 
 each_config : (P : Rule → Type 0) → OfArguments P → (configs : ConfigFiles) → EachFilled P (config_rules configs)
 each_config P of NoConfigs = tt

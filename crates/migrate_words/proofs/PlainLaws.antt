@@ -1,7 +1,7 @@
 -- Plain words are taken, with just their values.
 use Rattle.std.proofs.Common.{◌≡◌, ◌∙◌, ℕ, ◌+◌, ◌<◌, ◌≤◌, Bool, cond, true, false, nat_lt, List, [], ◌∷◌, ◌++◌, Option, Some}
 use Rattle.std.proofs.Common.{None, length, map, refl, sym, ap, ap₂}
-use Rattle.std.proofs.Common.{subst, append-nil, append_assoc, arith, codes}
+use Rattle.std.proofs.Common.{subst, append-nil, append_assoc, arith, codes, true≢false}
 use Rattle.std.proofs.lemmas.Bool.{ltb-true, ne_eqb}
 use Rattle.std.proofs.lemmas.List.{map-append}
 use Rattle.std.proofs.lemmas.List.Elements.{All-head}
@@ -10,7 +10,7 @@ use Rattle.std.proofs.lemmas.Slice.Eq.{bytes_eq-Decides}
 use Rattle.std.specs.Char.{IsAsciiDigit}
 use Rattle.std.specs.List.{All, find, fold, list_any}
 use Rattle.std.specs.Option.{option_map_or, option_or}
-use Rattle.std.specs.Prelude.{◌&&◌, ◌||◌, if◌then◌else◌, not, option_and_then, option_map, slice_get}
+use Rattle.std.specs.Prelude.{◌&&◌, ◌||◌, if◌then◌else◌, is_some, nat_le, not, option_and_then, option_map, slice_get}
 use Rattle.clap.proofs.OnLiterals.{clap_on_literals}
 use Rattle.clap.proofs.WalkLemmas.{both}
 use Rattle.clap.specs.Facts.{explicit_source}
@@ -23,22 +23,27 @@ use Rattle.clap.specs.Kinds.{or_else}
 use Rattle.clap.specs.Faults.{check_fault, defaults_fault, given_default_fault, step_fault}
 use Rattle.clap.specs.declared.error.kind.ErrorKind.TheVariants as kind
 use Rattle.net_addr.specs.Numerals.{IsNumeral}
-use Rattle.migrate_words.specs.Asked.{Asks, HasConfigs, HaveTexts, IsGivenNumber}
-use Rattle.migrate_words.specs.CommandLine.{budget_option, command_line, config_rules, number_rules, one_text, rules_of}
+use Rattle.ios_lines.specs.IsisLines.{is_area_address}
+use Rattle.net_model.specs.declared.config.Levels.{Levels}
+use Rattle.design_file.specs.Values.{is_area, levels_named}
+use Rattle.migrate_words.specs.Asked.{AreGivenLevels, Asks, HasConfigs, HaveTexts, IsGivenArea, IsGivenNumber, IsGivenScheme}
+use Rattle.migrate_words.specs.Schemes.{AskedScheme, scheme_of, usual_scheme}
+use Rattle.migrate_words.specs.CommandLine.{area_option, budget_option, command_line, config_rules, level_option, number_rules, one_text, rules_of}
 use Rattle.migrate_words.specs.Laws.{PlainWordsLaw}
-use Rattle.migrate_words.specs.PlainWords.{ArePlainConfigs, IsPlainName, WritesNumber, no_number, usual_budget, budget, routers, wave_size}
+use Rattle.migrate_words.specs.PlainWords.{ArePlainConfigs, IsPlainName, WritesArea, WritesLevels, WritesNumber}
+use Rattle.migrate_words.specs.PlainWords.{area, budget, level, no_number, options, routers, usual_area, usual_budget, usual_levels, wave_size}
 use Rattle.migrate_words.specs.Usages.{Usage, network_names, usage, usage_of}
 use Rattle.migrate_words.specs.declared.command.CommandKind.{CommandKind}
 use Rattle.migrate_words.specs.declared.command.CommandKind.TheVariants.{Check}
 use Rattle.migrate_words.specs.declared.subcommands.ConfigFiles.{ConfigFiles}
 use Rattle.migrate_words.specs.declared.subcommands.ConfigFiles.TheVariants.{NoConfigs, Several, Networks}
 use Rattle.migrate_words.specs.declared.subcommands.NumberTaken.{NumberTaken}
-use Rattle.migrate_words.specs.declared.subcommands.NumberTaken.TheVariants.{Budget, Routers}
+use Rattle.migrate_words.specs.declared.subcommands.NumberTaken.TheVariants.{Budget, DesignOptions, Routers}
 use Rattle.migrate_words.proofs.BuiltLines.{Each, OfArguments, built_line, built_of, each_of_line}
 use Rattle.migrate_words.proofs.Entering.{NamesLine, Takes, entered_by, taken_by, takes_rows, takes_words}
 use Rattle.migrate_words.proofs.PlainRows.{Behind, added, adds, are_new, are_new_append, config_ids, configs_stand, is_new, no_row}
 use Rattle.migrate_words.proofs.PlainRows.{place_after, place_below, row_ids}
-use Rattle.migrate_words.proofs.PlainRows.{takes_budget, takes_text, text_at, text_row, text_rows, texts_stand}
+use Rattle.migrate_words.proofs.PlainRows.{takes_area, takes_budget, takes_level, takes_text, text_at, text_row, text_rows, texts_stand}
 use Rattle.migrate_words.proofs.PlainWalk.{Ends, Settles, before, configs_walk, ends_after, ends_after_word, held_text, no_fault}
 use Rattle.migrate_words.proofs.PlainWalk.{other_plain, text_settles}
 use Rattle.migrate_words.proofs.PlainWalk.{texts_walk}
@@ -51,23 +56,50 @@ use Rattle.migrate_words.proofs.TakenLaws.{lacks, lacks_filled, row_named}
 abbrev names_of : Usage → List Text
 names_of line = line.own ++ config_ids line.configs
 
+-- no name is that of an option of a design
+abbrev are_no_options : List Text → Bool
+are_no_options names =
+    are_new (codes "AREA" ∷ []) names && (are_new (codes "L" ∷ []) names && (are_new (codes "AREA" ∷ codes "L" ∷ []) names
+    && (is_new names (codes "AREA") && is_new names (codes "L"))))
+
 -- the arguments of a line have different names, and there are few
 abbrev are_apart : Usage → Bool
 are_apart line = nat_lt (length line.own) 900 &&
-    (are_new (codes "N" ∷ []) (names_of line) && (are_new [] (names_of line) && is_new (names_of line) (codes "N")))
+    (are_new (codes "N" ∷ []) (names_of line) && (are_new [] (names_of line) && (is_new (names_of line) (codes "N") && are_no_options (names_of line))))
 
 record AreApart (line : Usage) : Type 0 where
   few : length line.own < 900
   behind_number : are_new (codes "N" ∷ []) (names_of line) ≡ true
   alone : are_new [] (names_of line) ≡ true
   no_number : is_new (names_of line) (codes "N") ≡ true
+  behind_area : are_new (codes "AREA" ∷ []) (names_of line) ≡ true
+  behind_level : are_new (codes "L" ∷ []) (names_of line) ≡ true
+  behind_both : are_new (codes "AREA" ∷ codes "L" ∷ []) (names_of line) ≡ true
+  no_area : is_new (names_of line) (codes "AREA") ≡ true
+  no_level : is_new (names_of line) (codes "L") ≡ true
 
 apart : (line : Usage) → are_apart line ≡ true → AreApart line
 apart line test =
+    let names : List Text = names_of line in
     let first = both (nat_lt (length line.own) 900) _ test in
-    let second = both (are_new (codes "N" ∷ []) (names_of line)) _ first.1 in
-    let third = both (are_new [] (names_of line)) _ second.1 in
-    record { few = ltb-true _ _ first.0; behind_number = second.0; alone = third.0; no_number = third.1 }
+    let second = both (are_new (codes "N" ∷ []) names) _ first.1 in
+    let third = both (are_new [] names) _ second.1 in
+    let fourth = both (is_new names (codes "N")) _ third.1 in
+    let fifth = both (are_new (codes "AREA" ∷ []) names) _ fourth.1 in
+    let sixth = both (are_new (codes "L" ∷ []) names) _ fifth.1 in
+    let seventh = both (are_new (codes "AREA" ∷ codes "L" ∷ []) names) _ sixth.1 in
+    let last = both (is_new names (codes "AREA")) _ seventh.1 in
+    record {
+      few = ltb-true _ _ first.0;
+      behind_number = second.0;
+      alone = third.0;
+      no_number = fourth.0;
+      behind_area = fifth.0;
+      behind_level = sixth.0;
+      behind_both = seventh.0;
+      no_area = last.0;
+      no_level = last.1;
+    }
 
 -- so it is of each command
 each_apart : (kind : CommandKind) → are_apart (usage_of kind) ≡ true
@@ -77,7 +109,14 @@ each_apart kind = refl
 -- ---- no argument has a default
 
 no_defaults : OfArguments (λ a. a.defaults ≡ [])
-no_defaults = record { text = λ id i. refl; budget = λ i. refl; files = λ i. refl; help = λ i. refl }
+no_defaults = record {
+  text = λ id i. refl;
+  budget = λ i. refl;
+  area = λ i. refl;
+  level = λ i. refl;
+  files = λ i. refl;
+  help = λ i. refl;
+}
 
 default_stays : (rows : List Row) (a : Rule) → a.defaults ≡ [] → with_default rows a ≡ rows
 default_stays rows a none =
@@ -164,8 +203,14 @@ configs_given Networks rows names new plain =
 abbrev others_of : Usage → List Rule
 others_of line = config_rules line.configs ++ help_rule ∷ []
 
--- plain words for the number of a line: the line takes them, with these rows, and they give it
-record NumberWalk (line : Usage) (words : List Text) (n : ℕ) : Type 0 where
+-- rows that come after those of a number and of options
+record AreFurther (more : List Row) : Type 0 where
+  number : has_row (codes "N") more ≡ false
+  area : has_row (codes "AREA") more ≡ false
+  level : has_row (codes "L") more ≡ false
+
+-- plain words for the number of a line: the line takes them, with these rows, and they give it, and the scheme
+record NumberWalk (line : Usage) (words : List Text) (n : ℕ) (scheme : AskedScheme) : Type 0 where
   rows : List Row
   new : are_new (row_ids rows) (names_of line) ≡ true
   place : ℕ
@@ -176,7 +221,8 @@ record NumberWalk (line : Usage) (words : List Text) (n : ℕ) : Type 0 where
   walk : (rest : List Text) (final : List Row)
       → ((h : Held) → Settles (built_line line) h rows → Ends (built_line line) (before h false place) rest final)
       → Ends (built_line line) (before nothing_held false 1) (words ++ rest) final
-  given : (more : List Row) → has_row (codes "N") more ≡ false → IsGivenNumber line.number (first_of (codes "N") (rows ++ more)) n
+  given : (more : List Row) → AreFurther more → IsGivenNumber line.number (first_of (codes "N") (rows ++ more)) n
+      × IsGivenScheme line.number (rows ++ more) scheme
       × (list_any (lacks (rows ++ more)) (number_rules line.number) ≡ false)
 
 -- the rules of a line, behind that for its number
@@ -250,11 +296,191 @@ module _ (word : Text) (own : List Text) (configs : ConfigFiles) where
       (follows (held_text [] (codes "N") (x ∷ xs))
       (text_settles with_number_first (text_at 1 (codes "N")) (codes "N") (x ∷ xs) [] refl refl (takes_text 1 (codes "N")) refl))
 
-number_walk : (word : Text) (number : NumberTaken) (own : List Text) (configs : ConfigFiles) (words : List Text) (n : ℕ)
-    → WritesNumber number words n
-    → AreApart (usage word number own configs) → NumberWalk (usage word number own configs) words n
+-- an area begins with a digit, and so does a word for levels
+area_plain : (word : Text) → is_area word ≡ true → IsPlainName word
+area_plain [] is = absurd (true≢false (sym is))
+area_plain (x ∷ []) is = absurd (true≢false (sym (both (nat_le 1 32) (is_area_address (x ∷ [])) is).1))
+area_plain (x ∷ y ∷ ys) is = λ hyphen.
+    let at = subst (λ (b : ℕ). is_area_address (b ∷ y ∷ ys) ≡ true) hyphen (both _ (is_area_address (x ∷ y ∷ ys)) is).1 in
+    true≢false (sym at)
+
+level_plain : (word : Text) (levels : Levels) → levels_named word ≡ Some levels → IsPlainName word
+level_plain [] levels is = absurd (true≢false (sym (ap is_some is)))
+level_plain (x ∷ xs) levels is = λ hyphen.
+    true≢false (sym (ap is_some (subst (λ (b : ℕ). levels_named (b ∷ xs) ≡ Some levels) hyphen is)))
+
+-- ---- the options of a design
+
+-- after an option, which waits for its text
+abbrev after_option : List Row → Text → Walk
+after_option rows id = record {
+  held = record { rows = rows; pending = Some (id, []); skip = 0 };
+  waiting = option id;
+  position = 1;
+  is_trailing = false;
+  stopped = None;
+}
+
+-- the rows of an area and of levels
+abbrev area_rows : Text → List Row
+area_rows text = text_row (codes "AREA") (text ∷ []) ∷ []
+
+abbrev level_rows : Text → List Row
+level_rows text = text_row (codes "L") (text ∷ []) ∷ []
+
+module _ (word : Text) (own : List Text) (configs : ConfigFiles) where
+  with_options : Shape
+  with_options = built_line (usage word DesignOptions own configs)
+
+  area_first : (rest : List Text) (rows : List Row) → Ends with_options (after_option [] (codes "AREA")) rest rows
+      → Ends with_options (before nothing_held false 1) (codes "--area" ∷ rest) rows
+  unfolding clap_on_literals with_options
+  area_first rest rows ends = ends_after with_options (before nothing_held false 1) (after_option [] (codes "AREA"))
+      (codes "--area") rest rows refl refl ends
+
+  level_first : (rest : List Text) (rows : List Row) → Ends with_options (after_option [] (codes "L")) rest rows
+      → Ends with_options (before nothing_held false 1) (codes "--level" ∷ rest) rows
+  unfolding clap_on_literals with_options
+  level_first rest rows ends = ends_after with_options (before nothing_held false 1) (after_option [] (codes "L"))
+      (codes "--level") rest rows refl refl ends
+
+  -- an area was given before
+  level_next : (text : Text) (rest : List Text) (rows : List Row) → Ends with_options (after_option (area_rows text) (codes "L")) rest rows
+      → Ends with_options (before (held_text [] (codes "AREA") text) false 1) (codes "--level" ∷ rest) rows
+  unfolding clap_on_literals with_options
+  level_next text rest rows ends =
+      ends_after with_options (before (held_text [] (codes "AREA") text) false 1) (after_option (area_rows text) (codes "L"))
+      (codes "--level") rest rows refl refl ends
+
+  area_text : (text : Text) (rest : List Text) (rows : List Row) → IsPlainName text
+      → Ends with_options (before (held_text [] (codes "AREA") text) false 1) rest rows
+      → Ends with_options (after_option [] (codes "AREA")) (text ∷ rest) rows
+  unfolding walked with_options
+  area_text [] rest rows plain ends = absurd plain
+  area_text (x ∷ xs) rest rows plain ends =
+      let after : Walk = after_option [] (codes "AREA") in
+      let waits = other_plain with_options.rules after.waiting 1 x xs after.held (ne_eqb x 45 plain) in
+      ends_after with_options after (before (held_text [] (codes "AREA") (x ∷ xs)) false 1) (x ∷ xs) rest rows
+      (ap₂ or_else (no_fault with_options x xs after.held (ne_eqb x 45 plain))
+      (ap (λ (p : Held × Step). step_fault with_options 1 p.0 p.1) waits))
+      (ap (λ (p : Held × Step). after_step with_options.rules (x ∷ xs) after p.0 p.1) waits) ends
+
+  level_text : (front : List Row) (text : Text) (rest : List Text) (rows : List Row) → IsPlainName text
+      → Ends with_options (before (held_text front (codes "L") text) false 1) rest rows
+      → Ends with_options (after_option front (codes "L")) (text ∷ rest) rows
+  unfolding walked with_options
+  level_text front [] rest rows plain ends = absurd plain
+  level_text front (x ∷ xs) rest rows plain ends =
+      let after : Walk = after_option front (codes "L") in
+      let waits = other_plain with_options.rules after.waiting 1 x xs after.held (ne_eqb x 45 plain) in
+      ends_after with_options after (before (held_text front (codes "L") (x ∷ xs)) false 1) (x ∷ xs) rest rows
+      (ap₂ or_else (no_fault with_options x xs after.held (ne_eqb x 45 plain))
+      (ap (λ (p : Held × Step). step_fault with_options 1 p.0 p.1) waits))
+      (ap (λ (p : Held × Step). after_step with_options.rules (x ∷ xs) after p.0 p.1) waits) ends
+
+  -- both options stand before the files, and have no place of their own
+  options_behind : Behind with_options.rules 1 (codes "AREA" ∷ codes "L" ∷ []) (map one_text own ++ (config_rules configs ++ help_rule ∷ []))
+  unfolding with_options
+  options_behind = record {
+    front = with_index 1 (filled area_option) ∷ with_index 1 (filled level_option) ∷ [];
+    rules_are = ap
+        (λ (rules : List Rule). filled_from 1 (area_option ∷ level_option ∷ rules)) (rules_behind own configs);
+    under = (tt, (tt, tt));
+    names = refl;
+  }
+
+-- no row of this name gives nothing
+none_first : (id : Text) (more : List Row) → has_row id more ≡ false → first_of id more ≡ None
+none_first id more none = ap (λ (o : Option Row). option_and_then (λ r. slice_get r.values 0) o) (find_none (row_named id) more none)
+
+options_walk : (word : Text) (own : List Text) (configs : ConfigFiles) (area_words level_words : List Text) (area : Text) (levels : Levels)
+    → WritesArea area_words area → WritesLevels level_words levels → AreApart (usage word DesignOptions own configs)
+    → NumberWalk (usage word DesignOptions own configs) (area_words ++ level_words) 0 (scheme_of area levels)
+unfolding with_options
+options_walk word own configs _ _ _ _ usual_area usual_levels are = record {
+  rows = [];
+  new = are.alone;
+  place = 1;
+  small = omega arith;
+  seen = codes "AREA" ∷ codes "L" ∷ [];
+  apart = are.behind_both;
+  behind = options_behind word own configs;
+  walk = λ rest final follows. follows nothing_held (nothing_settles _);
+  given = λ more none. (
+    refl,
+    (
+      subst (λ (o : Option Text). IsGivenArea o (codes "49.0001")) (sym (none_first (codes "AREA") more none.area)) refl,
+      subst (λ (o : Option Text). AreGivenLevels o usual_scheme.levels) (sym (none_first (codes "L") more none.level)) refl,
+    ),
+    refl,
+  );
+}
+options_walk word own configs _ _ _ _ (area text is) usual_levels are = record {
+  rows = area_rows text;
+  new = are.behind_area;
+  place = 1;
+  small = omega arith;
+  seen = codes "AREA" ∷ codes "L" ∷ [];
+  apart = are.behind_both;
+  behind = options_behind word own configs;
+  walk = λ rest final follows. area_first word own configs (text ∷ rest) final
+      (area_text word own configs text rest final (area_plain text is) (follows (held_text [] (codes "AREA") text)
+      (text_settles (with_options word own configs) _ (codes "AREA") text [] refl refl (takes_area 1) refl)));
+  given = λ more none. (
+    refl,
+    (
+      (refl, is),
+      subst (λ (o : Option Text). AreGivenLevels o usual_scheme.levels) (sym (none_first (codes "L") more none.level)) refl,
+    ),
+    refl,
+  );
+}
+options_walk word own configs _ _ _ _ usual_area (level text levels is) are = record {
+  rows = level_rows text;
+  new = are.behind_level;
+  place = 1;
+  small = omega arith;
+  seen = codes "AREA" ∷ codes "L" ∷ [];
+  apart = are.behind_both;
+  behind = options_behind word own configs;
+  walk = λ rest final follows. level_first word own configs (text ∷ rest) final
+      (level_text word own configs [] text rest final (level_plain text levels is) (follows (held_text [] (codes "L") text)
+      (text_settles (with_options word own configs) _ (codes "L") text [] refl refl (takes_level 1) refl)));
+  given = λ more none. (
+    refl,
+    (
+      subst (λ (o : Option Text). IsGivenArea o (codes "49.0001")) (sym (none_first (codes "AREA") more none.area)) refl,
+      is,
+    ),
+    refl,
+  );
+}
+options_walk word own configs _ _ _ _ (area text is) (level other levels says) are = record {
+  rows = area_rows text ++ level_rows other;
+  new = are.behind_both;
+  place = 1;
+  small = omega arith;
+  seen = codes "AREA" ∷ codes "L" ∷ [];
+  apart = are.behind_both;
+  behind = options_behind word own configs;
+  walk = λ rest final follows. area_first word own configs (text ∷ codes "--level" ∷ other ∷ rest) final
+      (area_text word own configs text (codes "--level" ∷ other ∷ rest) final (area_plain text is)
+      (level_next word own configs text (other ∷ rest) final
+      (level_text word own configs (area_rows text) other rest final (level_plain other levels says)
+      (follows (held_text (area_rows text) (codes "L") other)
+      (text_settles (with_options word own configs) _ (codes "L") other (area_rows text) refl refl (takes_level 1) refl)))));
+  given = λ more none. (refl, ((refl, is), says), refl);
+}
+
+-- ---- any number
+
+number_walk : (word : Text) (number : NumberTaken) (own : List Text) (configs : ConfigFiles) (words : List Text) (n : ℕ) (scheme : AskedScheme)
+    → WritesNumber number words n scheme
+    → AreApart (usage word number own configs) → NumberWalk (usage word number own configs) words n scheme
 unfolding with_budget
-number_walk word _ own configs _ _ no_number are = record {
+number_walk word _ own configs _ _ _ (options area_words level_words its_area its_levels writes_area writes_levels) are =
+    options_walk word own configs area_words level_words its_area its_levels writes_area writes_levels are
+number_walk word _ own configs _ _ _ no_number are = record {
   rows = [];
   new = are.alone;
   place = 1;
@@ -263,9 +489,9 @@ number_walk word _ own configs _ _ no_number are = record {
   apart = are.alone;
   behind = record { front = []; rules_are = ap (filled_from 1) (rules_behind own configs); under = tt; names = refl };
   walk = λ rest final follows. follows nothing_held (nothing_settles _);
-  given = λ more none. (refl, refl);
+  given = λ more none. (refl, refl, refl);
 }
-number_walk word _ own configs _ _ usual_budget are = record {
+number_walk word _ own configs _ _ _ usual_budget are = record {
   rows = [];
   new = are.alone;
   place = 1;
@@ -282,12 +508,12 @@ number_walk word _ own configs _ _ usual_budget are = record {
   walk = λ rest final follows. follows nothing_held (nothing_settles _);
   given = λ more none. (
     subst (λ (given : Option Text). IsGivenNumber Budget given 10000)
-        (sym (ap (λ (o : Option Row). option_and_then (λ r. slice_get r.values 0) o)
-        (find_none (row_named (codes "N")) more none))) refl,
+        (sym (none_first (codes "N") more none.number)) refl,
+    refl,
     refl,
   );
 }
-number_walk word _ own configs _ _ (budget text n is) are = record {
+number_walk word _ own configs _ _ _ (budget text n is) are = record {
   rows = text_row (codes "N") (text ∷ []) ∷ [];
   new = are.behind_number;
   place = 1;
@@ -305,9 +531,9 @@ number_walk word _ own configs _ _ (budget text n is) are = record {
       (number_next word own configs text rest final (numeral_plain text n is.numeral.numeral)
       (follows (held_text [] (codes "N") text)
       (text_settles (with_budget word own configs) _ (codes "N") text [] refl refl (takes_budget 1) refl)));
-  given = λ more none. (is, refl);
+  given = λ more none. (is, refl, refl);
 }
-number_walk word _ own configs _ _ (routers text n is) are = record {
+number_walk word _ own configs _ _ _ (routers text n is) are = record {
   rows = text_row (codes "N") (text ∷ []) ∷ [];
   new = are.behind_number;
   place = 2;
@@ -316,9 +542,9 @@ number_walk word _ own configs _ _ (routers text n is) are = record {
   apart = are.behind_number;
   behind = number_front own configs;
   walk = λ rest final follows. number_first word own configs text rest final (numeral_plain text n is.numeral.numeral) follows;
-  given = λ more none. (is, refl);
+  given = λ more none. (is, refl, refl);
 }
-number_walk word _ own configs _ _ (wave_size text n is) are = record {
+number_walk word _ own configs _ _ _ (wave_size text n is) are = record {
   rows = text_row (codes "N") (text ∷ []) ∷ [];
   new = are.behind_number;
   place = 2;
@@ -327,7 +553,7 @@ number_walk word _ own configs _ _ (wave_size text n is) are = record {
   apart = are.behind_number;
   behind = number_front own configs;
   walk = λ rest final follows. number_first word own configs text rest final (numeral_plain text n is.numeral.numeral) follows;
-  given = λ more none. (is, refl);
+  given = λ more none. (is, refl, refl);
 }
 
 -- ---- a whole line
@@ -380,17 +606,19 @@ none_missing line rows number own configs =
     (lacks_filled rows 1 (rules_of line ++ help_rule ∷ []) ∙ all)
 
 -- the line takes plain words, with these rows, and they give the command
-record PlainLine (line : Usage) (words own configs : List Text) (n : ℕ) : Type 0 where
+record PlainLine (line : Usage) (words own configs : List Text) (n : ℕ) (scheme : AskedScheme) : Type 0 where
   rows : List Row
   takes : Takes (built_line line) words rows
   number_is : IsGivenNumber line.number (first_of (codes "N") rows) n
+  scheme_is : IsGivenScheme line.number rows scheme
   own_are : HaveTexts rows line.own own
   configs_are : HasConfigs line.configs rows configs
 
-plain_line : (line : Usage) (number_words own configs : List Text) (n : ℕ) → AreApart line → NumberWalk line number_words n
+plain_line : (line : Usage) (number_words own configs : List Text) (n : ℕ) (scheme : AskedScheme) → AreApart line
+    → NumberWalk line number_words n scheme
     → length own ≡ length line.own
-    → All IsPlainName own → ArePlainConfigs line.configs configs → PlainLine line (number_words ++ (own ++ configs)) own configs n
-plain_line line number_words own configs n are number long plain plain_configs =
+    → All IsPlainName own → ArePlainConfigs line.configs configs → PlainLine line (number_words ++ (own ++ configs)) own configs n scheme
+plain_line line number_words own configs n scheme are number long plain plain_configs =
     let s : Shape = built_line line in
     let texts : List Row = text_rows line.own own in
     let front : List Row = number.rows ++ texts in
@@ -410,12 +638,16 @@ plain_line line number_words own configs n are number long plain plain_configs =
     let final_is = added_rows line.configs front configs ∙ append_assoc number.rows texts behind in
     let more_ids = map-append (λ (r : Row). r.id) texts behind
     ∙ ap₂ (λ (a b : List Text). a ++ b) (text_ids line.own own long) (config_names line.configs configs plain_configs) in
-    let no_number = no_row (codes "N") more
-    (subst (λ (names : List Text). is_new names (codes "N") ≡ true) (sym more_ids) are.no_number) in
+    let further : (id : Text) → is_new (names_of line) id ≡ true → has_row id more ≡ false =
+    λ id new. no_row id more (subst (λ (names : List Text). is_new names id ≡ true) (sym more_ids) new) in
     let given = subst
     (λ (rows : List Row). IsGivenNumber line.number
-    (first_of (codes "N") rows) n × (list_any (lacks rows) (number_rules line.number) ≡ false))
-    (sym final_is) (number.given more no_number) in
+    (first_of (codes "N") rows) n × IsGivenScheme line.number rows scheme × (list_any (lacks rows) (number_rules line.number) ≡ false))
+    (sym final_is) (number.given more (record {
+      number = further (codes "N") are.no_number;
+      area = further (codes "AREA") are.no_area;
+      level = further (codes "L") are.no_level;
+    })) in
     let own_given = texts_given final number.rows line.own own behind final_is new.0 long in
     let configs_are = configs_given line.configs front configs new_configs plain_configs in
     let none = each_of_line (λ a. a.defaults ≡ []) no_defaults line in
@@ -428,10 +660,11 @@ plain_line line number_words own configs n are number long plain plain_configs =
             (place_after number.place line.own) refl settled stand_configs new_configs plain_configs));
         quiet = ap₂ or_else (defaults_quiet s.rules final none)
             (ap (λ (rows : List Row). check_fault s rows false) (defaults_stay s.rules final none)
-            ∙ none_missing line final given.1 own_given.1 configs_are.1);
+            ∙ none_missing line final given.2 own_given.1 configs_are.1);
         full = defaults_stay s.rules final none;
       };
       number_is = given.0;
+      scheme_is = given.1;
       own_are = own_given.0;
       configs_are = configs_are.0;
     }
@@ -449,8 +682,8 @@ unfolding command_line
 plain_words words command plain =
     let line : Usage = usage_of command.kind in
     let are = apart line (each_apart command.kind) in
-    let number = number_walk line.word line.number line.own line.configs plain.number_words command.number plain.number are in
-    let all = plain_line line plain.number_words command.own command.configs command.number are number plain.count plain.own
+    let number = number_walk line.word line.number line.own line.configs plain.number_words command.number command.scheme plain.number are in
+    let all = plain_line line plain.number_words command.own command.configs command.number command.scheme are number plain.count plain.own
     plain.configs in
     let rest = plain.number_words ++ (command.own ++ command.configs) in
     let words_are : words ≡ line.word ∷ rest = plain.words_are
@@ -462,5 +695,5 @@ plain_words words command plain =
       rows = all.rows;
       entered = entered_by (built command_line) line.word (built_of command.kind) rest names
           ∙ ap (λ (found : List Row). Some (line.word, found)) (takes_rows (built_of command.kind) rest all.rows all.takes);
-      given = record { number = all.number_is; own = all.own_are; configs = all.configs_are };
+      given = record { number = all.number_is; scheme = all.scheme_is; own = all.own_are; configs = all.configs_are };
     })

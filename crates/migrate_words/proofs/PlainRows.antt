@@ -20,7 +20,7 @@ use Rattle.clap.specs.Faults.{use_fault}
 use Rattle.clap.specs.declared.error.kind.ErrorKind.TheVariants as kind
 use Rattle.clap.specs.declared.builder.value_parser.Reading.TheVariants.{AsWritten}
 use Rattle.clap.specs.declared.parser.matches.ValueSource.TheVariants.{CommandLine}
-use Rattle.migrate_words.specs.CommandLine.{budget_option, config_files, config_rules, one_text}
+use Rattle.migrate_words.specs.CommandLine.{area_option, budget_option, config_files, config_rules, level_option, one_text}
 use Rattle.migrate_words.specs.Usages.{network_names}
 use Rattle.migrate_words.specs.declared.subcommands.ConfigFiles.{ConfigFiles}
 use Rattle.migrate_words.specs.declared.subcommands.ConfigFiles.TheVariants.{NoConfigs, Several, Networks}
@@ -107,6 +107,20 @@ takes_budget place = record {
   named = refl;
   used = λ text rows none. set_used (codes "N") text rows none;
   fits = λ text rows none. set_fits (has_row (codes "N") rows) none;
+}
+
+pub takes_area : (place : ℕ) → TakesText (with_index place (filled area_option)) (codes "AREA")
+takes_area place = record {
+  named = refl;
+  used = λ text rows none. set_used (codes "AREA") text rows none;
+  fits = λ text rows none. set_fits (has_row (codes "AREA") rows) none;
+}
+
+pub takes_level : (place : ℕ) → TakesText (with_index place (filled level_option)) (codes "L")
+takes_level place = record {
+  named = refl;
+  used = λ text rows none. set_used (codes "L") text rows none;
+  fits = λ text rows none. set_fits (has_row (codes "L") rows) none;
 }
 
 -- the built argument of the configuration files, at its place

@@ -6,13 +6,15 @@ use Rattle.std.specs.List.{find}
 use Rattle.std.specs.Option.{is_some, option_map}
 use Rattle.clap.specs.Words.{Row, Text, all_of, first_of}
 use Rattle.clap.specs.Walk.{rows_after}
-use Rattle.migrate_words.specs.Asked.{AreConfigsInRange, HasConfigs, HasText, IsGivenNumber, IsNumberInRange}
+use Rattle.design_file.specs.Values.{is_area}
+use Rattle.migrate_words.specs.Asked.{AreConfigsInRange, HasConfigs, HasText, IsGivenArea, IsGivenNumber, IsGivenScheme, IsNumberInRange}
 use Rattle.migrate_words.specs.Laws.{RangesLaw}
+use Rattle.migrate_words.specs.Schemes.{AskedScheme}
 use Rattle.migrate_words.specs.Usages.{network_names, usage_of}
 use Rattle.migrate_words.specs.declared.subcommands.ConfigFiles.{ConfigFiles}
 use Rattle.migrate_words.specs.declared.subcommands.ConfigFiles.TheVariants.{NoConfigs, Several, Networks}
 use Rattle.migrate_words.specs.declared.subcommands.NumberTaken.{NumberTaken}
-use Rattle.migrate_words.specs.declared.subcommands.NumberTaken.TheVariants.{NoNumber, Budget, Routers, WaveSize}
+use Rattle.migrate_words.specs.declared.subcommands.NumberTaken.TheVariants.{NoNumber, Budget, Routers, DesignOptions, WaveSize}
 use Rattle.migrate_words.proofs.FullRows.{Full, HasSome}
 use Rattle.migrate_words.proofs.BuiltLines.{built_of, enters_line}
 use Rattle.migrate_words.proofs.RowFacts.{some_is}
@@ -41,6 +43,16 @@ number_in_range Routers None n is = absurd is
 number_in_range Routers (Some word) n is = (is.above, is.numeral.within)
 number_in_range WaveSize None n is = absurd is
 number_in_range WaveSize (Some word) n is = (is.above, is.numeral.within)
+number_in_range DesignOptions word n is = is
+
+given_area : (word : Option Text) (area : Text) → IsGivenArea word area → is_area area ≡ true
+given_area None area is = ap is_area is
+given_area (Some word) area is = ap is_area is.0 ∙ is.1
+
+area_in_range : (number : NumberTaken) (rows : List Row) (scheme : AskedScheme) → IsGivenScheme number rows scheme → is_area scheme.area ≡ true
+area_in_range DesignOptions rows scheme is = given_area (first_of (codes "AREA") rows) scheme.area is.0
+area_in_range NoNumber rows scheme is = ap (λ (s : AskedScheme). is_area s.area) is
+area_in_range _ rows scheme is = ap (λ (s : AskedScheme). is_area s.area) is
 
 configs_in_range : (configs : ConfigFiles) (rows : List Row) (names : List Text) → Full rows → HasConfigs configs rows names
     → AreConfigsInRange configs names
@@ -58,6 +70,7 @@ ranges words command asks =
     (line_full (usage_of line.kind) line.rest line.takes) in
     record {
       number = number_in_range (usage_of command.kind).number (first_of (codes "N") asks.rows) command.number asks.given.number;
+      area = area_in_range (usage_of command.kind).number asks.rows command.scheme asks.given.scheme;
       own = sym (length_all_zip (HasText asks.rows) (usage_of command.kind).own command.own asks.given.own);
       configs = configs_in_range (usage_of command.kind).configs asks.rows command.configs full asks.given.configs;
     }

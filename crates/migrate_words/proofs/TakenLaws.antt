@@ -1,5 +1,5 @@
--- Words that the command line takes ask for a command, or their number is off its range.
-use Rattle.std.proofs.Common.{◌≡◌, ◌∙◌, ℕ, Bool, cond, true, false, List, [], ◌∷◌, ◌++◌, Option, Some, None, map, refl, sym, ap}
+-- Words that the command line takes ask for a command, or a value of them is off.
+use Rattle.std.proofs.Common.{◌≡◌, ◌⊎◌, ◌∙◌, inl, inr, ℕ, Bool, cond, true, false, List, [], ◌∷◌, ◌++◌, Option, Some, None, map, refl, sym, ap}
 use Rattle.std.proofs.Common.{subst, true≢false, codes}
 use Rattle.std.proofs.lemmas.Bool.{not-false}
 use Rattle.std.proofs.lemmas.List.Folds.{list_any-append}
@@ -14,8 +14,13 @@ use Rattle.clap.specs.Simple.{filled_from, help_rule, index_after}
 use Rattle.clap.specs.Takes.{is_given}
 use Rattle.clap.specs.Faults.{defaults_fault, level_fault, settle_fault, walk_fault}
 use Rattle.clap.specs.declared.error.kind.ErrorKind.{ErrorKind}
+use Rattle.net_model.specs.declared.config.Levels.{Levels}
+use Rattle.design_file.specs.Values.{is_area, levels_named}
 use Rattle.migrate_words.specs.CommandLine.{config_rules, number_rules, one_text, rules_of}
-use Rattle.migrate_words.specs.Asked.{AreTaken, Asks, HasConfigs, HasNumberOff, HasText, HaveTexts, IsGivenNumber}
+use Rattle.migrate_words.specs.Asked.{AreGivenLevels, AreTaken, Asks, HasConfigs, HasValueOff, HasText, HaveTexts}
+use Rattle.migrate_words.specs.Asked.{IsGivenArea, IsGivenNumber, IsGivenScheme, IsValueOff}
+use Rattle.migrate_words.specs.Asked.IsValueOff.{area_off, level_off, number_off}
+use Rattle.migrate_words.specs.Schemes.{AskedScheme, scheme_of, usual_scheme}
 use Rattle.migrate_words.specs.Laws.{NumbersLaw}
 use Rattle.migrate_words.specs.Usages.{Usage, network_names, usage_of}
 use Rattle.migrate_words.specs.declared.command.Command.{Command}
@@ -23,7 +28,7 @@ use Rattle.migrate_words.specs.declared.command.CommandKind.{CommandKind}
 use Rattle.migrate_words.specs.declared.subcommands.ConfigFiles.{ConfigFiles}
 use Rattle.migrate_words.specs.declared.subcommands.ConfigFiles.TheVariants.{NoConfigs, Several, Networks}
 use Rattle.migrate_words.specs.declared.subcommands.NumberTaken.{NumberTaken}
-use Rattle.migrate_words.specs.declared.subcommands.NumberTaken.TheVariants.{NoNumber, Budget, Routers, WaveSize}
+use Rattle.migrate_words.specs.declared.subcommands.NumberTaken.TheVariants.{NoNumber, Budget, Routers, DesignOptions, WaveSize}
 use Rattle.migrate_words.proofs.Entries.{same_kind}
 use Rattle.migrate_words.proofs.FullRows.{Full, HasSome, WantsValue, cons_not_nil, full_rows, second_none}
 use Rattle.migrate_words.proofs.BuiltLines.{OfArguments, built_line, built_of, each_of_line, enters_line}
@@ -132,6 +137,8 @@ pub all_want : OfArguments WantsValue
 all_want = record {
   text = λ id i again rows e. cons_not_nil _ _ e;
   budget = λ i again rows e. cons_not_nil _ _ e;
+  area = λ i again rows e. cons_not_nil _ _ e;
+  level = λ i again rows e. cons_not_nil _ _ e;
   files = λ i again rows e. cons_not_nil _ _ e;
   help = λ i again rows e. cons_not_nil _ _ e;
 }
@@ -141,30 +148,61 @@ pub line_full : (usage : Usage) (words : List Text) → level_fault (built_line 
     → Full (rows_after (built_line usage).rules [] words)
 line_full usage words taken = full_rows (built_line usage) words (each_of_line WantsValue all_want usage) taken
 
--- ---- the number
-
--- the number that is given is off its range
-abbrev IsOff : NumberTaken → List Row → Type 0
-IsOff number rows = (word : Text) × HasText rows (codes "N") word × ((n : ℕ) → ¬ IsGivenNumber number (Some word) n)
+-- ---- the number and the options
 
 number_is_off : (number : NumberTaken) (rows : List Row) → Full rows → list_any (lacks rows) (number_rules number) ≡ false
-    → ((n : ℕ) → ¬ IsGivenNumber number (first_of (codes "N") rows) n) → IsOff number rows
+    → ((n : ℕ) → ¬ IsGivenNumber number (first_of (codes "N") rows) n) → IsValueOff number rows
 number_is_off NoNumber rows full none nothing = absurd (nothing 0 refl)
 number_is_off Budget rows full none nothing = go (first_of (codes "N") rows) refl nothing
   where
     go : (given : Option Text) → first_of (codes "N") rows ≡ given → ((n : ℕ) → ¬ IsGivenNumber Budget given n)
-        → IsOff Budget rows
+        → IsValueOff Budget rows
     go None is off = absurd (off 10000 refl)
-    go (Some word) is off = (word, is, off)
+    go (Some word) is off = number_off word is off
 number_is_off Routers rows full none nothing =
     let word = has_text (codes "N") rows full (not-false _ (or_left _ _ none)) in
-    (word.0, word.1, λ n is. nothing n (subst (λ (given : Option Text). IsGivenNumber Routers given n) (sym word.1) is))
+    number_off word.0 word.1 (λ n is. nothing n (subst (λ (given : Option Text). IsGivenNumber Routers given n) (sym word.1) is))
 number_is_off WaveSize rows full none nothing =
     let word = has_text (codes "N") rows full (not-false _ (or_left _ _ none)) in
-    (word.0, word.1, λ n is. nothing n (subst (λ (given : Option Text). IsGivenNumber WaveSize given n) (sym word.1) is))
+    number_off word.0 word.1 (λ n is. nothing n (subst (λ (given : Option Text). IsGivenNumber WaveSize given n) (sym word.1) is))
+number_is_off DesignOptions rows full none nothing = absurd (nothing 0 refl)
 
-pub number_off : (words : List Text) → AreTaken words → ((command : Command) → ¬ Asks words command) → HasNumberOff words
-number_off words taken nothing =
+-- there is an area, or it is off
+area_or_off : (rows : List Row) (given : Option Text) → first_of (codes "AREA") rows ≡ given
+    → ((area : Text) × IsGivenArea given area) ⊎ IsValueOff DesignOptions rows
+area_or_off rows None is = inl (codes "49.0001", refl)
+area_or_off rows (Some word) is = go (is_area word) refl
+  where
+    go : (b : Bool) → is_area word ≡ b → ((area : Text) × IsGivenArea (Some word) area) ⊎ IsValueOff DesignOptions rows
+    go true fine = inl (word, (refl, fine))
+    go false bad = inr (area_off word refl is bad)
+
+-- there are levels, or they are off
+levels_or_off : (rows : List Row) (given : Option Text) → first_of (codes "L") rows ≡ given
+    → ((levels : Levels) × AreGivenLevels given levels) ⊎ IsValueOff DesignOptions rows
+levels_or_off rows None is = inl (usual_scheme.levels, refl)
+levels_or_off rows (Some word) is = go (levels_named word) refl
+  where
+    go : (o : Option Levels) → levels_named word ≡ o → ((levels : Levels) × AreGivenLevels (Some word) levels) ⊎ IsValueOff DesignOptions rows
+    go (Some levels) fine = inl (levels, fine)
+    go None bad = inr (level_off word refl is bad)
+
+value_is_off : (number : NumberTaken) (rows : List Row) → Full rows → list_any (lacks rows) (number_rules number) ≡ false
+    → ((n : ℕ) (scheme : AskedScheme) → IsGivenNumber number (first_of (codes "N") rows) n → ¬ IsGivenScheme number rows scheme)
+    → IsValueOff number rows
+value_is_off DesignOptions rows full none nothing =
+    elim (area_or_off rows (first_of (codes "AREA") rows) refl) [
+      | inr off ↦ off
+      | inl area ↦ elim (levels_or_off rows (first_of (codes "L") rows) refl) [
+        | inr off ↦ off
+        | inl levels ↦ absurd (nothing 0 (scheme_of area.0 levels.0) refl (area.1, levels.1))
+      ]
+    ]
+value_is_off NoNumber rows full none nothing = number_is_off NoNumber rows full none (λ n is. nothing n usual_scheme is refl)
+value_is_off number rows full none nothing = number_is_off number rows full none (λ n is. nothing n usual_scheme is refl)
+
+pub value_off : (words : List Text) → AreTaken words → ((command : Command) → ¬ Asks words command) → HasValueOff words
+value_off words taken nothing =
     let line = enters_line words taken in
     let usage : Usage = usage_of line.kind in
     let rows : List Row = rows_after (built_of line.kind).rules [] line.rest in
@@ -172,28 +210,40 @@ number_off words taken nothing =
     let lacking = none_lacks usage line.rest line.takes in
     let own = have_texts rows full usage.own lacking.own in
     let configs = has_configs usage.configs rows full lacking.configs in
-    let off = number_is_off usage.number rows full lacking.number
-    (λ n is. nothing (record { kind = line.kind; own = own.0; configs = configs.0; number = n })
+    let off = value_is_off usage.number rows full lacking.number
+    (λ n scheme is of. nothing (record { kind = line.kind; own = own.0; configs = configs.0; number = n; scheme = scheme })
     (record {
       taken = taken;
       rows = rows;
       entered = line.entered;
       given = record
-          { number = is; own = own.1; configs = configs.1 };
+          { number = is; scheme = of; own = own.1; configs = configs.1 };
     })) in
-    record { kind = line.kind; rows = rows; entered = line.entered; word = off.0; text = off.1; off = off.2 }
+    record { kind = line.kind; rows = rows; entered = line.entered; off = off }
 
--- ---- and a number that is off asks for nothing
+-- ---- and a value that is off asks for nothing
 
-off_asks_nothing : (words : List Text) → HasNumberOff words → (command : Command) → ¬ Asks words command
+off_gives_nothing : (number : NumberTaken) (rows : List Row) → IsValueOff number rows → (n : ℕ) (scheme : AskedScheme)
+    → IsGivenNumber number (first_of (codes "N") rows) n → ¬ IsGivenScheme number rows scheme
+off_gives_nothing taken rows (number_off word has off) n scheme is of =
+    off n (subst (λ (o : Option Text). IsGivenNumber taken o n) has is)
+off_gives_nothing _ rows (area_off word options has bad) n scheme is of =
+    let given = subst (λ (k : NumberTaken). IsGivenScheme k rows scheme) options of in
+    let area = subst (λ (o : Option Text). IsGivenArea o scheme.area) has given.0 in
+    true≢false (sym area.1 ∙ bad)
+off_gives_nothing _ rows (level_off word options has bad) n scheme is of =
+    let given = subst (λ (k : NumberTaken). IsGivenScheme k rows scheme) options of in
+    let levels = subst (λ (o : Option Text). AreGivenLevels o scheme.levels) has given.1 in
+    true≢false (ap is_some (sym levels ∙ bad))
+
+off_asks_nothing : (words : List Text) → HasValueOff words → (command : Command) → ¬ Asks words command
 off_asks_nothing words off command asks =
     let same = some_is ((usage_of off.kind).word, off.rows) ((usage_of command.kind).word, asks.rows)
     (sym off.entered ∙ asks.entered) in
     let kind = same_kind off.kind command.kind (ap (λ (p : Text × List Row). p.0) same) in
-    let given = subst (λ (k : CommandKind). IsGivenNumber (usage_of k).number (first_of (codes "N") asks.rows) command.number)
-    (sym kind) asks.given.number in
-    let word = ap (λ (p : Text × List Row). first_of (codes "N") p.1) (sym same) ∙ off.text in
-    off.off command.number (subst (λ (o : Option Text). IsGivenNumber (usage_of off.kind).number o command.number) word given)
+    let its = subst (λ (rows : List Row). IsValueOff (usage_of off.kind).number rows) (ap (λ (p : Text × List Row). p.1) same) off.off in
+    let of = subst (λ (k : CommandKind). IsValueOff (usage_of k).number asks.rows) kind its in
+    off_gives_nothing (usage_of command.kind).number asks.rows of command.number command.scheme asks.given.number asks.given.scheme
 
 pub numbers : NumbersLaw
-numbers words = record { off = number_off words; none = off_asks_nothing words }
+numbers words = record { off = value_off words; none = off_asks_nothing words }

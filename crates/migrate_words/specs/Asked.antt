@@ -1,9 +1,12 @@
 -- Which words of a call, those after the program's name, ask for what.
-use Rattle.std.specs.Prelude.{◌≡◌, ◌<◌, ◌≤◌, ℕ, List, [], Option, Some, None, codes, length}
+use Rattle.std.specs.Prelude.{◌≡◌, ◌<◌, ◌≤◌, ℕ, true, false, List, [], Option, Some, None, codes, length}
 use Rattle.std.specs.List.{AllZip}
 use Rattle.net_addr.specs.Numerals.{IsNumeralUpTo}
 use Rattle.clap.specs.Words.{Row, Text, all_of, fault_of, first_of, subcommand_of}
+use Rattle.net_model.specs.declared.config.Levels.{Levels}
+use Rattle.design_file.specs.Values.{is_area, levels_named}
 use Rattle.migrate_words.specs.CommandLine.{command_line}
+use Rattle.migrate_words.specs.Schemes.{AskedScheme, usual_scheme}
 use Rattle.migrate_words.specs.Usages.{network_names, usage_of}
 use Rattle.migrate_words.specs.declared.command.Command.{Command}
 use Rattle.migrate_words.specs.declared.command.CommandKind.{CommandKind}
@@ -11,7 +14,7 @@ use Rattle.migrate_words.specs.declared.command.TheConstants.{LEAST_BUDGET, MOST
 use Rattle.migrate_words.specs.declared.subcommands.ConfigFiles.{ConfigFiles}
 use Rattle.migrate_words.specs.declared.subcommands.ConfigFiles.TheVariants.{NoConfigs, Several, Networks}
 use Rattle.migrate_words.specs.declared.subcommands.NumberTaken.{NumberTaken}
-use Rattle.migrate_words.specs.declared.subcommands.NumberTaken.TheVariants.{NoNumber, Budget, Routers, WaveSize}
+use Rattle.migrate_words.specs.declared.subcommands.NumberTaken.TheVariants.{NoNumber, Budget, Routers, DesignOptions, WaveSize}
 
 -- the word is a decimal numeral whose value n is in this range
 pub record IsNumberIn (least most : ℕ) (word : Text) (n : ℕ) : Type 0 where
@@ -27,6 +30,23 @@ IsGivenNumber Routers None n = ⊥
 IsGivenNumber Routers (Some word) n = IsNumberIn LEAST_SAMPLE MOST_SAMPLE word n
 IsGivenNumber WaveSize None n = ⊥
 IsGivenNumber WaveSize (Some word) n = IsNumberIn LEAST_WAVE MOST_WAVE word n
+IsGivenNumber DesignOptions word n = n ≡ 0
+
+-- the area that is given: the word, which is an area, or the usual one where there is no word
+abbrev pub IsGivenArea : Option Text → Text → Type 0
+IsGivenArea None area = area ≡ usual_scheme.area
+IsGivenArea (Some word) area = (area ≡ word) × (is_area word ≡ true)
+
+-- the levels that are given: those that the word says, or the usual ones where there is no word
+abbrev pub AreGivenLevels : Option Text → Levels → Type 0
+AreGivenLevels None levels = levels ≡ usual_scheme.levels
+AreGivenLevels (Some word) levels = levels_named word ≡ Some levels
+
+-- the scheme that is given, the usual one where none is taken
+abbrev pub IsGivenScheme : NumberTaken → List Row → AskedScheme → Type 0
+IsGivenScheme DesignOptions rows scheme =
+    IsGivenArea (first_of (codes "AREA") rows) scheme.area × AreGivenLevels (first_of (codes "L") rows) scheme.levels
+IsGivenScheme _ rows scheme = scheme ≡ usual_scheme
 
 -- the argument of this name has this text
 abbrev pub HasText : List Row → Text → Text → Type 0
@@ -45,6 +65,7 @@ HasConfigs Networks rows configs = HaveTexts rows network_names configs
 -- the arguments of the subcommand have the values of the command
 pub record Gives (rows : List Row) (command : Command) : Type 0 where
   pub number : IsGivenNumber (usage_of command.kind).number (first_of (codes "N") rows) command.number
+  pub scheme : IsGivenScheme (usage_of command.kind).number rows command.scheme
   pub own : HaveTexts rows (usage_of command.kind).own command.own
   pub configs : HasConfigs (usage_of command.kind).configs rows command.configs
 
@@ -63,14 +84,18 @@ pub record Asks (words : List Text) (command : Command) : Type 0 where
   pub entered : Enters words command.kind rows
   pub given : Gives rows command
 
--- the number that the words give is no numeral or out of its range
-pub record HasNumberOff (words : List Text) : Type 0 where
+-- a value of these rows is off: a number is no numeral or out of its range, an area is none, or a level is none
+pub data IsValueOff (number : NumberTaken) (rows : List Row) : Type 0 where
+  number_off : (word : Text) → HasText rows (codes "N") word → ((n : ℕ) → ¬ IsGivenNumber number (Some word) n) → IsValueOff number rows
+  area_off : (word : Text) → number ≡ DesignOptions → HasText rows (codes "AREA") word → is_area word ≡ false → IsValueOff number rows
+  level_off : (word : Text) → number ≡ DesignOptions → HasText rows (codes "L") word → levels_named word ≡ None → IsValueOff number rows
+
+-- a value that the words give is off
+pub record HasValueOff (words : List Text) : Type 0 where
   pub kind : CommandKind
   pub rows : List Row
   pub entered : Enters words kind rows
-  pub word : Text
-  pub text : HasText rows (codes "N") word
-  pub off : (n : ℕ) → ¬ IsGivenNumber (usage_of kind).number (Some word) n
+  pub off : IsValueOff (usage_of kind).number rows
 
 -- a number is within the range of the command line
 abbrev pub IsNumberInRange : NumberTaken → ℕ → Type 0
@@ -78,6 +103,7 @@ IsNumberInRange NoNumber n = n ≡ 0
 IsNumberInRange Budget n = (LEAST_BUDGET ≤ n) × (n ≤ MOST_BUDGET)
 IsNumberInRange Routers n = (LEAST_SAMPLE ≤ n) × (n ≤ MOST_SAMPLE)
 IsNumberInRange WaveSize n = (LEAST_WAVE ≤ n) × (n ≤ MOST_WAVE)
+IsNumberInRange DesignOptions n = n ≡ 0
 
 -- there is a configuration file, none where none are taken, or one of each of two networks
 abbrev pub AreConfigsInRange : ConfigFiles → List Text → Type 0
@@ -85,9 +111,10 @@ AreConfigsInRange Several configs = 0 < length configs
 AreConfigsInRange NoConfigs configs = configs ≡ []
 AreConfigsInRange Networks configs = length configs ≡ 2
 
--- a command is as its usage line has it: its number is in its range, it names as many files of its own as it takes, and at least
+-- a command is as its usage line has it: its number is in its range, its area is one, it names as many files of its own as it takes, and at least
 -- one configuration where it takes any
 pub record IsInRange (command : Command) : Type 0 where
   pub number : IsNumberInRange (usage_of command.kind).number command.number
+  pub area : is_area command.scheme.area ≡ true
   pub own : length command.own ≡ length (usage_of command.kind).own
   pub configs : AreConfigsInRange (usage_of command.kind).configs command.configs

@@ -8,7 +8,7 @@ use Rattle.migrate_words.specs.declared.command.CommandKind.{CommandKind}
 use Rattle.migrate_words.specs.declared.subcommands.ConfigFiles.{ConfigFiles}
 use Rattle.migrate_words.specs.declared.subcommands.ConfigFiles.TheVariants.{NoConfigs, Several, Networks}
 use Rattle.migrate_words.specs.declared.subcommands.NumberTaken.{NumberTaken}
-use Rattle.migrate_words.specs.declared.subcommands.NumberTaken.TheVariants.{NoNumber, Budget, Routers, WaveSize}
+use Rattle.migrate_words.specs.declared.subcommands.NumberTaken.TheVariants.{NoNumber, Budget, Routers, DesignOptions, WaveSize}
 
 -- a required positional of one text
 abbrev pub one_text : Text → Rule
@@ -22,12 +22,20 @@ config_files = record (new_rule (codes "CONFIG")) { required = true; action = So
 abbrev pub budget_option : Rule
 budget_option = record (new_rule (codes "N")) { long = Some (codes "budget") }
 
--- the argument for a number
+-- the options `--area` and `--level` of one text
+abbrev pub area_option : Rule
+area_option = record (new_rule (codes "AREA")) { long = Some (codes "area") }
+
+abbrev pub level_option : Rule
+level_option = record (new_rule (codes "L")) { long = Some (codes "level") }
+
+-- the argument for a number, or the options in its place
 abbrev pub number_rules : NumberTaken → List Rule
 number_rules NoNumber = []
 number_rules Budget = budget_option ∷ []
 number_rules Routers = one_text (codes "N") ∷ []
 number_rules WaveSize = one_text (codes "N") ∷ []
+number_rules DesignOptions = area_option ∷ level_option ∷ []
 
 -- the arguments for configuration files
 abbrev pub config_rules : ConfigFiles → List Rule

@@ -1,3 +1,4 @@
+pub mod Schemes
 pub mod Usages
 pub mod CommandLine
 pub mod Asked

@@ -3,13 +3,13 @@ use Rattle.std.specs.Prelude.{List, [], ◌∷◌, codes}
 use Rattle.clap.specs.Words.{Text}
 use Rattle.migrate_words.specs.declared.command.CommandKind.{CommandKind}
 use Rattle.migrate_words.specs.declared.command.CommandKind.TheVariants.{Check, Prepare, Plan, Refute, Scripts, Replay, Sample}
-use Rattle.migrate_words.specs.declared.command.CommandKind.TheVariants.{Pair, PairScripts, PairCheck, PairRefute, Split, Delta, Tables}
+use Rattle.migrate_words.specs.declared.command.CommandKind.TheVariants.{Pair, PairScripts, PairCheck, PairRefute, Design, Split, Delta, Tables}
 use Rattle.migrate_words.specs.declared.subcommands.ConfigFiles.{ConfigFiles}
 use Rattle.migrate_words.specs.declared.subcommands.ConfigFiles.TheVariants.{NoConfigs, Several, Networks}
 use Rattle.migrate_words.specs.declared.subcommands.NumberTaken.{NumberTaken}
-use Rattle.migrate_words.specs.declared.subcommands.NumberTaken.TheVariants.{NoNumber, Budget, Routers, WaveSize}
+use Rattle.migrate_words.specs.declared.subcommands.NumberTaken.TheVariants.{NoNumber, Budget, Routers, DesignOptions, WaveSize}
 
--- a usage line: the word of the command, the number that it takes, the names of the files of its own in their order, and the
+-- a usage line: the word of the command, the number that it takes or the options in its place, the names of the files of its own in their order, and the
 -- configuration files that come last
 pub record Usage : Type 0 where
   pub word : Text
@@ -40,8 +40,10 @@ usage_of PairRefute = usage (codes "pairrefute") NoNumber (codes "TREE" ∷ []) 
 usage_of Split = usage (codes "split") WaveSize (codes "ORDER" ∷ []) Several
 usage_of Delta = usage (codes "delta") NoNumber (codes "DESIGN" ∷ []) Several
 usage_of Tables = usage (codes "tables") NoNumber [] Several
+usage_of Design = usage (codes "design") DesignOptions [] Several
 
 -- the commands, in the order in which help tells them
 abbrev pub kinds : List CommandKind
 kinds =
-    Check ∷ Prepare ∷ Plan ∷ Refute ∷ Scripts ∷ Replay ∷ Sample ∷ Pair ∷ PairScripts ∷ PairCheck ∷ PairRefute ∷ Split ∷ Delta ∷ Tables ∷ []
+    Check ∷ Prepare ∷ Plan ∷ Refute ∷ Scripts ∷ Replay ∷ Sample ∷ Pair ∷ PairScripts ∷ PairCheck ∷ PairRefute ∷ Split ∷ Delta ∷ Tables
+    ∷ Design ∷ []

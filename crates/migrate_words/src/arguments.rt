@@ -1,17 +1,22 @@
 ghost use Rattle.std.specs.Prelude.{codes};
 ghost use Rattle.clap.specs.Words.{first_of, found_of, rows_of};
-ghost use Rattle.migrate_words.specs.Asked.{HasConfigs, HasText, HaveTexts, IsGivenNumber, IsNumberIn};
+ghost use Rattle.migrate_words.specs.Asked.{AreGivenLevels, HasConfigs, HasText, HaveTexts, IsGivenArea, IsGivenNumber};
+ghost use Rattle.migrate_words.specs.Asked.{IsGivenScheme, IsNumberIn};
 ghost use Rattle.migrate_words.specs.declared.subcommands.ConfigFiles.TheVariants.{Several};
+ghost use Rattle.migrate_words.specs.declared.subcommands.NumberTaken.TheVariants.{DesignOptions};
 ghost use Rattle.migrate_words.specs.steps.Reading.{ReadsAs};
 ghost use Rattle.migrate_words.specs.steps.Seen.{argument_names};
 
 use crate::command::{
     LEAST_BUDGET, LEAST_SAMPLE, LEAST_WAVE, MOST_BUDGET, MOST_SAMPLE, MOST_WAVE, USUAL_BUDGET,
 };
+use crate::scheme::{USUAL_AREA, USUAL_LEVELS};
 use crate::subcommands::{ConfigFiles, NumberTaken, OwnFile, networks};
-use crate::{FileNames, WordsRefused};
+use crate::{FileNames, Scheme, WordsRefused};
 use clap::ArgMatches;
+use design_file::{is_area, levels_named};
 use net_addr::read_number;
+use net_model::Levels;
 use std::alloc::Global;
 
 /// The files of a command's own, as they are named.
@@ -84,6 +89,58 @@ pub(crate) fn number_of(given: &ArgMatches<'_>, number: NumberTaken) -> Result<u
         (NumberTaken::Routers, Some(word)) => number_in(word, LEAST_SAMPLE, MOST_SAMPLE),
         (NumberTaken::WaveSize, None) => Err(WordsRefused::Number),
         (NumberTaken::WaveSize, Some(word)) => number_in(word, LEAST_WAVE, MOST_WAVE),
+        (NumberTaken::DesignOptions, _) => Ok(0),
+    }
+}
+
+/// The scheme that is given, the usual one where none is taken.
+pub(crate) fn scheme_of<'a>(
+    given: &ArgMatches<'a>,
+    number: NumberTaken,
+) -> Result<Scheme<'a>, WordsRefused>
+    ensures { ReadsAs (λ scheme. scheme) (IsGivenScheme number (rows_of (found_of given.now))) result }
+{
+    match number {
+        NumberTaken::DesignOptions => design_scheme(given),
+        _ => Ok(Scheme::new(USUAL_AREA, USUAL_LEVELS)),
+    }
+}
+
+/// The scheme of the options of a design.
+fn design_scheme<'a>(given: &ArgMatches<'a>) -> Result<Scheme<'a>, WordsRefused>
+    ensures { ReadsAs (λ scheme. scheme) (IsGivenScheme DesignOptions (rows_of (found_of given.now))) result }
+{
+    let area = match area_of(given) {
+        Ok(area) => area,
+        Err(refused) => return Err(refused),
+    };
+    match levels_of(given) {
+        Ok(levels) => Ok(Scheme::new(area, levels)),
+        Err(refused) => Err(refused),
+    }
+}
+
+/// The area that is given, the usual one where there is none.
+fn area_of<'a>(given: &ArgMatches<'a>) -> Result<&'a str, WordsRefused>
+    ensures { ReadsAs (λ area. area.now) (IsGivenArea (first_of (codes "AREA") (rows_of (found_of given.now)))) result }
+{
+    match given.get_str("AREA") {
+        None => Ok(USUAL_AREA),
+        Some(word) if is_area(word) => Ok(word),
+        Some(_) => Err(WordsRefused::Number),
+    }
+}
+
+/// The levels that are given, the usual ones where there are none.
+fn levels_of(given: &ArgMatches<'_>) -> Result<Levels, WordsRefused>
+    ensures { ReadsAs (λ levels. levels) (AreGivenLevels (first_of (codes "L") (rows_of (found_of given.now)))) result }
+{
+    match given.get_str("L") {
+        None => Ok(USUAL_LEVELS),
+        Some(word) => match levels_named(word) {
+            Some(levels) => Ok(levels),
+            None => Err(WordsRefused::Number),
+        },
     }
 }
 

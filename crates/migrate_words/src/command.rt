@@ -1,4 +1,4 @@
-use crate::FileNames;
+use crate::{FileNames, Scheme};
 
 /// The least budget of branches that a command takes.
 pub const LEAST_BUDGET: u32 = 1;
@@ -52,6 +52,8 @@ pub enum CommandKind {
     Delta,
     /// `tables CONFIG...`: the entries of the route tables of both protocols.
     Tables,
+    /// `design [--area AREA] [--level L] CONFIG...`: a design in which the IS-IS metrics are the OSPF costs.
+    Design,
 }
 
 /// What a call asks for. Names of files are as they were given.
@@ -65,4 +67,6 @@ pub struct Command<'a> {
     pub configs: FileNames<'a>,
     /// The budget of branches, the number of routers, or how many a wave has at most; 0 where the command takes no number.
     pub number: u32,
+    /// What a design is asked to say of every router, the usual scheme where the command takes none.
+    pub scheme: Scheme<'a>,
 }

@@ -12,6 +12,7 @@
 //! | `lines` | the command line that `clap` is given: a subcommand an entry |
 //! | `reading`, `arguments` | the call, and what stands for each argument |
 //! | `file_names` | names of files in their order |
+//! | `scheme` | what a design is asked to say of every router |
 //! | `refusal`, `version` | why words are refused, with what `clap` says; the version that it tells |
 //! | `laws` | that words ask for one command |
 #![tactic(auto)]
@@ -20,6 +21,7 @@
 mod command;
 mod file_names;
 mod refusal;
+mod scheme;
 mod subcommands;
 mod version;
 
@@ -39,4 +41,5 @@ pub use file_names::FileNames;
 pub use laws::words_laws;
 pub use reading::read_command;
 pub use refusal::WordsRefused;
+pub use scheme::{Scheme, USUAL_AREA, USUAL_LEVELS};
 pub use version::VERSION;

@@ -1,8 +1,8 @@
 ghost use Rattle.std.specs.Prelude.{List, IfOk, ◌∷◌, [], map};
 ghost use Rattle.clap.specs.Words.{App, Rule, Shape, with_subcommand};
 ghost use Rattle.clap.specs.Simple.{new_shape};
-ghost use Rattle.migrate_words.specs.CommandLine.{budget_option, command_line, config_files, config_rules};
-ghost use Rattle.migrate_words.specs.CommandLine.{number_rules, one_text, shape_of};
+ghost use Rattle.migrate_words.specs.CommandLine.{area_option, budget_option, command_line, config_files, config_rules};
+ghost use Rattle.migrate_words.specs.CommandLine.{level_option, number_rules, one_text, shape_of};
 ghost use Rattle.migrate_words.specs.steps.LineSteps.{IsLine, IsRule, IsWhole, bare_line, with_arguments};
 ghost use Rattle.migrate_words.specs.steps.Seen.{argument_names, usage_seen};
 
@@ -81,7 +81,17 @@ fn with_number<'a>(
             let size = one_text(alloc, "N", "The most routers of a wave, 1 or more");
             with_argument(line, size)
         }
+        NumberTaken::DesignOptions => with_design_options(alloc, line),
     }
+}
+
+/// A subcommand with the options of a design.
+fn with_design_options<'a>(alloc: Global, line: Command<'a>) -> Result<Command<'a>, AllocError>
+    ensures { IfOk result (λ r. (shape : Shape) → IsLine shape line.entry
+        → IsLine (with_arguments shape (area_option ∷ level_option ∷ [])) r) }
+{
+    let line = with_argument(line, area_option(alloc))?;
+    with_argument(line, level_option(alloc))
 }
 
 /// A subcommand with the arguments for these files.
@@ -139,6 +149,24 @@ fn config_files<'a>(alloc: Global) -> Arg<'a>
         .required(true)
         .action(ArgAction::Append)
         .help("The configurations of the routers, one file or more")
+}
+
+/// The option `--area`.
+fn area_option<'a>(alloc: Global) -> Arg<'a>
+    ensures { IsRule area_option result }
+{
+    Arg::new(alloc, "AREA").long("area").help(
+        "The IS-IS area of all routers, as two hexadecimal digits and groups of four; 49.0001 unless given",
+    )
+}
+
+/// The option `--level`.
+fn level_option<'a>(alloc: Global) -> Arg<'a>
+    ensures { IsRule level_option result }
+{
+    Arg::new(alloc, "L")
+        .long("level")
+        .help("The levels of all routers: 1, 1-2 or 2; 2 unless given")
 }
 
 /// The option `--budget`.

@@ -7,7 +7,7 @@ ghost use Rattle.migrate_words.specs.Usages.{kinds, usage_of};
 ghost use Rattle.migrate_words.specs.steps.Reading.{IsEntered, IsOfKind, NamesCommand, ReadsAs};
 ghost use Rattle.migrate_words.specs.steps.Seen.{IsOfTable, kind_of_entry};
 
-use crate::arguments::{configs_of, number_of, own_of};
+use crate::arguments::{configs_of, number_of, own_of, scheme_of};
 use crate::lines::command_line;
 use crate::refusal::told;
 use crate::subcommands::{Subcommand, subcommands};
@@ -81,6 +81,10 @@ fn command_of<'a>(
     ensures { ReadsAs (λ command. command) (IsOfKind entry.now.kind (rows_of (found_of given.now))) result }
 {
     let number = number_of(given, entry.number)?;
+    let scheme = match scheme_of(given, entry.number) {
+        Ok(scheme) => scheme,
+        Err(refused) => return Err(refused),
+    };
     let own = own_of(alloc, given, entry.own)?;
     let configs = configs_of(alloc, given, entry.configs)?;
     Ok(Command {
@@ -88,5 +92,6 @@ fn command_of<'a>(
         own,
         configs,
         number,
+        scheme,
     })
 }

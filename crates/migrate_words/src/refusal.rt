@@ -10,7 +10,7 @@ use std::alloc::{AllocError, Global};
 pub enum WordsRefused {
     /// The command line doesn't take the words. The text is what `clap` has to say, and the help that was asked for is there.
     Words(String),
-    /// A number is no numeral or out of its range.
+    /// A number is no numeral or out of its range, an area is no area, or a level none of `1`, `1-2` and `2`.
     Number,
     /// Memory ran out.
     OutOfMemory,

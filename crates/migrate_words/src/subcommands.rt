@@ -4,7 +4,7 @@ ghost use Rattle.migrate_words.specs.steps.Seen.{argument_names, kind_of_entry, 
 
 use crate::CommandKind;
 
-/// The number that a command takes.
+/// The number that a command takes, or the options in its place.
 #[derive(Clone, Copy, Debug, PartialEq, Eq)]
 pub(crate) enum NumberTaken {
     /// None.
@@ -15,6 +15,8 @@ pub(crate) enum NumberTaken {
     Routers,
     /// `N`: how many routers a wave has at most.
     WaveSize,
+    /// The options `--area AREA` and `--level L`: no number, but what a design says of every router.
+    DesignOptions,
 }
 
 /// The configuration files that a command takes.
@@ -78,7 +80,7 @@ pub(crate) fn networks() -> &'static [OwnFile]
     &NETWORKS
 }
 
-static SUBCOMMANDS: [Subcommand; 14] = [
+static SUBCOMMANDS: [Subcommand; 15] = [
     Subcommand {
         kind: CommandKind::Check,
         word: "check",
@@ -208,6 +210,15 @@ static SUBCOMMANDS: [Subcommand; 14] = [
         about: "Writes the routes of OSPF and of IS-IS that each router has by its configurations",
         usage: "migrate tables CONFIG...",
         number: NumberTaken::NoNumber,
+        own: &[],
+        configs: ConfigFiles::Several,
+    },
+    Subcommand {
+        kind: CommandKind::Design,
+        word: "design",
+        about: "Writes a design in which the IS-IS metrics are the OSPF costs",
+        usage: "migrate design [--area AREA] [--level L] CONFIG...",
+        number: NumberTaken::DesignOptions,
         own: &[],
         configs: ConfigFiles::Several,
     },

@@ -25,7 +25,7 @@ use Rattle.migration_report.specs.Texts.{read_fault_text, safe_text, unsafe_text
 use Rattle.migration_report.specs.TreeVerdictTexts.{verdict_text}
 use Rattle.migration_report.specs.declared.decision.Decision.{Decision}
 use Rattle.migration_report.specs.declared.decision.Decision.TheVariants.{Safe, SafeWaves, Unsafe, UnsafeWave, Plan, Summary, Tree, Script}
-use Rattle.migration_report.specs.declared.decision.Decision.TheVariants.{Reached, Departs, Prepared, PairScript, BadPair, BadOrder, BadDesign, Split, Delta, Tables}
+use Rattle.migration_report.specs.declared.decision.Decision.TheVariants.{Reached, Departs, Prepared, PairScript, Designed, BadPair, BadOrder, BadDesign, Split, Delta, Tables}
 use Rattle.migration_report.specs.declared.ends.End.TheVariants.{Old, New}
 use Rattle.migration_report.specs.declared.outcome.Outcome.{Outcome}
 use Rattle.migration_report.specs.declared.outcome.Outcome.TheVariants.{Refused, Decided}
@@ -99,6 +99,7 @@ decision_status (Reached made nexts) = status.Done
 decision_status (Departs line) = status.Negative
 decision_status (Prepared text) = status.Done
 decision_status (PairScript text) = status.Done
+decision_status (Designed text) = status.Done
 decision_status (BadPair refusal) = status.Refused
 decision_status (BadOrder file line kind) = status.Refused
 decision_status (BadDesign file path kind) = status.Refused
@@ -120,6 +121,7 @@ decision_text net (Reached made nexts) = reached_text (names_of net) made nexts 
 decision_text net (Departs line) = departs_text line
 decision_text net (Prepared text) = text
 decision_text net (PairScript text) = text
+decision_text net (Designed text) = text
 decision_text net (BadPair refusal) = pair_refusal_text refusal
 decision_text net (BadOrder file line kind) = faulty_text file line (order_kind_name kind)
 decision_text net (BadDesign file path kind) = refused_design_text file path kind

@@ -94,6 +94,11 @@ pub enum Decision {
         /// All of them.
         text: Bytes,
     },
+    /// A design, as TOML.
+    Designed {
+        /// Its text.
+        text: Bytes,
+    },
     /// Two networks make no pair.
     BadPair {
         /// Why.
@@ -151,6 +156,7 @@ pub(crate) fn decision_status(decision: &Decision) -> Status
         Decision::Departs { .. } => Status::Negative,
         Decision::Prepared { .. } => Status::Done,
         Decision::PairScript { .. } => Status::Done,
+        Decision::Designed { .. } => Status::Done,
         Decision::BadPair { .. } => Status::Refused,
         Decision::BadOrder { .. } => Status::Refused,
         Decision::BadDesign { .. } => Status::Refused,
@@ -215,6 +221,7 @@ pub(crate) fn decision_text(
         Decision::Departs { line } => departs_text(alloc, line),
         Decision::Prepared { text } => Ok(text),
         Decision::PairScript { text } => Ok(text),
+        Decision::Designed { text } => Ok(text),
         Decision::BadPair { refusal } => pair_refusal_text(alloc, &refusal),
         Decision::BadOrder { file, line, kind } => {
             faulty_line(alloc, file.as_slice(), line, order_kind_name(kind))

@@ -1,6 +1,6 @@
 use Rattle.std.proofs.Common.{ap, ◌∙◌}
 use Rattle.toml.specs.View.{members_view, table_view, view}
-use Rattle.design_writer.specs.steps.CostTables.{put_member}
+use Rattle.design_writer.specs.CostTables.{put_member}
 use Rattle.design_writer.proofs.MemberPuts.{insert_puts}
 use Rattle.design_writer.proofs.tables.put.Goals as goal
 

@@ -7,6 +7,7 @@ use Rattle.migrate_cli.specs.Configurations.{GiveNetwork, RefusesFirst}
 use Rattle.migrate_cli.specs.Configurations.RefusesFirst.{here}
 use Rattle.migrate_cli.specs.steps.Unread.{IsUnread}
 use Rattle.migrate_cli.specs.Outcomes.{IsOutcome}
+use Rattle.design_writer.proofs.TextNames.{text_names}
 use Rattle.migrate_cli.proofs.AnswerFacts.{refused_network, unread_outcome}
 use Rattle.migrate_cli.proofs.GroupLaws.{one_group}
 use Rattle.migrate_cli.proofs.NetworkFacts.{net_has_router}
@@ -28,6 +29,9 @@ pub judge_network-requires-clause-some : goal.judge_network-requires-clause-some
 judge_network-requires-clause-some c =
     net_has_router c.args.command.now c.args.texts.now c.in-Ok.configs c.in-Ok-build.net c.requires.range c.requires.each
     c.in-Ok.ensures.ok c.in-Ok-build.ensures.ok
+
+pub judge_network-requires-clause-names : goal.judge_network-requires-clause-names
+judge_network-requires-clause-names c = text_names c.args.texts.now c.in-Ok.configs c.in-Ok-build.net c.in-Ok.ensures.ok c.in-Ok-build.ensures.ok
 
 pub returns-in-Ok-build : goal.returns-in-Ok-build
 returns-in-Ok-build c =

@@ -15,3 +15,6 @@ returns-in-Routers c = rw c.in-Routers.is (IfOk-weaker c.with_argument-in-Router
 pub returns-in-WaveSize : goal.returns-in-WaveSize
 returns-in-WaveSize c = rw c.in-WaveSize.is (IfOk-weaker c.with_argument-in-WaveSize.result _ _
     (λ r more shape line. more shape (one_text (codes "N")) line c.one_text-size.ensures) c.with_argument-in-WaveSize.ensures)
+
+pub returns-in-DesignOptions : goal.returns-in-DesignOptions
+returns-in-DesignOptions c = rw c.in-DesignOptions.is c.with_design_options.ensures

@@ -1,5 +1,5 @@
--- The tables of a design by costs, as they are put together.
-use Rattle.std.specs.Prelude.{ℕ, List, [], ◌∷◌, codes, if◌then◌else◌, pos}
+-- The document of a design by costs: what it says, as TOML, and in which order.
+use Rattle.std.specs.Prelude.{ℕ, Bool, ◌&&◌, List, [], ◌∷◌, codes, if◌then◌else◌, is_some, pos}
 use Rattle.std.specs.Cmp.Lexicographic.{slice_cmp}
 use Rattle.std.specs.Ordering.{match_ordering, nat_cmp}
 use Rattle.net_model.specs.Configuration.{Configuration}
@@ -9,7 +9,10 @@ use Rattle.net_model.specs.declared.config.Levels.TheVariants.{One, Two, Both}
 use Rattle.net_model.specs.declared.interface.Interface.{Interface}
 use Rattle.ios_lines.specs.Words.{Word}
 use Rattle.toml.specs.Data.{Data, Members, integer, member, no_members, string, table}
-use Rattle.design_writer.specs.CostDesigns.{has_cost}
+
+-- an interface with an address that has an OSPF area
+abbrev pub has_cost : Interface → Bool
+has_cost i = is_some i.subnet && is_some i.area
 
 -- the members, in the order of their keys, with this value at this key
 abbrev pub put_member : Word → Data → Members → Members
