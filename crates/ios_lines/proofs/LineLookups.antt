@@ -1,11 +1,12 @@
 -- The last line of a form, with one more line, and in a loop over some lines.
-use Rattle.std.proofs.Common.{sym, ◌≡◌, ℕ, ◌+◌, ◌<◌, List, [], ◌∷◌, ◌++◌, length, take, get_or, Option, Some, None, refl, ap, ◌∙◌}
+use Rattle.std.proofs.Common.{sym, ◌≡◌, ℕ, ◌+◌, ◌<◌, List, [], ◌∷◌, ◌++◌, length, take, get_or, Option, Some, None, refl, ap, ◌∙◌, append_assoc, append-nil}
 use Rattle.std.proofs.lemmas.List.{take_more}
 use Rattle.ios_lines.specs.Lookups.{later, last_of}
-use Rattle.std.specs.Prelude.{filter_map, fold}
+use Rattle.std.specs.Prelude.{filter_map, flat_map, fold}
 use Rattle.std.proofs.lemmas.Grind.{fold-append}
 use Rattle.std.specs.List.{cons_option}
 use Rattle.std.proofs.lemmas.List.Elements.{filter_map-append}
+use Rattle.std.proofs.lemmas.List.Concat.{flat_map-append}
 
 later-none : {A : Type 0} (a : Option A) → later None a ≡ a
 later-none None = refl
@@ -40,3 +41,21 @@ pub fold_more : {A : Type 0} {B : Type 0} {C : Type 0} (step : List C → B → 
     fold step [] (filter_map form (take (i + 1) xs)) ≡ fold step (fold step [] (filter_map form (take i xs))) (cons_option (form x) [])
 fold_more step form xs i x within read =
     ap (fold step []) (filter_more form xs i x within read) ∙ fold-append step [] (filter_map form (take i xs)) (cons_option (form x) [])
+
+-- one more line of a loop that goes through what some lines give
+flat_map_more : {A : Type 0} {B : Type 0} (f : A → List B) (xs : List A) (i : ℕ) (x : A) → i < length xs → x ≡ get_or xs i x →
+    flat_map f (take (i + 1) xs) ≡ flat_map f (take i xs) ++ f x
+flat_map_more {A} {B} f xs i x within read =
+    ap (flat_map f) (take_more xs i x within)
+    ∙ flat_map-append f (take i xs) (get_or xs i x ∷ [])
+    ∙ ap (λ (w : List B). flat_map f (take i xs) ++ w) (append-nil (f (get_or xs i x)))
+    ∙ ap (λ (y : A). flat_map f (take i xs) ++ f y) (sym read)
+
+-- one more line of a loop that takes in what some lines give, behind what was there
+pub taken_more : {A : Type 0} {B : Type 0} (f : A → List B) (xs : List A) (i : ℕ) (x : A) (start before after : List B) → i < length xs →
+    x ≡ get_or xs i x → before ≡ start ++ flat_map f (take i xs) → after ≡ before ++ f x → after ≡ start ++ flat_map f (take (i + 1) xs)
+taken_more {A} {B} f xs i x start before after within read was made =
+    made
+    ∙ ap (λ (w : List B). w ++ f x) was
+    ∙ append_assoc start (flat_map f (take i xs)) (f x)
+    ∙ ap (λ (w : List B). start ++ w) (sym (flat_map_more f xs i x within read))

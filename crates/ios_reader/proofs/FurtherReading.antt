@@ -1,10 +1,8 @@
 -- A configuration whose lines stand further on: it is read as the same, and it has a fault where it had one.
-use Rattle.std.proofs.Common.{◌≡◌, ℕ, ◌+◌, ◌-◌, Bool, true, false, ◌&&◌, ◌||◌, List, [], ◌∷◌, ◌++◌, refl, sym, ap, ◌∙◌, cond, map, nat_lt, nat_eq}
-use Rattle.std.proofs.Common.{Option, Some, None, arith}
-use Rattle.std.specs.Prelude.{filter_map, flat_map, option_map, is_none}
-use Rattle.std.proofs.lemmas.Bool.Decides.{nat_tests}
+use Rattle.std.proofs.Common.{◌≡◌, ℕ, ◌-◌, Bool, true, false, List, [], ◌∷◌, ◌++◌, refl, sym, ap, ◌∙◌, map}
+use Rattle.std.specs.Prelude.{filter_map, flat_map, is_none}
 use Rattle.ios_lines.specs.Lookups.{last_of}
-use Rattle.ios_lines.specs.FaultOrder.{fault_at, rank, is_before, faults_if, lesser_fault, least_fault}
+use Rattle.ios_lines.specs.FaultOrder.{fault_at, faults_if}
 use Rattle.ios_lines.specs.declared.fault.Fault.{Fault}
 use Rattle.ios_lines.specs.declared.kind.ReadKind.TheVariants.{NoHostname}
 use Rattle.ios_sections.specs.TextLines.{TextLine, Part}
@@ -17,29 +15,6 @@ use Rattle.ios_reader.specs.Routers.{router_of}
 use Rattle.ios_reader.specs.Faults.{interface_faults, section_faults, fault_further, part_faults}
 use Rattle.ios_reader.specs.Configurations.{configuration_of}
 use Rattle.ios_reader.proofs.LookedUp.{two_none, none_left, none_right}
-
--- ---- the least fault ----
-
-before-further : (k : ℕ) (f g : Fault) → is_before (fault_further k f) (fault_further k g) ≡ is_before f g
-before-further k f g = before_at k f.line g.line (nat_lt (rank f.kind) (rank g.kind))
-  where
-    before_at : (k l m : ℕ) (t : Bool) → (nat_lt (k + l) (k + m) || (nat_eq (k + l) (k + m) && t)) ≡ (nat_lt l m || (nat_eq l m && t))
-    before_at k l m t = grind (arith, nat_tests)
-
-lesser_choice : (t : Bool) (k : ℕ) (f g : Fault) →
-    cond t (Some (fault_further k g)) (Some (fault_further k f)) ≡ option_map (fault_further k) (cond t (Some g) (Some f))
-lesser_choice true k f g = refl
-lesser_choice false k f g = refl
-
-lesser-further : (k : ℕ) (f : Fault) (o : Option Fault) →
-    lesser_fault (Some (fault_further k f)) (option_map (fault_further k) o) ≡ option_map (fault_further k) (lesser_fault (Some f) o)
-lesser-further k f None = refl
-lesser-further k f (Some g) =
-    ap (λ (b : Bool). cond b (Some (fault_further k g)) (Some (fault_further k f))) (before-further k g f) ∙ lesser_choice (is_before g f) k f g
-
-pub least-further : (k : ℕ) (fs : List Fault) → least_fault (map (fault_further k) fs) ≡ option_map (fault_further k) (least_fault fs)
-least-further k [] = refl
-least-further k (f ∷ fs) = ap (lesser_fault (Some (fault_further k f))) (least-further k fs) ∙ lesser-further k f (least_fault fs)
 
 -- ---- no fault ----
 
@@ -56,7 +31,7 @@ faultless_at ss line other e =
     two_none front (faults_if (is_none (last_of as_hostname ss)) other NoHostname) (none_left front _ e)
     (name_if (is_none (last_of as_hostname ss)) line other (none_right front _ e))
 
-none_mapped : (k : ℕ) (fs : List Fault) → map (fault_further k) fs ≡ [] → fs ≡ []
+pub none_mapped : (k : ℕ) (fs : List Fault) → map (fault_further k) fs ≡ [] → fs ≡ []
 none_mapped k [] e = refl
 none_mapped k (f ∷ fs) e = absurd cc
 

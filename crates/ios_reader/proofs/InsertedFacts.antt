@@ -1,21 +1,20 @@
 -- Texts joined end to end, and lines put before an `end` line, are read as the law says.
-use Rattle.std.proofs.Common.{sym, ◌≡◌, ℕ, ◌+◌, ◌-◌, ◌<◌, Bool, true, false, not, ◌&&◌, ◌||◌, List, [], ◌∷◌, ◌++◌, length, refl, ap, subst, ◌∙◌, cond, map}
+use Rattle.std.proofs.Common.{sym, ◌≡◌, ℕ, ◌+◌, ◌-◌, ◌<◌, Bool, true, false, ◌&&◌, ◌||◌, List, [], ◌∷◌, ◌++◌, length, refl, ap, subst, ◌∙◌, map}
 use Rattle.std.proofs.Common.{append-nil, arith, bytes_eq, nat_eq}
-use Rattle.std.specs.Prelude.{flat_map, filter, codes, slice_index}
+use Rattle.std.specs.Prelude.{flat_map, codes}
 use Rattle.std.specs.List.{list_any}
 use Rattle.std.proofs.lemmas.Bool.{or_parts}
 use Rattle.std.proofs.lemmas.List.{map-append}
 use Rattle.std.proofs.lemmas.List.Concat.{flat_map-append}
-use Rattle.std.proofs.lemmas.Slice.Eq.{bytes_eq-Decides}
 use Rattle.net_addr.specs.JoinedLines.{is_of_whole_lines}
 use Rattle.net_addr.proofs.JoinedFacts.{is_of_whole_lines-append}
 use Rattle.net_model.specs.Configuration.{Configuration}
-use Rattle.ios_lines.specs.Words.{Word, word_at, says, lacks}
+use Rattle.ios_lines.specs.Words.{Word}
 use Rattle.ios_lines.specs.FaultOrder.{faults_if}
 use Rattle.ios_lines.specs.declared.fault.Fault.{Fault}
 use Rattle.ios_lines.specs.declared.kind.ReadKind.TheVariants.{NoEnd}
-use Rattle.ios_sections.specs.TextLines.{TextLine, Part, lines_in, counted_lines, counts, is_end, parts_after, rest_after, parts_of, begins_configuration}
-use Rattle.ios_sections.specs.TextLines.{is_empty, lacks_end, outside_banners, opens_banner, carets, first_indent}
+use Rattle.ios_sections.specs.TextLines.{TextLine, Part, lines_in, counted_lines, is_end, parts_after, rest_after, parts_of, begins_configuration}
+use Rattle.ios_sections.specs.TextLines.{is_empty, lacks_end, opens_banner, carets, first_indent}
 use Rattle.ios_sections.specs.Sections.{first_number, from_first, sections_among, sections_from_first, sections_in}
 use Rattle.ios_sections.specs.JoinedLines.{further_on, is_in_banner, begins_banner, begins_with_end, open_lines, open_sections, sections_further_on}
 use Rattle.ios_sections.specs.declared.section.Section.{Section}

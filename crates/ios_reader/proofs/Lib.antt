@@ -1,6 +1,7 @@
 pub mod ProcessLookups
 pub mod LastTitle
 pub mod LeastFaults
+pub mod FaultyLineFacts
 pub mod KeptFacts
 pub mod PartFacts
 pub mod ReadFacts

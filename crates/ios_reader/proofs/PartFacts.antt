@@ -1,7 +1,7 @@
 -- The parts of a text, one more line at a time.
-use Rattle.std.proofs.Common.{sym, ◌≡◌, ℕ, ◌+◌, ◌-◌, ◌<◌, ◌≤◌, Bool, true, false, not, ◌||◌, List, [], ◌∷◌, ◌++◌, length, take, drop, get_or, Option, Some}
-use Rattle.std.proofs.Common.{None, Result, Ok, Err, refl, ap, subst, ◌∙◌, cond, map, append-nil, arith}
-use Rattle.std.specs.Prelude.{flat_map}
+use Rattle.std.proofs.Common.{sym, ◌≡◌, ℕ, ◌+◌, ◌-◌, ◌<◌, ◌≤◌, Bool, true, false, not, ◌||◌, List, [], ◌∷◌, ◌++◌, length, take, drop, get_or, Option}
+use Rattle.std.proofs.Common.{refl, ap, subst, ◌∙◌, cond, map, append-nil, arith}
+use Rattle.std.specs.Prelude.{flat_map, option_to_list}
 use Rattle.std.specs.List.{list_any, slice_range}
 use Rattle.std.proofs.lemmas.Grind.{common_steps}
 use Rattle.std.proofs.lemmas.List.{take_more, map-append}
@@ -11,10 +11,9 @@ use Rattle.ios_sections.specs.TextLines.{TextLine, Part, is_end, parts_after, re
 use Rattle.ios_sections.specs.Sections.{sections_in}
 use Rattle.ios_reader.specs.Faults.{part_faults}
 use Rattle.ios_reader.specs.Configurations.{configuration_of}
-use Rattle.ios_lines.specs.FaultOrder.{lesser_fault, least_fault}
-use Rattle.ios_reader.specs.steps.Parts.{part_at, IsPartRead, fault_read, configurations_read, Reading, IsReadingOf}
+use Rattle.ios_reader.specs.steps.Parts.{part_at, PartRead, IsPartRead, Reading, IsReadingOf}
 use Rattle.ios_lines.specs.declared.fault.Fault.{Fault}
-use Rattle.ios_lines.proofs.FaultFacts.{least_fault-append}
+use Rattle.ios_reader.proofs.LookedUp.{none_left, none_right}
 
 -- ---- one more line ----
 
@@ -80,51 +79,28 @@ slice_more lines start i x low within read =
 
 -- ---- what is read ----
 
-least-push : (parts : List Part) (part : Part) → least_fault (flat_map part_faults (parts ++ part ∷ []))
-    ≡ lesser_fault (least_fault (flat_map part_faults parts)) (least_fault (part_faults part))
-least-push parts part =
-    ap least_fault (flat_map-append part_faults parts (part ∷ []))
-    ∙ least_fault-append (flat_map part_faults parts) (part_faults part ++ [])
-    ∙ ap (λ (w : List Fault). lesser_fault (least_fault (flat_map part_faults parts)) (least_fault w)) (append-nil (part_faults part))
-
-fault_is : (part : Part) (read : Result Configuration Fault) → IsPartRead part read → fault_read read ≡ least_fault (part_faults part)
-fault_is part (Ok configuration) h = sym (ap least_fault h.faultless)
-fault_is part (Err fault) h = sym h
-
-none_before : (a : Option Fault) → lesser_fault a None ≡ None → a ≡ None
-none_before None e = refl
-none_before (Some f) e = e
-
-either_some : (t : Bool) (f g : Fault) → cond t (Some g) (Some f) ≡ None → ⊥
-either_some true f g e = cc
-either_some false f g e = cc
-
-some_after : (a : Option Fault) (g : Fault) → lesser_fault a (Some g) ≡ None → ⊥
-some_after None g e = cc
-some_after (Some f) g e = either_some _ f g e
-
 abbrev made : List Part → List Configuration
 made parts = map (λ (part : Part). configuration_of (sections_in part)) parts
 
-configs_more : (parts : List Part) (part : Part) (r s : Reading) (read : Result Configuration Fault) → IsReadingOf parts r → IsPartRead part read →
-    s.fault ≡ lesser_fault r.fault (fault_read read) → s.configs ≡ r.configs ++ configurations_read read → s.fault ≡ None → s.configs
-    ≡ made (parts ++ part ∷ [])
-configs_more parts part r s (Ok configuration) before h f g none =
-    let clean : r.fault ≡ None = none_before r.fault (sym f ∙ none) in
-    g ∙ ap (λ (w : List Configuration). w ++ configuration ∷ []) (before.configs clean)
-    ∙ ap (λ (x : Configuration). made parts ++ x ∷ []) h.made
-    ∙ sym (map-append (λ (part : Part). configuration_of (sections_in part)) parts (part ∷ []))
-configs_more parts part r s (Err fault) before h f g none = absurd (some_after r.fault fault (sym f ∙ none))
+faults-push : (parts : List Part) (part : Part) → flat_map part_faults (parts ++ part ∷ []) ≡ flat_map part_faults parts ++ part_faults part
+faults-push parts part =
+    flat_map-append part_faults parts (part ∷ [])
+    ∙ ap (λ (w : List Fault). flat_map part_faults parts ++ w) (append-nil (part_faults part))
 
 -- one more part is read
-pub reading-push : (parts : List Part) (part : Part) (r s : Reading) (read : Result Configuration Fault) → IsReadingOf parts r → IsPartRead part read →
-    s.fault ≡ lesser_fault r.fault (fault_read read) → s.configs ≡ r.configs ++ configurations_read read → IsReadingOf (parts ++ part ∷ []) s
+pub reading-push : (parts : List Part) (part : Part) (r s : Reading) (read : PartRead) → IsReadingOf parts r → IsPartRead part read →
+    s.faults ≡ r.faults ++ read.faults → s.configs ≡ r.configs ++ option_to_list read.config → IsReadingOf (parts ++ part ∷ []) s
 reading-push parts part r s read before h f g = record {
-  fault =
-      f ∙ ap (λ (o : Option Fault). lesser_fault o (fault_read read)) before.fault
-      ∙ ap (lesser_fault (least_fault (flat_map part_faults parts))) (fault_is part read h)
-      ∙ sym (least-push parts part);
-  configs = configs_more parts part r s read before h f g;
+  faults =
+      f ∙ ap (λ (w : List Fault). w ++ read.faults) before.faults
+      ∙ ap (λ (w : List Fault). flat_map part_faults parts ++ w) h.faults
+      ∙ sym (faults-push parts part);
+  configs = λ none.
+      let clean : r.faults ++ read.faults ≡ [] = sym f ∙ none in
+      g
+      ∙ ap (λ (w : List Configuration). w ++ option_to_list read.config) (before.configs (none_left r.faults read.faults clean))
+      ∙ ap (λ (o : Option Configuration). made parts ++ option_to_list o) (h.config (none_right r.faults read.faults clean))
+      ∙ sym (map-append (λ (part : Part). configuration_of (sections_in part)) parts (part ∷ []));
 }
 
 -- ---- whether a configuration is open ----
@@ -191,10 +167,10 @@ module _ (lines : List TextLine) (i : ℕ) (x : TextLine) (within : i < length l
       ∙ sym (rest_more lines i x within read ∙ ap (λ (b : Bool). cond b [] (rest_after [] (take i lines) ++ x ∷ [])) on)
 
   -- at an `end` line one more part is read
-  pub read_at_end : (slice : List TextLine) (number : ℕ) (r s : Reading) (part : Result Configuration Fault) → is_end x ≡ true → slice
+  pub read_at_end : (slice : List TextLine) (number : ℕ) (r s : Reading) (part : PartRead) → is_end x ≡ true → slice
       ≡ rest_after [] (take i lines) → number ≡ x.number →
       IsReadingOf (parts_after [] (take i lines)) r → IsPartRead (part_at slice number) part →
-      s.fault ≡ lesser_fault r.fault (fault_read part) → s.configs ≡ r.configs ++ configurations_read part →
+      s.faults ≡ r.faults ++ part.faults → s.configs ≡ r.configs ++ option_to_list part.config →
       IsReadingOf (parts_after [] (take (i + 1) lines)) s
   read_at_end slice number r s part ends before same was now f g =
       let parts : parts_after [] (take i lines) ++ part_at slice number ∷ [] ≡ parts_after [] (take (i + 1) lines) =

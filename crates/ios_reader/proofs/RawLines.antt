@@ -1,7 +1,7 @@
 -- The lines of a text, one by one, and what a text of whole lines becomes with one line more.
 use Rattle.std.proofs.Common.{◌≡◌, ℕ, ◌+◌, ◌<◌, ◌≤◌, Bool, true, false, not, ◌&&◌, ◌||◌, cond, List, [], ◌∷◌, ◌++◌, length, map, take, drop, refl, sym, ap}
-use Rattle.std.proofs.Common.{◌∙◌, append_assoc, append-nil, arith}
-use Rattle.std.specs.Prelude.{filter, fold, flat_map, bytes_eq, nat_eq, slice_index, codes}
+use Rattle.std.proofs.Common.{◌∙◌, append-nil, arith}
+use Rattle.std.specs.Prelude.{filter, flat_map, bytes_eq, nat_eq, slice_index, codes}
 use Rattle.std.specs.List.{list_any, position_or_len}
 use Rattle.std.proofs.lemmas.Bool.{and_parts, eqb-true}
 use Rattle.std.proofs.lemmas.List.{map-append, drop_all}
@@ -14,7 +14,7 @@ use Rattle.net_addr.proofs.JoinedFacts.{is_of_whole_lines-append}
 use Rattle.net_addr.proofs.PieceFacts.{line_pieces-first}
 use Rattle.net_model.specs.Configuration.{Configuration}
 use Rattle.ios_lines.specs.Words.{Word, word_at, says, lacks}
-use Rattle.ios_sections.specs.TextLines.{TextLine, Part, text_line, lines_in, carets, opens_banner, banner_after, outside_banner, outside_banners, counts}
+use Rattle.ios_sections.specs.TextLines.{TextLine, Part, text_line, lines_in, carets, opens_banner, outside_banner, outside_banners, counts}
 use Rattle.ios_sections.specs.TextLines.{counted_lines, is_end, parts_after, rest_after, parts_of}
 use Rattle.ios_sections.specs.Sections.{sections_in}
 use Rattle.ios_sections.specs.JoinedLines.{further_on, is_in_banner, open_lines, open_sections}

@@ -1,7 +1,7 @@
 -- The answer to a text, from what was read of its parts.
 use Rattle.std.proofs.Common.{sym, ◌≡◌, ℕ, ◌+◌, ◌-◌, ◌≤◌, Bool, true, false, List, [], ◌∷◌, ◌++◌, length, Option, Some, None, refl, ap, subst, ◌∙◌, cond}
 use Rattle.std.proofs.Common.{arith, zero, suc, inr}
-use Rattle.std.specs.Prelude.{map, option_map, flat_map, All, filter_map, is_none, is_some}
+use Rattle.std.specs.Prelude.{map, flat_map, All, filter_map, is_none, is_some}
 use Rattle.std.specs.List.{slice_split}
 use Rattle.std.proofs.lemmas.List.{length-map}
 use Rattle.std.proofs.lemmas.List.Splits.{length-slice_split}
@@ -10,62 +10,27 @@ use Rattle.std.proofs.lemmas.List.Elements.{All-nil, All-cons, All-weaker}
 use Rattle.net_addr.specs.Lines.{is_line_feed, without_empty_last, line_pieces, lines_of, text_lines}
 use Rattle.net_model.specs.Configuration.{Configuration, IsConfiguration}
 use Rattle.ios_lines.specs.Words.{Word}
-use Rattle.ios_sections.specs.TextLines.{TextLine, Part, text_line, lines_in, parts_of, lacks_end}
+use Rattle.ios_sections.specs.TextLines.{Part, text_line, lines_in, parts_of, lacks_end}
 use Rattle.ios_lines.specs.FaultOrder.{faults_if, is_before, lesser_fault, least_fault}
-use Rattle.ios_sections.specs.ProcessFaults.{second_processes, ospf_faults, isis_faults, isis_statement_faults, tag_faults, second_titles, lacking}
-use Rattle.ios_sections.specs.ProcessFaults.{first_isis_line}
+use Rattle.ios_sections.specs.ProcessFaults.{second_processes, ospf_faults, isis_faults}
 use Rattle.ios_reader.specs.Faults.{interface_faults, section_faults, fault_further, part_faults, faults_in}
 use Rattle.ios_sections.specs.Sections.{first_number, sections_in}
-use Rattle.ios_sections.specs.Processes.{as_hostname, as_isis, as_fault, interfaces_in, first_tag, isis_lines}
+use Rattle.ios_sections.specs.Processes.{as_hostname, as_isis, as_fault, interfaces_in, first_tag}
 use Rattle.ios_reader.specs.Routers.{router_of}
 use Rattle.ios_lines.specs.Lookups.{last_of}
 use Rattle.ios_reader.specs.Configurations.{IsNotAfter, IsLeastFault, configuration_by}
 use Rattle.ios_sections.specs.Statements.{Statements, statements_of}
-use Rattle.ios_reader.specs.steps.LeastFaults.{ospf_fault_by, isis_fault_by, fault_by}
-use Rattle.ios_reader.specs.steps.Parts.{IsMadeOf, Reading, IsReadingOf}
+use Rattle.ios_reader.specs.steps.FaultsBy.{faults_by}
+use Rattle.ios_reader.specs.steps.Parts.{PartRead, IsPartRead, Reading, IsReadingOf, IsTextReading}
 use Rattle.ios_reader.specs.Texts.{ReadsText, IsRefusedText}
 use Rattle.ios_lines.specs.declared.kind.ReadKind.TheVariants.{NoHostname, NoEnd}
 use Rattle.ios_lines.specs.declared.fault.Fault.{Fault}
-use Rattle.ios_sections.specs.declared.section.IsisSection.{IsisSection}
 use Rattle.ios_sections.specs.declared.section.Section.{Section}
-use Rattle.ios_lines.proofs.FaultFacts.{least_of_two}
 use Rattle.ios_reader.proofs.LeastFaults.{by_before, by_not_before, none_least}
 use Rattle.ios_sections.proofs.GoodSections.{sections_good}
 use Rattle.ios_reader.proofs.KeptFacts.{configuration_kept}
-use Rattle.ios_reader.proofs.LookedUp.{none_right}
-use Rattle.ios_reader.proofs.FurtherReading.{least-further}
-
--- ---- the least fault of a configuration ----
-
-isis_is : (sections : List Section) → isis_fault_by (statements_of sections) ≡ least_fault (isis_faults sections)
-isis_is sections =
-    let all : List IsisSection = filter_map as_isis sections in
-    least_of_two
-    (tag_faults (filter_map as_isis sections) ++ flat_map isis_statement_faults (isis_lines sections) ++ second_titles (isis_lines sections))
-    (lacking (first_isis_line (filter_map as_isis sections)) (isis_lines sections)) _ _
-    (least_of_two (tag_faults (filter_map as_isis sections) ++ flat_map isis_statement_faults (isis_lines sections)) (second_titles (isis_lines sections)) _ _
-    (least_of_two (tag_faults (filter_map as_isis sections)) (flat_map isis_statement_faults (isis_lines sections)) _ _ refl refl) refl) refl
-
-ospf_is : (sections : List Section) → ospf_fault_by (statements_of sections)
-    ≡ least_fault (filter_map as_fault sections ++ second_processes sections ++ ospf_faults sections)
-ospf_is sections =
-    least_of_two (filter_map as_fault sections ++ second_processes sections) (ospf_faults sections) _ _
-    (least_of_two (filter_map as_fault sections) (second_processes sections) _ _ refl refl) refl
-
-pub fault_is : (sections : List Section) (ends : ℕ) → fault_by (statements_of sections) ends ≡ least_fault (section_faults sections ends)
-fault_is sections ends =
-    let first : List Fault = filter_map as_fault sections ++ second_processes sections ++ ospf_faults sections in
-    let interfaces : List Fault = flat_map (interface_faults (router_of sections) (first_tag (filter_map as_isis sections))) (interfaces_in sections) in
-    least_of_two
-    (filter_map as_fault sections ++ second_processes sections ++ ospf_faults sections ++ isis_faults sections
-    ++ flat_map (interface_faults (router_of sections) (first_tag (filter_map as_isis sections))) (interfaces_in sections))
-    (faults_if (is_none (last_of as_hostname sections)) ends NoHostname) _ _
-    (least_of_two
-    (filter_map as_fault sections ++ second_processes sections ++ ospf_faults sections ++ isis_faults sections)
-    (flat_map (interface_faults (router_of sections) (first_tag (filter_map as_isis sections))) (interfaces_in sections)) _ _
-    (least_of_two (filter_map as_fault sections ++ second_processes sections ++ ospf_faults sections) (isis_faults sections) _ _ (ospf_is sections)
-    (isis_is sections))
-    refl) refl
+use Rattle.ios_reader.proofs.LookedUp.{none_left, none_right}
+use Rattle.ios_reader.proofs.FurtherReading.{none_mapped}
 
 no_fault : (t : Bool) (line : ℕ) → faults_if t line NoHostname ≡ [] → t ≡ false
 no_fault true line e = absurd cc
@@ -90,21 +55,16 @@ part_named sections ends e =
 abbrev pub ends_in : Part → ℕ
 ends_in part = part.ends - first_number part.lines
 
-pub part_fault : (part : Part) (s : Statements) → s ≡ statements_of (sections_in part) →
-    option_map (fault_further (first_number part.lines)) (fault_by s (ends_in part)) ≡ least_fault (part_faults part)
-part_fault part s e =
-    ap (option_map (fault_further (first_number part.lines)))
-    (ap (λ (t : Statements). fault_by t (ends_in part)) e ∙ fault_is (sections_in part) (ends_in part))
-    ∙ sym (least-further (first_number part.lines) (section_faults (sections_in part) (ends_in part)))
+-- the faults of a part, by what its sections say
+pub faults_of_part : (part : Part) (s : Statements) → s ≡ statements_of (sections_in part) → faults_by s (ends_in part) ≡ section_faults (sections_in part) (ends_in part)
+faults_of_part part s e = ap (λ (t : Statements). faults_by t (ends_in part)) e
 
-sections_fine : (part : Part) (s : Statements) → s ≡ statements_of (sections_in part) → fault_by s (ends_in part) ≡ None →
+sections_fine : (part : Part) (s : Statements) → s ≡ statements_of (sections_in part) → faults_by s (ends_in part) ≡ [] →
     section_faults (sections_in part) (ends_in part) ≡ []
-sections_fine part s e none =
-    none_least (section_faults (sections_in part) (ends_in part))
-    (sym (ap (λ (t : Statements). fault_by t (ends_in part)) e ∙ fault_is (sections_in part) (ends_in part)) ∙ none)
+sections_fine part s e none = sym (faults_of_part part s e) ∙ none
 
 -- the configuration of a part without a fault keeps the facts of a configuration
-pub part_kept : (part : Part) (s : Statements) → s ≡ statements_of (sections_in part) → fault_by s (ends_in part) ≡ None →
+pub part_kept : (part : Part) (s : Statements) → s ≡ statements_of (sections_in part) → faults_by s (ends_in part) ≡ [] →
     IsConfiguration (configuration_by s)
 part_kept part s e none =
     let named : is_some (last_of as_hostname (sections_in part)) ≡ true =
@@ -112,17 +72,20 @@ part_kept part s e none =
     subst (λ (t : Statements). IsConfiguration (configuration_by t)) (sym e) (configuration_kept (sections_in part) (sections_good part) named)
 
 -- a part without a fault is read into its configuration
-pub part_made : (part : Part) (s : Statements) (c : Configuration) → s ≡ statements_of (sections_in part) → fault_by s (ends_in part) ≡ None →
-    c ≡ configuration_by s → IsMadeOf part c
-part_made part s c e none made = record {
-  faultless = ap (map (fault_further (first_number part.lines))) (sections_fine part s e none);
-  made = made ∙ ap configuration_by e;
+pub part_made : (part : Part) (s : Statements) (r : PartRead) (c : Configuration) → s ≡ statements_of (sections_in part) →
+    faults_by s (ends_in part) ≡ [] → c ≡ configuration_by s → r.config ≡ Some c → r.faults ≡ [] → IsPartRead part r
+part_made part s r c e none made one clean = record {
+  faults = clean ∙ sym (ap (map (fault_further (first_number part.lines))) (sections_fine part s e none));
+  config = λ _. one ∙ ap Some (made ∙ ap configuration_by e);
 }
 
--- a faulty part is read into its least fault
-pub part_faulty : (part : Part) (s : Statements) (f : Fault) → s ≡ statements_of (sections_in part) → fault_by s (ends_in part) ≡ Some f →
-    least_fault (part_faults part) ≡ Some (fault_further (first_number part.lines) f)
-part_faulty part s f e some = sym (part_fault part s e) ∙ ap (option_map (fault_further (first_number part.lines))) some
+-- a faulty part is read into its faults
+pub part_faulty : (part : Part) (s : Statements) (r : PartRead) (found : List Fault) → s ≡ statements_of (sections_in part) →
+    found ≡ faults_by s (ends_in part) → (found ≡ [] → ⊥) → r.faults ≡ map (fault_further (first_number part.lines)) found → IsPartRead part r
+part_faulty part s r found e is some further = record {
+  faults = further ∙ ap (map (fault_further (first_number part.lines))) (is ∙ faults_of_part part s e);
+  config = λ none. absurd (some (none_mapped (first_number part.lines) found (sym further ∙ none)));
+}
 
 -- ---- the least fault of some ----
 
@@ -166,34 +129,25 @@ least_is (g ∷ gs) f e = least_cases g f gs (least_fault gs) refl (λ h r. leas
 
 -- ---- a text ----
 
-least_in : (lines : List TextLine) (r : Reading) (end : Option Fault) → IsReadingOf (parts_of lines) r → end
-    ≡ least_fault (faults_if (lacks_end lines) (length lines + 1) NoEnd) →
-    lesser_fault r.fault end ≡ least_fault (faults_in lines)
-least_in lines r end h e = least_of_two (flat_map part_faults (parts_of lines)) (faults_if (lacks_end lines) (length lines + 1) NoEnd) r.fault end h.fault e
-
-none_first : (a b : Option Fault) → lesser_fault a b ≡ None → a ≡ None
-none_first None b e = refl
-none_first (Some f) None e = e
-none_first (Some f) (Some g) e = absurd (chosen (is_before g f) f g e)
-  where
-    chosen : (t : Bool) (f g : Fault) → cond t (Some g) (Some f) ≡ None → ⊥
-    chosen true f g e = cc
-    chosen false f g e = cc
-
--- a text without a faulty line is read into its configurations
-pub text_read : (text : List ℕ) (r : Reading) (end : Option Fault) → IsReadingOf (parts_of (lines_in text)) r → end
-    ≡ least_fault (faults_if (lacks_end (lines_in text)) (length (lines_in text) + 1) NoEnd) →
-    lesser_fault r.fault end ≡ None → ReadsText text r.configs
-text_read text r end h e none = record {
-  faultless = none_least (faults_in (lines_in text)) (sym (least_in (lines_in text) r end h e) ∙ none);
-  made = h.configs (none_first r.fault end none);
+-- a text is read by its parts, and by whether an `end` line is missing
+pub text_reading : (text : List ℕ) (parts r : Reading) (lacks : Bool) (behind : ℕ) → IsReadingOf (parts_of (lines_in text)) parts →
+    lacks ≡ lacks_end (lines_in text) → behind ≡ length (lines_in text) + 1 → r.faults ≡ parts.faults ++ faults_if lacks behind NoEnd →
+    r.configs ≡ parts.configs → IsTextReading text r
+text_reading text parts r lacks behind h missing place found kept = record {
+  faults = found
+      ∙ ap (λ (w : List Fault). w ++ faults_if lacks behind NoEnd) h.faults
+      ∙ ap (λ (b : Bool). flat_map part_faults (parts_of (lines_in text)) ++ faults_if b behind NoEnd) missing
+      ∙ ap (λ (n : ℕ). flat_map part_faults (parts_of (lines_in text)) ++ faults_if (lacks_end (lines_in text)) n NoEnd) place;
+  configs = λ none. kept ∙ h.configs (none_left parts.faults (faults_if lacks behind NoEnd) (sym found ∙ none));
 }
 
+-- a text without a faulty line is read into its configurations
+pub text_read : (text : List ℕ) (r : Reading) → IsTextReading text r → r.faults ≡ [] → ReadsText text r.configs
+text_read text r h none = record { faultless = sym h.faults ∙ none; made = h.configs none }
+
 -- a text with a faulty line is refused at the first one
-pub text_refused : (text : List ℕ) (r : Reading) (end : Option Fault) (f : Fault) → IsReadingOf (parts_of (lines_in text)) r → end
-    ≡ least_fault (faults_if (lacks_end (lines_in text)) (length (lines_in text) + 1) NoEnd) →
-    lesser_fault r.fault end ≡ Some f → IsRefusedText text f.line f.kind
-text_refused text r end f h e some = least_is (faults_in (lines_in text)) f (sym (least_in (lines_in text) r end h e) ∙ some)
+pub text_refused : (text : List ℕ) (r : Reading) (f : Fault) → IsTextReading text r → least_fault r.faults ≡ Some f → IsRefusedText text f.line f.kind
+text_refused text r f h some = least_is (faults_in (lines_in text)) f (sym (ap least_fault h.faults) ∙ some)
 
 -- ---- how many lines a text has ----
 

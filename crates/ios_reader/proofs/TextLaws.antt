@@ -16,13 +16,13 @@ use Rattle.ios_reader.proofs.LeastFaults.{none_least}
 use Rattle.ios_reader.proofs.ReadFacts.{least_is}
 
 -- the kind at a place among the kinds
-abbrev kind_at : ℕ → ReadKind
+abbrev pub kind_at : ℕ → ReadKind
 kind_at n = get_or
     (NoHostname ∷ NoHostname ∷ NoEnd ∷ BadAddress ∷ BadMask ∷ BadCost ∷ BadArea ∷ SecondProcess ∷ Unsupported ∷ LoopbackMask ∷ BadNet ∷ BadLevel ∷ BadMetric
     ∷ BadDistance ∷ DistanceClash ∷ NoBandwidth ∷ [])
     n NoHostname
 
-kind_back : (kind : ReadKind) → kind_at (rank kind) ≡ kind
+pub kind_back : (kind : ReadKind) → kind_at (rank kind) ≡ kind
 kind_back kind = grind arith
 
 -- of two faults neither comes after the other

@@ -3,6 +3,7 @@ pub mod InterfaceFacts
 pub mod Routers
 pub mod InterfacesAsRead
 pub mod Faults
+pub mod FaultyLines
 pub mod Configurations
 pub mod Texts
 pub mod ReadLaws

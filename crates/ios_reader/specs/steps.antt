@@ -1,6 +1,7 @@
 pub mod Networks
 pub mod ProcessFacts
-pub mod LeastFaults
+pub mod FaultsBy
+pub mod ToldFaults
 pub mod Parts
 pub mod Passives
 pub mod Tables

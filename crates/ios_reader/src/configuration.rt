@@ -1,9 +1,9 @@
-ghost use Rattle.std.specs.Prelude.{◌≡◌, ◌-◌, IfOk};
+ghost use Rattle.std.specs.Prelude.{◌≡◌, ◌↔◌, ◌-◌, ◌++◌, [], map, IfOk, IsTrue, OnOk};
 ghost use Rattle.net_model.specs.Configuration.{IsConfiguration};
 ghost use Rattle.ios_sections.specs.Sections.{first_number};
 ghost use Rattle.ios_reader.specs.Faults.{fault_further};
 ghost use Rattle.ios_reader.specs.Configurations.{interfaces_by, configuration_of_settings, configuration_by};
-ghost use Rattle.ios_reader.specs.steps.LeastFaults.{ospf_fault_by, isis_fault_by, interfaces_fault_by, fault_by};
+ghost use Rattle.ios_reader.specs.steps.FaultsBy.{ospf_faults_by, isis_faults_by, interfaces_faults_by, faults_by};
 ghost use Rattle.ios_reader.specs.steps.Parts.{part_at, IsPartRead};
 ghost use Rattle.ios_reader.specs.steps.ProcessFacts.{process_facts_of};
 
@@ -11,44 +11,75 @@ use crate::OutOfMemory;
 use crate::interfaces::interfaces_of;
 use crate::router::{ProcessFacts, process_facts_of};
 use crate::settings::{IsisSettings, OspfSettings, isis_settings, name_or_empty, ospf_settings};
-use ios_lines::fault::{Fault, fault_if, lesser_fault};
+use ios_lines::fault::{Fault, push_fault_if};
 use ios_lines::kind::ReadKind;
-use ios_sections::isis_process::{lacking, least_isis_line_fault, least_second_title};
-use ios_sections::process::least_ospf_line_fault;
+use ios_sections::isis_process::{push_isis_line_faults, push_lacking, push_second_titles};
+use ios_sections::process::push_ospf_line_faults;
 use ios_sections::read_section::{first_number, sections_from_first};
 use ios_sections::statements::{Statements, statements_of};
 use ios_sections::text_line::TextLine;
 use net_addr::Name;
 use net_model::{Config, Distances, Interface, Interfaces};
 use std::alloc::Global;
+use std::marker::Model;
 
-/// The least fault of the OSPF process, and of the lines at indent 0 by themselves.
-fn ospf_fault(statements: &Statements) -> Option<Fault>
-    ensures { result ≡ ospf_fault_by statements.now }
-{
-    let head = lesser_fault(statements.head_fault, statements.process_fault);
-    lesser_fault(head, least_ospf_line_fault(statements.ospf.as_slice()))
+/// What was read of the lines before an `end` line.
+#[derive(Drop)]
+pub(crate) struct PartRead {
+    /// The configuration, where there is no fault.
+    pub config: Option<Config>,
+    /// The faults, by the numbers of the lines in the text.
+    pub faults: Vec<Fault>,
 }
 
-/// The least fault of the IS-IS process.
-fn isis_fault(statements: &Statements) -> Option<Fault>
-    ensures { result ≡ isis_fault_by statements.now }
-{
-    let line = least_isis_line_fault(statements.isis.as_slice());
-    let title = least_second_title(statements.isis.as_slice());
-    let missing = lacking(statements.isis_line, statements.isis.as_slice());
-    let own = lesser_fault(lesser_fault(statements.tag_fault, line), title);
-    lesser_fault(own, missing)
+impl Model for PartRead {
+    ghost use Rattle.ios_reader.specs.steps.Parts.{PartRead};
+
+    ghost Value = { PartRead };
+
+    ghost view = { λ r. record { config = r.config; faults = r.faults.items } };
 }
 
-/// The least fault of a configuration whose `end` line has this number, as its lines are counted, by that of its interfaces.
-fn fault_of(statements: &Statements, interfaces: Option<Fault>, ends: u32) -> Option<Fault>
-    requires { interfaces ≡ interfaces_fault_by statements.now }
-    ensures { result ≡ fault_by statements.now ends }
+/// Takes in the faults of the OSPF process, and of the lines at indent 0 by themselves.
+fn push_ospf_faults(faults: &mut Vec<Fault>, statements: &Statements) -> Result<(), OutOfMemory>
+    ensures { OnOk result (faults.new.items ≡ faults.old.items ++ ospf_faults_by statements.now) }
 {
-    let name = fault_if(statements.name.is_none(), ends, ReadKind::NoHostname);
-    let processes = lesser_fault(ospf_fault(statements), isis_fault(statements));
-    lesser_fault(lesser_fault(processes, interfaces), name)
+    faults.extend_from_slice(statements.head_faults.as_slice())?;
+    faults.extend_from_slice(statements.process_faults.as_slice())?;
+    push_ospf_line_faults(faults, statements.ospf.as_slice())
+}
+
+/// Takes in the faults of the IS-IS process.
+fn push_isis_faults(faults: &mut Vec<Fault>, statements: &Statements) -> Result<(), OutOfMemory>
+    ensures { OnOk result (faults.new.items ≡ faults.old.items ++ isis_faults_by statements.now) }
+{
+    faults.extend_from_slice(statements.tag_faults.as_slice())?;
+    push_isis_line_faults(faults, statements.isis.as_slice())?;
+    push_second_titles(faults, statements.isis.as_slice())?;
+    push_lacking(faults, statements.isis_line, statements.isis.as_slice())
+}
+
+/// The faults of a configuration whose `end` line has this number, as its lines are counted, with those of its interfaces.
+fn faults_of(
+    alloc: Global,
+    statements: &Statements,
+    interfaces: &[Fault],
+    ends: u32,
+) -> Result<Vec<Fault>, OutOfMemory>
+    requires { interfaces.now ≡ interfaces_faults_by statements.now }
+    ensures { IfOk result (λ faults. faults.items ≡ faults_by statements.now ends) }
+{
+    let mut faults = Vec::new(alloc);
+    push_ospf_faults(&mut faults, statements)?;
+    push_isis_faults(&mut faults, statements)?;
+    faults.extend_from_slice(interfaces)?;
+    push_fault_if(
+        &mut faults,
+        statements.name.is_none(),
+        ends,
+        ReadKind::NoHostname,
+    )?;
+    Ok(faults)
 }
 
 /// The configuration of a router of this name with these interfaces.
@@ -113,12 +144,11 @@ fn counted_ends(lines: &[TextLine], ends: u32) -> u32
     ends.saturating_sub(first_number(lines))
 }
 
-/// A fault, found as these lines are counted, with its number in the text. A number of more than 32 bits gives
-/// `OutOfMemory`, since no text has so many lines.
-fn fault_in_text(lines: &[TextLine], fault: Fault) -> Result<Fault, OutOfMemory>
-    ensures { IfOk result (λ own. own ≡ fault_further (first_number lines.now) fault) }
+/// A fault, so many lines further on. A number of more than 32 bits gives `OutOfMemory`, since no text has so many lines.
+fn fault_further(count: u32, fault: Fault) -> Result<Fault, OutOfMemory>
+    ensures { IfOk result (λ own. own ≡ fault_further count fault) }
 {
-    match first_number(lines).checked_add(fault.line) {
+    match count.checked_add(fault.line) {
         Some(line) => Ok(Fault {
             line,
             kind: fault.kind,
@@ -127,21 +157,53 @@ fn fault_in_text(lines: &[TextLine], fault: Fault) -> Result<Fault, OutOfMemory>
     }
 }
 
-/// The configuration of the lines before an `end` line of this number, or its least fault. The lines are read as they are
-/// counted from the first one that may tell something; only here a fault gets its number in the text.
+/// Faults, found as these lines are counted, with their numbers in the text.
+fn faults_in_text(
+    alloc: Global,
+    lines: &[TextLine],
+    found: &[Fault],
+) -> Result<Vec<Fault>, OutOfMemory>
+    ensures { IfOk result (λ own. own.items ≡ map (fault_further (first_number lines.now)) found.now) }
+{
+    let first = first_number(lines);
+    let mut own = Vec::with_capacity(alloc, found.len())?;
+    for fault in found {
+        own.push(fault_further(first, *fault)?)?;
+    }
+    Ok(own)
+}
+
+/// Whether these are no faults.
+pub(crate) fn are_none(faults: &[Fault]) -> bool
+    ensures { IsTrue result ↔ (faults.now ≡ []) }
+{
+    faults.is_empty()
+}
+
+/// The faults of the lines before an `end` line of this number, and where there is none their configuration. The lines are
+/// read as they are counted from the first one that may tell something; only here a fault gets its number in the text.
 pub(crate) fn read_part(
     alloc: Global,
     lines: &[TextLine],
     ends: u32,
-) -> Result<Result<Config, Fault>, OutOfMemory>
+) -> Result<PartRead, OutOfMemory>
     ensures { IfOk result (IsPartRead (part_at lines.now ends)) }
 {
     let sections = sections_from_first(alloc, lines)?;
     let statements = statements_of(alloc, sections)?;
     let facts = process_facts_of(statements.ospf.as_slice(), statements.isis.as_slice());
     let interfaces = interfaces_of(alloc, &statements, facts)?;
-    match fault_of(&statements, interfaces.fault, counted_ends(lines, ends)) {
-        Some(fault) => Ok(Err(fault_in_text(lines, fault)?)),
-        None => Ok(Ok(config_of(alloc, statements, interfaces.all, facts)?)),
+    let ends = counted_ends(lines, ends);
+    let found = faults_of(alloc, &statements, interfaces.faults.as_slice(), ends)?;
+    if are_none(found.as_slice()) {
+        let config = config_of(alloc, statements, interfaces.all, facts)?;
+        return Ok(PartRead {
+            config: Some(config),
+            faults: found,
+        });
     }
+    Ok(PartRead {
+        config: None,
+        faults: faults_in_text(alloc, lines, found.as_slice())?,
+    })
 }

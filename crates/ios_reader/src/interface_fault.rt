@@ -1,15 +1,16 @@
-ghost use Rattle.std.specs.Prelude.{◌≡◌, option_copied};
+ghost use Rattle.std.specs.Prelude.{◌≡◌, ◌++◌, ◌&&◌, option_copied, is_some, is_none, OnOk};
 ghost use Rattle.ios_lines.specs.InterfaceLines.{counting};
-ghost use Rattle.ios_lines.specs.FaultOrder.{least_fault};
 ghost use Rattle.ios_reader.specs.Faults.{membership_of, membership_fault, statement_faults, interface_line_faults, long_mask, address_mask_faults};
 ghost use Rattle.ios_reader.specs.InterfaceFacts.{facts_of};
+ghost use Rattle.ios_reader.specs.InterfacesAsRead.{is_up, interface_area, ospf_cost};
 ghost use Rattle.ios_reader.specs.Faults.{is_point_to_point, loopback_faults, bandwidth_faults, interface_faults};
 
+use crate::OutOfMemory;
 use crate::facts::{InterfaceFacts, PlacedAddress};
 use crate::interface_read::{interface_area, is_loopback, is_up, ospf_cost};
 use crate::router::Router;
 use ios_lines::address::InterfaceAddress;
-use ios_lines::fault::{Fault, fault_at, fault_if, lesser_fault};
+use ios_lines::fault::{Fault, push_fault_at, push_fault_if};
 use ios_lines::interface_line::{
     InterfaceLine, InterfaceStatement, counting, interface_line_fault,
 };
@@ -43,46 +44,65 @@ fn membership_fault(first: Option<&[u8]>, line: &InterfaceLine) -> Option<ReadKi
     }
 }
 
-/// The least fault of a line of an interface.
-fn statement_fault(first: Option<&[u8]>, statement: &InterfaceStatement) -> Option<Fault>
-    ensures { result ≡ least_fault (statement_faults (option_copied first.entry) statement.now) }
+/// Takes in the faults of a line of an interface.
+fn push_statement_faults(
+    faults: &mut Vec<Fault>,
+    first: Option<&[u8]>,
+    statement: &InterfaceStatement,
+) -> Result<(), OutOfMemory>
+    ensures { OnOk result (faults.new.items ≡ faults.old.items ++ statement_faults (option_copied first.entry) statement.now) }
 {
-    let own = fault_at(statement.line, interface_line_fault(&statement.says));
-    lesser_fault(
-        own,
-        fault_at(statement.line, membership_fault(first, &statement.says)),
+    push_fault_at(
+        faults,
+        statement.line,
+        interface_line_fault(&statement.says),
+    )?;
+    push_fault_at(
+        faults,
+        statement.line,
+        membership_fault(first, &statement.says),
     )
 }
 
-/// The least fault of the lines of an interface.
-fn least_interface_line_fault(first: Option<&[u8]>, lines: &[InterfaceStatement]) -> Option<Fault>
-    ensures { result ≡ least_fault (interface_line_faults (option_copied first.entry) lines.now) }
+/// Takes in the faults of the lines of an interface.
+fn push_interface_line_faults(
+    faults: &mut Vec<Fault>,
+    first: Option<&[u8]>,
+    lines: &[InterfaceStatement],
+) -> Result<(), OutOfMemory>
+    ensures { OnOk result (faults.new.items ≡ faults.old.items ++ interface_line_faults (option_copied first.entry) lines.now) }
 {
-    let mut fault = None;
     for statement in lines {
-        fault = lesser_fault(fault, statement_fault(first, statement));
+        push_statement_faults(faults, first, statement)?;
     }
-    fault
+    Ok(())
 }
 
-/// The fault of an address line of a loopback, where its mask isn't of 32 bits.
-fn long_mask(line: u32, address: Result<InterfaceAddress, ReadKind>) -> Option<Fault>
-    ensures { result ≡ least_fault (long_mask line address) }
+/// Takes in the fault of an address line of a loopback, where its mask isn't of 32 bits.
+fn push_long_mask(
+    faults: &mut Vec<Fault>,
+    line: u32,
+    address: Result<InterfaceAddress, ReadKind>,
+) -> Result<(), OutOfMemory>
+    ensures { OnOk result (faults.new.items ≡ faults.old.items ++ long_mask line address) }
 {
-    match address {
-        Ok(given) => fault_if(given.len() != 32, line, ReadKind::LoopbackMask),
-        Err(_) => None,
+    if let Ok(given) = address {
+        push_fault_if(faults, given.len() != 32, line, ReadKind::LoopbackMask)?;
     }
+    Ok(())
 }
 
-/// The fault of the last address line of a loopback, where its mask isn't of 32 bits.
-fn address_mask_fault(address: Option<Option<PlacedAddress>>) -> Option<Fault>
-    ensures { result ≡ least_fault (address_mask_faults address) }
+/// Takes in the fault of the last address line of a loopback, where its mask isn't of 32 bits.
+fn push_address_mask_fault(
+    faults: &mut Vec<Fault>,
+    address: Option<Option<PlacedAddress>>,
+) -> Result<(), OutOfMemory>
+    ensures { OnOk result (faults.new.items ≡ faults.old.items ++ address_mask_faults address) }
 {
-    match address {
-        Some(Some(placed)) => long_mask(placed.line, placed.address),
-        _ => None,
+    if let Some(Some(placed)) = address {
+        push_long_mask(faults, placed.line, placed.address)?;
     }
+    Ok(())
 }
 
 /// Whether an interface is said to be point-to-point.
@@ -95,45 +115,55 @@ fn is_point_to_point(said: Option<Result<bool, ReadKind>>) -> bool
     }
 }
 
-/// The fault of an up loopback whose mask isn't of 32 bits, and that isn't point-to-point.
-fn loopback_fault(name: &[u8], facts: &InterfaceFacts) -> Option<Fault>
-    ensures { result ≡ least_fault (loopback_faults name.now facts.now) }
+/// Takes in the fault of an up loopback whose mask isn't of 32 bits, and that isn't point-to-point.
+fn push_loopback_fault(
+    faults: &mut Vec<Fault>,
+    name: &[u8],
+    facts: &InterfaceFacts,
+) -> Result<(), OutOfMemory>
+    ensures { OnOk result (faults.new.items ≡ faults.old.items ++ loopback_faults name.now facts.now) }
 {
     if is_loopback(name) && is_up(facts) && !is_point_to_point(facts.point_to_point) {
-        address_mask_fault(facts.address)
+        push_address_mask_fault(faults, facts.address)
     } else {
-        None
+        Ok(())
     }
 }
 
-/// The fault of an up interface with an area, and without anything that gives its cost.
-fn bandwidth_fault(
+/// Whether an interface is up and has an area, and nothing gives its cost.
+fn lacks_cost(router: &Router, name: &[u8], facts: &InterfaceFacts) -> bool
+    ensures { result ≡ (is_up facts.now && is_some (interface_area router.now facts.now) && is_none (ospf_cost router.now name.now facts.now)) }
+{
+    is_up(facts)
+        && interface_area(router, facts).is_some()
+        && ospf_cost(router, name, facts).is_none()
+}
+
+/// Takes in the fault of an up interface with an area, and without anything that gives its cost.
+fn push_bandwidth_fault(
+    faults: &mut Vec<Fault>,
     router: &Router,
     section: &InterfaceSection,
     facts: &InterfaceFacts,
-) -> Option<Fault>
-    ensures { result ≡ least_fault (bandwidth_faults router.now section.now facts.now) }
+) -> Result<(), OutOfMemory>
+    ensures { OnOk result (faults.new.items ≡ faults.old.items ++ bandwidth_faults router.now section.now facts.now) }
 {
-    let name = section.name.as_slice();
-    let faulty = is_up(facts)
-        && ospf_cost(router, name, facts).is_none()
-        && interface_area(router, facts).is_some();
-    fault_if(faulty, section.line, ReadKind::NoBandwidth)
+    let lacks = lacks_cost(router, section.name.as_slice(), facts);
+    push_fault_if(faults, lacks, section.line, ReadKind::NoBandwidth)
 }
 
-/// The least fault of an interface, whose lines say this in the end.
-#[tactic(auto, using(ios_lines::proofs::FaultFacts::least_of_two))]
-pub(crate) fn interface_fault(
+/// Takes in the faults of an interface, whose lines say this in the end.
+pub(crate) fn push_interface_faults(
+    faults: &mut Vec<Fault>,
     router: &Router,
     tag: Option<&[u8]>,
     section: &InterfaceSection,
     facts: &InterfaceFacts,
-) -> Option<Fault>
+) -> Result<(), OutOfMemory>
     requires { facts.now ≡ facts_of (counting section.now.lines) }
-    ensures { result ≡ least_fault (interface_faults router.now (option_copied tag.entry) section.now) }
+    ensures { OnOk result (faults.new.items ≡ faults.old.items ++ interface_faults router.now (option_copied tag.entry) section.now) }
 {
-    let own = least_interface_line_fault(tag, counting(section.lines.as_slice()));
-    let mask = loopback_fault(section.name.as_slice(), facts);
-    let bandwidth = bandwidth_fault(router, section, facts);
-    lesser_fault(lesser_fault(own, mask), bandwidth)
+    push_interface_line_faults(faults, tag, counting(section.lines.as_slice()))?;
+    push_loopback_fault(faults, section.name.as_slice(), facts)?;
+    push_bandwidth_fault(faults, router, section, facts)
 }

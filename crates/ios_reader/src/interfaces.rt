@@ -1,20 +1,19 @@
 ghost use Rattle.std.specs.Prelude.{◌≡◌, flat_map, map, option_copied, IfOk};
-ghost use Rattle.ios_lines.specs.FaultOrder.{least_fault};
 ghost use Rattle.ios_reader.specs.Faults.{interface_faults};
 ghost use Rattle.ios_reader.specs.InterfacesAsRead.{interface_as_read};
 ghost use Rattle.ios_reader.specs.Configurations.{interfaces_by};
-ghost use Rattle.ios_reader.specs.steps.LeastFaults.{interfaces_fault_by};
+ghost use Rattle.ios_reader.specs.steps.FaultsBy.{interfaces_faults_by};
 ghost use Rattle.ios_reader.specs.steps.Passives.{ArePassivesOf};
 ghost use Rattle.ios_reader.specs.steps.ProcessFacts.{process_facts_of};
 
 use crate::OutOfMemory;
 use crate::facts::facts_of;
-use crate::interface_fault::interface_fault;
+use crate::interface_fault::push_interface_faults;
 use crate::interface_read::interface_with;
 use crate::networks::networks_of;
 use crate::passive::{Passives, passives_of};
 use crate::router::{ProcessFacts, Router, router_with};
-use ios_lines::fault::{Fault, lesser_fault};
+use ios_lines::fault::Fault;
 use ios_lines::interface_line::counting;
 use ios_lines::words::name_of;
 use ios_sections::section::InterfaceSection;
@@ -27,8 +26,8 @@ use std::alloc::Global;
 pub(crate) struct InterfacesRead {
     /// The interfaces, in the order in which the configuration first names them.
     pub all: Vec<Interface>,
-    /// Their least fault.
-    pub fault: Option<Fault>,
+    /// Their faults.
+    pub faults: Vec<Fault>,
 }
 
 /// Reads the interfaces of a router. What the lines of each say in the end is found once.
@@ -41,17 +40,17 @@ fn read_interfaces(
 ) -> Result<InterfacesRead, OutOfMemory>
     requires { ArePassivesOf router.now passives.now }
     ensures all { IfOk result (λ read. read.all.items ≡ map (interface_as_read router.now) sections.now) }
-    ensures fault { IfOk result (λ read. read.fault ≡ least_fault (flat_map (interface_faults router.now (option_copied tag.entry)) sections.now)) }
+    ensures faults { IfOk result (λ read. read.faults.items ≡ flat_map (interface_faults router.now (option_copied tag.entry)) sections.now) }
 {
     let mut all = Vec::with_capacity(alloc, sections.len())?;
-    let mut fault = None;
+    let mut faults = Vec::new(alloc);
     for section in sections {
         let name = name_of(alloc, section.name.as_slice())?;
         let facts = facts_of(counting(section.lines.as_slice()));
-        fault = lesser_fault(fault, interface_fault(router, tag, section, &facts));
+        push_interface_faults(&mut faults, router, tag, section, &facts)?;
         all.push(interface_with(router, passives, name, &facts))?;
     }
-    Ok(InterfacesRead { all, fault })
+    Ok(InterfacesRead { all, faults })
 }
 
 /// Reads the interfaces that the statements of a router make, whose processes say this in the end.
@@ -62,7 +61,7 @@ pub(crate) fn interfaces_of(
 ) -> Result<InterfacesRead, OutOfMemory>
     requires { facts ≡ process_facts_of statements.now.ospf statements.now.isis }
     ensures all { IfOk result (λ read. read.all.items ≡ interfaces_by statements.now) }
-    ensures fault { IfOk result (λ read. read.fault ≡ interfaces_fault_by statements.now) }
+    ensures faults { IfOk result (λ read. read.faults.items ≡ interfaces_faults_by statements.now) }
 {
     let networks = networks_of(alloc, statements.ospf.as_slice())?;
     let router = router_with(

@@ -2,9 +2,10 @@
 //!
 //! | File | What it holds |
 //! |---|---|
-//! | `reader`, `refusal` | `read_configs`: a text, read into its configurations or refused for its first faulty line |
+//! | `reader`, `refusal` | `read_configs`: a text, read into its configurations or refused for its first faulty line; `read_or_faults` tells all of them |
+//! | `faulty_lines` | faults in order, and the first on each line |
 //! | `kind`, `fault` | why a line is faulty, and a faulty line: those of `ios_lines` |
-//! | `configuration` | the lines before an `end` line, read into a configuration or their least fault |
+//! | `configuration` | the lines before an `end` line, read into a configuration or their faults |
 //! | `facts`, `router` | what the lines of an interface, and of the two processes, say in the end: of each form the last line |
 //! | `settings` | what the lines of the two processes say of a configuration |
 //! | `networks` | which `network` line is the first that takes an address |
@@ -39,6 +40,7 @@ mod interfaces;
 
 // Configurations, and the whole text.
 mod configuration;
+mod faulty_lines;
 mod inserted;
 mod laws;
 mod places;
@@ -47,8 +49,8 @@ mod refusal;
 
 pub use inserted::inserted_laws;
 pub use kind::ReadKind;
-pub use laws::{area_laws, read_laws};
+pub use laws::{area_laws, faulty_lines_law, read_laws};
 pub use places::{between, start_of};
-pub use reader::read_configs;
+pub use reader::{read_configs, read_or_faults};
 pub use refusal::ReadRefusal;
 pub use std::alloc::AllocError as OutOfMemory;

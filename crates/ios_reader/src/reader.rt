@@ -1,14 +1,16 @@
-ghost use Rattle.std.specs.Prelude.{◌≡◌, ◌<◌, ◌^◌, ◌||◌, false, [], ◌++◌, length, IfOk, IfErr, if◌then◌else◌};
+ghost use Rattle.std.specs.Prelude.{◌≡◌, ◌<◌, ◌^◌, ◌||◌, false, [], ◌++◌, length, option_to_list, IfOk, IfErr, if◌then◌else◌};
 ghost use Rattle.std.specs.List.{list_any};
 ghost use Rattle.ios_sections.specs.TextLines.{is_end, parts_after, rest_after, is_empty, begins_configuration};
-ghost use Rattle.ios_lines.specs.FaultOrder.{lesser_fault};
-ghost use Rattle.ios_reader.specs.steps.Parts.{fault_read, configurations_read, IsReadingOf};
+ghost use Rattle.ios_lines.specs.FaultOrder.{faults_if};
+ghost use Rattle.ios_reader.specs.steps.Parts.{IsReadingOf, IsTextReading};
 ghost use Rattle.ios_reader.specs.Texts.{ReadsText, RefusesConfiguration};
+ghost use Rattle.ios_reader.specs.FaultyLines.{AreFaultyLines};
 
 use crate::OutOfMemory;
-use crate::configuration::read_part;
+use crate::configuration::{PartRead, are_none, read_part};
+use crate::faulty_lines::faulty_lines;
 use crate::refusal::ReadRefusal;
-use ios_lines::fault::{Fault, fault_if, lesser_fault};
+use ios_lines::fault::{Fault, least_fault, push_fault_if};
 use ios_lines::kind::ReadKind;
 use ios_sections::text::telling_lines;
 use ios_sections::text_line::TextLine;
@@ -22,8 +24,8 @@ use std::marker::Model;
 struct Reading {
     /// The configurations, complete where there is no fault.
     configs: Vec<Config>,
-    /// The least fault.
-    fault: Option<Fault>,
+    /// The faults.
+    faults: Vec<Fault>,
 }
 
 impl Model for Reading {
@@ -31,26 +33,26 @@ impl Model for Reading {
 
     ghost Value = { Reading };
 
-    ghost view = { λ r. record { configs = r.configs.items; fault = r.fault } };
+    ghost view = { λ r. record { configs = r.configs.items; faults = r.faults.items } };
 }
 
 /// Takes in what was read of one more configuration.
-fn with_part(reading: Reading, read: Result<Config, Fault>) -> Result<Reading, OutOfMemory>
-    ensures fault { IfOk result (λ r. r.fault ≡ lesser_fault reading.fault (fault_read read)) }
-    ensures configs { IfOk result (λ r. r.configs ≡ reading.configs ++ configurations_read read) }
+fn with_part(reading: Reading, read: PartRead) -> Result<Reading, OutOfMemory>
+    ensures faults { IfOk result (λ r. r.faults ≡ reading.faults ++ read.faults) }
+    ensures configs { IfOk result (λ r. r.configs ≡ reading.configs ++ option_to_list read.config) }
 {
-    let Reading { configs, fault } = reading;
+    let Reading { configs, faults } = reading;
+    let PartRead {
+        config,
+        faults: more,
+    } = read;
     let mut configs = configs;
-    match read {
-        Ok(config) => {
-            configs.push(config)?;
-            Ok(Reading { configs, fault })
-        }
-        Err(found) => Ok(Reading {
-            configs,
-            fault: lesser_fault(fault, Some(found)),
-        }),
+    let mut faults = faults;
+    if let Some(config) = config {
+        configs.push(config)?;
     }
+    faults.extend_from_slice(more.as_slice())?;
+    Ok(Reading { configs, faults })
 }
 
 /// Reads the configurations that `end` lines end.
@@ -59,7 +61,7 @@ fn read_parts(alloc: Global, lines: &[TextLine]) -> Result<Reading, OutOfMemory>
 {
     let mut reading = Reading {
         configs: Vec::new(alloc),
-        fault: None,
+        faults: Vec::new(alloc),
     };
     let mut start = 0;
     for (i, line) in lines.iter().enumerate() {
@@ -99,6 +101,33 @@ fn lacks_end(lines: &[TextLine]) -> bool
     !ended || unended
 }
 
+/// What was read of a text, with the fault of the line behind its last one, where an `end` line is missing.
+fn with_end(reading: Reading, lacks_end: bool, behind: u32) -> Result<Reading, OutOfMemory>
+    ensures faults { IfOk result (λ r. r.faults ≡ reading.faults ++ faults_if lacks_end behind ReadKind.NoEnd) }
+    ensures configs { IfOk result (λ r. r.configs ≡ reading.configs) }
+{
+    let Reading { configs, faults } = reading;
+    let mut faults = faults;
+    push_fault_if(&mut faults, lacks_end, behind, ReadKind::NoEnd)?;
+    Ok(Reading { configs, faults })
+}
+
+/// Reads a text of fewer than 2^26 bytes: its faults, and where there is none its configurations.
+fn read_text(alloc: Global, text: &[u8]) -> Result<Reading, OutOfMemory>
+    requires { length text.now < 2 ^ 26 }
+    ensures { IfOk result (IsTextReading text.now) }
+{
+    let lines = lines(alloc, text)?;
+    let told = match telling_lines(alloc, text, lines.as_slice()) {
+        Ok(told) => told,
+        Err(error) => return Err(error),
+    };
+    let reading = read_parts(alloc, told.as_slice())?;
+    let last = lines.as_slice().len() as u32;
+    let read = with_end(reading, lacks_end(told.as_slice()), last + 1)?;
+    Ok(read)
+}
+
 /// Reads the configurations of a text, each ended by its `end` line.
 ///
 /// The text, of fewer than 2^26 bytes, is what routers print; what the planner can skip is skipped. The answer is the
@@ -108,19 +137,30 @@ pub fn read_configs(alloc: Global, text: &[u8]) -> Result<Configs, ReadRefusal>
     ensures read { IfOk result (ReadsText text.now) }
     ensures refused { IfErr result (RefusesConfiguration text.now) }
 {
-    let lines = lines(alloc, text)?;
-    let told = match telling_lines(alloc, text, lines.as_slice()) {
-        Ok(told) => told,
-        Err(_) => return Err(ReadRefusal::OutOfMemory),
-    };
-    let reading = read_parts(alloc, told.as_slice())?;
-    let last = lines.as_slice().len() as u32;
-    let end = fault_if(lacks_end(told.as_slice()), last + 1, ReadKind::NoEnd);
-    match lesser_fault(reading.fault, end) {
+    let reading = read_text(alloc, text)?;
+    match least_fault(reading.faults.as_slice()) {
         Some(fault) => Err(ReadRefusal::Bad {
             line: fault.line,
             kind: fault.kind,
         }),
         None => Ok(Configs::from_vec(reading.configs)),
     }
+}
+
+/// Reads the configurations of a text as `read_configs` does, or finds all of its faulty lines, each with the least kind
+/// on it. They are sorted by their lines.
+pub fn read_or_faults(
+    alloc: Global,
+    text: &[u8],
+) -> Result<Result<Configs, Vec<Fault>>, OutOfMemory>
+    requires { length text.now < 2 ^ 26 }
+    ensures read { IfOk result (λ r. IfOk r (ReadsText text.now)) }
+    ensures faulty { IfOk result (λ r. IfErr r (λ faults. AreFaultyLines text.now faults.items)) }
+{
+    let reading = read_text(alloc, text)?;
+    if are_none(reading.faults.as_slice()) {
+        return Ok(Ok(Configs::from_vec(reading.configs)));
+    }
+    let told = faulty_lines(alloc, reading.faults)?;
+    Ok(Err(told))
 }

@@ -12,7 +12,6 @@ use Rattle.ios_lines.specs.Words.{Word}
 use Rattle.ios_lines.specs.Lookups.{later, last_of, first_seen}
 use Rattle.ios_sections.specs.Processes.{named, first_line, merged, merged_interfaces, as_hostname, as_interface, as_ospf, as_isis, as_fault}
 use Rattle.ios_sections.specs.Gathering.{Gathering, gathering_of, with_interface, with_section, nothing_gathered}
-use Rattle.ios_lines.specs.FaultOrder.{lesser_fault, least_fault}
 use Rattle.ios_lines.specs.declared.fault.Fault.{Fault}
 use Rattle.ios_sections.specs.declared.section.InterfaceSection.{InterfaceSection}
 use Rattle.ios_sections.specs.declared.section.Section.{Section}
@@ -22,7 +21,6 @@ use Rattle.ios_sections.specs.declared.section.IsisSection.{IsisSection}
 use Rattle.ios_lines.specs.declared.interface_line.InterfaceStatement.{InterfaceStatement}
 use Rattle.ios_lines.proofs.NumberFacts.{and_left, and_right}
 use Rattle.ios_lines.proofs.LineLookups.{last_of-push}
-use Rattle.ios_lines.proofs.FaultFacts.{lesser-none, least_fault-append}
 
 -- ---- the interfaces, one more section at a time ----
 
@@ -253,10 +251,10 @@ interfaces-push xs i =
 
 -- ---- one more section ----
 
-abbrev gathered : Option Word → List InterfaceSection → List OspfSection → List IsisSection → Option Fault → Gathering
-gathered name interfaces ospf isis fault = record { name = name; interfaces = interfaces; ospf = ospf; isis = isis; fault = fault }
+abbrev gathered : Option Word → List InterfaceSection → List OspfSection → List IsisSection → List Fault → Gathering
+gathered name interfaces ospf isis faults = record { name = name; interfaces = interfaces; ospf = ospf; isis = isis; faults = faults }
 
-five : (n m : Option Word) (i j : List InterfaceSection) (o p : List OspfSection) (s t : List IsisSection) (f g : Option Fault) →
+five : (n m : Option Word) (i j : List InterfaceSection) (o p : List OspfSection) (s t : List IsisSection) (f g : List Fault) →
     n ≡ m → i ≡ j → o ≡ p → s ≡ t → f ≡ g → gathered n i o s f ≡ gathered m j p t g
 five n m i j o p s t f g a b c d e = cc
 
@@ -273,9 +271,8 @@ module _ (ss : List Section) (x : Section) where
   isis_now : filter_map as_isis (ss ++ x ∷ []) ≡ filter_map as_isis ss ++ filter_map as_isis (x ∷ [])
   isis_now = filter_map-append as_isis ss (x ∷ [])
 
-  fault_now : least_fault (filter_map as_fault (ss ++ x ∷ []))
-      ≡ lesser_fault (least_fault (filter_map as_fault ss)) (least_fault (filter_map as_fault (x ∷ [])))
-  fault_now = ap least_fault (filter_map-append as_fault ss (x ∷ [])) ∙ least_fault-append (filter_map as_fault ss) (filter_map as_fault (x ∷ []))
+  fault_now : filter_map as_fault (ss ++ x ∷ []) ≡ filter_map as_fault ss ++ filter_map as_fault (x ∷ [])
+  fault_now = filter_map-append as_fault ss (x ∷ [])
 
 same_interfaces : (xs : List InterfaceSection) → merged_interfaces xs ≡ merged_interfaces (xs ++ [])
 same_interfaces xs = ap merged_interfaces (sym (append-nil xs))
@@ -285,21 +282,21 @@ section-push ss (Hostname n) =
     five _ _ _ _ _ _ _ _ _ _ (sym (name_now ss (Hostname n))) (same_interfaces (filter_map as_interface ss)
     ∙ ap merged_interfaces (sym (interface_now ss (Hostname n)))) (sym (append-nil (filter_map as_ospf ss)) ∙ sym (ospf_now ss (Hostname n)))
     (sym (append-nil (filter_map as_isis ss)) ∙ sym (isis_now ss (Hostname n)))
-    (sym (lesser-none (least_fault (filter_map as_fault ss))) ∙ sym (fault_now ss (Hostname n)))
+    (sym (append-nil (filter_map as_fault ss)) ∙ sym (fault_now ss (Hostname n)))
 section-push ss (Interface i) =
     five _ _ _ _ _ _ _ _ _ _ (sym (name_now ss (Interface i))) (interfaces-push (filter_map as_interface ss) i
     ∙ ap merged_interfaces (sym (interface_now ss (Interface i)))) (sym (append-nil (filter_map as_ospf ss)) ∙ sym (ospf_now ss (Interface i)))
     (sym (append-nil (filter_map as_isis ss)) ∙ sym (isis_now ss (Interface i)))
-    (sym (lesser-none (least_fault (filter_map as_fault ss))) ∙ sym (fault_now ss (Interface i)))
+    (sym (append-nil (filter_map as_fault ss)) ∙ sym (fault_now ss (Interface i)))
 section-push ss (Ospf o) =
     five _ _ _ _ _ _ _ _ _ _ (sym (name_now ss (Ospf o))) (same_interfaces (filter_map as_interface ss)
     ∙ ap merged_interfaces (sym (interface_now ss (Ospf o)))) (sym (ospf_now ss (Ospf o)))
     (sym (append-nil (filter_map as_isis ss)) ∙ sym (isis_now ss (Ospf o)))
-    (sym (lesser-none (least_fault (filter_map as_fault ss))) ∙ sym (fault_now ss (Ospf o)))
+    (sym (append-nil (filter_map as_fault ss)) ∙ sym (fault_now ss (Ospf o)))
 section-push ss (Isis o) =
     five _ _ _ _ _ _ _ _ _ _ (sym (name_now ss (Isis o))) (same_interfaces (filter_map as_interface ss)
     ∙ ap merged_interfaces (sym (interface_now ss (Isis o)))) (sym (append-nil (filter_map as_ospf ss)) ∙ sym (ospf_now ss (Isis o)))
-    (sym (isis_now ss (Isis o))) (sym (lesser-none (least_fault (filter_map as_fault ss))) ∙ sym (fault_now ss (Isis o)))
+    (sym (isis_now ss (Isis o))) (sym (append-nil (filter_map as_fault ss)) ∙ sym (fault_now ss (Isis o)))
 section-push ss (Faulty f) =
     five _ _ _ _ _ _ _ _ _ _ (sym (name_now ss (Faulty f))) (same_interfaces (filter_map as_interface ss)
     ∙ ap merged_interfaces (sym (interface_now ss (Faulty f)))) (sym (append-nil (filter_map as_ospf ss)) ∙ sym (ospf_now ss (Faulty f)))
@@ -307,7 +304,7 @@ section-push ss (Faulty f) =
 section-push ss Other =
     five _ _ _ _ _ _ _ _ _ _ (sym (name_now ss Other)) (same_interfaces (filter_map as_interface ss) ∙ ap merged_interfaces (sym (interface_now ss Other)))
     (sym (append-nil (filter_map as_ospf ss)) ∙ sym (ospf_now ss Other)) (sym (append-nil (filter_map as_isis ss)) ∙ sym (isis_now ss Other))
-    (sym (lesser-none (least_fault (filter_map as_fault ss))) ∙ sym (fault_now ss Other))
+    (sym (append-nil (filter_map as_fault ss)) ∙ sym (fault_now ss Other))
 
 gathered-after : (ss ts : List Section) → fold with_section (gathering_of ss) ts ≡ gathering_of (ss ++ ts)
 gathered-after ss [] = ap gathering_of (sym (append-nil ss))

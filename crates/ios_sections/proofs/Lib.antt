@@ -8,4 +8,3 @@ pub mod FurtherFacts
 pub mod FirstLines
 pub mod LawFacts
 pub mod TellingFacts
-pub mod LeastSteps

@@ -1,15 +1,14 @@
 -- The `net` lines after the first one, one more line at a time.
-use Rattle.std.proofs.Common.{sym, ◌≡◌, ℕ, ◌+◌, ◌<◌, Bool, true, false, ◌&&◌, ◌||◌, List, [], ◌∷◌, ◌++◌, length, take, drop, get_or, map, refl, ap, ◌∙◌, cond}
+use Rattle.std.proofs.Common.{sym, ◌≡◌, ℕ, ◌+◌, ◌<◌, Bool, true, false, ◌&&◌, ◌||◌, List, [], ◌∷◌, ◌++◌, length, take, drop, get_or, map, refl, ap, ◌∙◌, cond, append_assoc}
 use Rattle.std.specs.Prelude.{filter}
 use Rattle.std.specs.List.{list_any}
 use Rattle.std.proofs.lemmas.List.{map-append, take_more}
 use Rattle.std.proofs.lemmas.List.Elements.{filter-append}
-use Rattle.ios_lines.specs.FaultOrder.{lesser_fault, least_fault, fault_at, faults_if}
+use Rattle.ios_lines.specs.FaultOrder.{fault_at, faults_if}
 use Rattle.ios_sections.specs.ProcessFaults.{is_net, second_titles}
 use Rattle.ios_lines.specs.declared.fault.Fault.{Fault}
 use Rattle.ios_lines.specs.declared.kind.ReadKind.TheVariants.{Unsupported}
 use Rattle.ios_lines.specs.declared.isis_line.IsisStatement.{IsisStatement}
-use Rattle.ios_lines.proofs.FaultFacts.{least_fault-append}
 
 abbrev there : List IsisStatement → Bool
 there [] = false
@@ -42,14 +41,11 @@ second_titles-push xs x =
 
 -- one more line of a loop over some lines
 pub second_titles_more : (xs : List IsisStatement) (i : ℕ) (x : IsisStatement) → i < length xs → x ≡ get_or xs i x →
-    least_fault (second_titles (take (i + 1) xs)) ≡ lesser_fault (least_fault (second_titles (take i xs)))
-    (least_fault (faults_if (list_any is_net (take i xs) && is_net x) x.line Unsupported))
+    second_titles (take (i + 1) xs) ≡ second_titles (take i xs) ++ faults_if (list_any is_net (take i xs) && is_net x) x.line Unsupported
 second_titles_more xs i x within read =
-    ap (λ w. least_fault (second_titles w)) (take_more xs i x within)
-    ∙ ap least_fault (second_titles-push (take i xs) (get_or xs i x))
-    ∙ least_fault-append (second_titles (take i xs)) (faults_if (list_any is_net (take i xs) && is_net (get_or xs i x)) (get_or xs i x).line Unsupported)
-    ∙ ap (λ (y : IsisStatement). lesser_fault (least_fault (second_titles (take i xs)))
-    (least_fault (faults_if (list_any is_net (take i xs) && is_net y) y.line Unsupported))) (sym read)
+    ap second_titles (take_more xs i x within)
+    ∙ second_titles-push (take i xs) (get_or xs i x)
+    ∙ ap (λ (y : IsisStatement). second_titles (take i xs) ++ faults_if (list_any is_net (take i xs) && is_net y) y.line Unsupported) (sym read)
 
 any-push : (xs : List IsisStatement) (x : IsisStatement) → list_any is_net (xs ++ x ∷ []) ≡ (list_any is_net xs || is_net x)
 any-push [] x = or_false (is_net x)
@@ -69,3 +65,15 @@ pub any_more : (xs : List IsisStatement) (i : ℕ) (x : IsisStatement) → i < l
 any_more xs i x within read =
     ap (list_any is_net) (take_more xs i x within) ∙ any-push (take i xs) (get_or xs i x)
     ∙ ap (λ (y : IsisStatement). list_any is_net (take i xs) || is_net y) (sym read)
+
+-- a loop over some lines takes in the faults of the `net` lines after the first one, with one more line
+pub titles_taken : (xs : List IsisStatement) (i : ℕ) (x : IsisStatement) (start before after : List Fault) (second titled : Bool) → i < length xs →
+    x ≡ get_or xs i x → before ≡ start ++ second_titles (take i xs) → titled ≡ list_any is_net (take i xs) → second ≡ (titled && is_net x) →
+    after ≡ before ++ faults_if second x.line Unsupported → after ≡ start ++ second_titles (take (i + 1) xs)
+titles_taken xs i x start before after second titled within read was net is made =
+    let found : List Fault = faults_if (list_any is_net (take i xs) && is_net x) x.line Unsupported in
+    made
+    ∙ ap (λ (b : Bool). before ++ faults_if b x.line Unsupported) (is ∙ ap (λ (b : Bool). b && is_net x) net)
+    ∙ ap (λ (w : List Fault). w ++ found) was
+    ∙ append_assoc start (second_titles (take i xs)) found
+    ∙ ap (λ (w : List Fault). start ++ w) (sym (second_titles_more xs i x within read))

@@ -9,7 +9,6 @@ use Rattle.ios_sections.specs.declared.section.OspfSection.{OspfSection}
 use Rattle.ios_sections.specs.declared.section.IsisSection.{IsisSection}
 use Rattle.ios_sections.specs.declared.section.Section.{Section}
 use Rattle.ios_sections.specs.declared.section.Section.TheVariants.{Hostname, Interface, Ospf, Isis, Faulty, Other}
-use Rattle.ios_lines.specs.FaultOrder.{lesser_fault, least_fault}
 
 -- what sections say, gathered
 pub record Gathering : Type 0 where
@@ -17,7 +16,7 @@ pub record Gathering : Type 0 where
   pub interfaces : List InterfaceSection
   pub ospf : List OspfSection
   pub isis : List IsisSection
-  pub fault : Option Fault
+  pub faults : List Fault
 
 -- sections, looked up by what they say
 abbrev pub gathering_of : List Section → Gathering
@@ -26,7 +25,7 @@ gathering_of sections = record {
   interfaces = interfaces_in sections;
   ospf = filter_map as_ospf sections;
   isis = filter_map as_isis sections;
-  fault = least_fault (filter_map as_fault sections);
+  faults = filter_map as_fault sections;
 }
 
 -- one more section of an interface: its lines go after those of its name
@@ -43,9 +42,9 @@ with_section g (Hostname name) = record g { name = Some name }
 with_section g (Interface section) = record g { interfaces = with_interface g.interfaces section }
 with_section g (Ospf section) = record g { ospf = g.ospf ++ section ∷ [] }
 with_section g (Isis section) = record g { isis = g.isis ++ section ∷ [] }
-with_section g (Faulty fault) = record g { fault = lesser_fault g.fault (Some fault) }
+with_section g (Faulty fault) = record g { faults = g.faults ++ fault ∷ [] }
 with_section g Other = g
 
 -- nothing yet
 abbrev pub nothing_gathered : Gathering
-nothing_gathered = record { name = None; interfaces = []; ospf = []; isis = []; fault = None }
+nothing_gathered = record { name = None; interfaces = []; ospf = []; isis = []; faults = [] }

@@ -1,12 +1,11 @@
 ghost use Rattle.std.specs.Prelude.{◌≡◌, true, false, map, bytes_eq, IfOk, OnOk};
 ghost use Rattle.std.specs.List.{list_any, position_or_len};
 ghost use Rattle.ios_sections.specs.Gathering.{with_interface, with_section, gathering_of};
-ghost use Rattle.ios_lines.specs.FaultOrder.{lesser_fault};
 
 use crate::OutOfMemory;
 use crate::name_index::{NameIndex, NamePlace};
 use crate::section::{InterfaceSection, IsisSection, OspfSection, Section};
-use ios_lines::fault::{Fault, lesser_fault};
+use ios_lines::fault::Fault;
 use net_addr::Name;
 use std::alloc::Global;
 use std::marker::Model;
@@ -22,8 +21,8 @@ pub(crate) struct Gathering {
     pub ospf: Vec<OspfSection>,
     /// The sections of IS-IS processes.
     pub isis: Vec<IsisSection>,
-    /// The least fault of a line at indent 0 by itself.
-    pub fault: Option<Fault>,
+    /// The faults that lines at indent 0 have by themselves.
+    pub faults: Vec<Fault>,
 }
 
 impl Model for Gathering {
@@ -31,7 +30,7 @@ impl Model for Gathering {
 
     ghost Value = { Gathering };
 
-    ghost view = { λ g. record { name = g.name; interfaces = g.interfaces.items; ospf = g.ospf.items; isis = g.isis.items; fault = g.fault } };
+    ghost view = { λ g. record { name = g.name; interfaces = g.interfaces.items; ospf = g.ospf.items; isis = g.isis.items; faults = g.faults.items } };
 }
 
 /// A section of a name that isn't there goes last.
@@ -102,7 +101,7 @@ fn with_section(
         )?,
         Section::Ospf(section) => gathering.ospf.push(section)?,
         Section::Isis(section) => gathering.isis.push(section)?,
-        Section::Faulty(fault) => gathering.fault = lesser_fault(gathering.fault, Some(fault)),
+        Section::Faulty(fault) => gathering.faults.push(fault)?,
         Section::Other => {}
     }
     Ok(gathering)
@@ -119,7 +118,7 @@ pub(crate) fn gather(alloc: Global, sections: Vec<Section>) -> Result<Gathering,
         interfaces: Vec::new(alloc),
         ospf: Vec::new(alloc),
         isis: Vec::new(alloc),
-        fault: None,
+        faults: Vec::new(alloc),
     };
     for section in sections {
         gathering = with_section(alloc, &mut names, gathering, section)?;

@@ -1,12 +1,11 @@
 ghost use Rattle.std.specs.Prelude.{◌≡◌, ◌++◌, flat_map, IfOk, OnOk, option_copied, ◌&&◌, ◌||◌};
 ghost use Rattle.std.specs.List.{list_any};
-ghost use Rattle.ios_lines.specs.FaultOrder.{least_fault, faults_if};
 ghost use Rattle.ios_sections.specs.Processes.{first_tag, is_of_tag, lines_of_tag};
 ghost use Rattle.ios_sections.specs.ProcessFaults.{is_other_tag, tag_faults_of, isis_statement_faults, is_net, is_metric_style, lacking, second_titles};
 
 use crate::OutOfMemory;
 use crate::section::IsisSection;
-use ios_lines::fault::{Fault, fault_at, fault_if, lesser_fault};
+use ios_lines::fault::{Fault, push_fault_at, push_fault_if};
 use ios_lines::head::are_printable;
 use ios_lines::isis_line::{IsisLine, IsisStatement, isis_line_fault};
 use ios_lines::kind::ReadKind;
@@ -33,22 +32,18 @@ fn is_other_tag(first: Option<&[u8]>, tag: &[u8]) -> bool
     }
 }
 
-/// The least fault of a `router isis` line.
-#[tactic(auto, using(ios_lines::proofs::FaultFacts::least_of_two))]
-fn tag_fault(first: Option<&[u8]>, section: &IsisSection) -> Option<Fault>
-    ensures { result ≡ least_fault (tag_faults_of (option_copied first.entry) section.now) }
+/// Takes in the faults of a `router isis` line.
+fn push_tag_faults(
+    faults: &mut Vec<Fault>,
+    first: Option<&[u8]>,
+    section: &IsisSection,
+) -> Result<(), OutOfMemory>
+    ensures { OnOk result (faults.new.items ≡ faults.old.items ++ tag_faults_of (option_copied first.entry) section.now) }
 {
-    let other = fault_if(
-        is_other_tag(first, section.tag.as_slice()),
-        section.line,
-        ReadKind::SecondProcess,
-    );
-    let bad = fault_if(
-        !are_printable(section.tag.as_slice()),
-        section.line,
-        ReadKind::Unsupported,
-    );
-    lesser_fault(other, bad)
+    let other = is_other_tag(first, section.tag.as_slice());
+    let bad = !are_printable(section.tag.as_slice());
+    push_fault_if(faults, other, section.line, ReadKind::SecondProcess)?;
+    push_fault_if(faults, bad, section.line, ReadKind::Unsupported)
 }
 
 /// Whether a section is of this process, and its first line isn't faulty.
@@ -91,33 +86,32 @@ pub(crate) fn isis_lines(
     Ok(lines)
 }
 
-/// The least fault of the `router isis` lines.
-pub(crate) fn least_tag_fault(first: Option<&[u8]>, sections: &[IsisSection]) -> Option<Fault>
-    ensures { result ≡ least_fault (flat_map (tag_faults_of (option_copied first.entry)) sections.now) }
+/// The faults of the `router isis` lines.
+pub(crate) fn tag_faults(
+    alloc: Global,
+    first: Option<&[u8]>,
+    sections: &[IsisSection],
+) -> Result<Vec<Fault>, OutOfMemory>
+    ensures { IfOk result (λ faults. faults.items ≡ flat_map (tag_faults_of (option_copied first.entry)) sections.now) }
 {
-    let mut fault = None;
+    let mut faults = Vec::new(alloc);
     for section in sections {
-        fault = lesser_fault(fault, tag_fault(first, section));
+        push_tag_faults(&mut faults, first, section)?;
     }
-    fault
+    Ok(faults)
 }
 
-/// The fault of a line of the IS-IS process.
-fn isis_statement_fault(statement: &IsisStatement) -> Option<Fault>
-    ensures { result ≡ least_fault (isis_statement_faults statement.now) }
+/// Takes in the faults that lines of the IS-IS process have by themselves.
+pub fn push_isis_line_faults(
+    faults: &mut Vec<Fault>,
+    lines: &[IsisStatement],
+) -> Result<(), OutOfMemory>
+    ensures { OnOk result (faults.new.items ≡ faults.old.items ++ flat_map isis_statement_faults lines.now) }
 {
-    fault_at(statement.line, isis_line_fault(&statement.says))
-}
-
-/// The least fault that a line of the IS-IS process has by itself.
-pub fn least_isis_line_fault(lines: &[IsisStatement]) -> Option<Fault>
-    ensures { result ≡ least_fault (flat_map isis_statement_faults lines.now) }
-{
-    let mut fault = None;
     for statement in lines {
-        fault = lesser_fault(fault, isis_statement_fault(statement));
+        push_fault_at(faults, statement.line, isis_line_fault(&statement.says))?;
     }
-    fault
+    Ok(())
 }
 
 /// Whether a line is a `net` line.
@@ -148,43 +142,47 @@ fn has_metric_style(lines: &[IsisStatement]) -> bool
     lines.iter().any(|statement| is_metric_style(statement))
 }
 
-/// What the first `router isis` line lacks: a `net` line, a `metric-style` line.
-#[tactic(auto, using(ios_lines::proofs::FaultFacts::least_of_two))]
-pub fn lacking(first: Option<u32>, lines: &[IsisStatement]) -> Option<Fault>
-    ensures { result ≡ least_fault (lacking first lines.now) }
+/// Takes in what the first `router isis` line lacks: a `net` line, a `metric-style` line.
+pub fn push_lacking(
+    faults: &mut Vec<Fault>,
+    first: Option<u32>,
+    lines: &[IsisStatement],
+) -> Result<(), OutOfMemory>
+    ensures { OnOk result (faults.new.items ≡ faults.old.items ++ lacking first lines.now) }
 {
-    match first {
-        Some(line) => {
-            let net = fault_if(!has_net(lines), line, ReadKind::BadNet);
-            let style = fault_if(!has_metric_style(lines), line, ReadKind::Unsupported);
-            lesser_fault(net, style)
-        }
-        None => None,
+    if let Some(line) = first {
+        push_fault_if(faults, !has_net(lines), line, ReadKind::BadNet)?;
+        push_fault_if(
+            faults,
+            !has_metric_style(lines),
+            line,
+            ReadKind::Unsupported,
+        )?;
     }
+    Ok(())
 }
 
-/// The fault of a `net` line before which another one stands.
-fn second_title(titled: bool, statement: &IsisStatement) -> Option<Fault>
-    ensures { result ≡ least_fault (faults_if (titled && is_net statement.now) statement.now.line ReadKind.Unsupported) }
+/// Whether a line is a `net` line, and another one stands before it or not.
+fn is_second_title(titled: bool, statement: &IsisStatement) -> bool
+    ensures { result ≡ (titled && is_net statement.now) }
 {
-    fault_if(
-        titled && is_net(statement),
-        statement.line,
-        ReadKind::Unsupported,
-    )
+    titled && is_net(statement)
 }
 
-/// The first `net` line before which another one stands.
-pub fn least_second_title(lines: &[IsisStatement]) -> Option<Fault>
-    ensures { result ≡ least_fault (second_titles lines.now) }
+/// Takes in the faults of the `net` lines before which another one stands.
+pub fn push_second_titles(
+    faults: &mut Vec<Fault>,
+    lines: &[IsisStatement],
+) -> Result<(), OutOfMemory>
+    ensures { OnOk result (faults.new.items ≡ faults.old.items ++ second_titles lines.now) }
 {
-    let mut fault = None;
     let mut titled = false;
     for statement in lines {
-        fault = lesser_fault(fault, second_title(titled, statement));
+        let second = is_second_title(titled, statement);
+        push_fault_if(faults, second, statement.line, ReadKind::Unsupported)?;
         titled = titled_after(titled, statement);
     }
-    fault
+    Ok(())
 }
 
 /// Whether a `net` line stands at a line or before it.

@@ -1,13 +1,12 @@
 ghost use Rattle.std.specs.Prelude.{◌≡◌, [], ◌++◌, flat_map, map, IfOk, OnOk};
 ghost use Rattle.std.specs.List.{cons_option};
-ghost use Rattle.ios_lines.specs.FaultOrder.{least_fault};
 ghost use Rattle.ios_sections.specs.Processes.{mention_said, mentions_in, mention_of, mentions_of, first_mention, first_process, is_of_process};
 ghost use Rattle.ios_sections.specs.Processes.{lines_of_process};
 ghost use Rattle.ios_sections.specs.ProcessFaults.{is_other_process, process_faults, ospf_statement_faults};
 
 use crate::OutOfMemory;
 use crate::section::{InterfaceSection, OspfSection};
-use ios_lines::fault::{Fault, fault_at, fault_if, lesser_fault};
+use ios_lines::fault::{Fault, push_fault_at, push_fault_if};
 use ios_lines::interface_line::{InterfaceLine, counting};
 use ios_lines::kind::ReadKind;
 use ios_lines::ospf_line::{OspfStatement, ospf_line_fault};
@@ -118,26 +117,31 @@ fn is_other_process(process: Option<u32>, mention: Mention) -> bool
     }
 }
 
-/// The fault of a line that names a second process.
-fn process_fault(process: Option<u32>, mention: Mention) -> Option<Fault>
-    ensures { result ≡ least_fault (process_faults process mention) }
+/// Takes in the fault of a line, where it names a second process.
+fn push_process_fault(
+    faults: &mut Vec<Fault>,
+    process: Option<u32>,
+    mention: Mention,
+) -> Result<(), OutOfMemory>
+    ensures { OnOk result (faults.new.items ≡ faults.old.items ++ process_faults process mention) }
 {
-    fault_if(
-        is_other_process(process, mention),
-        mention.line,
-        ReadKind::SecondProcess,
-    )
+    let other = is_other_process(process, mention);
+    push_fault_if(faults, other, mention.line, ReadKind::SecondProcess)
 }
 
-/// The first line that names a second process.
-pub(crate) fn second_process(process: Option<u32>, mentions: &[Mention]) -> Option<Fault>
-    ensures { result ≡ least_fault (flat_map (process_faults process) mentions.now) }
+/// The faults of the lines that name a second process.
+pub(crate) fn second_processes(
+    alloc: Global,
+    process: Option<u32>,
+    mentions: &[Mention],
+) -> Result<Vec<Fault>, OutOfMemory>
+    ensures { IfOk result (λ faults. faults.items ≡ flat_map (process_faults process) mentions.now) }
 {
-    let mut fault = None;
+    let mut faults = Vec::new(alloc);
     for mention in mentions {
-        fault = lesser_fault(fault, process_fault(process, *mention));
+        push_process_fault(&mut faults, process, *mention)?;
     }
-    fault
+    Ok(faults)
 }
 
 /// Whether a section is of this process.
@@ -180,20 +184,15 @@ pub(crate) fn ospf_lines(
     Ok(lines)
 }
 
-/// The fault of a line of the OSPF process.
-fn ospf_statement_fault(statement: &OspfStatement) -> Option<Fault>
-    ensures { result ≡ least_fault (ospf_statement_faults statement.now) }
+/// Takes in the faults that lines of the OSPF process have by themselves.
+pub fn push_ospf_line_faults(
+    faults: &mut Vec<Fault>,
+    lines: &[OspfStatement],
+) -> Result<(), OutOfMemory>
+    ensures { OnOk result (faults.new.items ≡ faults.old.items ++ flat_map ospf_statement_faults lines.now) }
 {
-    fault_at(statement.line, ospf_line_fault(&statement.says))
-}
-
-/// The least fault that a line of the OSPF process has by itself.
-pub fn least_ospf_line_fault(lines: &[OspfStatement]) -> Option<Fault>
-    ensures { result ≡ least_fault (flat_map ospf_statement_faults lines.now) }
-{
-    let mut fault = None;
     for statement in lines {
-        fault = lesser_fault(fault, ospf_statement_fault(statement));
+        push_fault_at(faults, statement.line, ospf_line_fault(&statement.says))?;
     }
-    fault
+    Ok(())
 }

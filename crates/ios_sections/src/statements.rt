@@ -5,8 +5,8 @@ ghost use Rattle.ios_sections.specs.Statements.{statements_of};
 
 use crate::OutOfMemory;
 use crate::gather::gather;
-use crate::isis_process::{first_tag, isis_lines, least_tag_fault};
-use crate::process::{first_process, mentions_of, ospf_lines, second_process};
+use crate::isis_process::{first_tag, isis_lines, tag_faults};
+use crate::process::{first_process, mentions_of, ospf_lines, second_processes};
 use crate::section::{InterfaceSection, IsisSection, Section};
 use ios_lines::fault::Fault;
 use ios_lines::isis_line::IsisStatement;
@@ -33,12 +33,12 @@ pub struct Statements {
     pub isis_line: Option<u32>,
     /// The lines of the IS-IS process.
     pub isis: Vec<IsisStatement>,
-    /// The least fault of a line at indent 0 by itself.
-    pub head_fault: Option<Fault>,
-    /// The first line that names a second OSPF process.
-    pub process_fault: Option<Fault>,
-    /// The least fault of the `router isis` lines.
-    pub tag_fault: Option<Fault>,
+    /// The faults that lines at indent 0 have by themselves.
+    pub head_faults: Vec<Fault>,
+    /// The faults of the lines that name a second OSPF process.
+    pub process_faults: Vec<Fault>,
+    /// The faults of the `router isis` lines.
+    pub tag_faults: Vec<Fault>,
 }
 
 impl Model for Statements {
@@ -55,9 +55,9 @@ impl Model for Statements {
       isis_line
           = s.isis_line;
       isis = s.isis.items;
-      head_fault = s.head_fault;
-      process_fault = s.process_fault;
-      tag_fault = s.tag_fault;
+      head_faults = s.head_faults.items;
+      process_faults = s.process_faults.items;
+      tag_faults = s.tag_faults.items;
     } };
 }
 
@@ -102,11 +102,12 @@ pub fn statements_of(alloc: Global, sections: Vec<Section>) -> Result<Statements
         gathering.interfaces.as_slice(),
     )?;
     let process = first_process(mentions.as_slice());
-    let process_fault = second_process(process, mentions.as_slice());
-    let tag_fault = least_tag_fault(
+    let process_faults = second_processes(alloc, process, mentions.as_slice())?;
+    let tag_faults = tag_faults(
+        alloc,
         first_tag(gathering.isis.as_slice()),
         gathering.isis.as_slice(),
-    );
+    )?;
     let isis_line = first_isis_line(gathering.isis.as_slice());
     let tag = tag_of(alloc, gathering.isis.as_slice())?;
     let ospf = ospf_lines(alloc, process, gathering.ospf)?;
@@ -119,8 +120,8 @@ pub fn statements_of(alloc: Global, sections: Vec<Section>) -> Result<Statements
         tag,
         isis_line,
         isis,
-        head_fault: gathering.fault,
-        process_fault,
-        tag_fault,
+        head_faults: gathering.faults,
+        process_faults,
+        tag_faults,
     })
 }

@@ -12,7 +12,7 @@ use Rattle.igp_theory.proofs.SameTables.{follows_over}
 use Rattle.order_core.specs.declared.turn.Turn.{Turn}
 use Rattle.loop_finder.specs.Faults.{state_in}
 use Rattle.loop_finder.specs.Mixes.{sample_of, Mix, migration_in}
-use Rattle.loop_finder.specs.steps.ClassSteps.{ClassState, ClassStep, StepsBy, MovesIn, Moves}
+use Rattle.loop_finder.specs.steps.ClassSteps.{ClassState, ClassStep, MovesIn, Moves}
 use Rattle.loop_finder.specs.Soundness.{SoundAt}
 use Rattle.loop_finder.specs.steps.Verdicts.{IsClassVerdict, IsBetween, IsClearAt, two_states}
 use Rattle.loop_finder.specs.declared.fault.Fault.{Fault}

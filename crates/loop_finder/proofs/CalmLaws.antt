@@ -1,5 +1,5 @@
 -- What calm parts tell of the waves of a timetable.
-use Rattle.std.proofs.Common.{◌≡◌, ℕ, zero, suc, ◌+◌, ◌<◌, ◌≤◌, ◌⊎◌, Bool, true, List, [], ◌∷◌, length, get_or, set, inl, inr, refl, arith, sym, ap, ◌∙◌}
+use Rattle.std.proofs.Common.{◌≡◌, ℕ, zero, suc, ◌+◌, ◌<◌, ◌≤◌, ◌⊎◌, Bool, true, List, [], ◌∷◌, length, get_or, set, inl, inr, arith, sym, ◌∙◌}
 use Rattle.std.proofs.Common.{subst, below_more, Contains}
 use Rattle.std.specs.Bool.{OnTrue}
 use Rattle.std.specs.List.{All}
@@ -10,7 +10,6 @@ use Rattle.igp_theory.specs.Changes as change
 use Rattle.igp_theory.specs.Phases.{State}
 use Rattle.igp_theory.specs.Timetables.{Timetable, IsStateOfWave, state_before}
 use Rattle.igp_theory.specs.declared.phase.Phase.{Phase}
-use Rattle.igp_theory.specs.declared.phase.Phase.TheVariants.{Old}
 use Rattle.igp_theory.proofs.AlikeStates.{sound_alike}
 use Rattle.igp_theory.proofs.SameTables.{follows_over}
 use Rattle.loop_finder.specs.Calm.{WaveStep, ChangesIn, IsCalmBefore, IsUnstirred, AreCalm}

@@ -3,7 +3,7 @@ use Rattle.std.proofs.Common.{◌≡◌, ℕ, ◌+◌, ◌<◌, ◌≤◌, ◌�
 use Rattle.std.proofs.lemmas.Bool.{false≢true, cases_lt}
 use Rattle.order_core.specs.Rankings.{IsRanking}
 use Rattle.order_core.specs.declared.turn.Turn.{Turn}
-use Rattle.igp_theory.specs.Changes.{first, second}
+use Rattle.igp_theory.specs.Changes.{second}
 use Rattle.igp_theory.specs.Loops.{Fault as WholeFault}
 use Rattle.igp_theory.specs.Migrations.{Migration}
 use Rattle.igp_theory.specs.Phases.{State, made_in}

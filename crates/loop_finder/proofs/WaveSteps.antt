@@ -5,7 +5,7 @@ use Rattle.std.specs.Bool.{OnTrue}
 use Rattle.std.proofs.lemmas.Bool.{cases_eq, cases_lt}
 use Rattle.std.proofs.lemmas.Bool.Decides.{leb_tells}
 use Rattle.igp_theory.specs.Changes as change
-use Rattle.igp_theory.specs.Phases.{State, made_in}
+use Rattle.igp_theory.specs.Phases.{State}
 use Rattle.igp_theory.specs.Timetables.{Timetable, IsTimetable, IsBetweenPhases, IsStateOfWave, state_before}
 use Rattle.igp_theory.specs.declared.phase.Phase.{Phase}
 use Rattle.igp_theory.proofs.AlikeStates.{sound_at_alike, sound_alike}
@@ -21,7 +21,7 @@ use Rattle.loop_finder.specs.Mixes.{sample_of, Mix}
 use Rattle.loop_finder.specs.Soundness.{SoundAt, Sound}
 use Rattle.loop_finder.specs.steps.Times.{IsInOrder}
 use Rattle.loop_finder.specs.steps.Verdicts.{SoundWavesBefore, IsBetween}
-use Rattle.loop_finder.specs.steps.WaveStarts.{BeginWave, BeginsSound}
+use Rattle.loop_finder.specs.steps.WaveStarts.{BeginsSound}
 use Rattle.loop_finder.proofs.OnFalse.{on_true}
 use Rattle.loop_finder.proofs.PartLaws.{part_stays_sound, part_inside}
 use Rattle.loop_finder.proofs.ToldOfWaves.{AreEnds, table_of, first_in_wave, wave_between}

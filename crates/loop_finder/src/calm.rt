@@ -158,13 +158,7 @@ fn lower(places: &[usize], most: u32, calm: &mut [u32])
 }
 
 /// Looks at each part from the first wave on in which it isn't known to be calm.
-fn look(
-    parts: &[Part<'_>],
-    routers: u32,
-    times: &[ChangeWaves],
-    calm: &mut [u32],
-    room: &mut Room,
-)
+fn look(parts: &[Part<'_>], routers: u32, times: &[ChangeWaves], calm: &mut [u32], room: &mut Room)
     requires rows { All (λ part. length part.rows ≡ routers) parts.now }
     requires times { length times.now ≡ routers }
     requires calm { AreCalm parts.now (times_in times.now) calm.old }

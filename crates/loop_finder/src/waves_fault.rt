@@ -57,15 +57,7 @@ pub(crate) fn times_fault<O: RouteSource, N: RouteSource>(
         FaultyWaves (mix_of O.table N.table mixed.now) (times_in times.now) found.0 (told_fault found.1 room.new.ring.items)) }
     ensures ring { KeepsRing (told result) room.old.ring.items room.new.ring.items }
 {
-    renew(
-        parts,
-        watch,
-        mixed.net().routers(),
-        times,
-        kept,
-        calm,
-        room,
-    );
+    renew(parts, watch, mixed.net().routers(), times, kept, calm, room);
     waves_fault(mixed, parts, begun, times, calm, first, last, room)
 }
 

@@ -1,43 +1,37 @@
 -- The parts of a text, read one after the other.
-use Rattle.std.specs.Prelude.{◌≡◌, ℕ, List, [], ◌∷◌, Option, Some, None, Result, Ok, Err, map, flat_map}
+use Rattle.std.specs.Prelude.{◌≡◌, ℕ, List, [], Option, Some, map, flat_map}
 use Rattle.net_model.specs.Configuration.{Configuration}
-use Rattle.ios_sections.specs.TextLines.{TextLine, Part}
+use Rattle.ios_sections.specs.TextLines.{TextLine, Part, lines_in}
 use Rattle.ios_sections.specs.Sections.{sections_in}
-use Rattle.ios_reader.specs.Faults.{part_faults}
-use Rattle.ios_reader.specs.Configurations.{configuration_of}
-use Rattle.ios_lines.specs.FaultOrder.{least_fault}
+use Rattle.ios_reader.specs.Faults.{part_faults, faults_in}
+use Rattle.ios_reader.specs.Configurations.{configuration_of, configurations_in}
 use Rattle.ios_lines.specs.declared.fault.Fault.{Fault}
 
 -- the lines before an `end` line of this number
 abbrev pub part_at : List TextLine → ℕ → Part
 part_at lines ends = record { lines = lines; ends = ends }
 
--- the configuration of a part without a fault
-pub record IsMadeOf (part : Part) (configuration : Configuration) : Type 0 where
-  pub faultless : part_faults part ≡ []
-  pub made : configuration ≡ configuration_of (sections_in part)
+-- what was read of a part
+pub record PartRead : Type 0 where
+  pub config : Option Configuration
+  pub faults : List Fault
 
--- a part is read: into its configuration, or its least fault
-abbrev pub IsPartRead : Part → Result Configuration Fault → Type 0
-IsPartRead part (Ok configuration) = IsMadeOf part configuration
-IsPartRead part (Err fault) = least_fault (part_faults part) ≡ Some fault
-
--- the fault of a part that is read
-abbrev pub fault_read : Result Configuration Fault → Option Fault
-fault_read (Ok _) = None
-fault_read (Err fault) = Some fault
-
--- the configuration of a part that is read, where there is one
-abbrev pub configurations_read : Result Configuration Fault → List Configuration
-configurations_read (Ok configuration) = configuration ∷ []
-configurations_read (Err _) = []
+-- a part is read: its faults, and where there is none its configuration
+pub record IsPartRead (part : Part) (read : PartRead) : Type 0 where
+  pub faults : read.faults ≡ part_faults part
+  pub config : read.faults ≡ [] → read.config ≡ Some (configuration_of (sections_in part))
 
 -- what was read of some parts
 pub record Reading : Type 0 where
   pub configs : List Configuration
-  pub fault : Option Fault
+  pub faults : List Fault
 
--- some parts are read: their least fault, and where there is none their configurations
+-- some parts are read: their faults, and where there is none their configurations
 pub record IsReadingOf (parts : List Part) (reading : Reading) : Type 0 where
-  pub fault : reading.fault ≡ least_fault (flat_map part_faults parts)
-  pub configs : reading.fault ≡ None → reading.configs ≡ map (λ (part : Part). configuration_of (sections_in part)) parts
+  pub faults : reading.faults ≡ flat_map part_faults parts
+  pub configs : reading.faults ≡ [] → reading.configs ≡ map (λ (part : Part). configuration_of (sections_in part)) parts
+
+-- a text is read: its faults, and where there is none its configurations
+pub record IsTextReading (text : List ℕ) (reading : Reading) : Type 0 where
+  pub faults : reading.faults ≡ faults_in (lines_in text)
+  pub configs : reading.faults ≡ [] → reading.configs ≡ configurations_in (lines_in text)

@@ -1,5 +1,5 @@
 -- Timetables that are looked at wave by wave, and how one becomes another.
-use Rattle.std.specs.Prelude.{◌≡◌, ℕ, ◌≤◌, ◌<◌, ◌⊎◌}
+use Rattle.std.specs.Prelude.{◌≡◌, ℕ, ◌≤◌, ◌⊎◌}
 use Rattle.igp_theory.specs.Changes.{first, second}
 use Rattle.igp_theory.specs.Timetables.{Timetable}
 use Rattle.loop_finder.specs.declared.times.ChangeWaves.{ChangeWaves}

@@ -1,5 +1,5 @@
 -- What is told of a class, of a state and of an order, over what is mixed.
-use Rattle.std.specs.Prelude.{◌≡◌, ℕ, ◌≤◌, ◌<◌, ◌⊎◌, Bool, List, length, Option, Some, None}
+use Rattle.std.specs.Prelude.{◌≡◌, ℕ, ◌≤◌, ◌<◌, Bool, List, length, Option, Some, None}
 use Rattle.igp_theory.specs.Loops.{Fault as WholeFault, AroundRing, IsFoundRing, IsFault, IsFirstFault}
 use Rattle.igp_theory.specs.Phases.{State}
 use Rattle.igp_theory.specs.WaveFaults.{IsFaultOver, IsTimesFault}

@@ -4,7 +4,7 @@ use Rattle.std.proofs.lemmas.List.{take_more, map-append}
 use Rattle.net_model.specs.declared.interface.Interface.{Interface}
 use Rattle.ios_lines.specs.InterfaceLines.{counting}
 use Rattle.ios_lines.specs.Words.{Word}
-use Rattle.ios_sections.proofs.LeastSteps.{least_kept}
+use Rattle.ios_lines.proofs.LineLookups.{taken_more}
 use Rattle.ios_reader.specs.Faults.{interface_faults}
 use Rattle.ios_reader.specs.InterfaceFacts.{facts_of}
 use Rattle.ios_reader.specs.InterfacesAsRead.{interface_as_read, interface_with}
@@ -36,6 +36,6 @@ loop-section-preserved c =
           (read_one c)
           ∙ sym (map_more (interface_as_read c.args.router.now) c.args.sections.now c.loop-section.section-index c.section-item.result within
           c.section-item.is);
-      fault = least_kept (interface_faults c.args.router.now (option_copied c.args.tag)) c.args.sections.now c.loop-section.section-index
-          c.section-item.result _ _ _ within c.section-item.is c.loop-section.invariant.fault c.interface_fault.ensures c.lesser_fault-fault.ensures;
+      faults = taken_more (interface_faults c.args.router.now (option_copied c.args.tag)) c.args.sections.now c.loop-section.section-index
+          c.section-item.result [] _ _ within c.section-item.is c.loop-section.invariant.faults c.in_ok-push_interface_faults.ensures;
     }

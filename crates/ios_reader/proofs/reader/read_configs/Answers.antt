@@ -1,62 +1,20 @@
-use Rattle.std.proofs.Common.{◌≡◌, ◌+◌, ◌≤◌, ℕ, Bool, false, ◌||◌, List, [], length, map, sym, ap, subst, ◌∙◌, arith}
-use Rattle.std.specs.List.{list_any}
-use Rattle.net_addr.specs.declared.line.Line.{Line}
-use Rattle.ios_sections.specs.TextLines.{TextLine, Part, text_line, lines_in, counted_lines, parts_after, parts_of, lacks_end, rest_after, is_empty}
-use Rattle.ios_sections.specs.TextLines.{begins_configuration}
-use Rattle.ios_sections.specs.TellingLines.{telling_lines}
-use Rattle.ios_sections.proofs.TellingFacts.{parts_told}
-use Rattle.ios_reader.proofs.TellingReads.{reading_told, lacks_told}
-use Rattle.ios_lines.specs.FaultOrder.{faults_if, lesser_fault, least_fault}
-use Rattle.ios_reader.specs.steps.Parts.{Reading, IsReadingOf}
-use Rattle.ios_reader.specs.Texts.{ReadsText}
+use Rattle.std.proofs.Common.{List, ap, subst, sym, ◌∙◌}
 use Rattle.net_model.specs.Configuration.{Configuration}
-use Rattle.ios_lines.specs.declared.kind.ReadKind.TheVariants.{NoEnd}
-use Rattle.ios_reader.proofs.ReadFacts.{line_count, lines_in_length, text_read, text_refused}
-use Rattle.ios_reader.proofs.reader.read_configs.Goals.{After-as_slice-3, After-fault_if-end}
+use Rattle.ios_lines.specs.FaultOrder.{least_fault}
+use Rattle.ios_reader.specs.steps.Parts.{Reading}
+use Rattle.ios_reader.specs.Texts.{ReadsText}
+use Rattle.ios_reader.proofs.LeastFaults.{none_least}
+use Rattle.ios_reader.proofs.ReadFacts.{text_read, text_refused}
 use Rattle.ios_reader.proofs.reader.read_configs.Goals as goal
-
-few : (c : After-as_slice-3) → length c.as_slice-3.result.now ≤ length c.args.text.now + 1
-few c = omega (arith, ap length c.as_slice-3.ensures, ap length c.in_ok-lines.ensures.exact, line_count c.args.text.now)
-
-pub overflow_cast-last : goal.overflow_cast-last
-overflow_cast-last c = omega (arith, few ((goal.at.overflow_cast-last c).After-as_slice-3), c.requires)
-
-pub overflow_add-last : goal.overflow_add-last
-overflow_add-last c = omega (arith, few ((goal.at.overflow_add-last c).After-as_slice-3), c.requires)
-
-told_is : (c : After-fault_if-end) → c.in-Ok.told.items ≡ telling_lines false (counted_lines (lines_in c.args.text.now))
-told_is c =
-    c.in-Ok.ensures
-    ∙ ap (λ (w : List Line). telling_lines false (counted_lines (map (text_line c.args.text.now) w))) (c.as_slice.ensures ∙ c.in_ok-lines.ensures.exact)
-
-parts_read : (c : After-fault_if-end) → IsReadingOf (parts_of (lines_in c.args.text.now)) c.in_ok-reading.reading
-parts_read c =
-    reading_told (parts_of (lines_in c.args.text.now)) c.in_ok-reading.reading
-    (subst (λ (w : List Part). IsReadingOf w c.in_ok-reading.reading)
-    (ap (parts_after []) (c.as_slice-2.ensures.value ∙ told_is c) ∙ parts_told [] (counted_lines (lines_in c.args.text.now))) c.in_ok-reading.ensures)
-
-end_is : (c : After-fault_if-end) → c.fault_if-end.result
-    ≡ least_fault (faults_if (lacks_end (lines_in c.args.text.now)) (length (lines_in c.args.text.now) + 1) NoEnd)
-end_is c =
-    let lacks : c.lacks_end.result ≡ lacks_end (lines_in c.args.text.now) =
-    c.lacks_end.ensures ∙ ap (λ (w : List TextLine). is_empty (parts_after [] w) || list_any begins_configuration (rest_after [] w))
-    (c.as_slice-4.ensures.value ∙ told_is c)
-    ∙ lacks_told (counted_lines (lines_in c.args.text.now)) in
-    let count : length c.as_slice-3.result.now ≡ length (lines_in c.args.text.now) =
-    ap length (c.as_slice-3.ensures ∙ c.in_ok-lines.ensures.exact) ∙ sym (lines_in_length c.args.text.now) in
-    c.fault_if-end.ensures
-    ∙ ap (λ (b : Bool). least_fault (faults_if b (length c.as_slice-3.result.now + 1) NoEnd)) lacks
-    ∙ ap (λ (n : ℕ). least_fault (faults_if (lacks_end (lines_in c.args.text.now)) (n + 1) NoEnd)) count
 
 pub returns-in-Some-clause-refused : goal.returns-in-Some-clause-refused
 returns-in-Some-clause-refused c =
-    let a : After-fault_if-end = (goal.at.returns-in-Some-clause-refused c).After-fault_if-end in
-    text_refused c.args.text.now c.in_ok-reading.reading c.fault_if-end.result c.in-Some.fault (parts_read a) (end_is a)
-    (ap (λ (r : Reading). lesser_fault r.fault c.fault_if-end.result) (sym c.reading.view_is) ∙ sym c.in-Some.ensures)
+    text_refused c.args.text.now c.in_ok-reading.reading c.in-Some.fault c.in_ok-reading.ensures
+    (sym (c.in-Some.ensures ∙ ap least_fault (c.as_slice.ensures.value ∙ ap (λ (r : Reading). r.faults) c.reading.view_is)))
 
-pub returns-clause-read : goal.returns-clause-read
-returns-clause-read c =
-    let a : After-fault_if-end = (goal.at.returns-clause-read c).After-fault_if-end in
+pub returns-in-None-clause-read : goal.returns-in-None-clause-read
+returns-in-None-clause-read c =
     subst (λ (w : List Configuration). ReadsText c.args.text.now w) (sym (c.from_vec.ensures ∙ ap (λ (r : Reading). r.configs) c.reading.view_is))
-    (text_read c.args.text.now c.in_ok-reading.reading c.fault_if-end.result (parts_read a) (end_is a)
-    (ap (λ (r : Reading). lesser_fault r.fault c.fault_if-end.result) (sym c.reading.view_is) ∙ sym c.in-None.ensures))
+    (text_read c.args.text.now c.in_ok-reading.reading c.in_ok-reading.ensures
+    (none_least c.in_ok-reading.reading.faults
+    (sym (c.in-None.ensures ∙ ap least_fault (c.as_slice.ensures.value ∙ ap (λ (r : Reading). r.faults) c.reading.view_is)))))

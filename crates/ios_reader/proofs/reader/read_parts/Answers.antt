@@ -18,7 +18,7 @@ loop-i-preserved c =
             read = subst (λ (r : Reading). IsReadingOf (parts_after [] (take (c.loop-i.i + 1) c.args.lines.now)) r) (sym w.reading-is)
                 (read_at_end c.args.lines.now c.loop-i.i c.index-lines-i.result c.loop-i-test.true c.index-lines-i.is
                 (slice_range c.args.lines.now c.loop-i.start c.loop-i.i) w.number.result c.loop-i.reading w.in_ok-reading.reading w.in_ok-read.read
-                ends c.loop-i.invariant.rest w.number.ensures c.loop-i.invariant.read w.in_ok-read.ensures w.in_ok-reading.ensures.fault
+                ends c.loop-i.invariant.rest w.number.ensures c.loop-i.invariant.read w.in_ok-read.ensures w.in_ok-reading.ensures.faults
                 w.in_ok-reading.ensures.configs);
           }
       | else-is_end w ↦

@@ -1,6 +1,5 @@
-use Rattle.std.proofs.Common.{◌≡◌, ℕ, ◌<◌, List, [], length, get_or, set, arith, sym, ap, ◌∙◌, subst, All}
+use Rattle.std.proofs.Common.{ℕ, ◌<◌, List, [], length, get_or, set, arith, sym, ap, ◌∙◌, subst, All}
 use Rattle.std.proofs.lemmas.List.{ext_get_or, get_or_default}
-use Rattle.loop_finder.specs.Times.{waves_of}
 use Rattle.loop_finder.specs.Watches.{ArePlacesOf}
 use Rattle.loop_finder.specs.declared.times.ChangeWaves.{ChangeWaves}
 use Rattle.loop_finder.proofs.CalmLaws.{taken_more}

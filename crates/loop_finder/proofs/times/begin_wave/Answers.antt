@@ -1,4 +1,4 @@
-use Rattle.std.proofs.Common.{◌+◌, arith, ap, ◌∙◌}
+use Rattle.std.proofs.Common.{arith, ap, ◌∙◌}
 use Rattle.loop_finder.specs.Times.{times_in, phase_before}
 use Rattle.loop_finder.specs.declared.times.ChangeWaves.{ChangeWaves}
 use Rattle.loop_finder.proofs.WavePhases.{phases_more, read_waves}

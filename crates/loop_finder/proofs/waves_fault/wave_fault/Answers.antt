@@ -1,4 +1,3 @@
-use Rattle.std.proofs.Common.{arith}
 use Rattle.loop_finder.proofs.CalmLaws.{clear_parts}
 use Rattle.loop_finder.proofs.ToldOfWaves.{ends_by, told_of_wave}
 use Rattle.loop_finder.specs.Mixes.{mix_of}

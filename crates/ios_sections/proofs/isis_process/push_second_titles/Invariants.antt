@@ -1,11 +1,10 @@
-use Rattle.std.proofs.Common.{◌≡◌, take}
+use Rattle.std.proofs.Common.{◌≡◌, ◌++◌, take}
 use Rattle.std.specs.List.{list_any}
-use Rattle.ios_lines.specs.FaultOrder.{least_fault}
 use Rattle.ios_sections.specs.ProcessFaults.{is_net, second_titles}
-use Rattle.ios_sections.proofs.isis_process.least_second_title.Given as goal
+use Rattle.ios_sections.proofs.isis_process.push_second_titles.Given as goal
 
 abbrev pub invariant-loop-statement : goal.invariant-loop-statement
 invariant-loop-statement l = record {
-  fault : l.fault ≡ least_fault (second_titles (take l.statement-index l.lines));
+  faults : l.faults.items ≡ l.initial.faults.items ++ second_titles (take l.statement-index l.lines);
   titled : l.titled ≡ list_any is_net (take l.statement-index l.lines);
 }

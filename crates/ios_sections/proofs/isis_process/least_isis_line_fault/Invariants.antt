@@ -1,8 +1,0 @@
-use Rattle.std.proofs.Common.{◌≡◌, take}
-use Rattle.std.specs.Prelude.{flat_map}
-use Rattle.ios_lines.specs.FaultOrder.{least_fault}
-use Rattle.ios_sections.specs.ProcessFaults.{isis_statement_faults}
-use Rattle.ios_sections.proofs.isis_process.least_isis_line_fault.Given as goal
-
-abbrev pub invariant-loop-statement : goal.invariant-loop-statement
-invariant-loop-statement l = l.fault ≡ least_fault (flat_map isis_statement_faults (take l.statement-index l.lines))
