@@ -6,21 +6,19 @@ use Rattle.std.proofs.lemmas.Bool.{cases_lt}
 use Rattle.net_addr.specs.Addresses.{Block}
 use Rattle.order_core.specs.Turns.{routers_of}
 use Rattle.order_core.specs.declared.turn.Turn.{Turn}
-use Rattle.order_core.specs.declared.turn.Tag.TheVariants as tag
-use Rattle.igp_theory.specs.Forwarding.{Usable, Counts, connected_counts, old_counts, new_counts, Uses, Steps, HasStep, MustForward}
-use Rattle.igp_theory.specs.LoopLaws.{IsFromStart}
-use Rattle.igp_theory.specs.Loops.{IsTagOf, IsTag, EachToNext, AroundRing, IsFoundRing, loop, missing, IsFault, missing_step, loop_arises}
+use Rattle.igp_theory.specs.Forwarding.{Usable, Counts, connected_counts, old_counts, new_counts, Steps, HasStep, MustForward}
+use Rattle.igp_theory.specs.Loops.{IsTagOf, IsTag, EachToNext, AroundRing, IsFoundRing, loop, missing}
 use Rattle.igp_theory.specs.Migrations.{Migration, started}
-use Rattle.igp_theory.specs.Phases.{State, all_old, made_in}
-use Rattle.igp_theory.specs.States.{StepsIn, IsSoundAt, IsSound}
+use Rattle.igp_theory.specs.Phases.{State, all_old}
+use Rattle.igp_theory.specs.States.{IsSoundAt, IsSound}
 use Rattle.igp_theory.specs.TimetableLaws.{IsStateOfSomeWave}
 use Rattle.igp_theory.specs.Timetables.{Timetable, IsTimetable, IsStateOfWave}
-use Rattle.igp_theory.specs.WaveFaults.{StepsInSome, LacksStep, IsLeastUnsound, IsFaultOver, missing_in_one, loop_over_all, IsTimesFault}
+use Rattle.igp_theory.specs.WaveFaults.{StepsInSome, IsLeastUnsound, IsFaultOver, missing_in_one, loop_over_all, IsTimesFault}
 use Rattle.igp_theory.specs.declared.phase.Phase.{Phase}
-use Rattle.igp_theory.specs.declared.phase.Phase.TheVariants.{Old, Middle, New}
+use Rattle.igp_theory.specs.declared.phase.Phase.TheVariants.{Old, New}
 use Rattle.igp_theory.proofs.LoopLaws.{start_or_new_step}
 use Rattle.igp_theory.proofs.Rings.{found_goes_round}
-use Rattle.igp_theory.proofs.SameTables.{SameHops, follows_over, found_ring_over, around_ring_over}
+use Rattle.igp_theory.proofs.SameTables.{follows_over, found_ring_over, around_ring_over}
 use Rattle.igp_theory.proofs.Tags.{tags_over}
 use Rattle.igp_theory.proofs.Timetables.{start_first}
 use Rattle.loop_finder.specs.Faults.{KeepsRing, state_in, told, told_fault}
@@ -116,9 +114,12 @@ each_place : (R : Turn → ℕ → Type 0) (d last : Turn) (ring : List Turn) �
     ((k : ℕ) → k < length ring → R (get_or ring k d) (get_or (routers_of ring) (k + 1) last.router)) → EachToNext (λ (s t : Turn). R s t.router) last ring
 each_place R d last [] each = tt
 each_place R d last (r ∷ []) each = each 0 (omega arith)
-each_place R d last (r ∷ s ∷ rest) each = (each 0 (omega arith), each_place R d last (s ∷ rest) (λ k within.
-    let next : suc k + 1 ≡ suc (k + 1) = omega arith in
-    subst (λ (n : ℕ). R (get_or (s ∷ rest) k d) (get_or (routers_of (r ∷ s ∷ rest)) n last.router)) next (each (suc k) (omega (arith, within)))))
+each_place R d last (r ∷ s ∷ rest) each = (
+  each 0 (omega arith),
+  each_place R d last (s ∷ rest) (λ k within.
+      let next : suc k + 1 ≡ suc (k + 1) = omega arith in
+      subst (λ (n : ℕ). R (get_or (s ∷ rest) k d) (get_or (routers_of (r ∷ s ∷ rest)) n last.router)) next (each (suc k) (omega (arith, within)))),
+)
 
 pub around_places : (R : Turn → ℕ → Type 0) (d : Turn) (ring : List Turn) →
     ((k : ℕ) → k < length ring → R (get_or ring k d) (next_in (routers_of ring) k)) → AroundRing (λ (s t : Turn). R s t.router) ring
@@ -132,20 +133,20 @@ pub told_steps_from : (move : Migration) (start : State) (time : Timetable) (fou
     IsTimetable (length move.net) start time → IfSome found (λ f. IsTimesFault move time f.0 (told_fault f.1 turns)) →
     IfSome (told found) (λ fault. TurnsStep move start fault turns)
 told_steps_from move start time None turns table is = tt
-told_steps_from move start time (Some (w , Loop a)) turns table is = loop_steps_from move start time w a turns table is.from_one is.here
-told_steps_from move start time (Some (w , Missing a u)) turns table is = tt
+told_steps_from move start time (Some (w, Loop a)) turns table is = loop_steps_from move start time w a turns table is.from_one is.here
+told_steps_from move start time (Some (w, Missing a u)) turns table is = tt
 
 pub told_from : (move : Migration) (start : State) (time : Timetable) (found : Option (ℕ × Told)) (turns other : List Turn) →
     routers_of other ≡ routers_of turns → IfSome (told found) (λ fault. TurnsAreTagged (started start move) fault other) →
     IfSome found (λ f. IsTimesFault move time f.0 (told_fault f.1 turns)) →
     IfSome found (λ f. IsTimesFault (started start move) time f.0 (told_fault f.1 other))
 told_from move start time None turns other same tags is = tt
-told_from move start time (Some (w , Loop a)) turns other same tags is = record {
+told_from move start time (Some (w, Loop a)) turns other same tags is = record {
   from_one = is.from_one;
   before = λ v one less state of_wave. sound_from start (is.before v one less state of_wave);
   here = loop_from start turns other same tags is.here;
 }
-told_from move start time (Some (w , Missing a u)) turns other same tags is = record {
+told_from move start time (Some (w, Missing a u)) turns other same tags is = record {
   from_one = is.from_one;
   before = λ v one less state of_wave. sound_from start (is.before v one less state of_wave);
   here = missing_from start is.here;

@@ -16,8 +16,9 @@ use Rattle.loop_finder.specs.declared.room.Room.{Room}
 use Rattle.loop_finder.specs.declared.times.ChangeWaves.{ChangeWaves}
 
 -- the parts of all classes, for each router those that a change of it concerns, the waves of the latest timetable and
--- those before which parts are calm, the latest order and how many of its first states are sound, the start,
--- whether every router is Old there, and whether it is sound, and how long the lists of waves and the two of phases are that there is room for
+-- those before which parts are calm, the latest order and how many of its first states are sound, the start, whether
+-- every router is Old there, and whether it is sound, and how long the lists of waves and the two of phases are that
+-- there is room for
 pub record Kept : Type 0 where
   pub parts : List ClassPart
   pub watch : List (List ℕ)

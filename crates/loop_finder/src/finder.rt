@@ -30,9 +30,9 @@ use std::marker::Model;
 
 /// Finds the faults of states, orders and wave lists over mixed forwarding.
 ///
-/// All room that its calls need is made by `new`, so that a finder that was made once decides every state,
-/// every order and every wave list. What is found of the latest order and of the parts of the
-/// latest wave list is kept.
+/// All room that its calls need is made with it, so that a finder that was made once decides every state,
+/// every order, every wave list, and every timetable from its start. What is found of the latest order and of the
+/// parts of the latest timetable is kept.
 #[derive(Drop)]
 pub struct Finder<'a, O: RouteSource, N: RouteSource> {
     mixed: &'a Mixed<'a, O, N>,
@@ -260,7 +260,12 @@ impl<'a, O: RouteSource, N: RouteSource> Finder<'a, O, N> {
             &mut self.later,
             &mut self.room,
         );
-        tag_found(self.mixed, self.start.as_slice(), fault_alone(found), &mut self.room.ring);
+        tag_found(
+            self.mixed,
+            self.start.as_slice(),
+            fault_alone(found),
+            &mut self.room.ring,
+        );
         found
     }
 

@@ -11,8 +11,7 @@ returns g c =
     let law : Steps (migration_of g.O.RouteSource.table g.N.RouteSource.table c.args.mixed.now) c.args.router c.args.phase c.args.address c.args.next
     ↔ NextLeadsTo hops.next c.args.next =
     steps_to_hops (migration_of g.O.RouteSource.table g.N.RouteSource.table c.args.mixed.now) c.args.router c.args.phase c.args.address hops.next
-    c.args.next (hops.is c.args.address c.requires.class) c.requires.must in
-    (
+    c.args.next (hops.is c.args.address c.requires.class) c.requires.must in (
       λ is. law.1 ((hops.leads c.args.next).0 (c.is_among.ensures.0 is)),
       λ steps. c.is_among.ensures.1 ((hops.leads c.args.next).1 (law.0 steps)),
     )
