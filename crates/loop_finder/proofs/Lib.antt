@@ -25,3 +25,4 @@ mod WaveSteps
 mod FaultLaws
 mod WatchLaws
 mod CalmLaws
+mod Started

@@ -4,19 +4,26 @@ use Rattle.igp_theory.specs.Loops.{Fault as WholeFault, missing, loop}
 use Rattle.igp_theory.specs.Phases.{State}
 use Rattle.igp_theory.specs.declared.phase.Phase.{Phase}
 use Rattle.igp_theory.specs.declared.phase.Phase.TheVariants.{Old}
-use Rattle.rib_mix.specs.Mixture.{Mixture}
+use Rattle.igp_theory.specs.Migrations.{Migration, started}
+use Rattle.rib_mix.specs.Mixture.{Mixture, migration_of}
 use Rattle.order_core.specs.declared.turn.Turn.{Turn}
+use Rattle.loop_finder.specs.Mixes.{Listing}
 use Rattle.loop_finder.specs.declared.fault.Fault.{Fault}
 use Rattle.loop_finder.specs.declared.fault.Fault.TheVariants.{Loop, Missing}
-
--- what contracts see of a finder: what it searches, and the ring of its latest loop
-pub record Finding (O N : Type 0) : Type 0 where
-  pub mixture : Mixture O N
-  pub ring : List Turn
 
 -- the state that gives each router the phase at its place
 abbrev pub state_in : List Phase → State
 state_in phases u = slice_index_or phases u Old
+
+-- what contracts see of a finder: what it searches, the phase from which each router starts, and the ring of its latest loop
+pub record Finding (O N : Type 0) : Type 0 where
+  pub mixture : Mixture O N
+  pub start : List Phase
+  pub ring : List Turn
+
+-- the migration that it searches, from its start
+abbrev pub searched : {O N : Type 0} → Listing O → Listing N → Finding O N → Migration
+searched old new finding = started (state_in finding.start) (migration_of old new finding.mixture)
 
 -- the fault that an answer tells, with the turns beside it
 abbrev pub told_fault : Fault → List Turn → WholeFault

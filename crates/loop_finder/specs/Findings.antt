@@ -4,6 +4,8 @@ use Rattle.std.specs.Bool.{OnTrue}
 use Rattle.loop_finder.specs.Calm.{AreCalm}
 use Rattle.loop_finder.specs.Orders.{AreFirstStates}
 use Rattle.igp_theory.specs.Phases.{all_old}
+use Rattle.igp_theory.specs.declared.phase.Phase.{Phase}
+use Rattle.loop_finder.specs.Faults.{state_in}
 use Rattle.loop_finder.specs.Parts.{ClassPart, AreParts}
 use Rattle.loop_finder.specs.Rooms.{HasRoom}
 use Rattle.loop_finder.specs.Mixes.{Mix}
@@ -14,8 +16,9 @@ use Rattle.loop_finder.specs.declared.room.Room.{Room}
 use Rattle.loop_finder.specs.declared.times.ChangeWaves.{ChangeWaves}
 
 -- the parts of all classes, for each router those that a change of it concerns, the waves of the latest timetable and
--- those before which parts are calm, the latest order and how many of its first states are sound, whether the state
--- in which every router is Old is sound, and how long the lists of waves and the two of phases are that there is room for
+-- those before which parts are calm, the latest order and how many of its first states are sound, the start, whether
+-- every router is Old there, and whether it is sound, and how long the lists of waves and the two of phases are that
+-- there is room for
 pub record Kept : Type 0 where
   pub parts : List ClassPart
   pub watch : List (List ℕ)
@@ -23,6 +26,8 @@ pub record Kept : Type 0 where
   pub calm : List ℕ
   pub order : List ℕ
   pub sound : ℕ
+  pub start : List Phase
+  pub from_old : Bool
   pub begun : Bool
   pub asked : ℕ
   pub phases : ℕ
@@ -37,7 +42,9 @@ pub record IsFinding (m : Mix) (kept : Kept) (room : Room) : Type 0 where
   pub calm_is : AreCalm kept.parts (times_in kept.times) kept.calm
   pub order_many : length kept.order ≡ length m.net
   pub order_is : AreFirstStates (Sound m) kept.order kept.sound
-  pub begun_is : OnTrue kept.begun (Sound m all_old)
+  pub start_many : length kept.start ≡ length m.net
+  pub old_is : OnTrue kept.from_old (state_in kept.start ≡ all_old)
+  pub begun_is : OnTrue kept.begun (Sound m (state_in kept.start))
   pub asked_many : kept.asked ≡ length m.net
   pub phases_many : kept.phases ≡ length m.net
   pub later_many : kept.later ≡ length m.net

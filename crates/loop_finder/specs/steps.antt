@@ -7,6 +7,7 @@ pub mod Ends
 pub mod Making
 pub mod WaveStarts
 pub mod Times
+pub mod Starts
 pub mod Targets
 pub mod Calm
 pub mod ClassSteps

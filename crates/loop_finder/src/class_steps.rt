@@ -166,7 +166,7 @@ impl<'s, 'm, O: RouteSource, N: RouteSource> StepGraph for ClassSteps<'s, 'm, O,
 }
 
 /// Whether a router is among some.
-fn is_among(routers: &[u32], router: u32) -> bool
+pub(crate) fn is_among(routers: &[u32], router: u32) -> bool
     ensures { IsTrue result ↔ Contains routers.now router }
 {
     routers.contains(&router)

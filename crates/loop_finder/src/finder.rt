@@ -8,19 +8,20 @@ ghost use Rattle.igp_theory.specs.Timetables.{IsSoundThroughout, IsTimetable, ro
 ghost use Rattle.igp_theory.specs.WaveFaults.{IsTimesFault};
 ghost use Rattle.igp_theory.specs.Waves.{AreSeamlessWaves};
 ghost use Rattle.rib_mix.specs.Mixture.{migration_of};
-ghost use Rattle.loop_finder.specs.Faults.{KeepsRing, state_in, told, told_fault};
+ghost use Rattle.loop_finder.specs.Faults.{KeepsRing, searched, state_in, told, told_fault};
 ghost use Rattle.loop_finder.specs.Times.{times_in};
 
 use crate::calm::none_known;
 use crate::fault::Fault;
 use crate::known::{shared_states, sound_states};
-use crate::order_fault::{begin_is_sound, order_fault, state_fault};
+use crate::order_fault::{is_sound, order_fault, state_fault};
 use crate::part::Part;
 use crate::parts::parts_of;
+use crate::retag::{is_all_old, is_old_begun, tag_found};
 use crate::room::Room;
 use crate::times::{ChangeWaves, rank_waves};
 use crate::watch::{Places, watch_of};
-use crate::waves_fault::times_fault;
+use crate::waves_fault::{fault_alone, times_fault};
 use order_core::Turn;
 use rib_mix::{Mixed, OutOfMemory, Phase};
 use route_core::RouteSource;
@@ -29,9 +30,9 @@ use std::marker::Model;
 
 /// Finds the faults of states, orders and wave lists over mixed forwarding.
 ///
-/// All room that its calls need is made by `new`, so that a finder that was made once decides every state,
-/// every order and every wave list. What is found of the latest order and of the parts of the
-/// latest wave list is kept.
+/// All room that its calls need is made with it, so that a finder that was made once decides every state,
+/// every order, every wave list, and every timetable from its start. What is found of the latest order and of the
+/// parts of the latest timetable is kept.
 #[derive(Drop)]
 pub struct Finder<'a, O: RouteSource, N: RouteSource> {
     mixed: &'a Mixed<'a, O, N>,
@@ -49,7 +50,11 @@ pub struct Finder<'a, O: RouteSource, N: RouteSource> {
     order: Vec<u32>,
     /// How many of its states are sound, from the first on.
     sound: usize,
-    /// Whether the state in which every router is in its old phase is sound.
+    /// The phase from which each router starts.
+    start: Vec<Phase>,
+    /// Whether it's the old one for each.
+    from_old: bool,
+    /// Whether the start is sound.
     begun: bool,
     phases: Vec<Phase>,
     later: Vec<Phase>,
@@ -64,7 +69,7 @@ impl<'a, O: RouteSource, N: RouteSource> Model for Finder<'a, O, N> {
 
     ghost Value = { Finding O N };
 
-    ghost view = { λ x. record { mixture = x.mixed.now; ring = x.room.ring.items } };
+    ghost view = { λ x. record { mixture = x.mixed.now; start = x.start.items; ring = x.room.ring.items } };
 
     ghost invariant = { λ x. IsFinding (mix_of O.table N.table x.mixed.now) (record {
       parts = x.parts.items;
@@ -74,6 +79,8 @@ impl<'a, O: RouteSource, N: RouteSource> Model for Finder<'a, O, N> {
           x.calm.items;
       order = x.order.items;
       sound = x.sound;
+      start = x.start.items;
+      from_old = x.from_old;
       begun = x.begun;
       asked = vec_len x.asked;
       phases = vec_len x.phases;
@@ -82,13 +89,43 @@ impl<'a, O: RouteSource, N: RouteSource> Model for Finder<'a, O, N> {
 }
 
 impl<'a, O: RouteSource, N: RouteSource> Finder<'a, O, N> {
-    /// A finder over mixed forwarding, with no ring yet.
+    /// A finder over mixed forwarding from the state in which every router is in its old phase, with no ring yet.
     pub fn new(alloc: Global, mixed: &'a Mixed<'a, O, N>) -> Result<Finder<'a, O, N>, OutOfMemory>
         ensures mixture { IfOk result (λ finder. finder.mixture ≡ mixed.now) }
         ensures ring { IfOk result (λ finder. finder.ring ≡ []) }
+        ensures start { IfOk result (λ finder. state_in finder.start ≡ all_old) }
+    {
+        let start = vec![in alloc; Phase::Old; mixed.net().routers() as usize]?;
+        Finder::over(alloc, mixed, start)
+    }
+
+    /// One from the state that gives each router the phase at its place.
+    pub fn from_start(
+        alloc: Global,
+        mixed: &'a Mixed<'a, O, N>,
+        start: &[Phase],
+    ) -> Result<Finder<'a, O, N>, OutOfMemory>
+        requires { length start.now ≡ length mixed.now.net }
+        ensures mixture { IfOk result (λ finder. finder.mixture ≡ mixed.now) }
+        ensures ring { IfOk result (λ finder. finder.ring ≡ []) }
+        ensures start { IfOk result (λ finder. finder.start ≡ start.now) }
+    {
+        Finder::over(alloc, mixed, Vec::from_slice(alloc, start)?)
+    }
+
+    /// One from the state of some phases.
+    fn over(
+        alloc: Global,
+        mixed: &'a Mixed<'a, O, N>,
+        start: Vec<Phase>,
+    ) -> Result<Finder<'a, O, N>, OutOfMemory>
+        requires { length start.items ≡ length mixed.now.net }
+        ensures mixture { IfOk result (λ finder. finder.mixture ≡ mixed.now) }
+        ensures ring { IfOk result (λ finder. finder.ring ≡ []) }
+        ensures start { IfOk result (λ finder. finder.start ≡ start.items) }
     {
         let routers = mixed.net().routers();
-        let mut phases = vec![in alloc; Phase::Old; routers as usize]?;
+        let phases = vec![in alloc; Phase::Old; routers as usize]?;
         let later = vec![in alloc; Phase::Old; routers as usize]?;
         let parts = parts_of(alloc, mixed)?;
         let watch = watch_of(alloc, parts.as_slice(), routers)?;
@@ -101,7 +138,8 @@ impl<'a, O: RouteSource, N: RouteSource> Finder<'a, O, N> {
         let order = vec![in alloc; 0; routers as usize]?;
         let calm = none_known(alloc, parts.as_slice())?;
         let mut room = Room::new(alloc, routers)?;
-        let begun = begin_is_sound(mixed, parts.as_slice(), &mut phases, &mut room);
+        let from_old = is_all_old(start.as_slice());
+        let begun = is_sound(mixed, parts.as_slice(), start.as_slice(), &mut room);
         room.ring.clear();
         Ok(Finder {
             mixed,
@@ -112,6 +150,8 @@ impl<'a, O: RouteSource, N: RouteSource> Finder<'a, O, N> {
             asked,
             order,
             sound: 0,
+            start,
+            from_old,
             begun,
             phases,
             later,
@@ -129,6 +169,7 @@ impl<'a, O: RouteSource, N: RouteSource> Finder<'a, O, N> {
             (told_fault fault self.new.ring)) }
         ensures ring { KeepsRing result self.old.ring self.new.ring }
         ensures mixture { self.new.mixture ≡ self.old.mixture }
+        ensures start { self.new.start ≡ self.old.start }
     {
         state_fault(self.mixed, self.parts.as_slice(), phases, &mut self.room)
     }
@@ -145,13 +186,15 @@ impl<'a, O: RouteSource, N: RouteSource> Finder<'a, O, N> {
             (told_fault found.1 self.new.ring)) }
         ensures ring { KeepsRing (told result) self.old.ring self.new.ring }
         ensures mixture { self.new.mixture ≡ self.old.mixture }
+        ensures start { self.new.start ≡ self.old.start }
     {
         let known = shared_states(self.order.as_slice(), self.sound, order);
+        let begun = is_old_begun(self.begun, self.from_old);
         let found = order_fault(
             self.mixed,
             self.parts.as_slice(),
             self.watch.as_slice(),
-            self.begun,
+            begun,
             known,
             order,
             &mut self.phases,
@@ -173,13 +216,15 @@ impl<'a, O: RouteSource, N: RouteSource> Finder<'a, O, N> {
             (told_fault found.1 self.new.ring)) }
         ensures ring { KeepsRing (told result) self.old.ring self.new.ring }
         ensures mixture { self.new.mixture ≡ self.old.mixture }
+        ensures start { self.new.start ≡ self.old.start }
     {
+        let begun = is_old_begun(self.begun, self.from_old);
         rank_waves(ranks, &mut self.asked);
         times_fault(
             self.mixed,
             self.parts.as_slice(),
             self.watch.as_slice(),
-            self.begun,
+            begun,
             self.asked.as_slice(),
             &mut self.times,
             &mut self.calm,
@@ -190,19 +235,20 @@ impl<'a, O: RouteSource, N: RouteSource> Finder<'a, O, N> {
     }
 
     /// The number of the first wave with an unsound state of the timetable in which each router makes its changes in the
-    /// waves at its place, with that wave's fault; none where the migration is sound throughout it.
+    /// waves at its place, with that wave's fault; none where the migration is sound throughout it. The tags of the ring are
+    /// by the start.
     pub fn times_fault(&mut self, times: &[ChangeWaves]) -> Option<(u32, Fault)>
         requires many { length times.now ≡ length self.old.mixture.net }
-        requires table { IsTimetable (length self.old.mixture.net) all_old (times_in times.now) }
-        ensures sound { IsNone result
-            ↔ IsSoundThroughout (migration_of O.table N.table self.old.mixture) (times_in times.now) }
+        requires table { IsTimetable (length self.old.mixture.net) (state_in self.old.start) (times_in times.now) }
+        ensures sound { IsNone result ↔ IsSoundThroughout (searched O.table N.table self.old) (times_in times.now) }
         ensures fault { IfSome result (λ found.
-            IsTimesFault (migration_of O.table N.table self.old.mixture) (times_in times.now) found.0
+            IsTimesFault (searched O.table N.table self.old) (times_in times.now) found.0
             (told_fault found.1 self.new.ring)) }
         ensures ring { KeepsRing (told result) self.old.ring self.new.ring }
         ensures mixture { self.new.mixture ≡ self.old.mixture }
+        ensures start { self.new.start ≡ self.old.start }
     {
-        times_fault(
+        let found = times_fault(
             self.mixed,
             self.parts.as_slice(),
             self.watch.as_slice(),
@@ -213,7 +259,14 @@ impl<'a, O: RouteSource, N: RouteSource> Finder<'a, O, N> {
             &mut self.phases,
             &mut self.later,
             &mut self.room,
-        )
+        );
+        tag_found(
+            self.mixed,
+            self.start.as_slice(),
+            fault_alone(found),
+            &mut self.room.ring,
+        );
+        found
     }
 
     /// The ring of the latest loop, with its tags; empty before the first.

@@ -17,6 +17,7 @@
 //! | `times`, `waves_fault`, `calm` | timetables: before which wave each part is calm |
 //! | `class_fault`, `classes_fault`, `class_steps` | the exact fault: a router without a step, or a ring |
 //! | `graph`, `live`, `ring`, `tags` | steps of any kind and walks over them, and a ring with its tags |
+//! | `retag` | the tags by another start |
 //!
 //! `new` takes time of classes times routers, of classes times parts, and of the steps to which steps lead from routers that
 //! don't do the same as for the class before; an order that of its changes and of the walks behind the first place at which it
@@ -57,6 +58,7 @@ mod class_fault;
 mod class_steps;
 mod classes_fault;
 mod live;
+mod retag;
 mod ring;
 mod tags;
 

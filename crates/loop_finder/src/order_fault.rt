@@ -39,20 +39,19 @@ pub(crate) fn state_fault<O: RouteSource, N: RouteSource>(
     classes_fault(mixed, parts, phases, phases, room)
 }
 
-/// Whether the state in which every router is in its old phase is sound. The room may keep the ring of its fault.
-pub(crate) fn begin_is_sound<O: RouteSource, N: RouteSource>(
+/// Whether a state is sound. The room may keep the ring of its fault.
+pub(crate) fn is_sound<O: RouteSource, N: RouteSource>(
     mixed: &Mixed<'_, O, N>,
     parts: &[Part<'_>],
-    phases: &mut [Phase],
+    phases: &[Phase],
     room: &mut Room,
 ) -> bool
     requires parts { AreParts (mix_of O.table N.table mixed.now) parts.now (length mixed.now.classes.samples) }
-    requires phases { length phases.old ≡ length mixed.now.net }
+    requires phases { length phases.now ≡ length mixed.now.net }
     requires room { HasRoom (length mixed.now.net) room.old }
     ensures room { HasRoom (length mixed.now.net) room.new }
-    ensures sound { OnTrue result (Sound (mix_of O.table N.table mixed.now) all_old) }
+    ensures sound { OnTrue result (Sound (mix_of O.table N.table mixed.now) (state_in phases.now)) }
 {
-    begin(phases);
     match state_fault(mixed, parts, phases, room) {
         Some(_) => false,
         None => true,

@@ -192,3 +192,13 @@ fn stirred_fault<O: RouteSource, N: RouteSource>(
     }
     None
 }
+
+/// The fault alone, of an answer with the number of its wave.
+pub(crate) fn fault_alone(found: Option<(u32, Fault)>) -> Option<Fault>
+    ensures { result ≡ told found }
+{
+    match found {
+        Some((_, fault)) => Some(fault),
+        None => None,
+    }
+}

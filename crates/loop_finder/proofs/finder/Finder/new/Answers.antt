@@ -1,31 +1,13 @@
-use Rattle.std.proofs.Common.{ℕ, List, length, ap, ◌∙◌, arith, subst}
-use Rattle.net_model.specs.Network.{Network}
-use Rattle.loop_finder.specs.Calm.{AreCalm}
-use Rattle.loop_finder.specs.Parts.{ClassPart}
-use Rattle.loop_finder.specs.Times.{times_in}
-use Rattle.loop_finder.specs.Watches.{IsWatch}
+use Rattle.std.proofs.Common.{◌≡◌, ap, ◌∙◌}
+use Rattle.std.proofs.lemmas.Result.{IfOk-weaker}
+use Rattle.igp_theory.specs.Phases.{all_old}
+use Rattle.loop_finder.specs.Faults.{Finding, state_in}
+use Rattle.loop_finder.proofs.Started.{replicated_old}
 use Rattle.loop_finder.proofs.finder.Finder.new.Goals as goal
 
-pub invariant_of-result : goal.invariant_of-result
-invariant_of-result g c = record {
-  few = omega (arith, c.routers-routers.type_inv, c.routers-routers.ensures.count, ap (λ (n : Network). length n) c.net.ensures);
-  parts_are = c.in_ok-parts.ensures;
-  watch_is = subst (λ (xs : List ClassPart). IsWatch xs (length c.args.mixed.now.net) c.in_ok-watch.watch.items) c.as_slice.ensures.value
-      (subst (λ (n : ℕ). IsWatch c.as_slice.result.now n c.in_ok-watch.watch.items) (c.routers-routers.ensures.count
-      ∙ ap (λ (n : Network). length n) c.net.ensures) c.in_ok-watch.ensures);
-  times_many = omega (arith, c.in_ok-times.ensures.len, c.routers-routers.ensures.count, ap (λ (n : Network). length n) c.net.ensures);
-  calm_is = subst (λ (xs : List ClassPart). AreCalm xs (times_in c.in_ok-times.times.items) c.in_ok-calm.calm.items) c.as_slice-2.ensures.value
-      (c.in_ok-calm.ensures (times_in c.in_ok-times.times.items));
-  order_many = omega (arith, c.in_ok-order.ensures.len, c.routers-routers.ensures.count, ap (λ (n : Network). length n) c.net.ensures);
-  order_is = λ k less. absurd (omega (arith, less));
-  begun_is = c.begin_is_sound-begun.ensures.sound;
-  asked_many = omega (arith, c.in_ok-asked.ensures.len, c.routers-routers.ensures.count, ap (λ (n : Network). length n) c.net.ensures);
-  phases_many = omega (arith, c.in_ok-phases.ensures.len, c.routers-routers.ensures.count, ap (λ (n : Network). length n) c.net.ensures);
-  later_many = omega (arith, c.in_ok-later.ensures.len, c.routers-routers.ensures.count, ap (λ (n : Network). length n) c.net.ensures);
-  room_is = record {
-    forwards = c.begin_is_sound-begun.ensures.room.forwards;
-    live = c.begin_is_sound-begun.ensures.room.live;
-    path = c.begin_is_sound-begun.ensures.room.path;
-    ring = omega (arith, c.begin_is_sound-begun.ensures.room.ring, c.clear.ensures.capacity);
-  };
-}
+pub returns-clause-start : goal.returns-clause-start
+returns-clause-start g c =
+    IfOk-weaker c.over.result (λ (finder : Finding g.row.O.Denot g.row.N.Denot). finder.start ≡ c.in_ok-start.start.items)
+    (λ (finder : Finding g.row.O.Denot g.row.N.Denot). state_in finder.start ≡ all_old)
+    (λ finder is. ap state_in is ∙ replicated_old c.in_ok-start.start.items c.routers.result (c.in_ok-start.ensures.items_if_clones_equal (λ y same. same)))
+    c.over.ensures.start

@@ -1,14 +1,16 @@
-use Rattle.std.proofs.Common.{ℕ, ◌↔◌, List, IsNone, length, subst, sym, ap, ◌∙◌, arith}
+use Rattle.std.proofs.Common.{ℕ, ◌↔◌, Bool, List, IsNone, length, subst, sym, ap, ◌∙◌, arith}
+use Rattle.std.specs.Bool.{OnTrue}
 use Rattle.order_core.specs.Orders.{IsOrder}
 use Rattle.order_core.proofs.Orders.{order_length}
-use Rattle.igp_theory.specs.Phases.{State}
+use Rattle.igp_theory.specs.Phases.{State, all_old}
 use Rattle.igp_theory.specs.States.{IsSeamless, state_of}
 use Rattle.rib_mix.specs.Mixture.{migration_of}
-use Rattle.loop_finder.specs.Faults.{Finding}
+use Rattle.loop_finder.specs.Faults.{Finding, state_in}
 use Rattle.loop_finder.specs.Orders.{AreFirstStates}
 use Rattle.loop_finder.specs.Soundness.{Sound}
 use Rattle.loop_finder.proofs.FaultLaws.{none_seamless}
 use Rattle.loop_finder.proofs.OrderStates.{same_state}
+use Rattle.loop_finder.proofs.Started.{begun_old}
 use Rattle.loop_finder.specs.Mixes.{mix_of}
 use Rattle.loop_finder.proofs.finder.Finder.order_fault.Goals as goal
 
@@ -40,3 +42,9 @@ copy_from_slice-requires g c =
     let order : IsOrder (length c.self.inside.mixed.now.net) c.args.order.now =
     subst (λ (x : Finding g.row.O.Denot g.row.N.Denot). IsOrder (length x.mixture.net) c.args.order.now) (sym c.self.view_is) c.requires in
     omega (arith, c.self.inside.order.ok.0, c.self.invariant.order_many, order_length (length c.self.inside.mixed.now.net) c.args.order.now order)
+
+pub order_fault-found-requires-clause-begun : goal.order_fault-found-requires-clause-begun
+order_fault-found-requires-clause-begun g c =
+    subst (λ (b : Bool). OnTrue b (Sound (mix_of g.O.RouteSource.table g.N.RouteSource.table c.self.inside.mixed.now) all_old)) (sym c.is_old_begun-begun.ensures)
+    (begun_old (mix_of g.O.RouteSource.table g.N.RouteSource.table c.self.inside.mixed.now) (state_in c.self.inside.start.items)
+    c.self.inside.begun c.self.inside.from_old c.self.invariant.begun_is c.self.invariant.old_is)

@@ -2,7 +2,7 @@ use Rattle.std.proofs.Common.{ℕ, List, ◌++◌, take, drop}
 use Rattle.loop_finder.specs.Calm.{AreCalm}
 use Rattle.loop_finder.specs.Parts.{ClassPart}
 use Rattle.loop_finder.specs.declared.times.ChangeWaves.{ChangeWaves}
-use Rattle.std.proofs.Common.{◌≡◌, ◌↔◌, arith, IsNone, IfNone, IfSome, length, subst, sym, ap, ◌∙◌}
+use Rattle.std.proofs.Common.{◌≡◌, ◌↔◌, Bool, arith, IsNone, IfNone, IfSome, length, subst, sym, ap, ◌∙◌}
 use Rattle.std.specs.Bool.{OnTrue}
 use Rattle.order_core.specs.Rankings.{IsRanking}
 use Rattle.igp_theory.specs.Phases.{all_old}
@@ -11,12 +11,14 @@ use Rattle.igp_theory.specs.WaveFaults.{IsTimesFault}
 use Rattle.igp_theory.specs.Waves.{AreSeamlessWaves}
 use Rattle.igp_theory.proofs.Switches.{routers_have_times}
 use Rattle.rib_mix.specs.Mixture.{migration_of}
-use Rattle.loop_finder.specs.Faults.{Finding, told_fault}
+use Rattle.loop_finder.specs.Faults.{Finding, state_in, told_fault}
 use Rattle.loop_finder.specs.Mixes.{mix_of}
 use Rattle.loop_finder.specs.Times.{times_in}
+use Rattle.loop_finder.specs.Soundness.{Sound}
 use Rattle.loop_finder.specs.steps.Times.{IsInOrder}
 use Rattle.loop_finder.specs.steps.Verdicts.{SoundWaves, FaultyWaves}
 use Rattle.loop_finder.specs.steps.WaveStarts.{BeginsSound}
+use Rattle.loop_finder.proofs.Started.{begun_old}
 use Rattle.loop_finder.proofs.WaveListFacts.{none_seamless}
 use Rattle.loop_finder.proofs.WavePhases.{rank_fits, written}
 use Rattle.loop_finder.proofs.WaveSteps.{begun_from}
@@ -29,11 +31,15 @@ rank_waves-requires-clause-few g c u = rank_fits (length c.self.inside.mixed.now
 
 pub times_fault-requires-clause-begun : goal.times_fault-requires-clause-begun
 times_fault-requires-clause-begun g c =
-    subst (λ (time : Timetable). OnTrue c.self.inside.begun (BeginsSound (mix_of g.O.RouteSource.table g.N.RouteSource.table c.self.inside.mixed.now) time 1))
+    subst (λ (time : Timetable). OnTrue c.is_old_begun-begun.result (BeginsSound (mix_of g.O.RouteSource.table g.N.RouteSource.table c.self.inside.mixed.now) time 1))
     (sym (ap times_in (c.as_slice-3.ensures.value ∙ written c.self.inside.asked.len c.rank_waves.new.times c.self.inside.asked.items
     (omega (arith, c.rank_waves.auto.times, c.self.inside.asked.ok.0, c.deref_mut.ensures))) ∙ c.rank_waves.ensures))
     (begun_from (mix_of g.O.RouteSource.table g.N.RouteSource.table c.self.inside.mixed.now) (router_times all_old c.args.ranks.now) all_old
-    c.self.inside.begun (routers_have_times (length c.self.inside.mixed.now.net) all_old c.args.ranks.now) c.self.invariant.begun_is)
+    c.is_old_begun-begun.result (routers_have_times (length c.self.inside.mixed.now.net) all_old c.args.ranks.now)
+    (subst (λ (b : Bool). OnTrue b (Sound (mix_of g.O.RouteSource.table g.N.RouteSource.table c.self.inside.mixed.now) all_old))
+    (sym c.is_old_begun-begun.ensures)
+    (begun_old (mix_of g.O.RouteSource.table g.N.RouteSource.table c.self.inside.mixed.now) (state_in c.self.inside.start.items)
+    c.self.inside.begun c.self.inside.from_old c.self.invariant.begun_is c.self.invariant.old_is)))
 
 pub times_fault-requires-clause-order : goal.times_fault-requires-clause-order
 times_fault-requires-clause-order g c =
@@ -84,6 +90,8 @@ invariant_of-self g c =
       watch_is = c.self.invariant.watch_is;
       order_many = c.self.invariant.order_many;
       order_is = c.self.invariant.order_is;
+      start_many = c.self.invariant.start_many;
+      old_is = c.self.invariant.old_is;
       begun_is = c.self.invariant.begun_is;
       asked_many = c.self.invariant.asked_many;
       phases_many = c.self.invariant.phases_many;
