@@ -1,7 +1,12 @@
+pub mod Serving
+pub mod Numbers
 pub mod Decided
-pub mod OnePlan
-pub mod Ends
-pub mod Meaning
 pub mod WaveBreaks
+pub mod Ends
+pub mod RoutersServe
+pub mod ChangesServe
+pub mod ItemsServe
+pub mod OnePlan
+pub mod Meaning
 pub mod AlikeFaults
 pub mod PlanTables

@@ -1,29 +1,70 @@
 -- What the laws on plans say (Vanbever et al., SIGCOMM 2011, on seamless orders and their loops).
-use Rattle.std.specs.Prelude.{◌≡◌, ℕ, List, []}
+use Rattle.std.specs.Prelude.{◌≡◌, ℕ, List, take}
 use Rattle.order_core.specs.Rankings.{flat_of}
+use Rattle.igp_theory.specs.Changes.{Change}
 use Rattle.igp_theory.specs.LoopLaws.{BeginsOld}
-use Rattle.igp_theory.specs.Loops.{IsLoop}
 use Rattle.igp_theory.specs.Migrations.{Migration}
-use Rattle.igp_theory.specs.States.{IsSeamless}
+use Rattle.igp_theory.specs.States.{IsSound, IsSeamless}
+use Rattle.igp_theory.specs.Timetables.{state_after}
 use Rattle.igp_theory.specs.Waves.{AreSeamlessWaves, HasNoneSeamless}
 use Rattle.order_search.specs.Laws.{IsDecisive, PicksOne}
 use Rattle.order_search.specs.declared.found.Found.{Found}
 use Rattle.order_search.specs.declared.found.Found.TheVariants.{Waves, Refuted, Spent}
-use Rattle.plan_theory.specs.WavesMeaning.{IsPickedFault}
-use Rattle.plan_theory.specs.Plans.{IsPlanned}
+use Rattle.plan_theory.specs.Ranked.{Ranked, CanRank, ranked}
+use Rattle.plan_theory.specs.WavesMeaning.{IsGoodRanking, LoopFor, IsPickedFault}
+use Rattle.plan_theory.specs.Plans.{IsNightPlanned, IsPlanned}
+use Rattle.plan_theory.specs.declared.items.Items.{Items}
 use Rattle.plan_theory.specs.declared.planned.Planned.{Planned}
 use Rattle.plan_theory.specs.declared.planned.Planned.TheVariants.{UnsoundOld, UnsoundNew, Searched}
 
--- what a seamless wave list owes to the loops: it ranks some Old turn's router of every loop with both tags before some New
--- turn's router. The other way is a law between sound ends alone (`WavesAreSeamlessByLoops`)
-abbrev pub WavesAreDecided : Migration → Type 0
-WavesAreDecided move = IsDecisive (AreSeamlessWaves move) (IsLoop move) []
+-- Whatever is ranked
 
--- one loop at most is told of a wave list, and none of a seamless one
-abbrev pub WavesPickOne : Migration → Type 0
-WavesPickOne move = PicksOne (AreSeamlessWaves move) (IsPickedFault move)
+-- what a good ranking owes to the loops: it keeps the base, and ranks the number of some Old turn of every loop with both tags
+-- before that of some New turn. The other way holds between sound ends alone
+abbrev pub RankingsAreDecided : Migration → Type 0
+RankingsAreDecided move =
+    (items : Items) → CanRank items move →
+    IsDecisive (IsGoodRanking move (ranked items move)) (LoopFor move (ranked items move)) (ranked items move).base
+
+-- one loop at most is told of a ranking, and none of a good one
+abbrev pub RankingsPickOne : Migration → Type 0
+RankingsPickOne move =
+    (items : Items) → CanRank items move → PicksOne (IsGoodRanking move (ranked items move)) (IsPickedFault move (ranked items move))
 
 -- a network has one plan with a budget
+abbrev pub NightPlansAreOne : Migration → Type 0
+NightPlansAreOne move =
+    (items : Items) (budget : ℕ) (planned other : Planned) → CanRank items move → IsNightPlanned move (ranked items move) budget planned →
+    IsNightPlanned move (ranked items move) budget other → planned ≡ other
+
+-- every state along a list of changes is sound, the start included
+abbrev pub IsSoundAlong : Migration → List Change → Type 0
+IsSoundAlong move run = (k : ℕ) → IsSound move (state_after move.start (take k run))
+
+-- no ranking is good, and no list of the changes has only sound states
+pub record HasNoneSound (move : Migration) (r : Ranked) : Type 0 where
+  pub waves : (ranks : List ℕ) → ¬ IsGoodRanking move r ranks
+  pub lists : (run : List Change) → r.lists run → ¬ IsSoundAlong move run
+
+-- what was found means: a ranking is good, and a closed tree leaves none that is
+abbrev pub NightFoundMeans : Migration → Ranked → Found → Type 0
+NightFoundMeans move r (Waves ranks pairs chain trail) = IsGoodRanking move r ranks
+NightFoundMeans move r (Refuted tree) = HasNoneSound move r
+NightFoundMeans move r (Spent tree) = Unit {0}
+
+-- what a plan means: an end that isn't sound leaves none either
+abbrev pub NightPlanMeans : Migration → Ranked → Planned → Type 0
+NightPlanMeans move r (UnsoundOld fault) = HasNoneSound move r
+NightPlanMeans move r (UnsoundNew fault) = HasNoneSound move r
+NightPlanMeans move r (Searched found) = NightFoundMeans move r found
+
+abbrev pub NightPlansMean : Migration → Type 0
+NightPlansMean move =
+    (items : Items) (budget : ℕ) (planned : Planned) → CanRank items move → IsNightPlanned move (ranked items move) budget planned →
+    NightPlanMeans move (ranked items move) planned
+
+-- Where routers are ranked and every one begins in Old
+
 abbrev pub PlansAreOne : Migration → Type 0
 PlansAreOne move =
     (budget : ℕ) (planned other : Planned) → IsPlanned move budget planned →

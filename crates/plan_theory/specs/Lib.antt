@@ -4,6 +4,7 @@ pub use Rattle.igp_theory.specs.Timetables
 pub use Rattle.igp_theory.specs.Waves
 pub use Rattle.order_search.specs.Answers
 pub use Rattle.order_search.specs.Meanings
+pub mod Ranked
 pub mod WavesMeaning
 pub mod Plans
 pub mod Laws

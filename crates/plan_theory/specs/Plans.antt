@@ -7,7 +7,8 @@ use Rattle.igp_theory.specs.Phases.{all_new}
 use Rattle.igp_theory.specs.States.{IsSound}
 use Rattle.order_search.specs.Answers.{IsFound}
 use Rattle.order_search.specs.declared.found.Found.{Found}
-use Rattle.plan_theory.specs.WavesMeaning.{waves_meaning}
+use Rattle.plan_theory.specs.Ranked.{Ranked, routers_ranked}
+use Rattle.plan_theory.specs.WavesMeaning.{night_meaning}
 use Rattle.plan_theory.specs.declared.planned.EndFault.{EndFault}
 use Rattle.plan_theory.specs.declared.planned.EndFault.TheVariants.{Loop, Missing}
 use Rattle.plan_theory.specs.declared.planned.Planned.{Planned}
@@ -24,12 +25,16 @@ pub record IsUnsoundNew (move : Migration) (fault : Fault) : Type 0 where
   pub last : IsFault move all_new fault
 
 -- both are sound, and this is what the search found between them
-pub record IsSearched (move : Migration) (budget : ℕ) (found : Found) : Type 0 where
+pub record IsSearched (move : Migration) (r : Ranked) (budget : ℕ) (found : Found) : Type 0 where
   pub ends : AreSoundEnds move
-  pub is_found : IsFound (waves_meaning move) budget found
+  pub is_found : IsFound (night_meaning move r) budget found
 
--- what is planned of a network, with this budget of branches
+-- what is planned of a network for what is ranked, with this budget of branches
+abbrev pub IsNightPlanned : Migration → Ranked → ℕ → Planned → Type 0
+IsNightPlanned move r budget (UnsoundOld fault) = IsFault move move.start (fault_told fault)
+IsNightPlanned move r budget (UnsoundNew fault) = IsUnsoundNew move (fault_told fault)
+IsNightPlanned move r budget (Searched found) = IsSearched move r budget found
+
+-- and where routers are ranked
 abbrev pub IsPlanned : Migration → ℕ → Planned → Type 0
-IsPlanned move budget (UnsoundOld fault) = IsFault move move.start (fault_told fault)
-IsPlanned move budget (UnsoundNew fault) = IsUnsoundNew move (fault_told fault)
-IsPlanned move budget (Searched found) = IsSearched move budget found
+IsPlanned move = IsNightPlanned move (routers_ranked move)

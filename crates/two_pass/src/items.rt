@@ -1,21 +1,21 @@
 ghost use Rattle.std.specs.Prelude.{◌≡◌, ◌-◌, ◌≤◌, ◌↔◌, ℕ, length, map, take, IfOk, IfSome, IsTrue, MatchBool, MatchOption, Some};
 ghost use Rattle.std.specs.List.{AllZip};
-ghost use Rattle.two_pass.specs.ChangeWords.{IsChangeNumber, IsChangeWord, change_word};
+ghost use Rattle.two_pass.specs.ChangeWords.{IsChangeNumber, IsChangeWord, NamesItem, change_word};
 ghost use Rattle.two_pass.specs.steps.Found.{AscendWhereFound, DescendSomewhere, EndsAsChange, IsItemFound, LacksSome};
 
 use net_model::Net;
 use std::alloc::{AllocError, Global};
 
 /// Whether a word has the form of a change's: a byte or more, a colon, and 1 or 2.
-pub(crate) fn is_change_word(word: &[u8]) -> bool
+pub fn is_change_word(word: &[u8]) -> bool
     ensures { IsTrue result ↔ IsChangeWord word.now }
 {
     word.len() > 2 && change_number(word).is_some()
 }
 
 /// The item of the change that a word names.
-pub(crate) fn item_of(net: &Net, word: &[u8]) -> Option<u32>
-    ensures { IsItemFound net.now word.now result }
+pub fn item_of(net: &Net, word: &[u8]) -> Option<u32>
+    ensures { MatchOption result ((item : ℕ) → NamesItem net.now word.now item → ⊥) (NamesItem net.now word.now) }
 {
     let number = change_number(word)?;
     let router = net.number_of(&word[..word.len() - 2])?;
@@ -43,7 +43,7 @@ fn change_number(word: &[u8]) -> Option<u32>
 }
 
 /// The items that words name, of each the one that it names.
-pub(crate) fn items_found(
+pub fn items_found(
     alloc: Global,
     net: &Net,
     words: &[&[u8]],
@@ -58,7 +58,7 @@ pub(crate) fn items_found(
 }
 
 /// Whether no item that was found stands behind a higher one.
-pub(crate) fn are_in_order(found: &[Option<u32>]) -> bool
+pub fn are_in_order(found: &[Option<u32>]) -> bool
     ensures { MatchBool result (AscendWhereFound found.now (length found.now)) (DescendSomewhere found.now) }
 {
     let mut most = 0;

@@ -1,0 +1,4 @@
+pub mod NumberWords
+pub mod StartedSteps
+pub mod MiddleSteps
+pub mod NumberLaws

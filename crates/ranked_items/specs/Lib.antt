@@ -1,0 +1,2 @@
+pub use Rattle.plan_theory.specs.Ranked
+pub mod Numbers

@@ -1,0 +1,36 @@
+-- The words of numbers, and which number a router has for an address.
+use Rattle.std.specs.Prelude.{ℕ, ◌<◌, ◌↔◌, List, length, slice_index_or}
+use Rattle.net_model.specs.Lookups.{IsNamed}
+use Rattle.net_model.specs.Network.{Network}
+use Rattle.order_core.specs.declared.turn.Tag.{Tag}
+use Rattle.order_core.specs.declared.turn.Turn.{Turn}
+use Rattle.igp_theory.specs.Phases.{State}
+use Rattle.igp_theory.specs.declared.phase.Phase.{Phase}
+use Rattle.igp_theory.specs.declared.phase.Phase.TheVariants.{Old}
+use Rattle.rib_mix.specs.Answers.{NextLeadsTo}
+use Rattle.rib_mix.specs.declared.next.Next.{Next}
+use Rattle.two_pass.specs.ChangeWords.{IsChangeWord, NamesItem}
+use Rattle.plan_theory.specs.declared.items.Items.{Items}
+use Rattle.plan_theory.specs.declared.items.Items.TheVariants.{Routers, Changes}
+
+-- a word has the form of a number's: the name of a router, of a byte or more, or the word of a change
+abbrev pub IsNumberWord : Items → List ℕ → Type 0
+IsNumberWord Routers word = 0 < length word
+IsNumberWord Changes word = IsChangeWord word
+
+-- the number that a word names
+abbrev pub NamesNumber : Items → Network → List ℕ → ℕ → Type 0
+NamesNumber Routers net word number = IsNamed net word number
+NamesNumber Changes net word number = NamesItem net word number
+
+-- a turn of its parts
+abbrev pub turn_of : ℕ → Tag → Turn
+turn_of number tag = record { router = number; tag = tag }
+
+-- two answers forward to the same routers
+abbrev pub LeadAlike : Next → Next → Type 0
+LeadAlike one other = (h : ℕ) → NextLeadsTo one h ↔ NextLeadsTo other h
+
+-- the start that gives each router the phase at its place, and Old where there is none
+abbrev pub start_of : List Phase → State
+start_of phases u = slice_index_or phases u Old
