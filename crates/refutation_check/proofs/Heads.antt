@@ -1,11 +1,21 @@
 -- From the verdict on the lines of nodes to that on the text.
-use Rattle.std.proofs.Common.{◌≡◌, ℕ, ◌+◌, ◌<◌, List, [], ◌∷◌, ◌++◌, get_or, replicate, subst, sym, ap}
+use Rattle.std.proofs.Common.{◌≡◌, ℕ, ◌+◌, ◌*◌, ◌<◌, List, [], ◌∷◌, ◌++◌, inl, inr, get_or, length, replicate, arith, subst, sym, ap}
+use Rattle.std.proofs.lemmas.Bool.{cases_lt}
+use Rattle.std.proofs.lemmas.List.{get_or-replicate, get_or_past, length-replicate}
+use Rattle.std.proofs.lemmas.List.Elements.{All-map, All-nil, Contains-get_or}
+use Rattle.order_core.specs.Pairs.{Pair, AreBelow}
+use Rattle.order_core.specs.Rankings.{numbers_below}
+use Rattle.order_core.proofs.WaveLists.{numbers_are_below}
+use Rattle.igp_theory.specs.Changes.{first, second}
+use Rattle.igp_theory.specs.Timetables.{change_number}
 use Rattle.net_addr.specs.Lines.{line_texts}
 use Rattle.igp_theory.specs.Migrations.{Migration}
 use Rattle.igp_theory.specs.Phases.{State, all_old}
 use Rattle.igp_theory.specs.declared.phase.Phase.{Phase}
 use Rattle.igp_theory.specs.declared.phase.Phase.TheVariants.{Old}
+use Rattle.plan_theory.specs.Ranked.{base_of, size_of}
 use Rattle.plan_theory.specs.declared.items.Items.{Items}
+use Rattle.plan_theory.specs.declared.items.Items.TheVariants.{Routers, Changes}
 use Rattle.ranked_items.specs.Numbers.{start_of}
 use Rattle.refutation_check.specs.Verdicts.{IsHeadedVerdict, IsLinesVerdict, behind_header}
 use Rattle.refutation_check.specs.declared.verdict.Verdict.{Verdict}
@@ -23,4 +33,16 @@ pub old_start : (n : ℕ) → start_of (replicate n Old) ≡ all_old
 old_start n = λ i u. at n u i
   where
     at : (m u : ℕ) → get_or (replicate m Old) u Old ≡ Old
-    at m u = ?
+    at m u = elim (cases_lt u m) [
+      | inl below ↦ get_or-replicate m u Old Old below
+      | inr past ↦ get_or_past (replicate m Old) u Old (omega (arith, past, length-replicate m Old))
+    ]
+
+-- the pairs of a base are of numbers
+pub base_below : (items : Items) (n : ℕ) → AreBelow (size_of items n) (base_of items n)
+base_below Routers n = All-nil (λ (p : Pair). (p.0 < n) × (p.1 < n))
+base_below Changes n =
+    All-map (λ (p : Pair). (p.0 < 2 * n) × (p.1 < 2 * n)) (λ (u : ℕ). (change_number (first u), change_number (second u))) (numbers_below n)
+    (λ k d within.
+    let below = (numbers_are_below n (get_or (numbers_below n) k d)).0 (Contains-get_or (numbers_below n) k d within) in
+    (omega (arith, below), omega (arith, below)))
