@@ -1,9 +1,8 @@
 -- The numbers of single changes serve, where every router begins in Old.
-use Rattle.std.proofs.Common.{◌≡◌, ◌≢◌, ℕ, ◌+◌, ◌*◌, ◌/◌, ◌<◌, ◌≤◌, ◌⊎◌, inl, inr, List, length, map, get_or, Contains, refl, sym, ap, ◌∙◌, subst, arith}
+use Rattle.std.proofs.Common.{◌≡◌, ℕ, ◌+◌, ◌*◌, ◌/◌, ◌<◌, ◌≤◌, inl, inr, List, length, map, get_or, Contains, refl, sym, ap, ◌∙◌, subst, arith}
 use Rattle.std.specs.List.{AllPairs}
 use Rattle.std.proofs.lemmas.Bool.{cases_lt}
 use Rattle.std.proofs.lemmas.List.{get_or-map, get_or_default, get_or_past, length-map}
-use Rattle.std.proofs.lemmas.List.Elements.{Contains-get_or}
 use Rattle.net_model.proofs.Members.{Contains-map, Contains-in_map}
 use Rattle.order_core.specs.Orders.{IsOrder}
 use Rattle.order_core.specs.Pairs.{Pair}
@@ -22,7 +21,7 @@ use Rattle.igp_theory.proofs.OnesWaves.{rank_tells}
 use Rattle.igp_theory.proofs.Switches.{change_switches, one_switch}
 use Rattle.igp_theory.proofs.Timetables.{before_old}
 use Rattle.plan_theory.specs.Ranked.{ListsAllChanges, NamesSwitch, by_router, change_base, changes_ranked}
-use Rattle.plan_theory.proofs.Serving.{IsRankedAlone, Serves}
+use Rattle.plan_theory.proofs.Serving.{Serves}
 
 -- The numbers of changes
 

@@ -1,6 +1,6 @@
 -- Both ends are states of every timetable, so where one of them isn't sound, nothing is sound throughout; and a list of changes
 -- with only sound states is sound throughout where it is the one run.
-use Rattle.std.proofs.Common.{◌≡◌, ℕ, zero, suc, ◌+◌, ◌<◌, ◌≤◌, inl, inr, List, length, take, arith, sym, ap, ◌∙◌, refl}
+use Rattle.std.proofs.Common.{◌≡◌, ℕ, zero, suc, ◌+◌, ◌<◌, ◌≤◌, inl, inr, List, length, take, arith, sym, ap, ◌∙◌}
 use Rattle.std.proofs.lemmas.Bool.{cases_lt}
 use Rattle.igp_theory.specs.Changes.{Change, second}
 use Rattle.igp_theory.specs.Migrations.{Migration}

@@ -1,16 +1,16 @@
 -- The turns of a loop and the numbers that they name.
-use Rattle.std.proofs.Common.{◌≡◌, ◌≢◌, ℕ, ◌+◌, ◌<◌, ◌≤◌, inl, inr, if◌then◌else◌, Bool, eqb, List, [], ◌∷◌, length, map, get_or, Contains, All, AllPairs}
+use Rattle.std.proofs.Common.{◌≡◌, ◌≢◌, ℕ, ◌+◌, ◌<◌, inl, inr, if◌then◌else◌, Bool, eqb, List, [], ◌∷◌, length, map, get_or, Contains, All, AllPairs}
 use Rattle.std.proofs.Common.{refl, sym, ap, ◌∙◌, subst, arith}
 use Rattle.std.proofs.lemmas.Bool.Decides.{eqb_tells}
 use Rattle.std.proofs.lemmas.List.{get_or-map, length-map}
 use Rattle.std.proofs.lemmas.List.Elements.{All-contains, All-head, All-tail, Contains-get_or}
-use Rattle.net_model.proofs.Members.{Contains-none, Contains-first, Contains-rest, Contains-cases, Contains-map, Contains-in_map}
+use Rattle.net_model.proofs.Members.{Contains-none, Contains-cases, Contains-map, Contains-in_map}
 use Rattle.order_core.specs.Rankings.{rank_of}
 use Rattle.order_core.specs.Turns.{old_routers, new_routers, HasBothTags}
 use Rattle.order_core.specs.declared.turn.Tag.{Tag}
 use Rattle.order_core.specs.declared.turn.Tag.TheVariants as tag
 use Rattle.order_core.specs.declared.turn.Turn.{Turn}
-use Rattle.igp_theory.specs.Loops.{IsTag, AroundRing}
+use Rattle.igp_theory.specs.Loops.{IsTag}
 use Rattle.igp_theory.specs.Migrations.{Migration}
 use Rattle.igp_theory.specs.TimetableLaws.{SwitchesIn, AreSwitched}
 use Rattle.igp_theory.specs.Timetables.{IsTimetable}

@@ -1,5 +1,5 @@
 -- What numbers owe to a migration. All that is proved of plans is proved from it.
-use Rattle.std.proofs.Common.{◌≡◌, ℕ, ◌+◌, ◌<◌, List, length, map}
+use Rattle.std.proofs.Common.{◌≡◌, ℕ, ◌+◌, ◌<◌, ◌↔◌, List, length, map}
 use Rattle.order_core.specs.Rankings.{IsRanking, KeepsPairs, rank_of}
 use Rattle.order_core.specs.declared.turn.Turn.{Turn}
 use Rattle.igp_theory.specs.Changes.{Change}
@@ -7,7 +7,9 @@ use Rattle.igp_theory.specs.Loops.{IsTag}
 use Rattle.igp_theory.specs.Migrations.{Migration}
 use Rattle.igp_theory.specs.TimetableLaws.{SwitchesIn}
 use Rattle.igp_theory.specs.Timetables.{IsTimetable, IsRun}
+use Rattle.order_search.specs.Meanings.{Meaning}
 use Rattle.plan_theory.specs.Ranked.{Ranked}
+use Rattle.plan_theory.specs.WavesMeaning.{IsGoodRanking, IsToldFor, LoopFor}
 
 -- a turn of a number, by its router
 abbrev pub at_router : (ℕ → ℕ) → Turn → Turn
@@ -31,3 +33,11 @@ pub record Serves (move : Migration) (r : Ranked) : Type 0 where
   pub switched : (ranks : List ℕ) (a : ℕ) (t : Turn) (next : ℕ) → IsTimetable (length move.net) move.start (r.times ranks) → r.names a t →
       IsTag move a (at_router router t) next → SwitchesIn move (r.times ranks) a (at_router router t) next (rank_of ranks t.router + 1)
   pub ranked : (run : List Change) → r.lists run → IsRankedAlone move r run
+
+-- what is asked of a network says what the numbers say
+pub record Asks (move : Migration) (r : Ranked) (m : Meaning) : Type 0 where
+  pub size : m.size ≡ r.size
+  pub base : m.base ≡ r.base
+  pub good : (ranks : List ℕ) → m.good ranks ↔ IsGoodRanking move r ranks
+  pub real : (a : ℕ) (turns : List Turn) → m.real a turns ↔ LoopFor move r a turns
+  pub picked : (ranks : List ℕ) (a : ℕ) (turns : List Turn) → m.picked ranks a turns ↔ IsToldFor move r ranks a turns

@@ -10,8 +10,8 @@ use Rattle.igp_theory.specs.Waves.{AreSeamlessWaves, HasNoneSeamless}
 use Rattle.order_search.specs.Laws.{IsDecisive, PicksOne}
 use Rattle.order_search.specs.declared.found.Found.{Found}
 use Rattle.order_search.specs.declared.found.Found.TheVariants.{Waves, Refuted, Spent}
-use Rattle.plan_theory.specs.Ranked.{Ranked, CanRank, ranked}
-use Rattle.plan_theory.specs.WavesMeaning.{IsGoodRanking, LoopFor, IsPickedFault}
+use Rattle.plan_theory.specs.Ranked.{CanRank, ranked}
+use Rattle.plan_theory.specs.WavesMeaning.{night_meaning}
 use Rattle.plan_theory.specs.Plans.{IsNightPlanned, IsPlanned}
 use Rattle.plan_theory.specs.declared.items.Items.{Items}
 use Rattle.plan_theory.specs.declared.planned.Planned.{Planned}
@@ -24,44 +24,44 @@ use Rattle.plan_theory.specs.declared.planned.Planned.TheVariants.{UnsoundOld, U
 abbrev pub RankingsAreDecided : Migration → Type 0
 RankingsAreDecided move =
     (items : Items) → CanRank items move →
-    IsDecisive (IsGoodRanking move (ranked items move)) (LoopFor move (ranked items move)) (ranked items move).base
+    IsDecisive (night_meaning items move).good (night_meaning items move).real (night_meaning items move).base
 
 -- one loop at most is told of a ranking, and none of a good one
 abbrev pub RankingsPickOne : Migration → Type 0
 RankingsPickOne move =
-    (items : Items) → CanRank items move → PicksOne (IsGoodRanking move (ranked items move)) (IsPickedFault move (ranked items move))
+    (items : Items) → CanRank items move → PicksOne (night_meaning items move).good (night_meaning items move).picked
 
 -- a network has one plan with a budget
 abbrev pub NightPlansAreOne : Migration → Type 0
 NightPlansAreOne move =
-    (items : Items) (budget : ℕ) (planned other : Planned) → CanRank items move → IsNightPlanned move (ranked items move) budget planned →
-    IsNightPlanned move (ranked items move) budget other → planned ≡ other
+    (items : Items) (budget : ℕ) (planned other : Planned) → CanRank items move → IsNightPlanned items move budget planned →
+    IsNightPlanned items move budget other → planned ≡ other
 
 -- every state along a list of changes is sound, the start included
 abbrev pub IsSoundAlong : Migration → List Change → Type 0
 IsSoundAlong move run = (k : ℕ) → IsSound move (state_after move.start (take k run))
 
 -- no ranking is good, and no list of the changes has only sound states
-pub record HasNoneSound (move : Migration) (r : Ranked) : Type 0 where
-  pub waves : (ranks : List ℕ) → ¬ IsGoodRanking move r ranks
-  pub lists : (run : List Change) → r.lists run → ¬ IsSoundAlong move run
+pub record HasNoneSound (items : Items) (move : Migration) : Type 0 where
+  pub waves : (ranks : List ℕ) → ¬ (night_meaning items move).good ranks
+  pub lists : (run : List Change) → (ranked items move).lists run → ¬ IsSoundAlong move run
 
 -- what was found means: a ranking is good, and a closed tree leaves none that is
-abbrev pub NightFoundMeans : Migration → Ranked → Found → Type 0
-NightFoundMeans move r (Waves ranks pairs chain trail) = IsGoodRanking move r ranks
-NightFoundMeans move r (Refuted tree) = HasNoneSound move r
-NightFoundMeans move r (Spent tree) = Unit {0}
+abbrev pub NightFoundMeans : Items → Migration → Found → Type 0
+NightFoundMeans items move (Waves ranks pairs chain trail) = (night_meaning items move).good ranks
+NightFoundMeans items move (Refuted tree) = HasNoneSound items move
+NightFoundMeans items move (Spent tree) = Unit {0}
 
 -- what a plan means: an end that isn't sound leaves none either
-abbrev pub NightPlanMeans : Migration → Ranked → Planned → Type 0
-NightPlanMeans move r (UnsoundOld fault) = HasNoneSound move r
-NightPlanMeans move r (UnsoundNew fault) = HasNoneSound move r
-NightPlanMeans move r (Searched found) = NightFoundMeans move r found
+abbrev pub NightPlanMeans : Items → Migration → Planned → Type 0
+NightPlanMeans items move (UnsoundOld fault) = HasNoneSound items move
+NightPlanMeans items move (UnsoundNew fault) = HasNoneSound items move
+NightPlanMeans items move (Searched found) = NightFoundMeans items move found
 
 abbrev pub NightPlansMean : Migration → Type 0
 NightPlansMean move =
-    (items : Items) (budget : ℕ) (planned : Planned) → CanRank items move → IsNightPlanned move (ranked items move) budget planned →
-    NightPlanMeans move (ranked items move) planned
+    (items : Items) (budget : ℕ) (planned : Planned) → CanRank items move → IsNightPlanned items move budget planned →
+    NightPlanMeans items move planned
 
 -- Where routers are ranked and every one begins in Old
 

@@ -7,7 +7,9 @@ use Rattle.igp_theory.specs.Phases.{all_new}
 use Rattle.igp_theory.specs.States.{IsSound}
 use Rattle.order_search.specs.Answers.{IsFound}
 use Rattle.order_search.specs.declared.found.Found.{Found}
-use Rattle.plan_theory.specs.Ranked.{Ranked, routers_ranked}
+use Rattle.order_search.specs.Meanings.{Meaning}
+use Rattle.plan_theory.specs.declared.items.Items.{Items}
+use Rattle.plan_theory.specs.declared.items.Items.TheVariants.{Routers}
 use Rattle.plan_theory.specs.WavesMeaning.{night_meaning}
 use Rattle.plan_theory.specs.declared.planned.EndFault.{EndFault}
 use Rattle.plan_theory.specs.declared.planned.EndFault.TheVariants.{Loop, Missing}
@@ -24,17 +26,17 @@ pub record IsUnsoundNew (move : Migration) (fault : Fault) : Type 0 where
   pub first : IsSound move move.start
   pub last : IsFault move all_new fault
 
--- both are sound, and this is what the search found between them
-pub record IsSearched (move : Migration) (r : Ranked) (budget : ℕ) (found : Found) : Type 0 where
+-- both are sound, and this is what the search found between them, by what it asks
+pub record IsSearched (move : Migration) (m : Meaning) (budget : ℕ) (found : Found) : Type 0 where
   pub ends : AreSoundEnds move
-  pub is_found : IsFound (night_meaning move r) budget found
+  pub is_found : IsFound m budget found
 
 -- what is planned of a network for what is ranked, with this budget of branches
-abbrev pub IsNightPlanned : Migration → Ranked → ℕ → Planned → Type 0
-IsNightPlanned move r budget (UnsoundOld fault) = IsFault move move.start (fault_told fault)
-IsNightPlanned move r budget (UnsoundNew fault) = IsUnsoundNew move (fault_told fault)
-IsNightPlanned move r budget (Searched found) = IsSearched move r budget found
+abbrev pub IsNightPlanned : Items → Migration → ℕ → Planned → Type 0
+IsNightPlanned items move budget (UnsoundOld fault) = IsFault move move.start (fault_told fault)
+IsNightPlanned items move budget (UnsoundNew fault) = IsUnsoundNew move (fault_told fault)
+IsNightPlanned items move budget (Searched found) = IsSearched move (night_meaning items move) budget found
 
 -- and where routers are ranked
 abbrev pub IsPlanned : Migration → ℕ → Planned → Type 0
-IsPlanned move = IsNightPlanned move (routers_ranked move)
+IsPlanned = IsNightPlanned Routers

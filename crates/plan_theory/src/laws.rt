@@ -1,4 +1,5 @@
-ghost use Rattle.plan_theory.specs.Laws.{RankingsAreDecided, RankingsPickOne, NightPlansAreOne, NightPlansMean, PlansAreOne, PlansMean};
+ghost use Rattle.plan_theory.specs.Laws.{NightPlansAreOne, NightPlansMean, PlansAreOne, PlansMean};
+ghost use Rattle.plan_theory.specs.Laws.{RankingsAreDecided, RankingsPickOne};
 
 use igp_theory::AnyMigration;
 

@@ -8,12 +8,11 @@ use Rattle.order_search.specs.Trees.{branch_count}
 use Rattle.order_search.specs.declared.found.Found.{Found}
 use Rattle.order_search.specs.declared.found.Found.TheVariants.{Waves, Refuted, Spent}
 use Rattle.plan_theory.specs.WavesMeaning.{waves_meaning}
-use Rattle.plan_theory.proofs.Meaning.{seamless_of_good}
 use Rattle.planned_texts.specs.Chains.{IsTaggedChain}
 use Rattle.planned_texts.specs.PlannedTexts.{IsPrintable, planned_text}
 use Rattle.planned_texts.specs.ReadingBack.{HasVerdict, ReadsAsSafeWaves, FoundReadsBack}
 use Rattle.planned_texts.proofs.TreeNodes.{nodes_below}
-use Rattle.planned_texts.proofs.TreesAsTexts.{loops_fill, refutation_closes, refuted_fill, spent_fill, spent_stays_open}
+use Rattle.planned_texts.proofs.TreesAsTexts.{refutation_closes, refuted_fill, spent_fill, spent_stays_open}
 use Rattle.planned_texts.proofs.WavesAsTexts.{found_each, found_one_of_each, found_tagged}
 use Rattle.refutation_check.specs.TreeTexts.{tree_text}
 use Rattle.refutation_check.specs.Verdicts.{IsTextVerdict, leaf_count, open_count}
@@ -33,9 +32,9 @@ module _ (move : Migration) (budget : ℕ) where
     one_of_each = found_one_of_each move budget (found_waves ranks pairs chain trail) is;
   }
   plan_printable (Refuted tree) is =
-      nodes_below move [] tree (loops_fill move [] tree (refuted_fill move budget tree is))
+      nodes_below move [] tree (refuted_fill move budget tree is)
   plan_printable (Spent tree) is =
-      nodes_below move [] tree (loops_fill move [] tree (spent_fill move budget tree is))
+      nodes_below move [] tree (spent_fill move budget tree is)
 
   pub chain_tagged : (found : FoundWaves) → AreFoundWaves (waves_meaning move) budget found → IsTaggedChain move found.chain
   chain_tagged found is = found_tagged move budget found is
@@ -51,7 +50,7 @@ module _ (move : Migration) (budget : ℕ) where
           names = names;
           faultless = λ number kind. no_fault move.net text Two found.ranks number kind network.ascending names;
           alone = λ version other has. one_wave_list move.net text version Two other found.ranks network.ascending has names;
-          seamless = seamless_of_good move found.ranks is.is_good;
+          seamless = is.is_good;
         }
 
     has_verdict : (text : List ℕ) (verdict : Verdict) → IsTextVerdict move text verdict → HasVerdict move text verdict

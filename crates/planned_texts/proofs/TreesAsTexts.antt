@@ -6,16 +6,13 @@ use Rattle.igp_theory.specs.Loops.{IsLoop}
 use Rattle.igp_theory.specs.Migrations.{Migration}
 use Rattle.order_search.specs.Answers.{IsRefutation, IsSpent}
 use Rattle.order_search.specs.Places.{IsFoundNode}
-use Rattle.plan_theory.specs.Ranked.{ranked}
-use Rattle.plan_theory.specs.WavesMeaning.{LoopFor, waves_meaning}
-use Rattle.plan_theory.specs.declared.items.Items.TheVariants.{Routers}
+use Rattle.plan_theory.specs.WavesMeaning.{waves_meaning}
 use Rattle.order_search.specs.Trees.{Fill, IsTreeNode, Place, Real, branch_count}
 use Rattle.order_search.proofs.Fills.{Fill-append, Fill-weaker}
 use Rattle.order_search.specs.declared.tree.Node.{Node}
-use Rattle.order_search.specs.declared.tree.Node.TheVariants.{Branch, Leaf, Unvisited}
-use Rattle.refutation_check.specs.TreeTexts.{ReadsAsNodes, tree_text}
-use Rattle.refutation_check.specs.Verdicts.{AreRightLines, IsClosedText, IsRightNode, IsTextVerdict, leaf_count, open_count}
-use Rattle.refutation_check.specs.declared.verdict.Verdict.TheVariants.{Unfinished}
+use Rattle.order_search.specs.declared.tree.Node.TheVariants.{Unvisited}
+use Rattle.refutation_check.specs.TreeTexts.{tree_text}
+use Rattle.refutation_check.specs.Verdicts.{IsClosedText, IsTreeText, IsUnfinishedText, leaf_count, open_count}
 use Rattle.refutation_check.proofs.PrintedTrees.{trees_read_back}
 use Rattle.refutation_check.proofs.ReadingFacts.{open_count-append}
 use Rattle.planned_texts.proofs.TreeNodes.{nodes_below, nodes_read}
@@ -31,78 +28,53 @@ open_places real (place ∷ places) = (tt, open_places real places)
 open_some : (nodes : List Node) (n : ℕ) → 0 < open_count (nodes ++ replicate (suc n) Unvisited)
 open_some nodes n = omega (arith, open_count-append nodes (replicate (suc n) Unvisited))
 
--- the branches of right nodes are loops of the network
-loop_node : (move : Migration) (place : Place) (node : Node) → IsRightNode Routers move place node → IsTreeNode (IsLoop move) place node
-loop_node move place (Branch a turns) is = (is.0.is_loop, is.1)
-loop_node move place (Leaf cycle) is = is
-loop_node move place Unvisited is = is
-
-pub loops_fill : (move : Migration) (left : List Place) (nodes : List Node) → Fill (IsRightNode Routers move) ([] ∷ []) nodes left →
-    Fill (IsTreeNode (IsLoop move)) ([] ∷ []) nodes left
-loops_fill move left nodes fill = Fill-weaker (IsRightNode Routers move) (IsTreeNode (IsLoop move)) (loop_node move) ([] ∷ []) left nodes fill
-
 module _ (move : Migration) (budget : ℕ) where
   found_fill : (places left : List Place) (nodes : List Node) → Fill (IsFoundNode (waves_meaning move)) places nodes left →
-      Fill (IsRightNode Routers move) places nodes left
+      Fill (IsTreeNode (IsLoop move)) places nodes left
   found_fill places left nodes fill =
-      Fill-weaker (IsFoundNode (waves_meaning move)) (IsRightNode Routers move) (λ place node is. is.is_node) places left nodes fill
+      Fill-weaker (IsFoundNode (waves_meaning move)) (IsTreeNode (IsLoop move)) (λ place node is. is.is_node) places left nodes fill
 
-  -- the nodes of a refutation are right
+  -- the branches of a refutation are loops of the network
   pub refuted_fill : (tree : List Node) → IsRefutation (waves_meaning move) budget tree →
-      Fill (IsRightNode Routers move) ([] ∷ []) tree []
+      Fill (IsTreeNode (IsLoop move)) ([] ∷ []) tree []
   refuted_fill tree is = found_fill ([] ∷ []) [] tree is.closed.tree
 
   -- and so are those of a tree that was stopped
   pub spent_fill : (tree : List Node) → IsSpent (waves_meaning move) budget tree →
-      Fill (IsRightNode Routers move) ([] ∷ []) tree []
+      Fill (IsTreeNode (IsLoop move)) ([] ∷ []) tree []
   spent_fill tree is =
       let stopped = is.stopped in
       let before = found_fill ([] ∷ []) (stopped.place ∷ stopped.later) stopped.before stopped.stands.fills in
-      let rest = open_places (LoopFor move (ranked Routers move)) (stopped.place ∷ stopped.later) in
-      subst (λ (nodes : List Node). Fill (IsRightNode Routers move) ([] ∷ []) nodes []) (sym stopped.ends)
-      (Fill-append (IsRightNode Routers move) ([] ∷ []) (stopped.place ∷ stopped.later) [] stopped.before
+      let rest = open_places (IsLoop move) (stopped.place ∷ stopped.later) in
+      subst (λ (nodes : List Node). Fill (IsTreeNode (IsLoop move)) ([] ∷ []) nodes []) (sym stopped.ends)
+      (Fill-append (IsTreeNode (IsLoop move)) ([] ∷ []) (stopped.place ∷ stopped.later) [] stopped.before
       (replicate (suc (length stopped.later)) Unvisited) before rest)
 
   module _ (network : IsNetwork move.net) where
-    -- a tree of right nodes reads back as this tree
-    tree_reads : (nodes : List Node) → Fill (IsRightNode Routers move) ([] ∷ []) nodes [] → ReadsAsNodes move.net (tree_text (names_of move.net) nodes) nodes
+    -- a tree whose branches are loops of the network reads back as this tree
+    tree_reads : (nodes : List Node) → Fill (IsTreeNode (IsLoop move)) ([] ∷ []) nodes [] →
+        IsTreeText move (tree_text (names_of move.net) nodes) nodes
     tree_reads nodes fill =
-        let loops = loops_fill move [] nodes fill in
-        trees_read_back move.net nodes network (nodes_below move [] nodes loops) (nodes_read move [] nodes loops)
-
-    right_lines : (nodes : List Node) (fill : Fill (IsRightNode Routers move) ([] ∷ []) nodes []) →
-        AreRightLines Routers move (tree_reads nodes fill).lines nodes []
-    right_lines nodes fill = record { said = (tree_reads nodes fill).said; fills = fill }
+        let back = trees_read_back move.net nodes network (nodes_below move [] nodes fill) (nodes_read move [] nodes fill) in
+        record { lines = back.lines; text_is = back.text_is; right = record { said = back.said; fills = fill } }
 
     -- a refutation is a closed text
     pub refutation_closes : (tree : List Node) → IsRefutation (waves_meaning move) budget tree →
         IsClosedText move (tree_text (names_of move.net) tree) (branch_count tree) (leaf_count tree)
-    refutation_closes tree is =
-        let fill = refuted_fill tree is in
-        record {
-          lines = (tree_reads tree fill).lines;
-          text_is = (tree_reads tree fill).text_is;
-          holds = record {
-            nodes = tree;
-            right = right_lines tree fill;
-            visited = is.closed.visited;
-            branches_are = refl;
-            leaves_are = refl;
-          };
-        }
+    refutation_closes tree is = record {
+      nodes = tree;
+      tree = tree_reads tree (refuted_fill tree is);
+      visited = is.closed.visited;
+      branches_are = refl;
+      leaves_are = refl;
+    }
 
     -- a tree that was stopped is an unfinished text
     pub spent_stays_open : (tree : List Node) → IsSpent (waves_meaning move) budget tree →
-        IsTextVerdict move (tree_text (names_of move.net) tree) (Unfinished (open_count tree))
-    spent_stays_open tree is =
-        let fill = spent_fill tree is in
-        record {
-          lines = (tree_reads tree fill).lines;
-          text_is = (tree_reads tree fill).text_is;
-          holds = record {
-            nodes = tree;
-            right = right_lines tree fill;
-            some = subst (λ (nodes : List Node). 0 < open_count nodes) (sym is.stopped.ends) (open_some is.stopped.before (length is.stopped.later));
-            unvisited_are = refl;
-          };
-        }
+        IsUnfinishedText move (tree_text (names_of move.net) tree) (open_count tree)
+    spent_stays_open tree is = record {
+      nodes = tree;
+      tree = tree_reads tree (spent_fill tree is);
+      some = subst (λ (nodes : List Node). 0 < open_count nodes) (sym is.stopped.ends) (open_some is.stopped.before (length is.stopped.later));
+      unvisited_are = refl;
+    }

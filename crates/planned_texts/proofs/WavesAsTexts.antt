@@ -93,7 +93,7 @@ module _ (move : Migration) where
       | inr turned ↦ record {
         address = turned.address;
         ring = turned.turns;
-        is_loop = (trail_branch (waves_meaning move) found.pairs found.ranks found.trail turned.address turned.turns are.leads turned.branch).is_loop;
+        is_loop = trail_branch (waves_meaning move) found.pairs found.ranks found.trail turned.address turned.turns are.leads turned.branch;
         is_old = turned.old;
         is_new = turned.new;
       }

@@ -91,9 +91,7 @@ right_no_wrong move network place Unvisited kind right w = w
 -- a right node is right as it is said
 right_as_said : (items : Items) (move : Migration) (place : Place) (node : Node) → IsRightNode items move place node →
     IsTreeNode (IsLoop move) place (as_said items node)
-right_as_said Routers move place (Branch a turns) right = (right.0.is_loop, right.1)
-right_as_said Routers move place (Leaf cycle) right = right
-right_as_said Routers move place Unvisited right = right
+right_as_said Routers move place node right = right
 right_as_said Changes move place (Branch a turns) right = (right.0.is_loop, both_in_map by_router (λ t. refl) turns right.1)
 right_as_said Changes move place (Leaf cycle) right = right
 right_as_said Changes move place Unvisited right = right

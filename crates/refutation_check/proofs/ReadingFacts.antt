@@ -19,6 +19,7 @@ use Rattle.igp_theory.specs.Loops.{IsLoop}
 use Rattle.plan_theory.specs.Ranked.{base_of, by_router, ranked}
 use Rattle.plan_theory.specs.declared.items.Items.{Items}
 use Rattle.plan_theory.specs.declared.items.Items.TheVariants.{Routers, Changes}
+use Rattle.plan_theory.proofs.ItemsServe.{items_ask}
 use Rattle.plan_theory.proofs.Numbers.{both_of_map}
 use Rattle.refutation_check.specs.TreeLines.{as_said, pieces_of, SaysNode}
 use Rattle.refutation_check.specs.Verdicts.{AreRightLines, IsRightNode, IsLinesVerdict, IsWrongAt, wrong_there, after_tree, ends_early, leaf_count}
@@ -269,7 +270,7 @@ branch_taken items move place left after node a turns shown named numbered is sh
       node = Branch a numbered;
       is_said = branch_said items move a turns numbered ring;
       right = (
-        record { is_loop = subst (IsLoop move a) (sym ring) loop; named = numbers.named },
+        ((items_ask items move).real a numbered).1 (record { is_loop = subst (IsLoop move a) (sym ring) loop; named = numbers.named }),
         numbers_have_both items move turns numbered ring here.both,
       );
       below = below;

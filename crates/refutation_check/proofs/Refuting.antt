@@ -1,32 +1,35 @@
 -- A closed tree whose branches are loops of the network refutes every ranking, and every list of the changes.
-use Rattle.std.proofs.Common.{ℕ, List, [], ◌∷◌, length, sym, subst}
+use Rattle.std.proofs.Common.{◌≡◌, ℕ, List, [], ◌∷◌, length, refl, sym, subst}
 use Rattle.igp_theory.specs.LoopLaws.{BeginsOld}
 use Rattle.igp_theory.specs.Migrations.{Migration}
 use Rattle.order_core.specs.Pairs.{Pair}
 use Rattle.order_search.specs.Trees.{Fill}
 use Rattle.order_search.proofs.TreeRefutes.{closed_tree_refutes}
 use Rattle.plan_theory.specs.Laws.{HasNoneSound}
-use Rattle.plan_theory.specs.Ranked.{CanRank, ranked}
-use Rattle.plan_theory.specs.WavesMeaning.{IsGoodRanking, LoopFor}
+use Rattle.plan_theory.specs.Ranked.{CanRank, base_of, ranked}
+use Rattle.plan_theory.specs.WavesMeaning.{night_meaning}
 use Rattle.plan_theory.specs.declared.items.Items.{Items}
-use Rattle.plan_theory.specs.declared.items.Items.TheVariants.{Routers}
+use Rattle.plan_theory.specs.declared.items.Items.TheVariants.{Routers, Changes}
 use Rattle.plan_theory.proofs.Decided.{rankings_decided}
-use Rattle.plan_theory.proofs.ItemsServe.{items_serve, ranked_base}
+use Rattle.plan_theory.proofs.ItemsServe.{items_ask, items_serve}
 use Rattle.plan_theory.proofs.Meaning.{none_seamless, none_without_rankings}
 use Rattle.refutation_check.specs.Verdicts.{IsClosedTreeOf, IsHeadedVerdict, IsRightNode, IsTextVerdict, LeavesNoneWhereClosed, RefutesWhereClosed}
 use Rattle.refutation_check.specs.declared.verdict.Verdict.{Verdict}
 use Rattle.refutation_check.specs.declared.verdict.Verdict.TheVariants.{Closed, Unfinished, Wrong}
 
+asked_base : (items : Items) (move : Migration) → (night_meaning items move).base ≡ base_of items (length move.net)
+asked_base Routers move = refl
+asked_base Changes move = refl
+
 module _ (items : Items) (move : Migration) (can : CanRank items move) where
   -- no ranking is good, since loops decide which ones are
   pub closed_leaves_none : (lines : List (List ℕ)) (branches leaves : ℕ) → IsClosedTreeOf items move lines branches leaves →
-      HasNoneSound move (ranked items move)
+      HasNoneSound items move
   closed_leaves_none lines branches leaves is =
-      let serves = items_serve items move can in
-      none_without_rankings move (ranked items move) serves
-      (closed_tree_refutes (IsGoodRanking move (ranked items move)) (LoopFor move (ranked items move)) (ranked items move).base
-      (rankings_decided move (ranked items move) serves) is.nodes (record {
-        tree = subst (λ (base : List Pair). Fill (IsRightNode items move) (base ∷ []) is.nodes []) (sym (ranked_base items move)) is.right.fills;
+      none_without_rankings items move can
+      (closed_tree_refutes (night_meaning items move).good (night_meaning items move).real (night_meaning items move).base
+      (rankings_decided move (ranked items move) (items_serve items move can) (night_meaning items move) (items_ask items move)) is.nodes (record {
+        tree = subst (λ (base : List Pair). Fill (IsRightNode items move) (base ∷ []) is.nodes []) (sym (asked_base items move)) is.right.fills;
         visited = is.visited;
       }))
 

@@ -14,7 +14,7 @@ use Rattle.refutation_check.specs.TreeLines.{pieces_of}
 use Rattle.plan_theory.specs.Ranked.{base_of}
 use Rattle.plan_theory.specs.declared.items.Items.{Items}
 use Rattle.plan_theory.specs.declared.items.Items.TheVariants.{Routers}
-use Rattle.plan_theory.proofs.PlanTables.{items_node_over}
+use Rattle.plan_theory.proofs.PlanTables.{real_stays}
 use Rattle.refutation_check.specs.Verdicts.{AreRightLines, IsHeadedVerdict, IsLinesVerdict, IsRightNode, IsTextVerdict, IsWrongAt}
 use Rattle.igp_theory.specs.Waves.{HasNoneSeamless}
 use Rattle.refutation_check.specs.Verdicts.{behind_header, header_missing, wrong_there, after_tree, ends_early}
@@ -51,6 +51,13 @@ words_over items move old' new' same place words Router w = w
 words_over items move old' new' same place words kind w =
     record { node = w.node; says = w.says; wrong = wrong_over move old' new' same place w.node kind w.wrong }
 
+-- the same nodes are right
+right_over : (items : Items) (move : Migration) (old' new' : Tables) → HaveSameTables move old' new' → (place : Place) (node : Node) →
+    IsRightNode items move place node → IsRightNode items (retabled move old' new') place node
+right_over items move old' new' same place (Branch a turns) right = (real_stays move old' new' same items a turns right.0, right.1)
+right_over items move old' new' same place (Leaf cycle) right = right
+right_over items move old' new' same place Unvisited right = right
+
 module _ (items : Items) (move : Migration) (old' new' : Tables) (same : HaveSameTables move old' new') where
   lowest_over : (place : Place) (words : List (List ℕ)) (kind : WrongKind) → IsLowestKind (WrongWords items move place words) kind →
       IsLowestKind (WrongWords items (retabled move old' new') place words) kind
@@ -63,7 +70,7 @@ module _ (items : Items) (move : Migration) (old' new' : Tables) (same : HaveSam
       AreRightLines items (retabled move old' new') lines nodes left
   lines_over lines nodes left right = record {
     said = right.said;
-    fills = Fill-weaker (IsRightNode items move) (IsRightNode items (retabled move old' new')) (items_node_over move old' new' same items)
+    fills = Fill-weaker (IsRightNode items move) (IsRightNode items (retabled move old' new')) (right_over items move old' new' same)
         (base_of items (length move.net) ∷ []) left nodes right.fills;
   }
 

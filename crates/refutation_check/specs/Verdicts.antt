@@ -8,8 +8,8 @@ use Rattle.order_search.specs.Trees.{Place, Fill, IsTreeNode, IsVisited, branch_
 use Rattle.order_search.specs.declared.tree.Node.{Node}
 use Rattle.order_search.specs.declared.tree.Node.TheVariants.{Branch, Leaf, Unvisited}
 use Rattle.plan_theory.specs.Laws.{HasNoneSound}
-use Rattle.plan_theory.specs.Ranked.{base_of, ranked}
-use Rattle.plan_theory.specs.WavesMeaning.{LoopFor}
+use Rattle.plan_theory.specs.Ranked.{base_of}
+use Rattle.plan_theory.specs.WavesMeaning.{night_meaning}
 use Rattle.plan_theory.specs.declared.items.Items.{Items}
 use Rattle.plan_theory.specs.declared.items.Items.TheVariants.{Routers, Changes}
 use Rattle.refutation_check.specs.TreeLines.{tree_header, two_tree_header, pieces_of, SaysNode, as_said}
@@ -42,7 +42,7 @@ open_count (node ∷ nodes) = open_at node + open_count nodes
 -- a node is right at its place: a branch names a loop of the network with both tags, each turn its number, a leaf a cycle of
 -- assumed pairs
 abbrev pub IsRightNode : Items → Migration → Place → Node → Type 0
-IsRightNode items move = IsTreeNode (LoopFor move (ranked items move))
+IsRightNode items move = IsTreeNode (night_meaning items move).real
 
 -- the lines say these nodes, and the nodes are right where they fill the places of a tree from the first on, each
 -- followed by its children; the first place assumes the base. The places that are open then are the last argument
@@ -138,6 +138,6 @@ IsTwoVerdict = IsHeadedVerdict Changes two_tree_header
 
 -- what a closed tree means, whatever is ranked: no ranking is good, and no list of the changes has only sound states
 abbrev pub LeavesNoneWhereClosed : Items → Migration → Verdict → Type 0
-LeavesNoneWhereClosed items move (Closed branches leaves) = HasNoneSound move (ranked items move)
+LeavesNoneWhereClosed items move (Closed branches leaves) = HasNoneSound items move
 LeavesNoneWhereClosed items move (Unfinished unvisited) = Unit {0}
 LeavesNoneWhereClosed items move (Wrong line kind) = Unit {0}

@@ -42,16 +42,17 @@ impl<'a, O: RouteSource, N: RouteSource> WaveOracle<'a, O, N> {
 
 impl<'a, O: RouteSource, N: RouteSource> Oracle for WaveOracle<'a, O, N> {
     ghost use Rattle.std.specs.Prelude.{[]};
-    ghost use Rattle.plan_theory.specs.Ranked.{routers_ranked};
-    ghost use Rattle.plan_theory.specs.WavesMeaning.{IsGoodRanking, IsPickedFault, LoopFor};
-    ghost use Rattle.plan_theory.proofs.Decided.{good_ranks_old_first};
-    ghost use Rattle.plan_theory.proofs.RoutersServe.{routers_serve};
+    ghost use Rattle.order_search.specs.Meanings.{KeepsPairs-nil};
+    ghost use Rattle.igp_theory.specs.Loops.{IsLoop};
+    ghost use Rattle.igp_theory.specs.Waves.{AreSeamlessWaves};
+    ghost use Rattle.plan_theory.specs.WavesMeaning.{IsPickedFault};
+    ghost use Rattle.plan_theory.proofs.Decided.{seamless_ranks_old_first};
 
-    ghost good = { λ o. let move = migration_of O.table N.table o.mixture in IsGoodRanking move (routers_ranked move) };
+    ghost good = { λ o. AreSeamlessWaves (migration_of O.table N.table o.mixture) };
 
-    ghost real = { λ o. let move = migration_of O.table N.table o.mixture in LoopFor move (routers_ranked move) };
+    ghost real = { λ o. IsLoop (migration_of O.table N.table o.mixture) };
 
-    ghost picked = { λ o. let move = migration_of O.table N.table o.mixture in IsPickedFault move (routers_ranked move) };
+    ghost picked = { λ o. IsPickedFault (migration_of O.table N.table o.mixture) };
 
     ghost size = { λ o. length o.mixture.net };
 
@@ -59,10 +60,9 @@ impl<'a, O: RouteSource, N: RouteSource> Oracle for WaveOracle<'a, O, N> {
 
     ghost shown = { λ o. o.ring };
 
-    ghost keeps_base = { λ o ranks good. good.keeps };
+    ghost keeps_base = { λ o ranks _. KeepsPairs-nil ranks };
 
-    ghost decides = { λ o. let move = migration_of O.table N.table o.mixture in
-        good_ranks_old_first move (routers_ranked move) (routers_serve move) };
+    ghost decides = { λ o. seamless_ranks_old_first (migration_of O.table N.table o.mixture) };
 
     fn size(&self) -> u32 {
         self.routers

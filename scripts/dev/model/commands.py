@@ -1,36 +1,51 @@
 """The commands: what each answers, as a text and a code, from the words of a call and the files that it names.
 
-`prepare` and `sample` aren't modelled. Of refused words the first line alone is.
+`sample` isn't modelled. Of refused words the first line alone is.
 """
 
 from configurations import read_configurations
+from designs import DESIGN_MOST, LEVEL_WORDS, delta, design, is_area, prepare
+from failures import failures
 from forwarding import NEW, NEW_DISTANCE, OLD, UNUSED_DISTANCE, Missing, Mixed, change_times, router_times
-from networks import build, look_at_pair, look_at_start, network_of
+from networks import ROUTERS_MOST, build, look_at_pair, look_at_start
 from order_files import Departs, Journal, flat_run, is_of_changes, read_changes, read_order
+from pictures import picture
+from reasons import packet_way, reasons, spans_of
 from running_night import observe
 from search import Changes, Routers, Search
+from shown import tables_text
 from tables import isis_tables, ospf_tables
+from surveys import survey
 from trees import tree_text, verdict
-from words import Refused, address_text, number
+from words import Refused, address_text, number, word_at
 
 FILE_MOST, TOTAL_MOST, FILES_MOST = 16777216, 67108864, 200
-BUDGET, BUDGET_MOST = 10000, 100000
-# For each command how many files of its own it takes, how many networks in one file each (None: any number of files), and
-# whether it takes a budget.
+# What an option says, None where it is off its range, and what holds where it isn't given.
+BUDGET = {"--budget": (lambda word: number(word, 100000, 1), 10000)}
+COSTS = {"--area": (lambda word: word if is_area(word) else None, "49.0001"),
+         "--level": (lambda word: word if word in LEVEL_WORDS else None, "2")}
+# For each command how many files of its own it takes, how many networks in one file each (None: any number of files), its
+# options, and the range of the number that stands before the files.
 COMMANDS = {
-    "check": (1, None, False), "plan": (0, None, True), "refute": (1, None, False), "scripts": (1, None, False),
-    "replay": (2, None, False), "twopass": (0, None, True), "replan": (2, None, True), "rollback": (2, None, False),
-    "observe": (2, None, False), "pair": (0, 2, True), "pairscripts": (1, 2, False), "paircheck": (1, 2, False),
-    "pairrefute": (1, 2, False),
+    "check": (1, None, {}, None), "plan": (0, None, BUDGET, None), "refute": (1, None, {}, None), "scripts": (1, None, {}, None),
+    "replay": (2, None, {}, None), "twopass": (0, None, BUDGET, None), "replan": (2, None, BUDGET, None),
+    "rollback": (2, None, {}, None), "observe": (2, None, {}, None), "pair": (0, 2, BUDGET, None),
+    "pairscripts": (1, 2, {}, None), "paircheck": (1, 2, {}, None), "pairrefute": (1, 2, {}, None),
+    "prepare": (1, None, {}, None), "delta": (1, None, {}, None), "design": (0, None, COSTS, None),
+    "split": (1, None, {}, (1, ROUTERS_MOST)), "tables": (0, None, {}, None),
+    "survey": (0, None, {}, None), "why": (1, None, {}, None), "picture": (1, None, {}, None),
+    "failures": (1, None, {}, None),
 }
+# Those that ask of no network that a migration begins there.
+WITHOUT_START = ("prepare", "delta", "design", "tables")
 
 
 def answer(words, read):
     """The answer of a call. `read` gives the text of a file by its name, None where it can't be read."""
     try:
-        command, own, networks, budget = call_of(words)
-        files = read_files(own, networks, read)
-        return decide(command, files[:len(own)], files[len(own):], budget)
+        command, own, networks, said = call_of(words)
+        files = read_files(command, own, networks, read)
+        return decide(command, files[:len(own)], files[len(own):], said)
     except Refused as refused:
         return refused.text, refused.code
     except Departs as departs:
@@ -38,34 +53,41 @@ def answer(words, read):
 
 
 def call_of(words):
-    """The command of a call, its own files, those of its networks, and its budget."""
-    own, networks, takes_budget = COMMANDS.get(words[0], (0, 0, False)) if words else (0, 0, False)
-    budget, names = budget_of(words[1:]) if takes_budget else (BUDGET, words[1:])
-    options = names[:names.index("--")] if "--" in names else names
-    files = options + names[len(options) + 1:]
+    """The command of a call, its own files, those of its networks, and what its options and its number say."""
+    if not words or words[0] not in COMMANDS:
+        refuse_words()
+    own, networks, options, limits = COMMANDS[words[0]]
+    said, names = options_of(options, words[1:])
+    plain = names[:names.index("--")] if "--" in names else names
+    files = plain + names[len(plain) + 1:]
+    if limits:
+        said["N"] = number(word_at(files, 0), limits[1], limits[0])
+        files = files[1:]
     is_count = len(files) > own if networks is None else len(files) == own + networks
-    if not words or words[0] not in COMMANDS or not is_count or any(word.startswith("-") for word in options):
-        raise Refused("words refused\n", 2)
-    return words[0], files[:own], files[own:], budget
+    if not is_count or None in said.values() or any(word.startswith("-") for word in plain):
+        refuse_words()
+    return words[0], files[:own], files[own:], said
 
 
-def budget_of(words):
-    """The number of `--budget`, which may stand anywhere before `--`, and the other words."""
-    budget, others, left = BUDGET, [], list(words)
+def refuse_words():
+    raise Refused("words refused\n", 2)
+
+
+def options_of(options, words):
+    """What the options of a call say, each at most once and anywhere before `--`, and the other words."""
+    said, others, left = {}, [], list(words)
     while left and left[0] != "--":
-        word = left.pop(0)
-        if word == "--budget" and left:
-            budget = number(left.pop(0), BUDGET_MOST, 1)
-        elif word.startswith("--budget="):
-            budget = number(word.removeprefix("--budget="), BUDGET_MOST, 1)
+        name, sign, value = left.pop(0).partition("=")
+        if name in options and (sign or left):
+            if name in said or not sign and left[0].startswith("-"):
+                refuse_words()
+            said[name] = options[name][0](value if sign else left.pop(0))
         else:
-            others.append(word)
-    if budget is None:
-        raise Refused("words refused\n", 2)
-    return budget, others + left
+            others.append(name + sign + value)
+    return {name: default for name, (_, default) in options.items()} | said, others + left
 
 
-def read_files(own, networks, read):
+def read_files(command, own, networks, read):
     """All files as (name, text), before one is looked at."""
     if len(networks) > FILES_MOST:
         raise Refused(f"limit files {len(networks)}\n", 6)
@@ -74,7 +96,7 @@ def read_files(own, networks, read):
         text = read(name)
         if text is None:
             raise Refused(f"read fault {name}\n", 3)
-        if len(text) > FILE_MOST:
+        if len(text) > (DESIGN_MOST if place < len(own) and command in ("prepare", "delta") else FILE_MOST):
             raise Refused(f"limit bytes {name}\n", 6)
         total += len(text) if place >= len(own) else 0
         if total > TOTAL_MOST:
@@ -83,34 +105,54 @@ def read_files(own, networks, read):
     return files
 
 
-def decide(command, own, files, budget):
+def decide(command, own, files, said):
     """What a command decides of its own files and those of its networks."""
     if command.startswith("pair"):
-        return decide_pair(command, own, files, budget)
+        return decide_pair(command, own, files, said)
     if command == "observe":
         return observe(*own, files)
-    network = network_of(files)
+    if command == "survey":
+        return survey(files)
+    configurations = [read_configurations(*file) for file in files]
+    network = build([each for there in configurations for each in there])
+    if command in WITHOUT_START:
+        return decide_anywhere(command, own, files, [[each.name for each in there] for there in configurations], network, said)
     look_at_start(network)
     if command in ("plan", "twopass", "refute"):
         mixed = mixed_of(network)
         if command == "refute":
             return verdict(mixed, own[0][1])
-        return plan(mixed, budget, Changes(mixed)) if command == "twopass" else plan(mixed, budget, Routers(mixed))
+        return plan(mixed, said["--budget"], Changes(mixed) if command == "twopass" else Routers(mixed))
     if command == "check" and is_of_changes(own[0][1]):
         return check_changes(network, own[0])
     version, ranks = read_order(own[0], network)
     if command == "check":
         return check(mixed_of(network), version, ranks)
+    if command == "failures":
+        return failures_of(network, version, ranks)
+    if command in ("why", "picture"):
+        return (why if command == "why" else draw)(mixed_of(network), version, ranks)
+    if command == "split":
+        return split(mixed_of(network), version, ranks, said["N"])
     if command == "scripts":
         return scripts(version, ranks, network.names, [isis_lines(each, NEW_DISTANCE) for each in network.configurations],
                        [ospf_lines(each, UNUSED_DISTANCE) for each in network.configurations])
     journal = Journal(network, ranks, own[1][1])
     if command == "replay":
         return replay(network, journal)
-    return rollback(network, journal) if command == "rollback" else plan_rest(mixed_of(network), budget, journal.made)
+    return rollback(network, journal) if command == "rollback" else plan_rest(mixed_of(network), said["--budget"], journal.made)
 
 
-def decide_pair(command, own, files, budget):
+def decide_anywhere(command, own, files, names, network, said):
+    """The same of the commands that ask no start. `names` has the routers of each file."""
+    if command == "tables":
+        return tables_text(network, ospf_tables(network), isis_tables(network)), 0
+    if command == "design":
+        return design(said["--area"], said["--level"], network)
+    return prepare(own[0], files, names, network) if command == "prepare" else delta(own[0], names, network)
+
+
+def decide_pair(command, own, files, said):
     """The same of two OSPF networks: the tables of the second one are the new ones."""
     configurations = [read_configurations(*file) for file in files]
     old, new = map(build, configurations)
@@ -124,7 +166,7 @@ def decide_pair(command, own, files, budget):
     mixed = Mixed(old, ospf_tables(old), ospf_tables(new))
     if command == "paircheck":
         return check(mixed, version, ranks)
-    return plan(mixed, budget, Routers(mixed)) if command == "pair" else verdict(mixed, own[0][1])
+    return plan(mixed, said["--budget"], Routers(mixed)) if command == "pair" else verdict(mixed, own[0][1])
 
 
 def mixed_of(network):
@@ -141,19 +183,66 @@ def fault_text(network, fault):
 
 
 def check(mixed, version, ranks):
-    """Of version 1 the states in the order of the file, of version 2 all states of each wave."""
+    return told_of_list(mixed, version, ranks, fault_of_list(mixed, version, ranks))
+
+
+def fault_of_list(mixed, version, ranks):
+    """The first fault with its number: of version 1 of the states in the order of the file, of version 2 of the waves."""
     if version == 2:
-        return told_of_waves(mixed, 2 * mixed.size, ranks, router_times([OLD] * mixed.size, ranks))
-    found = mixed.order_fault(flat_run(ranks))
+        return mixed.times_fault(None, router_times([OLD] * mixed.size, ranks))
+    return mixed.order_fault(flat_run(ranks))
+
+
+def told_of_list(mixed, version, ranks, found):
     if found is None:
-        return f"safe {2 * mixed.size}\n", 0
-    return f"unsafe {found[0]} {fault_text(mixed.network, found[1])}\n", 1
+        return f"safe {2 * mixed.size}" + (f" waves {max(ranks) + 1}" if version == 2 else "") + "\n", 0
+    return f"unsafe {'wave ' if version == 2 else ''}{found[0]} {fault_text(mixed.network, found[1])}\n", 1
+
+
+def why(mixed, version, ranks):
+    """What `check` says, and why it is so."""
+    found = fault_of_list(mixed, version, ranks)
+    text, code = told_of_list(mixed, version, ranks, found)
+    lines = reasons(mixed, ranks) if found is None else packet_way(mixed, found[1], spans_of(version, ranks, found[0]))
+    return text + "".join(line + "\n" for line in lines), code
+
+
+def draw(mixed, version, ranks):
+    """What `check` says, as a picture."""
+    found = fault_of_list(mixed, version, ranks)
+    text, code = told_of_list(mixed, version, ranks, found)
+    return picture(mixed, ranks, text.rstrip("\n"), found[1] if found else None), code
+
+
+def failures_of(network, version, ranks):
+    """What `check` says, and where that is safe what it says of each network with a link down whose ends are sound."""
+    text, code = check(mixed_of(network), version, ranks)
+    if code:
+        return text, code
+
+    def judge(failed):
+        mixed = mixed_of(failed)
+        return unsound_end(mixed) or check(mixed, version, ranks)
+    more, code = failures(network, judge)
+    return text + more, code
 
 
 def check_changes(network, order):
     """Of version 3 all states of each wave of changes."""
     ranks = read_changes(order, network)
     return told_of_waves(mixed_of(network), 2 * network.size, ranks, change_times(ranks))
+
+
+def split(mixed, version, ranks, most):
+    """The waves of at most so many routers, each wave cut in the order of the names; what `check` says where they aren't safe."""
+    text, code = check(mixed, version, ranks)
+    if code:
+        return text, code
+    lines = ["order 2"]
+    for wave in range(max(ranks) + 1):
+        names = [name for name, rank in zip(mixed.network.names, ranks) if rank == wave]
+        lines += ["wave " + " ".join(names[first:first + most]) for first in range(0, len(names), most)]
+    return "".join(line + "\n" for line in lines), 0
 
 
 def told_of_waves(mixed, changes, ranks, times):

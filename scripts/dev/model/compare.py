@@ -38,7 +38,7 @@ def link_data(folders, place):
 
 def is_taken(words):
     """Whether the model answers a call: it knows the command, and makes the files that are made."""
-    is_known = words[0] not in ("prepare", "sample")
+    is_known = words[0] != "sample"
     return is_known and all(made(word) is not None for word in words if word.startswith("made/"))
 
 

@@ -3,9 +3,9 @@
 import re
 from dataclasses import dataclass, field
 
-from interface_lines import Interface, InterfaceLines
+from interface_lines import Interface, InterfaceLines, names_area
 from process_lines import IsisLines, OspfLines, interface_name
-from words import Refused, lines_of, number, word_at, words_of
+from words import Refused, area_number, lines_of, number, word_at, words_of
 
 # In the order in which they are told of one line.
 KINDS = ("NoHostname", "NoEnd", "BadAddress", "BadMask", "BadCost", "BadArea", "SecondProcess", "Unsupported", "LoopbackMask",
@@ -57,49 +57,54 @@ def indent_of(line):
     return len(line) - len(line.lstrip(" \t"))
 
 
-def banner_lines(lines):
-    """The numbers, from 0, of the lines of banners: from the word `banner` with ^C to the next line with ^C."""
-    found, is_open = set(), False
+def counted_lines(lines):
+    """The lines that count, as (number, indent, words): those outside banners that have a word and don't begin with `!`.
+
+    A line of the word `banner` with one ^C opens a banner, and counts; the next line with ^C ends it.
+    """
+    found, is_open = [], False
     for place, line in enumerate(lines):
+        words = words_of(line)
         if is_open:
-            found.add(place)
             is_open = "^C" not in line
-        elif words_of(line)[:1] == ["banner"] and "^C" in line:
-            found.add(place)
-            is_open = line.count("^C", line.index("^C")) < 2
+        else:
+            is_open = words[:1] == ["banner"] and line.count("^C") == 1
+            if words and not words[0].startswith("!"):
+                found.append((place + 1, indent_of(line), words))
     return found
 
 
 def split_at_ends(lines):
     """The lines up to each `end`, each as (number, indent, words), with the number of that end, and the lines behind the last."""
-    banners = banner_lines(lines)
     parts, now = [], []
-    for place, line in enumerate(lines):
-        words = words_of(line)
-        if place in banners:
-            if words[:1] == ["banner"] and indent_of(line):
-                now.append((place + 1, indent_of(line), ["banner"]))
-        elif words == ["end"] and indent_of(line) == 0:
-            parts.append((now, place + 1))
+    for number_of_line, indent, words in counted_lines(lines):
+        if words == ["end"] and indent == 0:
+            parts.append((now, number_of_line))
             now = []
-        elif words and not words[0].startswith("!"):
-            now.append((place + 1, indent_of(line), words))
+        else:
+            now.append((number_of_line, indent, words))
     return parts, now
+
+
+def faults_of(text):
+    """The faulty lines of a text, each with its least kind, and the configurations, which are of use where there are none."""
+    lines, kinds = lines_of(text), {}
+    parts, rest = split_at_ends(lines)
+
+    def tell(line, kind):
+        kinds[line] = min(KINDS.index(kind), kinds.get(line, len(KINDS)))
+    if not parts or any(indent == 0 and words[0] in ("hostname", "interface", "router") for _, indent, words in rest):
+        tell(len(lines) + 1, "NoEnd")
+    configurations = [Reader(part, end, tell).read() for part, end in parts]
+    return [(line, KINDS[kind]) for line, kind in sorted(kinds.items())], configurations
 
 
 def read_configurations(file, text):
     """The configurations of a text, each of which has its `end`."""
-    lines, faults = lines_of(text), []
-    parts, rest = split_at_ends(lines)
-
-    def tell(line, kind):
-        faults.append((line, KINDS.index(kind)))
-    if not parts or any(indent == 0 and words[0] in ("hostname", "interface", "router") for _, indent, words in rest):
-        tell(len(lines) + 1, "NoEnd")
-    configurations = [Reader(part, end, tell).read() for part, end in parts]
+    faults, configurations = faults_of(text)
     if faults:
-        line, kind = min(faults)
-        raise Refused(f"refused {file} {line} {KINDS[kind]}\n")
+        line, kind = faults[0]
+        raise Refused(f"refused {file} {line} {kind}\n")
     return configurations
 
 
@@ -122,7 +127,7 @@ def is_printable(word):
 
 
 class Reader:
-    """Reads one configuration; its faults are told, and what is read beside one is of no matter."""
+    """Reads one configuration. All its faulty lines are told; what is read beside one is of no matter."""
 
     def __init__(self, part, end, tell):
         self.sections, self.end, self.tell = sections_of(part), end, tell
@@ -144,12 +149,11 @@ class Reader:
             interfaces=[self.read_interface(each, ospf, isis) for each in self.interfaces])
 
     def read_heads(self):
-        """Gathers the interfaces, and gives the name of the router."""
-        name, has_line = None, False
+        """Gathers the interfaces, and gives the name of the router: that of the last good line."""
+        name = None
         for section in self.sections:
             words, behind = section.words, word_at(section.words, 1)
             if words[0] == "hostname":
-                has_line = True
                 if re.fullmatch("[A-Za-z0-9_.-]{1,63}", behind or ""):
                     name = behind
                 else:
@@ -160,18 +164,20 @@ class Reader:
                 self.tell(section.line, "Unsupported")
             elif words[:2] == ["ip", "route"] and word_at(words, 2) != "vrf":
                 self.tell(section.line, "Unsupported")
-        if not has_line:
+        if name is None:
             self.tell(self.end, "NoHostname")
         return name
 
     def gather(self, section):
+        """Under a faulty first line nothing is said."""
         name = interface_name(section.words[1:])
         if name is None or name == "default" or not is_printable(name):
             self.tell(section.line, "Unsupported")
-        self.interfaces.setdefault(name or "", Gathered(section.line)).lines.extend(section.inner)
+        else:
+            self.interfaces.setdefault(name, Gathered(section.line)).lines.extend(section.inner)
 
     def read_isis(self):
-        """The lines of `router isis`, whose sections have one tag."""
+        """The lines of `router isis`, whose sections have one tag. Those of a second one, or of a faulty one, say nothing."""
         isis = IsisLines(self.tell)
         for section in self.sections:
             if section.words[:2] != ["router", "isis"]:
@@ -183,36 +189,40 @@ class Reader:
                 self.tell(section.line, "Unsupported")
             if tag != self.tag:
                 self.tell(section.line, "SecondProcess")
-            for line, words in section.inner:
+            for line, words in section.inner if tag == self.tag and is_printable(tag) else []:
                 isis.take(line, words)
         if self.tag is not None and not isis.has_net_line:
             self.tell(self.isis_line, "BadNet")
-        if self.tag is not None and not isis.is_wide:
+        if self.tag is not None and not isis.has_style_line:
             self.tell(self.isis_line, "Unsupported")
         return isis
 
     def read_ospf(self):
-        """The lines of `router ospf`, and the number of the process, which interfaces may name too."""
-        ospf = OspfLines(self.tell)
+        """The lines of `router ospf`, and the number of the process, which interfaces may name too: the first in the text."""
+        ospf, own = OspfLines(self.tell), []
         for section in self.sections:
             if section.words[:2] == ["router", "ospf"]:
                 if word_at(section.words, 3) == "vrf" and len(section.words) > 4:
                     continue
-                self.meet_process(section.line, word_at(section.words, 2))
-                for line, words in section.inner:
-                    ospf.take(line, words)
-            elif section.words[0] == "interface" and not self.interfaces[interface_name(section.words[1:]) or ""].is_in_vrf():
-                for line, words in section.inner:
-                    if words[:2] == ["ip", "ospf"] and word_at(words, 3) == "area":
+                if self.meet_process(section.line, word_at(section.words, 2)):
+                    own += section.inner
+            elif section.words[0] == "interface":
+                gathered = self.interfaces.get(interface_name(section.words[1:]))
+                for line, words in section.inner if gathered and not gathered.is_in_vrf() else []:
+                    if names_area(words) and area_number(word_at(words, 4)) is not None:
                         self.meet_process(line, words[2])
+        for line, words in own:
+            ospf.take(line, words)
         return ospf
 
     def meet_process(self, line, word):
+        """Takes note of a process; whether it is the router's."""
         process = number(word, 65535, 1)
-        if process is None or self.process not in (None, process):
-            self.tell(line, "SecondProcess")
-        else:
+        if process is not None and self.process is None:
             self.process = process
+        if process is None or self.process != process:
+            self.tell(line, "SecondProcess")
+        return process is not None and self.process == process
 
     def read_interface(self, name, ospf, isis):
         gathered = self.interfaces[name]

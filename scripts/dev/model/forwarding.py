@@ -127,6 +127,14 @@ def phase_before(wave, times):
     return NEW if second < wave else MIDDLE if first < wave else OLD
 
 
+def flat_phases(order, made):
+    """The phases behind so many changes, where each router makes both after another."""
+    phases = [OLD] * len(order)
+    for place, router in enumerate(order):
+        phases[router] = min(NEW, max(OLD, made - 2 * place))
+    return phases
+
+
 def router_times(start, ranks):
     """The waves of the changes where each router makes those that are left in the wave of its rank."""
     return [(0 if phase >= MIDDLE else rank + 1, 0 if phase == NEW else rank + 1) for phase, rank in zip(start, ranks)]

@@ -1,7 +1,7 @@
 """What the lines under `interface` say, and what an interface is by them and by the processes."""
 
 import re
-from dataclasses import dataclass
+from dataclasses import dataclass, field
 
 from process_lines import COST_MOST, LEVELS
 from words import address, area_number, base_of, mask, number, word_at
@@ -26,6 +26,13 @@ class Interface:
     levels: set[int]
     metrics: dict[int, int]
     is_isis_passive: bool
+    # Whether a line says its IS-IS levels or a metric, which an interface without IS-IS may have too.
+    has_isis_line: bool = field(compare=False)
+
+
+def names_area(words):
+    """Whether a line is of the form `ip ospf P area N`."""
+    return words[:2] == ["ip", "ospf"] and word_at(words, 2) not in ("cost", "network") and word_at(words, 3) == "area"
 
 
 class InterfaceLines:
@@ -34,10 +41,11 @@ class InterfaceLines:
     def __init__(self, tell, process, tag):
         self.tell, self.process, self.tag = tell, process, tag
         self.address, self.length, self.address_line = None, None, None
-        self.is_shut, self.bandwidth, self.cost = False, None, None
+        self.is_shut, self.bandwidth, self.has_bandwidth_line, self.cost = False, None, False, None
         self.has_area_line, self.area = False, None
         self.is_point_to_point, self.runs_isis = None, False
         self.levels, self.metric, self.level_metrics = {1, 2}, None, {}
+        self.has_isis_line = False
 
     def take(self, line, words):
         word, two = words[0], words[:2]
@@ -62,6 +70,7 @@ class InterfaceLines:
             elif (word_at(words, 3) or "") != self.tag:
                 self.tell(line, "SecondProcess")
         elif two == ["isis", "circuit-type"]:
+            self.has_isis_line = True
             if word_at(words, 2) in LEVELS:
                 self.levels = LEVELS[words[2]]
             else:
@@ -92,27 +101,29 @@ class InterfaceLines:
         value = number(word, 1000000000, 1)
         if value is None:
             self.tell(line, "NoBandwidth")
-        else:
-            self.bandwidth = value
+        self.bandwidth, self.has_bandwidth_line = value, True
 
     def take_ospf(self, line, words):
         if word_at(words, 2) == "cost":
             value = number(word_at(words, 3), 65535, 1)
             if value is None:
                 self.tell(line, "BadCost")
-            self.cost = value or self.cost or 1
+            self.cost = value or 1
         elif word_at(words, 2) == "network":
             self.is_point_to_point = word_at(words, 3) == "point-to-point"
             if word_at(words, 3) not in ("point-to-point", "broadcast"):
                 self.tell(line, "Unsupported")
-        elif word_at(words, 3) == "area":
+        elif names_area(words):
             area, process = area_number(word_at(words, 4)), number(words[2], 65535, 1)
             if area is None:
                 self.tell(line, "BadArea")
+            elif process is None:
+                self.tell(line, "SecondProcess")
             self.has_area_line = True
             self.area = area if process is not None and process == self.process else None
 
     def take_metric(self, line, words):
+        self.has_isis_line = True
         value, level = number(word_at(words, 2), COST_MOST, 1), word_at(words, 3)
         if level not in (None, "level-1", "level-2"):
             self.tell(line, "BadLevel")
@@ -140,7 +151,7 @@ class InterfaceLines:
             cost=1 if area is None else self.ospf_cost(name, head_line, is_up, ospf.reference),
             is_ospf_passive=ospf.passive.get(name, ospf.passive_default), levels=levels,
             metrics={level: self.level_metrics.get(f"level-{level}", of_all) if runs else 10 for level in (1, 2)},
-            is_isis_passive=is_isis_passive)
+            is_isis_passive=is_isis_passive, has_isis_line=self.has_isis_line)
 
     def ospf_cost(self, name, head_line, is_up, reference):
         """The cost of its line, or the reference bandwidth over its own, from 1 to 65,535."""
@@ -148,7 +159,7 @@ class InterfaceLines:
             return self.cost or 1
         bandwidth = self.bandwidth or BANDWIDTHS.get(re.match("[A-Za-z]*", name).group())
         if bandwidth is None:
-            if is_up:
+            if is_up and not self.has_bandwidth_line:
                 self.tell(head_line, "NoBandwidth")
             return 1
         return min(65535, max(1, reference * 1000 // bandwidth))

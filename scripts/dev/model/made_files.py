@@ -1,8 +1,8 @@
-"""The long files of crates/migrate_rows that its made.rt makes: those that the model has time for, no networks of 200 routers."""
+"""The long files of crates/migrate_rows that its made.rt makes: those that the model has time for."""
 
 import functools
 
-FILE_MOST = 16777216
+FILE_MOST, DESIGN_MOST = 16777216, 1048576
 ALONE = """hostname R1
 interface Loopback0
  ip address 10.0.0.1 255.255.255.255
@@ -22,6 +22,8 @@ def made(name):
         "made/16-mib-and-a-byte.cfg": lambda: "!" * (FILE_MOST + 1),
         "made/alone-up-to-16-mib.cfg": lambda: ALONE.ljust(FILE_MOST, "!"),
         "made/alone-up-to-16-mib-and-a-byte.cfg": lambda: ALONE.ljust(FILE_MOST + 1, "!"),
+        "made/1-mib.toml": lambda: "#" * DESIGN_MOST,
+        "made/1-mib-and-a-byte.toml": lambda: "#" * (DESIGN_MOST + 1),
         "made/2000-loopbacks.cfg": lambda: loopbacks(2000),
         "made/2001-loopbacks.cfg": lambda: loopbacks(2001),
         "made/4097-ranges.cfg": lambda: ranges(4097),
@@ -29,8 +31,16 @@ def made(name):
         "made/ring-of-60.cfg": lambda: ring(60, "both"),
         "made/old-ring-of-20.cfg": lambda: ring(20, "old"),
         "made/new-ring-of-20.cfg": lambda: ring(20, "new"),
+        "made/old-ring-of-200.cfg": lambda: ring(200, "old"),
+        "made/halves-of-20.txt": lambda: halves(20),
     }.get(name)
     return make and make()
+
+
+def halves(count):
+    """An order of the routers of a ring: those before its middle link ascending, then the others descending."""
+    routers = list(range(1, count // 2 + 1)) + list(range(count, count // 2, -1))
+    return "order 1\n" + "".join(f"S{router:02}\n" for router in routers)
 
 
 def loopbacks(count):

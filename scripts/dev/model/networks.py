@@ -43,28 +43,64 @@ def network_of(files):
 
 def build(configurations):
     """The network of configurations, or what is refused of it first."""
-    look_at_limits(configurations)
-    names = [each.name for each in configurations]
-    twice = [name for name in names if names.count(name) > 1]
-    if twice:
-        refuse(f"TwoNames {min(twice)}")
+    for look in LOOKS_BEFORE:
+        look(configurations)
     network = Network(configurations)
-    for look in (look_at_addresses, look_at_prefixes, look_at_borders, look_at_sums, look_at_systems, look_at_stubs):
+    for look in LOOKS:
         look(network)
     return network
+
+
+def build_or_all(configurations):
+    """The network of configurations, or None, and all that is refused: each by its own condition, in their order.
+
+    Where there are too many, or two have one name, there is no network to look at.
+    """
+    refused = all_refused(LOOKS_BEFORE, configurations)
+    if refused:
+        return None, refused
+    network = Network(configurations)
+    refused = all_refused(LOOKS, network)
+    return (None if refused else network), refused
+
+
+def all_refused(looks, what):
+    texts = []
+    for look in looks:
+        try:
+            look(what)
+        except Refused as refused:
+            texts.append(refused.text)
+    return texts
 
 
 def refuse(what):
     raise Refused(f"refused network {what}\n")
 
 
-def look_at_limits(configurations):
-    interfaces = sum(len(up(each)) for each in configurations)
+def refuse_above(what, count, most):
+    if count > most:
+        raise Refused(f"limit {what} {count}\n", 6)
+
+
+def look_at_routers(configurations):
+    refuse_above("routers", len(configurations), ROUTERS_MOST)
+
+
+def look_at_interfaces(configurations):
+    refuse_above("interfaces", sum(len(up(each)) for each in configurations), INTERFACES_MOST)
+
+
+def look_at_prefix_count(configurations):
     prefixes = set().union(*map(connected, configurations), *map(range_prefixes, configurations))
-    for what, count, most in (("routers", len(configurations), ROUTERS_MOST), ("interfaces", interfaces, INTERFACES_MOST),
-                              ("prefixes", len(prefixes), PREFIXES_MOST)):
-        if count > most:
-            raise Refused(f"limit {what} {count}\n", 6)
+    refuse_above("prefixes", len(prefixes), PREFIXES_MOST)
+
+
+def look_at_names(configurations):
+    names = [each.name for each in configurations]
+    twice = [name for name in names if names.count(name) > 1]
+    if twice:
+        refuse(f"TwoNames {min(twice)}")
 
 
 def least_pair(network, key_of, may_not_be):
@@ -103,15 +139,20 @@ def look_at_borders(network):
             refuse(f"BorderWithoutBackbone {network.names[router]}")
 
 
-def look_at_sums(network):
-    """The sums of all costs, so that no cost of a walk is beyond what a summary or a link-state packet can say."""
+def look_at_ospf_costs(network):
+    """The sum of all costs, so that no cost of a walk is beyond what a summary can say."""
     configurations = network.configurations
     total = sum(interface.cost for each in configurations for interface in up(each) if interface.area is not None)
     total += sum(cost for each in configurations for *_, cost in each.ranges if cost is not None)
     total += sum(cost for each in configurations for _, cost in each.stubs.values())
     if total >= OSPF_COSTS_BELOW:
         refuse(f"OspfCostSum {total}")
-    total = sum(interface.metrics[level] for each in configurations for interface in up(each) for level in interface.levels)
+
+
+def look_at_isis_metrics(network):
+    """The sum of all metrics, so that none of a walk is beyond what a link-state packet can say."""
+    total = sum(interface.metrics[level] for each in network.configurations for interface in up(each)
+                for level in interface.levels)
     if total > ISIS_METRICS_MOST:
         refuse(f"IsisMetricSum {total}")
 
@@ -138,10 +179,21 @@ def look_at_stubs(network):
         refuse(f"StubMismatch {network.names[first]} {network.names[second]} {area}")
 
 
-def look_at_start(network):
+# What is refused of configurations, and of a network, in the order in which it is told.
+LOOKS_BEFORE = (look_at_routers, look_at_interfaces, look_at_prefix_count, look_at_names)
+LOOKS = (look_at_addresses, look_at_prefixes, look_at_borders, look_at_ospf_costs, look_at_isis_metrics, look_at_systems,
+         look_at_stubs)
+
+
+def is_off_start(configuration):
     """A migration begins where OSPF is in use, and IS-IS has the distance that no route is used with."""
+    return (configuration.process is not None and configuration.ospf_distance == 255
+            or configuration.has_isis and configuration.isis_distance != 255)
+
+
+def look_at_start(network):
     for name, each in zip(network.names, network.configurations):
-        if each.process is not None and each.ospf_distance == 255 or each.has_isis and each.isis_distance != 255:
+        if is_off_start(each):
             refuse(f"NotAtStart {name}")
 
 

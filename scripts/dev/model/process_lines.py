@@ -68,11 +68,10 @@ class OspfLines:
             self.networks.append((base, wildcard, area))
 
     def take_passive(self, words, is_on):
-        name = interface_name(words)
         if words and words[0] == "default":
             self.passive_default = is_on
-        elif name is not None:
-            self.passive[name] = is_on
+        elif words:
+            self.passive[words[0]] = is_on
 
     def take_area(self, line, words):
         area, form = area_number(word_at(words, 1)), word_at(words, 2)
@@ -135,7 +134,7 @@ class IsisLines:
 
     def __init__(self, tell):
         self.tell = tell
-        self.net, self.has_net_line, self.is_wide = None, False, False
+        self.net, self.has_net_line, self.has_style_line = None, False, False
         self.levels, self.metric, self.distance = {1, 2}, 10, 115
         self.passive, self.leaks = {}, False
 
@@ -149,8 +148,8 @@ class IsisLines:
             else:
                 self.tell(line, "BadLevel")
         elif word == "metric-style":
-            self.is_wide = True
-            if behind != "wide" or word_at(words, 2) == "transition":
+            self.has_style_line = True
+            if words[1:] != ["wide"]:
                 self.tell(line, "Unsupported")
         elif word == "metric":
             value = number(behind, COST_MOST, 1)
@@ -160,7 +159,7 @@ class IsisLines:
                 self.metric = value
         elif word == "distance":
             value = number(behind, 255)
-            if value not in (115, 255) or word_at(words, 2) not in (None, "ip"):
+            if value not in (115, 255):
                 self.tell(line, "BadDistance")
             else:
                 self.distance = value
@@ -181,11 +180,10 @@ class IsisLines:
         self.has_net_line = True
 
     def take_passive(self, line, words, is_on):
-        name = interface_name(words)
         if words and words[0] == "default":
             self.tell(line, "Unsupported")
-        elif name is not None:
-            self.passive[name] = is_on
+        elif words:
+            self.passive[words[0]] = is_on
 
     def area_and_system(self):
         """The area of the network entity title, as its groups, and its system identifier."""

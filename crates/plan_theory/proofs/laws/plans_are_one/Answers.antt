@@ -1,5 +1,3 @@
-use Rattle.plan_theory.specs.Ranked.{ranked}
-use Rattle.plan_theory.proofs.ItemsServe.{items_serve}
 use Rattle.plan_theory.proofs.OnePlan.{one_night_plan, one_plan}
 use Rattle.plan_theory.proofs.laws.plans_are_one.Goals as goal
 
@@ -7,6 +5,6 @@ pub returns : goal.returns
 returns g c =
     let move = g.T.AnyMigration.migration in
     record {
-      night = λ items budget planned other can is too. one_night_plan move (ranked items move) (items_serve items move can) budget planned other is too;
+      night = λ items budget planned other can is too. one_night_plan items move can budget planned other is too;
       routers = λ budget planned other is too. one_plan move budget planned other is too;
     }
