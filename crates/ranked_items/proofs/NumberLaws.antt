@@ -1,12 +1,17 @@
 -- The numbers of a router, where routers are ranked and where single changes are.
-use Rattle.std.proofs.Common.{◌≡◌, ℕ, ◌+◌, ◌*◌, ◌/◌, ◌<◌, List, [], ◌∷◌, length, arith, refl, ap, subst, sym}
+use Rattle.std.proofs.Common.{◌≡◌, ℕ, ◌+◌, ◌*◌, ◌/◌, ◌<◌, List, [], ◌∷◌, ◌++◌, length, map, arith, refl, ap, ◌∙◌, subst, sym}
+use Rattle.std.proofs.lemmas.List.{map-append}
+use Rattle.order_core.specs.Pairs.{Pair}
+use Rattle.order_core.specs.Rankings.{numbers_below}
+use Rattle.order_core.proofs.WaveLists.{numbers_more}
+use Rattle.igp_theory.specs.Timetables.{change_number}
 use Rattle.order_core.specs.declared.turn.Tag.{Tag}
 use Rattle.order_core.specs.declared.turn.Turn.{Turn}
 use Rattle.igp_theory.specs.Changes.{first, second}
 use Rattle.igp_theory.specs.Migrations.{Migration}
 use Rattle.igp_theory.specs.TimetableLaws.{MiddleStepsAs, at_first, at_second}
 use Rattle.igp_theory.specs.declared.phase.Phase.TheVariants.{Old, New}
-use Rattle.plan_theory.specs.Ranked.{ranked, size_of}
+use Rattle.plan_theory.specs.Ranked.{change_base, ranked, size_of}
 use Rattle.plan_theory.specs.declared.items.Items.{Items}
 use Rattle.plan_theory.specs.declared.items.Items.TheVariants.{Routers, Changes}
 use Rattle.ranked_items.specs.Numbers.{turn_of}
@@ -46,3 +51,11 @@ change_ring Changes is move u k tag half = ap (λ (v : ℕ). turn_of v tag ∷ [
 pub change_below : (items : Items) → items ≡ Changes → (n k : ℕ) → k < 2 * n → k < size_of items n
 change_below Routers is n k below = cc
 change_below Changes is n k below = below
+
+-- The base
+
+-- one router's changes more
+pub base_more : (n : ℕ) → change_base n ++ (change_number (first n), change_number (second n)) ∷ [] ≡ change_base (n + 1)
+base_more n =
+    let pair : ℕ → Pair = λ u. (change_number (first u), change_number (second u)) in
+    sym (ap (map pair) (numbers_more n) ∙ map-append pair (numbers_below n) (n ∷ []))

@@ -120,9 +120,16 @@ fn has_all(routers: &[u32], others: &[u32]) -> bool
     ensures { IsTrue result ↔ ((h : ℕ) → Contains others.now h → Contains routers.now h) }
 {
     for other in others {
-        if !routers.contains(other) {
+        if !has(routers, *other) {
             return false;
         }
     }
     true
+}
+
+/// Whether a router is among some.
+fn has(routers: &[u32], router: u32) -> bool
+    ensures { IsTrue result ↔ Contains routers.now router }
+{
+    routers.contains(&router)
 }
