@@ -19,7 +19,7 @@ use Rattle.igp_theory.specs.Routes.{ForwardsTo, HaveSameEntries}
 use Rattle.equal_costs.specs.EqualCosts.{IsOneAreaAtEqualCosts}
 
 -- best hops are the same over the same arcs and offers
-best_hop_over : {arc other : Arcs} {offer others : Offers} {u h : ℕ} → SameArcs arc other → SameOffers offer others →
+pub best_hop_over : {arc other : Arcs} {offer others : Offers} {u h : ℕ} → SameArcs arc other → SameOffers offer others →
     BestHop arc offer u h → BestHop other others u h
 best_hop_over same offers hop = record {
   cost = hop.cost;
@@ -30,7 +30,7 @@ best_hop_over same offers hop = record {
 }
 
 -- an entry that forwards to hops forwards to those that are the same
-forwards_alike : (hop other : ℕ → Type 0) (e : Entry) → ((h : ℕ) → hop h → other h) → ((h : ℕ) → other h → hop h) →
+pub forwards_alike : (hop other : ℕ → Type 0) (e : Entry) → ((h : ℕ) → hop h → other h) → ((h : ℕ) → other h → hop h) →
     ForwardsTo hop e → ForwardsTo other e
 forwards_alike hop other (Via hops) to from are =
     record { ascending = are.ascending; exact = λ h. (λ c. to h ((are.exact h).0 c), λ is. (are.exact h).1 (from h is)) }

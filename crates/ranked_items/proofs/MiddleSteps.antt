@@ -11,12 +11,12 @@ use Rattle.prefix_atoms.specs.Classes.{Classes, IsInClass}
 use Rattle.rib_mix.specs.Answers.{IsNext, IsNextAtAnEnd, NextLeadsTo}
 use Rattle.rib_mix.specs.declared.next.Next.{Next}
 use Rattle.rib_mix.proofs.NextLaws.{steps_to_hops}
-use Rattle.ranked_items.specs.Numbers.{LeadAlike}
+use Rattle.ranked_items.specs.Numbers.{ForwardAlike}
 use Rattle.ranked_items.proofs.StartedSteps.{steps_started}
 
 module _ (move : Migration) (start : State) (u a : ℕ) (must : MustForward move.net a u) where
   -- answers that forward alike are steps alike
-  as_phase : (phase : Phase) (middle other : Next) → IsNext move u Middle a middle → IsNext move u phase a other → LeadAlike middle other →
+  as_phase : (phase : Phase) (middle other : Next) → IsNext move u Middle a middle → IsNext move u phase a other → ForwardAlike middle other →
       MiddleStepsAs (started start move) u a phase
   as_phase phase middle other one two alike h =
       let here = steps_to_hops move u Middle a middle h one must in
@@ -27,7 +27,7 @@ module _ (move : Migration) (start : State) (u a : ℕ) (must : MustForward move
 
   -- and the other way
   alike_of : (phase : Phase) (middle other : Next) → IsNext move u Middle a middle → IsNext move u phase a other →
-      MiddleStepsAs (started start move) u a phase → LeadAlike middle other
+      MiddleStepsAs (started start move) u a phase → ForwardAlike middle other
   alike_of phase middle other one two alike h =
       let here = steps_to_hops move u Middle a middle h one must in
       let there = steps_to_hops move u phase a other h two must in (
@@ -36,7 +36,7 @@ module _ (move : Migration) (start : State) (u a : ℕ) (must : MustForward move
       )
 
   pub middle_told : (classes : Classes) (atom : ℕ) (middle new : Next) (b : Bool) → IsInClass classes atom a → IsNext move u Middle a middle →
-      IsNext move u New a new → IsNextAtAnEnd move classes u atom middle → (IsTrue b ↔ LeadAlike middle new) →
+      IsNext move u New a new → IsNextAtAnEnd move classes u atom middle → (IsTrue b ↔ ForwardAlike middle new) →
       MatchBool b (MiddleStepsAs (started start move) u a New)
       (MiddleStepsAs (started start move) u a Old × (MiddleStepsAs (started start move) u a New → ⊥))
   middle_told classes atom middle new true class one two end told = as_phase New middle new one two (told.0 refl)

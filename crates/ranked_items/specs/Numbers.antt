@@ -1,12 +1,9 @@
 -- The words of numbers, and which number a router has for an address.
-use Rattle.std.specs.Prelude.{ℕ, ◌<◌, ◌↔◌, List, length, slice_index_or}
+use Rattle.std.specs.Prelude.{ℕ, ◌<◌, ◌↔◌, List, length}
 use Rattle.net_model.specs.Lookups.{IsNamed}
 use Rattle.net_model.specs.Network.{Network}
 use Rattle.order_core.specs.declared.turn.Tag.{Tag}
 use Rattle.order_core.specs.declared.turn.Turn.{Turn}
-use Rattle.igp_theory.specs.Phases.{State}
-use Rattle.igp_theory.specs.declared.phase.Phase.{Phase}
-use Rattle.igp_theory.specs.declared.phase.Phase.TheVariants.{Old}
 use Rattle.rib_mix.specs.Answers.{NextLeadsTo}
 use Rattle.rib_mix.specs.declared.next.Next.{Next}
 use Rattle.two_pass.specs.ChangeWords.{IsChangeWord, NamesItem}
@@ -28,9 +25,5 @@ abbrev pub turn_of : ℕ → Tag → Turn
 turn_of number tag = record { router = number; tag = tag }
 
 -- two answers forward to the same routers
-abbrev pub LeadAlike : Next → Next → Type 0
-LeadAlike one other = (h : ℕ) → NextLeadsTo one h ↔ NextLeadsTo other h
-
--- the start that gives each router the phase at its place, and Old where there is none
-abbrev pub start_of : List Phase → State
-start_of phases u = slice_index_or phases u Old
+abbrev pub ForwardAlike : Next → Next → Type 0
+ForwardAlike one other = (h : ℕ) → NextLeadsTo one h ↔ NextLeadsTo other h

@@ -8,7 +8,7 @@ ghost use Rattle.prefix_atoms.specs.Classes.{IsInClass};
 ghost use Rattle.rib_mix.specs.Answers.{NextLeadsTo};
 ghost use Rattle.rib_mix.specs.Mixture.{migration_of};
 ghost use Rattle.plan_theory.specs.Ranked.{base_of, ranked, size_of};
-ghost use Rattle.ranked_items.specs.Numbers.{LeadAlike, turn_of};
+ghost use Rattle.ranked_items.specs.Numbers.{ForwardAlike, turn_of};
 
 use igp_theory::Phase;
 use plan_theory::Items;
@@ -98,7 +98,7 @@ fn middle_is_new<O: RouteSource, N: RouteSource>(
 
 /// Whether two answers forward to the same routers.
 fn lead_alike(one: Next<'_>, other: Next<'_>) -> bool
-    ensures { IsTrue result ↔ LeadAlike one.entry other.entry }
+    ensures { IsTrue result ↔ ForwardAlike one.entry other.entry }
 {
     let left = hops_of(one);
     let right = hops_of(other);

@@ -43,7 +43,7 @@ fn change_number(word: &[u8]) -> Option<u32>
 }
 
 /// The items that words name, of each the one that it names.
-pub fn items_found(
+pub(crate) fn items_found(
     alloc: Global,
     net: &Net,
     words: &[&[u8]],
@@ -58,7 +58,7 @@ pub fn items_found(
 }
 
 /// Whether no item that was found stands behind a higher one.
-pub fn are_in_order(found: &[Option<u32>]) -> bool
+pub(crate) fn are_in_order(found: &[Option<u32>]) -> bool
     ensures { MatchBool result (AscendWhereFound found.now (length found.now)) (DescendSomewhere found.now) }
 {
     let mut most = 0;

@@ -27,9 +27,9 @@ mod writing;
 // Laws.
 mod laws;
 
-pub use items::{are_in_order, is_change_word, item_of, items_found};
+pub use items::{is_change_word, item_of};
 pub use kind::{TwoKind, TwoRefusal};
 pub use laws::two_laws;
 pub use reading::read_two;
 pub use std::alloc::AllocError as OutOfMemory;
-pub use writing::{two_refusal_text, two_text, with_item};
+pub use writing::{two_refusal_text, two_text};

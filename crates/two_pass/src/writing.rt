@@ -46,7 +46,7 @@ fn items_line(
 }
 
 /// The line with the word of an item more.
-pub fn with_item(line: LineBuilder, net: &Net, item: u32) -> Result<LineBuilder, AllocError>
+fn with_item(line: LineBuilder, net: &Net, item: u32) -> Result<LineBuilder, AllocError>
     requires { item < 2 * length net.now }
     ensures { IfOk result (λ longer. longer ≡ line ++ 32 ∷ item_word (names_of net.now) item) }
 {

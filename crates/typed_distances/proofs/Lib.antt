@@ -1,0 +1,4 @@
+pub mod SameBarDistances
+pub mod ReadProcesses
+pub mod PhasesByDistance
+pub mod TypedTexts

@@ -1,0 +1,2 @@
+pub mod TypedDistances
+pub mod TypedTexts
