@@ -16,7 +16,7 @@ use Rattle.igp_theory.specs.declared.phase.Phase.TheVariants.{Old}
 use Rattle.plan_theory.specs.Ranked.{base_of, size_of}
 use Rattle.plan_theory.specs.declared.items.Items.{Items}
 use Rattle.plan_theory.specs.declared.items.Items.TheVariants.{Routers, Changes}
-use Rattle.ranked_items.specs.Numbers.{start_of}
+use Rattle.refutation_check.specs.steps.Judged.{start_of}
 use Rattle.refutation_check.specs.Verdicts.{IsHeadedVerdict, IsLinesVerdict, behind_header}
 use Rattle.refutation_check.specs.declared.verdict.Verdict.{Verdict}
 use Rattle.refutation_check.specs.declared.verdict.Verdict.TheVariants.{Closed, Unfinished, Wrong}
@@ -46,3 +46,14 @@ base_below Changes n =
     (λ k d within.
     let below = (numbers_are_below n (get_or (numbers_below n) k d)).0 (Contains-get_or (numbers_below n) k d within) in
     (omega (arith, below), omega (arith, below)))
+
+-- so many numbers are few
+pub numbers_few : (items : Items) (n : ℕ) → n ≤ 200 → size_of items n ≤ 1000
+numbers_few Routers n few = omega (arith, few)
+numbers_few Changes n few = omega (arith, few)
+
+-- the one child of a branch of two turns assumes their pair besides
+pub pair_more : (base : List Pair) (i : ℕ) (d : Pair) → i < length base →
+    map (λ (p : Pair). take i base ++ p ∷ []) (child_pairs (turn_of (get_or base i d).0 Old ∷ turn_of (get_or base i d).1 New ∷ [])) ++ []
+    ≡ take (i + 1) base ∷ []
+pair_more base i d within = ap (λ (place : List Pair). place ∷ []) (sym (take_more base i d within))
