@@ -1,5 +1,5 @@
 -- What a router does in Middle, told by the answers of a class.
-use Rattle.std.proofs.Common.{◌≡◌, ℕ, ◌↔◌, inl, inr, Bool, true, false, IsTrue, MatchBool, refl, sym}
+use Rattle.std.proofs.Common.{ℕ, ◌↔◌, inl, inr, Bool, true, false, IsTrue, MatchBool, refl}
 use Rattle.std.proofs.lemmas.Bool.{false≢true}
 use Rattle.igp_theory.specs.Forwarding.{MustForward}
 use Rattle.igp_theory.specs.Migrations.{Migration, started}
@@ -8,7 +8,7 @@ use Rattle.igp_theory.specs.TimetableLaws.{MiddleStepsAs}
 use Rattle.igp_theory.specs.declared.phase.Phase.{Phase}
 use Rattle.igp_theory.specs.declared.phase.Phase.TheVariants.{Old, Middle, New}
 use Rattle.prefix_atoms.specs.Classes.{Classes, IsInClass}
-use Rattle.rib_mix.specs.Answers.{IsNext, IsNextAtAnEnd, NextLeadsTo}
+use Rattle.rib_mix.specs.Answers.{IsNext, IsNextAtAnEnd}
 use Rattle.rib_mix.specs.declared.next.Next.{Next}
 use Rattle.rib_mix.proofs.NextLaws.{steps_to_hops}
 use Rattle.ranked_items.specs.Numbers.{ForwardAlike}

@@ -1,9 +1,6 @@
-use Rattle.std.proofs.Common.{ℕ, ◌+◌, length, arith, refl}
-use Rattle.order_core.specs.declared.turn.Tag.{Tag}
+use Rattle.std.proofs.Common.{◌+◌, length, arith, refl}
 use Rattle.igp_theory.specs.Migrations.{Migration, started}
 use Rattle.igp_theory.specs.Phases.{State}
-use Rattle.igp_theory.specs.TimetableLaws.{MiddleStepsAs}
-use Rattle.igp_theory.specs.declared.phase.Phase.TheVariants.{Old, New}
 use Rattle.rib_mix.specs.Mixture.{migration_of}
 use Rattle.ranked_items.specs.Numbers.{turn_of}
 use Rattle.ranked_items.proofs.NumberLaws.{change_below, change_ring, first_names, router_below, router_names, router_ring, second_names}
