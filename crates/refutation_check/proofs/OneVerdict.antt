@@ -103,7 +103,8 @@ right_by_said Routers move can place n m same one two = same
 right_by_said Changes move can place (Branch a s) (Branch b t) same one two =
     let address : a ≡ b = cc in
     let rings : map by_router s ≡ map by_router t = cc in
-    let turns : s ≡ t = turns_by_ring move (ranked Changes move) (items_serve Changes move can) a s t rings one.0.named
+    let by_ring = (items_serve Changes move can).ring_is in
+    let turns : s ≡ t = turns_by_ring move (ranked Changes move) (items_serve Changes move can) a s t (sym (by_ring s) ∙ rings ∙ by_ring t) one.0.named
     (subst (λ (c : ℕ). All ((ranked Changes move).names c) t) (sym address) two.0.named) in
     cc
 right_by_said Changes move can place (Branch a s) (Leaf other) same one two = cc

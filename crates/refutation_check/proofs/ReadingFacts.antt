@@ -26,6 +26,7 @@ use Rattle.refutation_check.specs.Verdicts.{AreRightLines, IsRightNode, IsLinesV
 use Rattle.refutation_check.specs.Verdicts.{open_count}
 use Rattle.refutation_check.specs.WrongLines.{WrongWords, WrongNode, IsAssumedRound, IsLowestKind, kind_number}
 use Rattle.refutation_check.specs.declared.reading.Reading.{Reading}
+use Rattle.refutation_check.specs.declared.reading.WrongLine.{WrongLine}
 use Rattle.refutation_check.specs.declared.tally.Tally.{Tally}
 use Rattle.refutation_check.specs.declared.verdict.Verdict.{Verdict}
 use Rattle.refutation_check.specs.declared.verdict.Verdict.TheVariants.{Closed, Unfinished, Wrong}
@@ -33,7 +34,7 @@ use Rattle.refutation_check.specs.declared.verdict.WrongKind.{WrongKind}
 use Rattle.refutation_check.specs.declared.verdict.WrongKind.TheVariants.{Form, Router}
 use Rattle.refutation_check.specs.steps.Counted.{CountsNode}
 use Rattle.refutation_check.specs.steps.Judged.{AreNumbered}
-use Rattle.refutation_check.specs.steps.Reading.{HasReadLines, IsNotTaken, TakesLine, IsEndVerdict, IsWholeVerdict}
+use Rattle.refutation_check.specs.steps.Reading.{HasReadLines, IsFirstWrongOf, IsNotTaken, TakesLine, IsEndVerdict, IsWholeVerdict}
 use Rattle.refutation_check.specs.steps.Shapes.{SaysNoNode}
 use Rattle.refutation_check.specs.steps.Right.{IsRightBranch}
 use Rattle.refutation_check.specs.steps.Walks.{IsRinged, IsTaken}
@@ -328,3 +329,9 @@ end_is items move first lines reading next (Wrong line kind) read n w = record {
   line_is = w.1 ∙ n;
   wrong = subst (λ (k : WrongKind). IsWrongAt items move lines (length lines) k) (sym w.2) (wrong_end items move lines reading read w.0);
 }
+
+-- the verdict where a line is wrong
+pub wrong_from : (items : Items) (move : Migration) (first : ℕ) (lines : List (List ℕ)) (found : WrongLine) (verdict : Verdict) →
+    verdict ≡ Wrong (found.place + first) found.kind → IsFirstWrongOf items move lines found → IsLinesVerdict items move first lines verdict
+wrong_from items move first lines found verdict is wrong =
+    subst (IsLinesVerdict items move first lines) (sym is) (record { place = found.place; line_is = refl; wrong = wrong })

@@ -20,7 +20,8 @@ use Rattle.plan_theory.specs.Ranked.{size_of}
 use Rattle.plan_theory.specs.declared.items.Items.{Items}
 use Rattle.ranked_items.specs.Numbers.{NamesNumber}
 use Rattle.ranked_items.proofs.NumberWords.{NamesNumber-unique, NamesNumber-below}
-use Rattle.refutation_check.specs.TreeLines.{letter_of, IsEntry, IsSomeEntry, HasForm, branch_form, leaf_form, open_form, SaysTurn, SaysNode}
+use Rattle.refutation_check.specs.TreeLines.{letter_of, IsEntry, IsLeafLine, IsSomeEntry, HasForm, branch_form, leaf_form, open_form, SaysTurn, SaysNode}
+use Rattle.refutation_check.specs.steps.Names.{NameNumbers}
 use Rattle.refutation_check.specs.steps.Walks.{IsRinged}
 use Rattle.refutation_check.proofs.NameFacts.{one_router}
 
@@ -140,3 +141,21 @@ one_node items net network words (Leaf cycle) Unvisited one two = absurd (leaf_n
 one_node items net network words Unvisited (Branch b others) one two = absurd (branch_no_open (two.line.address ∷ two.entries) [] (sym two.line.words_are ∙ one))
 one_node items net network words Unvisited (Leaf cycle) one two = absurd (leaf_no_open two.names [] (sym two.line.words_are ∙ one))
 one_node items net network words Unvisited Unvisited one two = refl
+
+-- words of a leaf say the leaf of the numbers that they name
+pub leaf_says : (items : Items) (net : Network) (words names : List (List ℕ)) (numbers : List ℕ) → IsLeafLine items words names →
+    NameNumbers items net names numbers → SaysNode items net words (Leaf numbers)
+leaf_says items net words names numbers line named = record { names = names; line = line; named = named.named; distinct = named.distinct }
+
+-- and no node where they name none
+pub leaf_says_none : (items : Items) (net : Network) (words names : List (List ℕ)) → IsLeafLine items words names →
+    ((numbers : List ℕ) → NameNumbers items net names numbers → ⊥) → (node : Node) → SaysNode items net words node → ⊥
+leaf_says_none items net words names line none (Branch a turns) says =
+    branch_no_leaf (says.line.address ∷ says.entries) names (sym says.line.words_are ∙ line.words_are)
+leaf_says_none items net words names line none (Leaf cycle) says =
+    let same : says.names ≡ names = later_words (codes "leaf") (codes "leaf") says.names names (sym says.line.words_are ∙ line.words_are) in
+    none cycle (record {
+      named = subst (λ (l : List (List ℕ)). AllZip (NamesNumber items net) l cycle) same says.named;
+      distinct = says.distinct;
+    })
+leaf_says_none items net words names line none Unvisited says = leaf_no_open names [] (sym line.words_are ∙ says)

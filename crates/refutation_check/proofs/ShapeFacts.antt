@@ -32,8 +32,8 @@ no_address words rest es first a is none line =
 
 pub branch_answer : (items : Items) (text : List ℕ) (words rest : List (List ℕ)) (found : Option Shape) → words ≡ codes "branch" ∷ rest
     → IfNone found ((a : ℕ) (es : List (List ℕ)) → IsBranchLine (codes "branch" ∷ rest) a es → All IsSomeEntry es → ⊥) →
-    IfSome found (IsShape items text (codes "branch" ∷ rest)) → MatchOption found (HasForm items words → ⊥) (IsShape items text words)
-branch_answer items text words rest (Some shape) is none some = subst (λ (ws : List (List ℕ)). IsShape items text ws shape) (sym is) some
+    IfSome found (λ shape. (its : Items) → IsShape its text (codes "branch" ∷ rest) shape) → MatchOption found (HasForm items words → ⊥) (IsShape items text words)
+branch_answer items text words rest (Some shape) is none some = subst (λ (ws : List (List ℕ)). IsShape items text ws shape) (sym is) (some items)
 branch_answer items text words rest None is none some = λ form. no (subst (HasForm items) is form)
   where
     no : HasForm items (codes "branch" ∷ rest) → ⊥

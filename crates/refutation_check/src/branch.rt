@@ -8,7 +8,7 @@ ghost use Rattle.order_core.specs.declared.turn.Turn.{Turn};
 ghost use Rattle.prefix_atoms.specs.Classes.{IsInClass};
 ghost use Rattle.rib_mix.specs.Answers.{NextLeadsTo};
 ghost use Rattle.refutation_check.specs.WrongLines.{IsLowestKind, WrongBranch};
-ghost use Rattle.refutation_check.specs.steps.Judged.{started_of};
+ghost use Rattle.refutation_check.specs.steps.Judged.{start_of, started_of};
 ghost use Rattle.refutation_check.specs.steps.Rings.{next_at};
 ghost use Rattle.refutation_check.specs.steps.Right.{IsRightBranch, tells};
 
@@ -107,10 +107,18 @@ fn is_tagged<O: RouteSource, N: RouteSource>(
     ensures { (a : ℕ) → IsInClass asked.now.mixed.now.classes atom a → MustForward asked.now.mixed.now.net a turn.router
         → IsTrue result ↔ IsTag (started_of O.table N.table asked.now.mixed.now asked.now.start.now) a turn next }
 {
-    let begin = asked.start[turn.router as usize];
+    let begin = begin_of(asked.start, turn.router);
     let old = leads_to(asked.mixed.hops(turn.router, atom, begin), next);
     let new = leads_to(asked.mixed.hops(turn.router, atom, Phase::New), next);
     is_tag_of(turn.tag, old, new)
+}
+
+/// The phase in which a router begins.
+fn begin_of(start: &[Phase], router: u32) -> Phase
+    requires { router < length start.now }
+    ensures { start_of start.now router ≡ result }
+{
+    start[router as usize]
 }
 
 /// Whether a tag says which of two phases step on.

@@ -13,6 +13,7 @@ ghost use Rattle.refutation_check.specs.steps.Reading.{HasReadLines, IsEndVerdic
 
 use crate::asked::Asked;
 use crate::reading::{Reading, WrongLine};
+use crate::shape::is_text;
 use crate::spans::bytes_at;
 use crate::tally::Tally;
 use crate::verdict::{Verdict, WrongKind};
@@ -190,7 +191,7 @@ pub(crate) fn entries_of<'a>(text: &[u8], lines: &'a [Line], header: &[u8]) -> O
     ensures few { IfSome result (λ entries. length entries.now + 2 < 2 ^ 32 - 2) }
 {
     let (first, entries) = lines.split_first()?;
-    if bytes_at(text, first.span) == header {
+    if is_text(bytes_at(text, first.span), header) {
         Some(entries)
     } else {
         None

@@ -1,6 +1,7 @@
 ghost use Rattle.std.specs.Prelude.{◌≡◌, ◌≢◌, ◌<◌, ◌≤◌, ℕ, List, ◌∷◌, [], ◌↔◌, All, codes, length, IfNone, IfSome, IsTrue, MatchOption};
 ghost use Rattle.net_addr.specs.Spans.{LiesIn};
 ghost use Rattle.order_core.specs.declared.turn.Tag.{Tag};
+ghost use Rattle.plan_theory.specs.declared.items.Items.{Items};
 ghost use Rattle.ranked_items.specs.Numbers.{IsNumberWord};
 ghost use Rattle.refutation_check.specs.TreeLines.{HasForm, IsBranchLine, IsEntry, IsSomeEntry, letter_of};
 ghost use Rattle.refutation_check.specs.steps.Shapes.{IsShape};
@@ -52,7 +53,7 @@ pub(crate) fn shape_of<'a>(items: Items, text: &[u8], words: &'a [Span]) -> Opti
 }
 
 /// Whether a word is this text.
-fn is_text(word: &[u8], text: &[u8]) -> bool
+pub(crate) fn is_text(word: &[u8], text: &[u8]) -> bool
     ensures { IsTrue result ↔ (word.now ≡ text.now) }
 {
     word == text
@@ -75,7 +76,7 @@ fn branch_shape<'a>(text: &[u8], others: &'a [Span]) -> Option<Shape<'a>>
     requires { All (LiesIn text.now) others.now }
     ensures none { IfNone result ((a : ℕ) (entries : List (List ℕ)) → IsBranchLine (codes "branch" ∷ span_texts text.now others.now) a entries →
         All IsSomeEntry entries → ⊥) }
-    ensures some { IfSome result (IsShape text.now (codes "branch" ∷ span_texts text.now others.now)) }
+    ensures some { IfSome result (λ shape. (items : Items) → IsShape items text.now (codes "branch" ∷ span_texts text.now others.now) shape) }
 {
     let (address, entries) = others.split_first()?;
     let address = read_addr(bytes_at(text, *address))?;

@@ -6,7 +6,7 @@ use Rattle.net_addr.specs.declared.line.Line.{Line}
 use Rattle.igp_theory.specs.Migrations.{Migration}
 use Rattle.refutation_check.specs.steps.Judged.{started_of}
 use Rattle.refutation_check.specs.steps.Reading.{HasReadLines, IsFirstWrongOf, line_bytes}
-use Rattle.refutation_check.proofs.ReadingFacts.{end_is, read_none}
+use Rattle.refutation_check.proofs.ReadingFacts.{end_is, read_none, wrong_from}
 use Rattle.refutation_check.proofs.judge.judge_lines.Goals as goal
 
 pub read_lines-requires-clause-start : goal.read_lines-requires-clause-start
@@ -14,3 +14,22 @@ read_lines-requires-clause-start g c =
     read_none c.args.asked.now.items
     (started_of g.O.RouteSource.table g.N.RouteSource.table c.args.asked.now.mixed.now c.args.asked.now.start.now) c.in_ok-start.start
     c.in_ok-start.ensures.left c.in_ok-start.ensures.tally
+
+pub returns-in-Ok : goal.returns-in-Ok
+returns-in-Ok g c =
+    let move : Migration = started_of g.O.RouteSource.table g.N.RouteSource.table c.args.asked.now.mixed.now c.args.asked.now.start.now in
+    let items = c.args.asked.now.items in
+    let entries = c.args.entries.now in
+    let lines = line_bytes c.args.text.now entries in
+    let read : HasReadLines items move lines c.in-Ok.read =
+    MatchResult-at_ok (HasReadLines items move lines) (IsFirstWrongOf items move lines) c.in-Ok.read c.in-Ok.is c.in_ok-read.ensures.read in
+    end_is items move c.args.first lines c.in-Ok.read (length entries + c.args.first) c.end_verdict.result read
+    (omega (arith, length-map entries (λ (line : Line). bytes_of c.args.text.now line.span))) c.end_verdict.ensures
+
+pub returns : goal.returns
+returns g c =
+    let move : Migration = started_of g.O.RouteSource.table g.N.RouteSource.table c.args.asked.now.mixed.now c.args.asked.now.start.now in
+    let items = c.args.asked.now.items in
+    let lines = line_bytes c.args.text.now c.args.entries.now in
+    wrong_from items move c.args.first lines c.in-Err.found c.wrong.result c.wrong.ensures
+    (MatchResult-at_err (HasReadLines items move lines) (IsFirstWrongOf items move lines) c.in-Err.found c.in-Err.is c.in_ok-read.ensures.read)

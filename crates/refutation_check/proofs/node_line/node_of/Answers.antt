@@ -7,3 +7,6 @@ turns_of-requires c = subst (LieInside c.args.text.now) c.in-Branch.is c.require
 
 pub numbers_named-requires-clause-inside : goal.numbers_named-requires-clause-inside
 numbers_named-requires-clause-inside c = subst (LieInside c.args.text.now) c.in-Leaf.is c.requires.inside
+
+pub returns-in_ok-cycle-in-Leaf : goal.returns-in_ok-cycle-in-Leaf
+returns-in_ok-cycle-in-Leaf c = λ words shape. ?
