@@ -1,5 +1,5 @@
 ghost use Rattle.std.specs.Prelude.{◌≡◌, ◌<◌, ◌≤◌, ◌^◌, ◌-◌, ◌+◌, ◌↔◌, [], ◌∷◌, ℕ, List, All, IfErr, IfNone, IfOk, IfSome, IsTrue};
-ghost use Rattle.std.specs.Prelude.{MatchResult, length, take};
+ghost use Rattle.std.specs.Prelude.{MatchResult, length, replicate, take};
 ghost use Rattle.net_addr.specs.Lines.{line_texts, text_lines};
 ghost use Rattle.net_addr.specs.Spans.{LiesIn};
 ghost use Rattle.net_model.specs.Refusals.{IsNetwork};
@@ -72,7 +72,7 @@ fn verify_headed<O: RouteSource, N: RouteSource>(
     ensures verdict { IfOk result (IsHeadedVerdict items (tree_header_of items) (migration_of O.table N.table mixed.now) text.now) }
     ensures network { IsNetwork mixed.now.net }
 {
-    let start = vec![in alloc; Phase::Old; mixed.net().routers() as usize]?;
+    let start = all_old(alloc, mixed.net().routers())?;
     let all = lines(alloc, text)?;
     let Some(entries) = entries_of(text, all.as_slice(), header_of(items)) else {
         return Ok(wrong(1, WrongKind::Form));
@@ -83,6 +83,13 @@ fn verify_headed<O: RouteSource, N: RouteSource>(
         items,
     };
     judge_lines(alloc, &asked, text, entries, 2)
+}
+
+/// The start where each of so many routers is in `Old`.
+fn all_old(alloc: Global, routers: u32) -> Result<Vec<Phase>, OutOfMemory>
+    ensures { IfOk result (λ start. start.items ≡ replicate routers Phase.Old) }
+{
+    Ok(vec![in alloc; Phase::Old; routers as usize]?)
 }
 
 /// The first line of a tree file.

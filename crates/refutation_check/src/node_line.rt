@@ -81,8 +81,10 @@ fn node_of(
             Ok(turns.map(|turns| Node::Branch { address, turns }))
         }
         Shape::Leaf { names } => {
-            let cycle = numbers_named(alloc, items, net, text, names)?;
-            Ok(cycle.map(|cycle| Node::Leaf { cycle }))
+            match numbers_named(alloc, items, net, text, names)? {
+                Some(cycle) => Ok(Some(Node::Leaf { cycle })),
+                None => Ok(None),
+            }
         }
         Shape::Open => Ok(Some(Node::Unvisited)),
     }

@@ -1,14 +1,20 @@
-use Rattle.refutation_check.specs.steps.Judged.{started_of}
+use Rattle.std.proofs.Common.{List, sym, subst}
+use Rattle.igp_theory.specs.Migrations.{Migration}
+use Rattle.order_core.specs.declared.turn.Turn.{Turn}
+use Rattle.refutation_check.specs.steps.Judged.{AreNumbered, started_of}
 use Rattle.refutation_check.proofs.ReadingFacts.{branch_taken, leaf_taken, open_taken}
 use Rattle.refutation_check.proofs.reading.take_node.Goals as goal
 
 pub returns-in_ok-enter-in-None-clause-taken : goal.returns-in_ok-enter-in-None-clause-taken
 returns-in_ok-enter-in-None-clause-taken g c = λ place left is.
-    branch_taken c.args.asked.now.items
-    (started_of g.O.RouteSource.table g.N.RouteSource.table c.args.asked.now.mixed.now c.args.asked.now.start.now) place
-    left c.in_ok-enter-in-None.field-0.left c.args.node.now c.in-Branch.address c.in-Branch.turns
-    c.as_slice.result.now c.as_slice-in-None.result.now c.in_ok-numbered.numbered c.in-Branch.is c.as_slice.ensures c.requires.ringed
-    c.in-None.ensures.right c.in_ok-numbered.ensures.numbered c.as_slice-in-None.ensures (c.in_ok-enter-in-None.ensures.left place left is)
+    let items = c.args.asked.now.items in
+    let move : Migration = started_of g.O.RouteSource.table g.N.RouteSource.table c.args.asked.now.mixed.now c.args.asked.now.start.now in
+    let named = c.as_slice-in-None.result.now in
+    let numbered = c.as_slice-in-None-2.result.now in
+    branch_taken items move place left c.in_ok-enter-in-None.field-0.left c.args.node.now c.in-Branch.address c.in-Branch.turns
+    c.as_slice.result.now named numbered c.in-Branch.is c.as_slice.ensures c.requires.ringed c.in-None.ensures.right
+    (subst (λ (l : List Turn). AreNumbered items move c.in-Branch.address named l) (sym c.as_slice-in-None-2.ensures)
+    c.in_ok-numbered-in-None.ensures.numbered) c.as_slice-in-None.ensures (c.in_ok-enter-in-None.ensures.left place left is)
 
 pub returns-in_ok-leave-in-Leaf-clause-taken : goal.returns-in_ok-leave-in-Leaf-clause-taken
 returns-in_ok-leave-in-Leaf-clause-taken g c = λ place left is.
