@@ -257,6 +257,12 @@ open_said : (items : Items) → as_said items Unvisited ≡ Unvisited
 open_said Routers = refl
 open_said Changes = refl
 
+-- the numbers of turns have their tags
+pub numbers_have_both : (items : Items) (move : Migration) (turns numbered : List Turn) → (ranked items move).ring numbered ≡ turns →
+    HasBothTags turns → HasBothTags numbered
+numbers_have_both Routers move turns numbered same both = subst HasBothTags (sym same) both
+numbers_have_both Changes move turns numbered same both = both_of_map by_router (λ t. refl) numbered (subst HasBothTags (sym same) both)
+
 pub branch_taken : (items : Items) (move : Migration) (place : Place) (left after : List Place) (node : Node) (a : ℕ)
     (turns shown named numbered : List Turn) →
     node ≡ Branch a turns → shown ≡ turns → IsRinged items (length move.net) node → IsRightBranch move a shown →
@@ -276,11 +282,6 @@ branch_taken items move place left after node a turns shown named numbered is sh
       );
       below = below;
     })
-  where
-    -- the numbers have the tags of the routers
-    numbers_have_both : (its : Items) (m : Migration) (ts ns : List Turn) → (ranked its m).ring ns ≡ ts → HasBothTags ts → HasBothTags ns
-    numbers_have_both Routers m ts ns same both = subst HasBothTags (sym same) both
-    numbers_have_both Changes m ts ns same both = both_of_map by_router (λ t. refl) ns (subst HasBothTags (sym same) both)
 
 pub leaf_taken : (items : Items) (move : Migration) (place : Place) (left after : List Place) (node : Node) (cycle shown : List ℕ) →
     node ≡ Leaf cycle →

@@ -1,9 +1,18 @@
-use Rattle.std.proofs.Common.{List, sym, subst}
+use Rattle.std.proofs.Common.{List, sym, subst, ◌∙◌}
+use Rattle.order_core.specs.Turns.{HasBothTags}
 use Rattle.igp_theory.specs.Migrations.{Migration}
 use Rattle.order_core.specs.declared.turn.Turn.{Turn}
 use Rattle.refutation_check.specs.steps.Judged.{AreNumbered, started_of}
-use Rattle.refutation_check.proofs.ReadingFacts.{branch_taken, leaf_taken, open_taken}
+use Rattle.refutation_check.proofs.ReadingFacts.{branch_taken, leaf_taken, numbers_have_both}
 use Rattle.refutation_check.proofs.reading.take_node.Goals as goal
+
+pub enter-requires-clause-both : goal.enter-requires-clause-both
+enter-requires-clause-both g c =
+    let move : Migration = started_of g.O.RouteSource.table g.N.RouteSource.table c.args.asked.now.mixed.now c.args.asked.now.start.now in
+    subst HasBothTags (sym c.as_slice-in-None-2.ensures)
+    (numbers_have_both c.args.asked.now.items move c.as_slice-in-None.result.now c.in_ok-numbered-in-None.numbered
+    c.in_ok-numbered-in-None.ensures.numbered.ring
+    (subst HasBothTags (c.as_slice.ensures ∙ sym c.as_slice-in-None.ensures) c.in-None.ensures.right.both))
 
 pub returns-in_ok-enter-in-None-clause-taken : goal.returns-in_ok-enter-in-None-clause-taken
 returns-in_ok-enter-in-None-clause-taken g c = λ place left is.
