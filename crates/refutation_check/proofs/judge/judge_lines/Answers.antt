@@ -1,4 +1,6 @@
-use Rattle.std.proofs.Common.{◌+◌, length, arith}
+use Rattle.std.proofs.Common.{ℕ, ◌+◌, [], ◌∷◌, length, arith, ap, ◌∙◌}
+use Rattle.net_model.specs.Network.{Network}
+use Rattle.plan_theory.specs.Ranked.{base_of}
 use Rattle.std.proofs.lemmas.List.{length-map}
 use Rattle.std.proofs.lemmas.Result.{MatchResult-at_ok, MatchResult-at_err}
 use Rattle.net_addr.specs.Spans.{bytes_of}
@@ -13,7 +15,8 @@ pub read_lines-requires-clause-start : goal.read_lines-requires-clause-start
 read_lines-requires-clause-start g c =
     read_none c.args.asked.now.items
     (started_of g.O.RouteSource.table g.N.RouteSource.table c.args.asked.now.mixed.now c.args.asked.now.start.now) c.in_ok-start.start
-    c.in_ok-start.ensures.left c.in_ok-start.ensures.tally
+    (c.in_ok-start.ensures.left ∙ ap (λ (n : ℕ). base_of c.args.asked.now.items n ∷ [])
+    (c.routers.ensures.count ∙ ap (λ (net : Network). length net) c.net.ensures)) c.in_ok-start.ensures.tally
 
 pub returns-in-Ok : goal.returns-in-Ok
 returns-in-Ok g c =
@@ -26,8 +29,8 @@ returns-in-Ok g c =
     end_is items move c.args.first lines c.in-Ok.read (length entries + c.args.first) c.end_verdict.result read
     (omega (arith, length-map entries (λ (line : Line). bytes_of c.args.text.now line.span))) c.end_verdict.ensures
 
-pub returns : goal.returns
-returns g c =
+pub returns-in-Err : goal.returns-in-Err
+returns-in-Err g c =
     let move : Migration = started_of g.O.RouteSource.table g.N.RouteSource.table c.args.asked.now.mixed.now c.args.asked.now.start.now in
     let items = c.args.asked.now.items in
     let lines = line_bytes c.args.text.now c.args.entries.now in

@@ -24,7 +24,7 @@ returns-in_default-clause-verdict g c =
 
 pub invariant_of-asked : goal.invariant_of-asked
 invariant_of-asked g c =
-    ap (λ (l : List Phase). length l) (c.as_slice-in-Some.ensures.value ∙ c.in_ok-start.ensures) ∙ length-replicate c.routers.result Old
+    ap (λ (l : List Phase). length l) (c.as_slice-2.ensures.value ∙ c.in_ok-start.ensures) ∙ length-replicate c.routers.result Old
     ∙ c.routers.ensures.count ∙ ap (λ (n : Network). length n) c.net.ensures
 
 pub returns-clause-verdict : goal.returns-clause-verdict
@@ -36,12 +36,12 @@ returns-clause-verdict g c =
     let header = tree_header_of items in
     let entries = c.in-Some.entries.now in
     let lines = line_bytes text entries in
-    let start = c.as_slice-in-Some.result.now in
+    let start = c.as_slice-2.result.now in
     let begun : Migration = started_of g.O.RouteSource.table g.N.RouteSource.table m start in
     let behind : StandBehind (header ∷ []) text entries =
     subst (λ (h : List ℕ). StandBehind (h ∷ []) text entries) c.header_of.ensures c.in-Some.ensures.behind in
     let same : begun ≡ move = old_started g.O.RouteSource.table g.N.RouteSource.table m start c.routers.result
-    (c.as_slice-in-Some.ensures.value ∙ c.in_ok-start.ensures) in
+    (c.as_slice-2.ensures.value ∙ c.in_ok-start.ensures) in
     IfOk-weaker c.judge_lines.result (IsLinesVerdict items begun 2 lines) (IsHeadedVerdict items header move text)
     (λ verdict is. headed_verdict items header move text lines verdict behind (subst (λ (v : Migration). IsLinesVerdict items v 2 lines verdict) same is))
     c.judge_lines.ensures
