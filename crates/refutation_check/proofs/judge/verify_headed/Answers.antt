@@ -23,9 +23,10 @@ returns-in_default-clause-verdict g c =
     subst (IsHeadedVerdict c.args.items header move c.args.text.now) (sym c.wrong.ensures) (header_missing none)
 
 pub invariant_of-asked : goal.invariant_of-asked
-invariant_of-asked g c =
-    ap (λ (l : List Phase). length l) (c.as_slice-2.ensures.value ∙ c.in_ok-start.ensures) ∙ length-replicate c.routers.result Old
-    ∙ c.routers.ensures.count ∙ ap (λ (n : Network). length n) c.net.ensures
+invariant_of-asked g c = record {
+  each = ap (λ (l : List Phase). length l) (c.as_slice-2.ensures.value ∙ c.in_ok-start.ensures) ∙ length-replicate c.routers.result Old
+      ∙ c.routers.ensures.count ∙ ap (λ (n : Network). length n) c.net.ensures;
+}
 
 pub returns-clause-verdict : goal.returns-clause-verdict
 returns-clause-verdict g c =
