@@ -127,7 +127,7 @@ module _ (move : Migration) where
             text_is = refl;
             spent = is.is_found.stopped.spent;
             unvisited = open_count tree;
-            some = reads.is.some;
+            some = reads.is.holds.some;
             refutes = judged_tree (Unfinished (open_count tree)) network reads.is tt;
           };
         }

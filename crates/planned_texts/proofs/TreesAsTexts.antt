@@ -11,8 +11,10 @@ use Rattle.order_search.specs.Trees.{Fill, IsTreeNode, Place, Real, branch_count
 use Rattle.order_search.proofs.Fills.{Fill-append, Fill-weaker}
 use Rattle.order_search.specs.declared.tree.Node.{Node}
 use Rattle.order_search.specs.declared.tree.Node.TheVariants.{Unvisited}
-use Rattle.refutation_check.specs.TreeTexts.{tree_text}
-use Rattle.refutation_check.specs.Verdicts.{IsClosedText, IsTreeText, IsUnfinishedText, leaf_count, open_count}
+use Rattle.plan_theory.specs.declared.items.Items.TheVariants.{Routers}
+use Rattle.refutation_check.specs.TreeTexts.{ReadsAsNodes, tree_text}
+use Rattle.refutation_check.specs.Verdicts.{AreRightLines, IsClosedText, IsTextVerdict, leaf_count, open_count}
+use Rattle.refutation_check.specs.declared.verdict.Verdict.TheVariants.{Unfinished}
 use Rattle.refutation_check.proofs.PrintedTrees.{trees_read_back}
 use Rattle.refutation_check.proofs.ReadingFacts.{open_count-append}
 use Rattle.planned_texts.proofs.TreeNodes.{nodes_below, nodes_read}
@@ -52,29 +54,44 @@ module _ (move : Migration) (budget : ℕ) where
 
   module _ (network : IsNetwork move.net) where
     -- a tree whose branches are loops of the network reads back as this tree
-    tree_reads : (nodes : List Node) → Fill (IsTreeNode (IsLoop move)) ([] ∷ []) nodes [] →
-        IsTreeText move (tree_text (names_of move.net) nodes) nodes
-    tree_reads nodes fill =
-        let back = trees_read_back move.net nodes network (nodes_below move [] nodes fill) (nodes_read move [] nodes fill) in
-        record { lines = back.lines; text_is = back.text_is; right = record { said = back.said; fills = fill } }
+    tree_reads : (nodes : List Node) → Fill (IsTreeNode (IsLoop move)) ([] ∷ []) nodes [] → ReadsAsNodes move.net (tree_text (names_of move.net) nodes) nodes
+    tree_reads nodes fill = trees_read_back move.net nodes network (nodes_below move [] nodes fill) (nodes_read move [] nodes fill)
+
+    right_lines : (nodes : List Node) (fill : Fill (IsTreeNode (IsLoop move)) ([] ∷ []) nodes []) →
+        AreRightLines Routers move (tree_reads nodes fill).lines nodes []
+    right_lines nodes fill = record { said = (tree_reads nodes fill).said; fills = fill }
 
     -- a refutation is a closed text
     pub refutation_closes : (tree : List Node) → IsRefutation (waves_meaning move) budget tree →
         IsClosedText move (tree_text (names_of move.net) tree) (branch_count tree) (leaf_count tree)
-    refutation_closes tree is = record {
-      nodes = tree;
-      tree = tree_reads tree (refuted_fill tree is);
-      visited = is.closed.visited;
-      branches_are = refl;
-      leaves_are = refl;
-    }
+    refutation_closes tree is =
+        let fill = refuted_fill tree is in
+        let back = tree_reads tree fill in
+        record {
+          lines = back.lines;
+          text_is = back.text_is;
+          holds = record {
+            nodes = tree;
+            right = right_lines tree fill;
+            visited = is.closed.visited;
+            branches_are = refl;
+            leaves_are = refl;
+          };
+        }
 
     -- a tree that was stopped is an unfinished text
     pub spent_stays_open : (tree : List Node) → IsSpent (waves_meaning move) budget tree →
-        IsUnfinishedText move (tree_text (names_of move.net) tree) (open_count tree)
-    spent_stays_open tree is = record {
-      nodes = tree;
-      tree = tree_reads tree (spent_fill tree is);
-      some = subst (λ (nodes : List Node). 0 < open_count nodes) (sym is.stopped.ends) (open_some is.stopped.before (length is.stopped.later));
-      unvisited_are = refl;
-    }
+        IsTextVerdict move (tree_text (names_of move.net) tree) (Unfinished (open_count tree))
+    spent_stays_open tree is =
+        let fill = spent_fill tree is in
+        let back = tree_reads tree fill in
+        record {
+          lines = back.lines;
+          text_is = back.text_is;
+          holds = record {
+            nodes = tree;
+            right = right_lines tree fill;
+            some = subst (λ (nodes : List Node). 0 < open_count nodes) (sym is.stopped.ends) (open_some is.stopped.before (length is.stopped.later));
+            unvisited_are = refl;
+          };
+        }

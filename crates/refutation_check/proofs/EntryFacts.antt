@@ -9,20 +9,7 @@ use Rattle.net_addr.specs.Lines.{is_line_feed, line_pieces, line_texts, lines_of
 use Rattle.net_addr.specs.Spans.{bytes_of, LiesIn}
 use Rattle.net_addr.specs.declared.line.Line.{Line}
 use Rattle.net_addr.proofs.JoinedFacts.{lines_of-length}
-use Rattle.refutation_check.specs.TreeLines.{tree_header}
-use Rattle.refutation_check.specs.steps.Reading.{AreTreeEntries, line_bytes}
-
-numbered_from : (number start : ℕ) (pieces : List (List ℕ)) (k : ℕ) (d : Line) → k < length (lines_of number start pieces) →
-    (get_or (lines_of number start pieces) k d).number ≡ number + k
-numbered_from number start [] k d l = absurd (omega (arith, l))
-numbered_from number start (piece ∷ more) zero d l = omega arith
-numbered_from number start (piece ∷ more) (suc k) d l =
-    let step = numbered_from (number + 1) (start + length piece + 1) more k d (omega (arith, l)) in
-    omega (arith, step)
-
--- lines are numbered from 1
-numbered : (text : List ℕ) (k : ℕ) (d : Line) → k < length (text_lines text) → (get_or (text_lines text) k d).number ≡ k + 1
-numbered text k d l = let step = numbered_from 1 0 (line_pieces text) k d l in omega (arith, step)
+use Rattle.refutation_check.specs.steps.Reading.{StandBehind, line_bytes}
 
 one_few : (empty : Bool) (piece : List ℕ) → length (cond empty [] (piece ∷ [])) ≤ 1
 one_few true piece = omega arith
@@ -45,21 +32,17 @@ lines_few text =
     )
 
 -- the lines after a first line that is the header
-pub entries_from : (text : List ℕ) (lines entries : List Line) (first : Line) → lines ≡ text_lines text →
-    All (λ (line : Line). LiesIn text line.span) lines → line_bytes text lines ≡ line_texts text → lines ≡ first ∷ entries
-    → bytes_of text first.span ≡ tree_header → AreTreeEntries text entries
-entries_from text lines entries first exact inside texts parts is = record {
-  lines = sym texts ∙ ap (line_bytes text) parts ∙ ap (λ h. h ∷ line_bytes text entries) is;
-  numbers = λ k d l.
-      let same : text_lines text ≡ first ∷ entries = sym exact ∙ parts in
-      let number = numbered text (suc k) d (omega (arith, l, ap length same)) in
-      let at = subst (λ (all : List Line). (get_or all (suc k) d).number ≡ suc k + 1) same number in
-      omega (arith, at);
-  inside = All-tail (λ (line : Line). LiesIn text line.span) first entries (subst (All (λ (line : Line). LiesIn text line.span)) parts inside);
-}
+pub stand_behind : (text header : List ℕ) (lines entries : List Line) (first : Line) → line_bytes text lines ≡ line_texts text →
+    lines ≡ first ∷ entries → bytes_of text first.span ≡ header → StandBehind (header ∷ []) text entries
+stand_behind text header lines entries first texts parts is = sym texts ∙ ap (line_bytes text) parts ∙ ap (λ h. h ∷ line_bytes text entries) is
+
+pub entries_inside : (text : List ℕ) (lines entries : List Line) (first : Line) → All (λ (line : Line). LiesIn text line.span) lines →
+    lines ≡ first ∷ entries → All (λ (line : Line). LiesIn text line.span) entries
+entries_inside text lines entries first inside parts =
+    All-tail (λ (line : Line). LiesIn text line.span) first entries (subst (All (λ (line : Line). LiesIn text line.span)) parts inside)
 
 -- there are few of them
 pub entries_few : (text : List ℕ) (lines entries : List Line) (first : Line) → length text < 2 ^ 26 → lines ≡ text_lines text →
     lines ≡ first ∷ entries →
-    length entries < 2 ^ 32 - 2
+    length entries + 2 < 2 ^ 32 - 2
 entries_few text lines entries first short exact parts = omega (arith, lines_few text, ap length (sym exact ∙ parts), short)

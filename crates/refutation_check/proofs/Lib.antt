@@ -9,11 +9,13 @@ pub mod NameFacts
 pub mod Leaving
 pub mod TagFacts
 pub mod BranchFacts
+pub mod NumberedTurns
 pub mod SaidNodes
 pub mod ReadingFacts
 pub mod PrintedTrees
 pub mod ShapeFacts
 pub mod SpanPlaces
 pub mod EntryFacts
+pub mod Heads
 pub mod OneVerdict
 pub mod SameVerdicts

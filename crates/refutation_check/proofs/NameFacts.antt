@@ -12,8 +12,11 @@ use Rattle.net_model.proofs.NetworkFacts.{IsNamed-unique}
 use Rattle.order_core.specs.declared.turn.Tag.{Tag}
 use Rattle.order_core.specs.declared.turn.Tag.TheVariants.{Old}
 use Rattle.order_core.specs.declared.turn.Turn.{Turn}
+use Rattle.plan_theory.specs.declared.items.Items.{Items}
+use Rattle.ranked_items.specs.Numbers.{NamesNumber}
+use Rattle.ranked_items.proofs.NumberWords.{NamesNumber-unique}
 use Rattle.refutation_check.specs.TreeLines.{IsEntry, IsSomeEntry, SaysTurn, letter_of}
-use Rattle.refutation_check.specs.steps.Names.{SayTurns, NameRouters, IsFurtherTurn, IsFurtherRouter, SaysNoFurtherTurn, NamesNoFurtherRouter}
+use Rattle.refutation_check.specs.steps.Names.{SayTurns, NameNumbers, IsFurtherTurn, IsFurtherNumber, SaysNoFurtherTurn, NamesNoFurtherNumber}
 
 -- what is related to an item at a place
 pub zip_at : {A B : Type 0} (R : A → B → Type 0) (xs : List A) (ys : List B) (k : ℕ) (d : A) (e : B) → AllZip R xs ys → k < length xs →
@@ -74,12 +77,12 @@ no_turns net words front i within say none network others all =
     let here = says_entry net (get_or words i []) (get_or others i a_turn) (zip_at (SaysTurn net) words others i [] a_turn all.said within) in
     no_further (SaysTurn net) (λ (t : Turn). t.router) (one_router net (network here)) words front others i a_turn within say.said all.said all.distinct none
 
-pub no_routers : (net : Network) → IsNetwork net → (words : List (List ℕ)) (front : List ℕ) (i : ℕ) → i < length words →
-    NameRouters net (take i words) front → NamesNoFurtherRouter net (get_or words i []) front
-    → (others : List ℕ) → NameRouters net words others → ⊥
-no_routers net network words front i within say none others all =
-    no_further (IsNamed net) (λ (u : ℕ). u) (λ word u v. IsNamed-unique net word u v network.ascending) words front others i 0 within say.named all.named
-    all.distinct
+pub no_numbers : (items : Items) (net : Network) → IsNetwork net → (words : List (List ℕ)) (front : List ℕ) (i : ℕ) → i < length words →
+    NameNumbers items net (take i words) front → NamesNoFurtherNumber items net (get_or words i []) front
+    → (others : List ℕ) → NameNumbers items net words others → ⊥
+no_numbers items net network words front i within say none others all =
+    no_further (NamesNumber items net) (λ (u : ℕ). u) (λ word u v. NamesNumber-unique items net network.ascending word u v) words front others i 0 within
+    say.named all.named all.distinct
     (λ u named. subst (λ (l : List ℕ). Contains l u) (sym (map-id front)) (none u named))
 
 -- one turn more
@@ -95,20 +98,20 @@ turns_more net words front i turn within say further = record {
       (k, omega (arith, inside, length-map front (λ (t : Turn). t.router)), get_or-map (λ (t : Turn). t.router) front k d turn.router inside ∙ same));
 }
 
--- one router more
-pub routers_more : (net : Network) (words : List (List ℕ)) (front : List ℕ) (i u : ℕ) → i < length words → NameRouters net (take i words) front →
-    IsFurtherRouter net (get_or words i []) front u
-    → NameRouters net (take (i + 1) words) (front ++ u ∷ [])
-routers_more net words front i u within say further = record {
-  named = subst (λ (l : List (List ℕ)). AllZip (IsNamed net) l (front ++ u ∷ [])) (sym (take_more words i [] within))
-      (all_zipped_more (IsNamed net) (take i words) front (get_or words i []) u say.named further.named);
+-- one number more
+pub numbers_more : (items : Items) (net : Network) (words : List (List ℕ)) (front : List ℕ) (i u : ℕ) → i < length words →
+    NameNumbers items net (take i words) front → IsFurtherNumber items net (get_or words i []) front u
+    → NameNumbers items net (take (i + 1) words) (front ++ u ∷ [])
+numbers_more items net words front i u within say further = record {
+  named = subst (λ (l : List (List ℕ)). AllZip (NamesNumber items net) l (front ++ u ∷ [])) (sym (take_more words i [] within))
+      (all_zipped_more (NamesNumber items net) (take i words) front (get_or words i []) u say.named further.named);
   distinct = all_pairs_push (λ (v w : ℕ). v ≢ w) front u say.distinct
       (λ k d inside same. further.absent (k, inside, get_or_default front k u d inside ∙ same));
 }
 
--- no word says no turn, and names no router
+-- no word says no turn, and names no number
 pub say_none : (net : Network) → SayTurns net [] []
 say_none net = record { said = tt; distinct = λ i j d less within. absurd (omega (arith, within)) }
 
-pub name_none : (net : Network) → NameRouters net [] []
-name_none net = record { named = tt; distinct = λ i j d less within. absurd (omega (arith, within)) }
+pub name_none : (items : Items) (net : Network) → NameNumbers items net [] []
+name_none items net = record { named = tt; distinct = λ i j d less within. absurd (omega (arith, within)) }

@@ -1,5 +1,5 @@
 -- A text has one verdict. Each verdict tells how far the lines are right, and two of them tell it alike: where one goes on, no line is wrong.
-use Rattle.std.proofs.Common.{◌≡◌, ℕ, ◌+◌, ◌-◌, ◌<◌, List, [], ◌∷◌, ◌++◌, length, get_or, take, All, ⊎_elim, arith, refl, sym, ap, ◌∙◌}
+use Rattle.std.proofs.Common.{◌≡◌, ℕ, ◌+◌, ◌-◌, ◌<◌, List, [], ◌∷◌, ◌++◌, length, get_or, map, take, All, ⊎_elim, arith, refl, sym, ap, ◌∙◌}
 use Rattle.std.proofs.Common.{subst, length-append}
 use Rattle.std.specs.List.{AllZip}
 use Rattle.std.proofs.lemmas.Bool.{cases_lt}
@@ -10,29 +10,29 @@ use Rattle.net_addr.specs.Lines.{line_texts}
 use Rattle.net_model.specs.Network.{Connected}
 use Rattle.net_model.specs.Refusals.{IsNetwork}
 use Rattle.igp_theory.proofs.OrderedLists.{longer, same_front}
-use Rattle.igp_theory.specs.Forwarding.{MustForward, Steps}
-use Rattle.igp_theory.specs.Loops.{IsLoop, IsTag, IsTagOf}
+use Rattle.igp_theory.specs.Loops.{IsLoop}
 use Rattle.igp_theory.specs.Migrations.{Migration}
-use Rattle.igp_theory.specs.declared.phase.Phase.{Phase}
-use Rattle.igp_theory.specs.declared.phase.Phase.TheVariants.{New}
-use Rattle.order_core.specs.declared.turn.Tag.{Tag}
-use Rattle.order_core.specs.declared.turn.Tag.TheVariants as tag
 use Rattle.order_core.specs.declared.turn.Turn.{Turn}
-use Rattle.order_search.specs.Trees.{Place, NodeFact, Fill, places_below, IsVisited, branch_count}
+use Rattle.order_search.specs.Trees.{Place, NodeFact, Fill, places_below, IsTreeNode, IsVisited, branch_count}
 use Rattle.order_search.specs.declared.tree.Node.{Node}
 use Rattle.order_search.specs.declared.tree.Node.TheVariants.{Branch, Leaf, Unvisited}
-use Rattle.refutation_check.specs.TreeLines.{tree_header, pieces_of, SaysNode}
-use Rattle.refutation_check.specs.Verdicts.{AreRightLines, IsRightNode, IsFirstWrongLine, IsTextVerdict, leaf_count, open_count, header_missing, wrong_there}
-use Rattle.refutation_check.specs.Verdicts.{after_tree, ends_early}
+use Rattle.plan_theory.specs.Ranked.{CanRank, base_of, by_router, ranked}
+use Rattle.plan_theory.specs.declared.items.Items.{Items}
+use Rattle.plan_theory.specs.declared.items.Items.TheVariants.{Routers, Changes}
+use Rattle.plan_theory.proofs.ItemsServe.{items_serve}
+use Rattle.plan_theory.proofs.Numbers.{both_in_map, turns_by_ring}
+use Rattle.refutation_check.specs.TreeLines.{as_said, tree_header, pieces_of, SaysNode}
+use Rattle.refutation_check.specs.Verdicts.{AreRightLines, IsBehind, IsHeadedVerdict, IsLinesVerdict, IsRightNode, IsTextVerdict, IsWrongAt, leaf_count, open_count, header_missing, wrong_there}
+use Rattle.refutation_check.specs.Verdicts.{after_tree, behind_header, ends_early}
 use Rattle.refutation_check.specs.WrongLines.{WrongWords, WrongNode, IsLowestKind, kind_number}
 use Rattle.refutation_check.specs.declared.verdict.Verdict.{Verdict}
 use Rattle.refutation_check.specs.declared.verdict.Verdict.TheVariants.{Closed, Unfinished, Wrong}
 use Rattle.refutation_check.specs.declared.verdict.WrongKind.{WrongKind}
 use Rattle.refutation_check.specs.declared.verdict.WrongKind.TheVariants.{Form, Router, Address, Originator, Step, OneSided, NotAssumed}
-use Rattle.refutation_check.specs.steps.Rings.{next_at}
 use Rattle.refutation_check.proofs.BranchFacts.{one_target}
-use Rattle.refutation_check.proofs.RingPlaces.{around_at, round_from}
-use Rattle.refutation_check.proofs.SaidNodes.{form_of, one_node, one_zip, later_words}
+use Rattle.refutation_check.proofs.NumberedTurns.{round_must}
+use Rattle.refutation_check.proofs.RingPlaces.{round_from}
+use Rattle.refutation_check.proofs.SaidNodes.{form_of, one_node, later_words}
 
 -- Places
 
@@ -68,33 +68,17 @@ said_parts R (x ∷ xs) ys (z ∷ zs) said =
 
 -- A node that is right has no wrong kind
 
--- whoever has a tag has to pass packets on
-tag_must : (move : Migration) (u a h : ℕ) (start : Phase) (t : Tag) →
-    IsTagOf t (Steps move u start a h) (Steps move u New a h) → MustForward move.net a u
-tag_must move u a h start tag.Old is = is.0.must
-tag_must move u a h start tag.New is = is.1.must
-tag_must move u a h start tag.Both is = is.0.must
-
--- the turn at a place of a loop has to pass packets on
-loop_must : (move : Migration) (a : ℕ) (turns : List Turn) (k : ℕ) (turn : Turn) → IsLoop move a turns → k < length turns →
-    get_or turns k turn ≡ turn → MustForward move.net a turn.router
-loop_must move a turns k turn loop within is =
-    let at = around_at (λ (r s : Turn). IsTag move a r s.router) turns k turn loop.tags within in
-    subst (λ (t : Turn). MustForward move.net a t.router) is
-    (tag_must move (get_or turns k turn).router a (next_at turns k turn).router (move.start (get_or turns k turn).router)
-    (get_or turns k turn).tag at.steps)
-
 right_no_wrong : (move : Migration) → IsNetwork move.net → (place : Place) (node : Node) (kind : WrongKind) →
-    IsRightNode move place node → WrongNode move place node kind → ⊥
+    IsTreeNode (IsLoop move) place node → WrongNode move place node kind → ⊥
 right_no_wrong move network place (Branch a turns) Address right w = first turns right.0
   where
     first : (ts : List Turn) → IsLoop move a ts → ⊥
     first [] loop = omega (arith, loop.some)
     first (t ∷ ts) loop =
-        let must = loop_must move a (t ∷ ts) 0 t loop (omega arith) refl in
+        let must = round_must move a (t ∷ ts) 0 t loop.tags (omega arith) refl in
         w must.target must.is_target
 right_no_wrong move network place (Branch a turns) Originator right w =
-    let must = loop_must move a turns w.by_some.0 w.by_some.1 right.0 w.by_some.2 w.by_some.3 in
+    let must = round_must move a turns w.by_some.0 w.by_some.1 right.0.tags w.by_some.2 w.by_some.3 in
     let same : must.target ≡ w.target = one_target move.net a must.target w.target network must.is_target w.is_target in
     must.away (subst (λ (p : Block). Connected move.net w.by_some.1.router p) (sym same) w.by_some.4)
 right_no_wrong move network place (Branch a turns) Step right w = w right.0.tags
@@ -104,17 +88,45 @@ right_no_wrong move network place (Leaf cycle) NotAssumed right w = w (round_fro
 right_no_wrong move network place (Leaf cycle) kind right w = w
 right_no_wrong move network place Unvisited kind right w = w
 
--- nor have words that say it
-module _ (move : Migration) (network : IsNetwork move.net) (place : Place) (words : List (List ℕ)) (node : Node)
-    (says : SaysNode move.net words node) (right : IsRightNode move place node) where
-  no_wrong : (other : Node) (kind : WrongKind) → SaysNode move.net words other → WrongNode move place other kind → ⊥
-  no_wrong other kind said w =
-      right_no_wrong move network place node kind right
-      (subst (λ (n : Node). WrongNode move place n kind) (one_node move.net network words other node said says) w)
+-- a right node is right as it is said
+right_as_said : (items : Items) (move : Migration) (place : Place) (node : Node) → IsRightNode items move place node →
+    IsTreeNode (IsLoop move) place (as_said items node)
+right_as_said Routers move place node right = right
+right_as_said Changes move place (Branch a turns) right = (right.0.is_loop, both_in_map by_router (λ t. refl) turns right.1)
+right_as_said Changes move place (Leaf cycle) right = right
+right_as_said Changes move place Unvisited right = right
 
-  no_wrong_words : (kind : WrongKind) → WrongWords move place words kind → ⊥
-  no_wrong_words Form w = w (form_of move.net words node says)
-  no_wrong_words Router w = w node says
+-- and is told by what is said of it
+right_by_said : (items : Items) (move : Migration) → CanRank items move → (place : Place) (n m : Node) → as_said items n ≡ as_said items m →
+    IsRightNode items move place n → IsRightNode items move place m → n ≡ m
+right_by_said Routers move can place n m same one two = same
+right_by_said Changes move can place (Branch a s) (Branch b t) same one two =
+    let address : a ≡ b = cc in
+    let rings : map by_router s ≡ map by_router t = cc in
+    let by_ring = (items_serve Changes move can).ring_is in
+    let turns : s ≡ t = turns_by_ring move (ranked Changes move) (items_serve Changes move can) a s t (sym (by_ring s) ∙ rings ∙ by_ring t) one.0.named
+    (subst (λ (c : ℕ). All ((ranked Changes move).names c) t) (sym address) two.0.named) in
+    cc
+right_by_said Changes move can place (Branch a s) (Leaf other) same one two = cc
+right_by_said Changes move can place (Branch a s) Unvisited same one two = cc
+right_by_said Changes move can place (Leaf cycle) (Branch b t) same one two = cc
+right_by_said Changes move can place (Leaf cycle) (Leaf other) same one two = same
+right_by_said Changes move can place (Leaf cycle) Unvisited same one two = cc
+right_by_said Changes move can place Unvisited (Branch b t) same one two = cc
+right_by_said Changes move can place Unvisited (Leaf other) same one two = cc
+right_by_said Changes move can place Unvisited Unvisited same one two = refl
+
+-- nor have words that say it
+module _ (items : Items) (move : Migration) (network : IsNetwork move.net) (place : Place) (words : List (List ℕ)) (node : Node)
+    (says : SaysNode items move.net words (as_said items node)) (right : IsRightNode items move place node) where
+  no_wrong : (other : Node) (kind : WrongKind) → SaysNode items move.net words other → WrongNode move place other kind → ⊥
+  no_wrong other kind said w =
+      right_no_wrong move network place (as_said items node) kind (right_as_said items move place node right)
+      (subst (λ (n : Node). WrongNode move place n kind) (one_node items move.net network words other (as_said items node) said says) w)
+
+  no_wrong_words : (kind : WrongKind) → WrongWords items move place words kind → ⊥
+  no_wrong_words Form w = w (form_of items move.net words (as_said items node) says)
+  no_wrong_words Router w = w (as_said items node) says
   no_wrong_words kind w = no_wrong w.node kind w.says w.wrong
 
 -- a kind is told by its number
@@ -155,20 +167,20 @@ IsEnded [] [] = Unit {0}
 IsEnded [] (x ∷ rest) = ⊥
 IsEnded (p ∷ left) rest = ⊥
 
-module _ (move : Migration) (network : IsNetwork move.net) where
+module _ (items : Items) (move : Migration) (can : CanRank items move) (network : IsNetwork move.net) (first : ℕ) where
   -- why the first line of the rest is wrong, where places are open or lines left
   abbrev IsWrongNext : List Place → List (List ℕ) → WrongKind → Type 0
   IsWrongNext [] [] kind = ⊥
   IsWrongNext [] (x ∷ rest) kind = kind ≡ Form
   IsWrongNext (p ∷ left) [] kind = kind ≡ Form
-  IsWrongNext (p ∷ left) (x ∷ rest) kind = IsLowestKind (WrongWords move p (pieces_of x)) kind
+  IsWrongNext (p ∷ left) (x ∷ rest) kind = IsLowestKind (WrongWords items move p (pieces_of x)) kind
 
   -- the verdict where some first lines are right
   abbrev Outcome : RightFront → Verdict → Type 0
   Outcome s (Closed branches leaves) =
       IsEnded s.left s.rest × All IsVisited s.nodes × (branches ≡ branch_count s.nodes) × (leaves ≡ leaf_count s.nodes)
   Outcome s (Unfinished unvisited) = IsEnded s.left s.rest × (0 < unvisited) × (unvisited ≡ open_count s.nodes)
-  Outcome s (Wrong line kind) = (line ≡ length s.before + 2) × IsWrongNext s.left s.rest kind
+  Outcome s (Wrong line kind) = (line ≡ length s.before + first) × IsWrongNext s.left s.rest kind
 
   ended_right : (left : List Place) (rest : List (List ℕ)) (kind : WrongKind) → IsEnded left rest → IsWrongNext left rest kind → ⊥
   ended_right [] [] kind ended wrong = wrong
@@ -179,7 +191,7 @@ module _ (move : Migration) (network : IsNetwork move.net) where
   one_wrong [] [] j k f g = absurd f
   one_wrong [] (x ∷ rest) j k f g = f ∙ sym g
   one_wrong (p ∷ left) [] j k f g = f ∙ sym g
-  one_wrong (p ∷ left) (x ∷ rest) j k f g = one_lowest (WrongWords move p (pieces_of x)) j k f g
+  one_wrong (p ∷ left) (x ∷ rest) j k f g = one_lowest (WrongWords items move p (pieces_of x)) j k f g
 
   -- no closed tree has an unvisited place
   none_open : (nodes : List Node) → All IsVisited nodes → open_count nodes ≡ 0
@@ -204,27 +216,45 @@ module _ (move : Migration) (network : IsNetwork move.net) where
   record Stops (lines : List (List ℕ)) (verdict : Verdict) : Type 0 where
     at : RightFront
     is : lines ≡ at.before ++ at.rest
-    right : AreRightLines move at.before at.nodes at.left
+    right : AreRightLines items move at.before at.nodes at.left
     outcome : Outcome at verdict
+
+  -- right nodes of the same lines are the same
+  same_nodes : (lines : List (List ℕ)) (places : List Place) (ns ms : List Node) (l1 l2 : List Place) →
+      AllZip (λ (l : List ℕ) (node : Node). SaysNode items move.net (pieces_of l) (as_said items node)) lines ns →
+      AllZip (λ (l : List ℕ) (node : Node). SaysNode items move.net (pieces_of l) (as_said items node)) lines ms →
+      Fill (IsRightNode items move) places ns l1 → Fill (IsRightNode items move) places ms l2 → ns ≡ ms
+  same_nodes [] places [] [] l1 l2 one two f g = refl
+  same_nodes [] places [] (m ∷ ms) l1 l2 one two f g = absurd two
+  same_nodes [] places (n ∷ ns) ms l1 l2 one two f g = absurd one
+  same_nodes (x ∷ lines) places [] ms l1 l2 one two f g = absurd one
+  same_nodes (x ∷ lines) places (n ∷ ns) [] l1 l2 one two f g = absurd two
+  same_nodes (x ∷ lines) [] (n ∷ ns) (m ∷ ms) l1 l2 one two f g = absurd f
+  same_nodes (x ∷ lines) (p ∷ places) (n ∷ ns) (m ∷ ms) l1 l2 one two f g =
+      let same : n ≡ m = right_by_said items move can p n m
+      (one_node items move.net network (pieces_of x) (as_said items n) (as_said items m) one.0 two.0) f.0 g.0 in
+      let rest : ns ≡ ms = same_nodes lines (places_below p n ++ places) ns ms l1 l2 one.1 two.1 f.1
+      (subst (λ (k : Node). Fill (IsRightNode items move) (places_below p k ++ places) ms l2) (sym same) g.1) in
+      ap (λ (k : Node). k ∷ ns) same ∙ ap (λ (l : List Node). m ∷ l) rest
 
   -- where a line is wrong or stands behind the tree, no right line goes on
   stops_there : (s : RightFront) (line : List ℕ) (later : List (List ℕ)) (left : List Place) (verdict : Verdict) (more : List Node) (end : List Place) →
       Outcome (right_front s.before (line ∷ later) s.nodes left) verdict → (after : List (List ℕ)) →
-      AllZip (λ (l : List ℕ) (node : Node). SaysNode move.net (pieces_of l) node) (line ∷ after) more →
-      Fill (IsRightNode move) left more end → ⊥
+      AllZip (λ (l : List ℕ) (node : Node). SaysNode items move.net (pieces_of l) (as_said items node)) (line ∷ after) more →
+      Fill (IsRightNode items move) left more end → ⊥
   stops_there s line later left verdict [] end out after said fills = said
   stops_there s line later [] verdict (n ∷ more) end out after said fills = fills
   stops_there s line later (p ∷ left) (Closed b l) (n ∷ more) end out after said fills = out.0
   stops_there s line later (p ∷ left) (Unfinished u) (n ∷ more) end out after said fills = out.0
   stops_there s line later (p ∷ left) (Wrong m k) (n ∷ more) end out after said fills =
-      no_wrong_words move network p (pieces_of line) n said.0 fills.0 k out.1.wrong
+      no_wrong_words items move network p (pieces_of line) n said.0 fills.0 k out.1.wrong
 
   -- so none stops further on than another
   no_further : (lines : List (List ℕ)) (v w : Verdict) (s : Stops lines v) (t : Stops lines w) → length s.at.before < length t.at.before → ⊥
   no_further lines v w s t less = by_rest s.at.rest s.is s.outcome
     where
       says : List ℕ → Node → Type 0
-      says l node = SaysNode move.net (pieces_of l) node
+      says l node = SaysNode items move.net (pieces_of l) (as_said items node)
 
       by_rest : (rest : List (List ℕ)) → lines ≡ s.at.before ++ rest → Outcome (right_front s.at.before rest s.at.nodes s.at.left) v → ⊥
       by_rest [] is out =
@@ -233,14 +263,14 @@ module _ (move : Migration) (network : IsNetwork move.net) where
           let after = take (length t.at.before - length s.at.before - 1) later in
           let parts = said_parts says s.at.before (line ∷ after) t.at.nodes
           (subst (λ (l : List (List ℕ)). AllZip says l t.at.nodes) (longer s.at.before line later t.at.before t.at.rest (sym is ∙ t.is) less) t.right.said) in
-          let fills = fills_on (IsRightNode move) ([] ∷ []) parts.front parts.rest t.at.left
-          (subst (λ (ns : List Node). Fill (IsRightNode move) ([] ∷ []) ns t.at.left) parts.is t.right.fills) in
-          let front : parts.front ≡ s.at.nodes = one_zip says (λ l m n f g. one_node move.net network (pieces_of l) m n f g) s.at.before
-          parts.front s.at.nodes parts.first s.right.said in
-          let left : fills.0 ≡ s.at.left = one_left (IsRightNode move) ([] ∷ []) s.at.nodes fills.0 s.at.left
-          (subst (λ (ns : List Node). Fill (IsRightNode move) ([] ∷ []) ns fills.0) front fills.1) s.right.fills in
+          let fills = fills_on (IsRightNode items move) (base_of items (length move.net) ∷ []) parts.front parts.rest t.at.left
+          (subst (λ (ns : List Node). Fill (IsRightNode items move) (base_of items (length move.net) ∷ []) ns t.at.left) parts.is t.right.fills) in
+          let front : parts.front ≡ s.at.nodes = same_nodes s.at.before (base_of items (length move.net) ∷ []) parts.front s.at.nodes fills.0 s.at.left
+          parts.first s.right.said fills.1 s.right.fills in
+          let left : fills.0 ≡ s.at.left = one_left (IsRightNode items move) (base_of items (length move.net) ∷ []) s.at.nodes fills.0 s.at.left
+          (subst (λ (ns : List Node). Fill (IsRightNode items move) (base_of items (length move.net) ∷ []) ns fills.0) front fills.1) s.right.fills in
           stops_there s.at line later s.at.left v parts.rest t.at.left out after parts.second
-          (subst (λ (ps : List Place). Fill (IsRightNode move) ps parts.rest t.at.left) left fills.2)
+          (subst (λ (ps : List Place). Fill (IsRightNode items move) ps parts.rest t.at.left) left fills.2)
 
   same_length : (lines : List (List ℕ)) (v w : Verdict) (s : Stops lines v) (t : Stops lines w) → length s.at.before ≡ length t.at.before
   same_length lines v w s t =
@@ -251,51 +281,72 @@ module _ (move : Migration) (network : IsNetwork move.net) where
 
   one_stop : (lines : List (List ℕ)) (v w : Verdict) → Stops lines v → Stops lines w → v ≡ w
   one_stop lines v w s t =
-      let says : List ℕ → Node → Type 0 = λ (l : List ℕ) (node : Node). SaysNode move.net (pieces_of l) node in
+      let says : List ℕ → Node → Type 0 = λ (l : List ℕ) (node : Node). SaysNode items move.net (pieces_of l) (as_said items node) in
+      let base : List Place = base_of items (length move.net) ∷ [] in
       let parts = same_front s.at.before t.at.before s.at.rest t.at.rest (sym s.is ∙ t.is) (same_length lines v w s t) in
-      let nodes : s.at.nodes ≡ t.at.nodes = one_zip says (λ l m n f g. one_node move.net network (pieces_of l) m n f g) t.at.before s.at.nodes t.at.nodes
-      (subst (λ (l : List (List ℕ)). AllZip says l s.at.nodes) parts.0 s.right.said) t.right.said in
-      let left : s.at.left ≡ t.at.left = one_left (IsRightNode move) ([] ∷ []) t.at.nodes s.at.left t.at.left
-      (subst (λ (ns : List Node). Fill (IsRightNode move) ([] ∷ []) ns s.at.left) nodes s.right.fills) t.right.fills in
+      let nodes : s.at.nodes ≡ t.at.nodes = same_nodes t.at.before base s.at.nodes t.at.nodes s.at.left t.at.left
+      (subst (λ (l : List (List ℕ)). AllZip says l s.at.nodes) parts.0 s.right.said) t.right.said s.right.fills t.right.fills in
+      let left : s.at.left ≡ t.at.left = one_left (IsRightNode items move) base t.at.nodes s.at.left t.at.left
+      (subst (λ (ns : List Node). Fill (IsRightNode items move) base ns s.at.left) nodes s.right.fills) t.right.fills in
       let one : s.at ≡ t.at = λ i. right_front (parts.0 i) (parts.1 i) (nodes i) (left i) in
       one_outcome t.at v w (subst (λ (x : RightFront). Outcome x v) one s.outcome) t.outcome
 
-  -- the first line is no header, or the lines behind it right_front somewhere
-  data Judged (text : List ℕ) (verdict : Verdict) : Type 0 where
-    no_header : ((lines : List (List ℕ)) → ¬ (line_texts text ≡ tree_header ∷ lines)) → verdict ≡ Wrong 1 Form → Judged text verdict
-    stops : (lines : List (List ℕ)) → line_texts text ≡ tree_header ∷ lines → Stops lines verdict → Judged text verdict
+  -- the lines are right somewhere, and the verdict is what follows
+  wrong_stops : (lines : List (List ℕ)) (place : ℕ) (kind : WrongKind) → IsWrongAt items move lines place kind → (line : ℕ) → line ≡ place + first →
+      Stops lines (Wrong line kind)
+  wrong_stops lines place kind (wrong_there before x after nodes at left k is right low) line n =
+      record { at = right_front before (x ∷ after) nodes (at ∷ left); is = is; right = right; outcome = (n, low) }
+  wrong_stops lines place kind (after_tree before x after nodes is right) line n =
+      record { at = right_front before (x ∷ after) nodes []; is = is; right = right; outcome = (n, refl) }
+  wrong_stops lines place kind (ends_early nodes at left right) line n =
+      record { at = right_front lines [] nodes (at ∷ left); is = sym (append-nil lines); right = right; outcome = (n, refl) }
 
-  wrong_judged : (text : List ℕ) (line : ℕ) (kind : WrongKind) → IsFirstWrongLine move text line kind → Judged text (Wrong line kind)
-  wrong_judged text line kind (header_missing none) = no_header none refl
-  wrong_judged text line kind (wrong_there before x after nodes place left k is right low) =
-      stops (before ++ x ∷ after) is (record { at = right_front before (x ∷ after) nodes (place ∷ left); is = refl; right = right; outcome = (refl, low) })
-  wrong_judged text line kind (after_tree before x after nodes is right) =
-      stops (before ++ x ∷ after) is (record { at = right_front before (x ∷ after) nodes []; is = refl; right = right; outcome = (refl, refl) })
-  wrong_judged text line kind (ends_early lines nodes place left is right) =
-      stops lines is (record { at = right_front lines [] nodes (place ∷ left); is = sym (append-nil lines); right = right; outcome = (refl, refl) })
-
-  judged : (text : List ℕ) (verdict : Verdict) → IsTextVerdict move text verdict → Judged text verdict
-  judged text (Closed b l) is = stops is.tree.lines is.tree.text_is (record {
-    at = right_front is.tree.lines [] is.nodes [];
-    is = sym (append-nil is.tree.lines);
-    right = is.tree.right;
+  stops : (lines : List (List ℕ)) (verdict : Verdict) → IsLinesVerdict items move first lines verdict → Stops lines verdict
+  stops lines (Closed b l) is = record {
+    at = right_front lines [] is.nodes [];
+    is = sym (append-nil lines);
+    right = is.right;
     outcome = (tt, is.visited, is.branches_are, is.leaves_are);
-  })
-  judged text (Unfinished u) is = stops is.tree.lines is.tree.text_is (record {
-    at = right_front is.tree.lines [] is.nodes [];
-    is = sym (append-nil is.tree.lines);
-    right = is.tree.right;
+  }
+  stops lines (Unfinished u) is = record {
+    at = right_front lines [] is.nodes [];
+    is = sym (append-nil lines);
+    right = is.right;
     outcome = (tt, is.some, is.unvisited_are);
-  })
-  judged text (Wrong line kind) is = wrong_judged text line kind is
+  }
+  stops lines (Wrong line kind) is = wrong_stops lines is.place kind is.wrong line is.line_is
+
+  pub one_lines_verdict : (lines : List (List ℕ)) (one other : Verdict) → IsLinesVerdict items move first lines one →
+      IsLinesVerdict items move first lines other → one ≡ other
+  one_lines_verdict lines one other is too = one_stop lines one other (stops lines one is) (stops lines other too)
+
+-- Texts behind a header
+
+module _ (items : Items) (move : Migration) (can : CanRank items move) (network : IsNetwork move.net) (header : List ℕ) where
+  -- the first line is no header, or the lines behind it have a verdict
+  data Judged (text : List ℕ) (verdict : Verdict) : Type 0 where
+    no_header : ((lines : List (List ℕ)) → ¬ (line_texts text ≡ header ∷ lines)) → verdict ≡ Wrong 1 Form → Judged text verdict
+    behind : IsBehind (header ∷ []) text (λ lines. IsLinesVerdict items move 2 lines verdict) → Judged text verdict
+
+  judged : (text : List ℕ) (verdict : Verdict) → IsHeadedVerdict items header move text verdict → Judged text verdict
+  judged text (Closed b l) is = behind is
+  judged text (Unfinished u) is = behind is
+  judged text (Wrong line kind) (header_missing none) = no_header none refl
+  judged text (Wrong line kind) (behind_header n k is) = behind is
 
   one_judged : (text : List ℕ) (v w : Verdict) → Judged text v → Judged text w → v ≡ w
   one_judged text v w (no_header none is) (no_header more also) = is ∙ sym also
-  one_judged text v w (no_header none is) (stops lines parts s) = absurd (none lines parts)
-  one_judged text v w (stops lines parts s) (no_header none is) = absurd (none lines parts)
-  one_judged text v w (stops lines parts s) (stops others same t) =
-      one_stop others v w
-      (subst (λ (l : List (List ℕ)). Stops l v) (later_words tree_header tree_header lines others (sym parts ∙ same)) s) t
+  one_judged text v w (no_header none is) (behind other) = absurd (none other.lines other.text_is)
+  one_judged text v w (behind one) (no_header none is) = absurd (none one.lines one.text_is)
+  one_judged text v w (behind one) (behind other) =
+      one_lines_verdict items move can network 2 other.lines v w
+      (subst (λ (l : List (List ℕ)). IsLinesVerdict items move 2 l v) (later_words header header one.lines other.lines (sym one.text_is ∙ other.text_is))
+      one.holds) other.holds
 
-  pub one_verdict : (text : List ℕ) (one other : Verdict) → IsTextVerdict move text one → IsTextVerdict move text other → one ≡ other
-  one_verdict text one other first second = one_judged text one other (judged text one first) (judged text other second)
+  pub one_headed : (text : List ℕ) (one other : Verdict) → IsHeadedVerdict items header move text one → IsHeadedVerdict items header move text other →
+      one ≡ other
+  one_headed text one other first second = one_judged text one other (judged text one first) (judged text other second)
+
+pub one_verdict : (move : Migration) → IsNetwork move.net → (text : List ℕ) (one other : Verdict) → IsTextVerdict move text one →
+    IsTextVerdict move text other → one ≡ other
+one_verdict move network = one_headed Routers move tt network tree_header

@@ -24,8 +24,9 @@ use Rattle.printed_lines.specs.Words.{IsWordByte, IsPrintedWord, spaced, joined,
 use Rattle.printed_lines.proofs.LineFacts.{lines_read_back}
 use Rattle.printed_lines.proofs.NumberFacts.{dotted-IsAddressWord, dotted-IsPrintedWord, marked-IsPrintedWord, IsWordByte-above_blank}
 use Rattle.printed_lines.proofs.WordFacts.{words_make_lines}
+use Rattle.plan_theory.specs.declared.items.Items.TheVariants.{Routers}
 use Rattle.refutation_check.specs.TreeLines.{tree_header, letter_of, pieces_of, SaysNode, SaysTurn}
-use Rattle.refutation_check.specs.TreeTexts.{entry_word, node_words, node_line, tree_text, NodeBelow, IsPrintedNode, ReadsAsNodes}
+use Rattle.refutation_check.specs.TreeTexts.{turn_word, node_words, node_line, tree_text, NodeBelow, IsPrintedNode, ReadsAsNodes}
 
 -- Words joined by one blank each have just these words as pieces
 
@@ -92,12 +93,12 @@ name_word net network u within =
     subst IsPrintedWord is.name_is (record { some = kept.name.some; bytes = All-weaker IsNameByte IsWordByte name_byte is.config.name kept.name.bytes })
 
 -- an entry is a word, and says its turn
-entry_is_word : (net : Network) → IsNetwork net → (turn : Turn) → turn.router < length net → IsPrintedWord (entry_word (names_of net) turn)
+entry_is_word : (net : Network) → IsNetwork net → (turn : Turn) → turn.router < length net → IsPrintedWord (turn_word Routers (names_of net) turn)
 entry_is_word net network turn within =
     marked-IsPrintedWord (router_word (names_of net) turn.router) (letter_of turn.tag ∷ []) 58 (IsWordByte-above_blank 58 (omega arith))
     (name_word net network turn.router within) (letter_byte turn.tag)
 
-entry_says : (net : Network) → IsNetwork net → (turn : Turn) → turn.router < length net → SaysTurn net (entry_word (names_of net) turn) turn
+entry_says : (net : Network) → IsNetwork net → (turn : Turn) → turn.router < length net → SaysTurn net (turn_word Routers (names_of net) turn) turn
 entry_says net network turn within = record {
   name = router_word (names_of net) turn.router;
   entry = record { some = (name_word net network turn.router within).some; written = refl };
@@ -121,12 +122,12 @@ open_is_word = above_blank (codes "open") (omega arith) (grind arith)
 
 -- the words of a node are words
 words_are : (net : Network) → IsNetwork net → (node : Node) → NodeBelow (length net) node → IsPrintedNode node →
-    All IsPrintedWord (node_words (names_of net) node)
+    All IsPrintedWord (node_words Routers (names_of net) node)
 words_are net network (Branch a turns) below made =
-    All-cons IsPrintedWord (codes "branch") (dotted a ∷ map (entry_word (names_of net)) turns) branch_is_word
-    (All-cons IsPrintedWord (dotted a) (map (entry_word (names_of net)) turns) (dotted-IsPrintedWord a made.0)
-    (All-map IsPrintedWord (entry_word (names_of net)) turns
-    (All-weaker (λ (t : Turn). t.router < length net) (λ (t : Turn). IsPrintedWord (entry_word (names_of net) t))
+    All-cons IsPrintedWord (codes "branch") (dotted a ∷ map (turn_word Routers (names_of net)) turns) branch_is_word
+    (All-cons IsPrintedWord (dotted a) (map (turn_word Routers (names_of net)) turns) (dotted-IsPrintedWord a made.0)
+    (All-map IsPrintedWord (turn_word Routers (names_of net)) turns
+    (All-weaker (λ (t : Turn). t.router < length net) (λ (t : Turn). IsPrintedWord (turn_word Routers (names_of net) t))
     (entry_is_word net network) turns below)))
 words_are net network (Leaf cycle) below made =
     All-cons IsPrintedWord (codes "leaf") (map (router_word (names_of net)) cycle) leaf_is_word
@@ -136,17 +137,17 @@ words_are net network Unvisited below made = All-cons IsPrintedWord (codes "open
 
 -- and say the node
 words_say : (net : Network) → IsNetwork net → (node : Node) → NodeBelow (length net) node → IsPrintedNode node →
-    SaysNode net (node_words (names_of net) node) node
+    SaysNode Routers net (node_words Routers (names_of net) node) node
 words_say net network (Branch a turns) below made = record {
-  entries = map (entry_word (names_of net)) turns;
+  entries = map (turn_word Routers (names_of net)) turns;
   line = record {
     address = dotted a;
     words_are = refl;
     stands = dotted-IsAddressWord a made.0;
     some = omega
-        (arith, made.1.some, length-map turns (entry_word (names_of net)));
+        (arith, made.1.some, length-map turns (turn_word Routers (names_of net)));
   };
-  said = map_said (SaysTurn net) (entry_word (names_of net)) (λ (t : Turn). t.router < length net) (entry_says net network) turns below;
+  said = map_said (SaysTurn net) (turn_word Routers (names_of net)) (λ (t : Turn). t.router < length net) (entry_says net network) turns below;
   distinct = made.1.distinct;
 }
 words_say net network (Leaf cycle) below made = record {
@@ -166,21 +167,21 @@ words_say net network Unvisited below made = refl
 
 -- the line of a node reads as its words
 pieces-line : (net : Network) → IsNetwork net → (node : Node) → NodeBelow (length net) node → IsPrintedNode node →
-    pieces_of (node_line (names_of net) node) ≡ node_words (names_of net) node
+    pieces_of (node_line Routers (names_of net) node) ≡ node_words Routers (names_of net) node
 pieces-line net network (Branch a turns) below made =
-    pieces_of-joined (codes "branch") (dotted a ∷ map (entry_word (names_of net)) turns) (words_are net network (Branch a turns) below made)
+    pieces_of-joined (codes "branch") (dotted a ∷ map (turn_word Routers (names_of net)) turns) (words_are net network (Branch a turns) below made)
 pieces-line net network (Leaf cycle) below made =
     pieces_of-joined (codes "leaf") (map (router_word (names_of net)) cycle) (words_are net network (Leaf cycle) below made)
 pieces-line net network Unvisited below made = pieces_of-joined (codes "open") [] (words_are net network Unvisited below made)
 
 line_says : (net : Network) → IsNetwork net → (node : Node) → NodeBelow (length net) node × IsPrintedNode node →
-    SaysNode net (pieces_of (node_line (names_of net) node)) node
+    SaysNode Routers net (pieces_of (node_line Routers (names_of net) node)) node
 line_says net network node fine =
-    subst (λ (words : List (List ℕ)). SaysNode net words node) (sym (pieces-line net network node fine.0 fine.1)) (words_say net network node fine.0 fine.1)
+    subst (λ (words : List (List ℕ)). SaysNode Routers net words node) (sym (pieces-line net network node fine.0 fine.1)) (words_say net network node fine.0 fine.1)
 
 line_is : (net : Network) → IsNetwork net → (node : Node) → NodeBelow (length net) node × IsPrintedNode node →
-    IsPrintedLine (node_line (names_of net) node)
-line_is net network node fine = (words_make_lines (node_words (names_of net) node) (words_are net network node fine.0 fine.1)).0
+    IsPrintedLine (node_line Routers (names_of net) node)
+line_is net network node fine = (words_make_lines (node_words Routers (names_of net) node) (words_are net network node fine.0 fine.1)).0
 
 tree_is_word : IsPrintedWord (codes "tree")
 tree_is_word = above_blank (codes "tree") (omega arith) (grind arith)
@@ -197,14 +198,14 @@ pub trees_read_back : (net : Network) (nodes : List Node) → IsNetwork net → 
     ReadsAsNodes net (tree_text (names_of net) nodes) nodes
 trees_read_back net nodes network below made =
     let fine : All (λ (node : Node). NodeBelow (length net) node × IsPrintedNode node) nodes = λ k d within. (below k d within, made k d within) in
-    let lines : List (List ℕ) = map (node_line (names_of net)) nodes in
+    let lines : List (List ℕ) = map (node_line Routers (names_of net)) nodes in
     let all : All IsPrintedLine (tree_header ∷ lines) =
     All-cons IsPrintedLine tree_header lines header_is
-    (All-map IsPrintedLine (node_line (names_of net)) nodes (All-weaker (λ (node : Node). NodeBelow (length net) node × IsPrintedNode node)
-    (λ (node : Node). IsPrintedLine (node_line (names_of net) node)) (line_is net network) nodes fine)) in
+    (All-map IsPrintedLine (node_line Routers (names_of net)) nodes (All-weaker (λ (node : Node). NodeBelow (length net) node × IsPrintedNode node)
+    (λ (node : Node). IsPrintedLine (node_line Routers (names_of net) node)) (line_is net network) nodes fine)) in
     record {
       lines = lines;
       text_is = (lines_read_back (tree_header ∷ lines) all).texts;
-      said = map_said (λ (line : List ℕ) (node : Node). SaysNode net (pieces_of line) node) (node_line (names_of net))
+      said = map_said (λ (line : List ℕ) (node : Node). SaysNode Routers net (pieces_of line) node) (node_line Routers (names_of net))
           (λ (node : Node). NodeBelow (length net) node × IsPrintedNode node) (line_says net network) nodes fine;
     }

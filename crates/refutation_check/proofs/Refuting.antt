@@ -1,27 +1,51 @@
--- A closed tree whose branches are loops of the network refutes every wave list and every order.
-use Rattle.std.proofs.Common.{ℕ, List, []}
+-- A closed tree whose branches are loops of the network refutes every ranking, and every list of the changes.
+use Rattle.std.proofs.Common.{◌≡◌, ℕ, List, [], ◌∷◌, length, refl, sym, subst}
 use Rattle.igp_theory.specs.LoopLaws.{BeginsOld}
-use Rattle.igp_theory.specs.Loops.{IsLoop}
 use Rattle.igp_theory.specs.Migrations.{Migration}
-use Rattle.igp_theory.specs.Waves.{AreSeamlessWaves, HasNoneSeamless}
-use Rattle.igp_theory.proofs.OnesRuns.{none_without_waves}
+use Rattle.order_core.specs.Pairs.{Pair}
+use Rattle.order_search.specs.Trees.{Fill}
 use Rattle.order_search.proofs.TreeRefutes.{closed_tree_refutes}
-use Rattle.plan_theory.proofs.Decided.{waves_are_decisive}
-use Rattle.refutation_check.specs.Verdicts.{IsClosedText, IsTextVerdict, RefutesWhereClosed}
+use Rattle.plan_theory.specs.Laws.{HasNoneSound}
+use Rattle.plan_theory.specs.Ranked.{CanRank, base_of, ranked}
+use Rattle.plan_theory.specs.WavesMeaning.{night_meaning}
+use Rattle.plan_theory.specs.declared.items.Items.{Items}
+use Rattle.plan_theory.specs.declared.items.Items.TheVariants.{Routers, Changes}
+use Rattle.plan_theory.proofs.Decided.{rankings_decided}
+use Rattle.plan_theory.proofs.ItemsServe.{items_ask, items_serve}
+use Rattle.plan_theory.proofs.Meaning.{none_seamless, none_without_rankings}
+use Rattle.refutation_check.specs.Verdicts.{IsClosedTreeOf, IsHeadedVerdict, IsRightNode, IsTextVerdict, LeavesNoneWhereClosed, RefutesWhereClosed}
 use Rattle.refutation_check.specs.declared.verdict.Verdict.{Verdict}
 use Rattle.refutation_check.specs.declared.verdict.Verdict.TheVariants.{Closed, Unfinished, Wrong}
 
--- no wave list is seamless, since loops decide which ones are, and so no order is
-pub closed_refutes : (move : Migration) (text : List ℕ) (branches leaves : ℕ) →
-    BeginsOld move → IsClosedText move text branches leaves → HasNoneSeamless move
-closed_refutes move text branches leaves begins is =
-    none_without_waves move begins
-    (closed_tree_refutes (AreSeamlessWaves move) (IsLoop move) [] (waves_are_decisive move) is.nodes
-    (record { tree = is.tree.right.fills; visited = is.visited }))
+asked_base : (items : Items) (move : Migration) → (night_meaning items move).base ≡ base_of items (length move.net)
+asked_base Routers move = refl
+asked_base Changes move = refl
 
--- what each verdict means
+module _ (items : Items) (move : Migration) (can : CanRank items move) where
+  -- no ranking is good, since loops decide which ones are
+  pub closed_leaves_none : (lines : List (List ℕ)) (branches leaves : ℕ) → IsClosedTreeOf items move lines branches leaves →
+      HasNoneSound items move
+  closed_leaves_none lines branches leaves is =
+      none_without_rankings items move can
+      (closed_tree_refutes (night_meaning items move).good (night_meaning items move).real (night_meaning items move).base
+      (rankings_decided move (ranked items move) (items_serve items move can) (night_meaning items move) (items_ask items move)) is.nodes (record {
+        tree = subst (λ (base : List Pair). Fill (IsRightNode items move) (base ∷ []) is.nodes []) (sym (asked_base items move)) is.right.fills;
+        visited = is.visited;
+      }))
+
+  -- what each verdict means
+  pub verdict_leaves_none : (header text : List ℕ) (verdict : Verdict) → IsHeadedVerdict items header move text verdict →
+      LeavesNoneWhereClosed items move verdict
+  verdict_leaves_none header text (Closed branches leaves) is = closed_leaves_none is.lines branches leaves is.holds
+  verdict_leaves_none header text (Unfinished unvisited) is = tt
+  verdict_leaves_none header text (Wrong line kind) is = tt
+
+-- where routers are ranked and every one begins in Old, no wave list and no order is seamless
+refutes_old : (move : Migration) (verdict : Verdict) → BeginsOld move → LeavesNoneWhereClosed Routers move verdict → RefutesWhereClosed move verdict
+refutes_old move (Closed branches leaves) begins none = none_seamless move begins none
+refutes_old move (Unfinished unvisited) begins none = tt
+refutes_old move (Wrong line kind) begins none = tt
+
 pub verdict_refutes : (move : Migration) (text : List ℕ) (verdict : Verdict) → BeginsOld move → IsTextVerdict move text verdict →
     RefutesWhereClosed move verdict
-verdict_refutes move text (Closed branches leaves) begins is = closed_refutes move text branches leaves begins is
-verdict_refutes move text (Unfinished unvisited) begins is = tt
-verdict_refutes move text (Wrong line kind) begins is = tt
+verdict_refutes move text verdict begins is = refutes_old move verdict begins (verdict_leaves_none Routers move tt _ text verdict is)

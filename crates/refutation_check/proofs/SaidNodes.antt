@@ -10,13 +10,18 @@ use Rattle.net_addr.proofs.AddressWordFacts.{IsAddressWord-unique}
 use Rattle.net_model.specs.Lookups.{IsNamed}
 use Rattle.net_model.specs.Network.{Network}
 use Rattle.net_model.specs.Refusals.{IsNetwork}
-use Rattle.net_model.proofs.NetworkFacts.{IsNamed-unique, HasConfiguration-within}
+use Rattle.net_model.proofs.NetworkFacts.{HasConfiguration-within}
 use Rattle.order_core.specs.declared.turn.Tag.{Tag}
 use Rattle.order_core.specs.declared.turn.Tag.TheVariants.{Old, New, Both}
 use Rattle.order_core.specs.declared.turn.Turn.{Turn}
 use Rattle.order_search.specs.declared.tree.Node.{Node}
 use Rattle.order_search.specs.declared.tree.Node.TheVariants.{Branch, Leaf, Unvisited}
-use Rattle.refutation_check.specs.TreeLines.{letter_of, IsEntry, IsSomeEntry, HasForm, branch_form, leaf_form, open_form, SaysTurn, SaysNode}
+use Rattle.plan_theory.specs.Ranked.{size_of}
+use Rattle.plan_theory.specs.declared.items.Items.{Items}
+use Rattle.ranked_items.specs.Numbers.{NamesNumber}
+use Rattle.ranked_items.proofs.NumberWords.{NamesNumber-unique, NamesNumber-below}
+use Rattle.refutation_check.specs.TreeLines.{letter_of, IsEntry, IsLeafLine, IsSomeEntry, HasForm, branch_form, leaf_form, open_form, SaysTurn, SaysNode}
+use Rattle.refutation_check.specs.steps.Names.{NameNumbers}
 use Rattle.refutation_check.specs.steps.Walks.{IsRinged}
 use Rattle.refutation_check.proofs.NameFacts.{one_router}
 
@@ -88,31 +93,32 @@ pub leaf_no_open : (rest more : List (List ℕ)) → codes "leaf" ∷ rest ≡ c
 leaf_no_open rest more e = omega (arith, ap (λ (w : List ℕ). get_or w 0 0) (first_word (codes "leaf") (codes "open") rest more e))
 
 -- words that say a node have its form
-pub form_of : (net : Network) (words : List (List ℕ)) (node : Node) → SaysNode net words node → HasForm words
-form_of net words (Branch a turns) says =
+pub form_of : (items : Items) (net : Network) (words : List (List ℕ)) (node : Node) → SaysNode items net words node → HasForm items words
+form_of items net words (Branch a turns) says =
     branch_form a says.entries says.line
     (all_said (SaysTurn net) IsSomeEntry (λ word turn s. record { name = s.name; tag = turn.tag; entry = s.entry }) says.entries turns says.said)
-form_of net words (Leaf cycle) says = leaf_form says.names says.line
-form_of net words Unvisited says = open_form says
+form_of items net words (Leaf cycle) says = leaf_form says.names says.line
+form_of items net words Unvisited says = open_form says
 
 named_below : (net : Network) (name : List ℕ) (u : ℕ) → IsNamed net name u → u < length net
 named_below net name u is = HasConfiguration-within net u is.config is.router
 
--- and its routers are distinct ones of the network
-pub ringed : (net : Network) (words : List (List ℕ)) (node : Node) → SaysNode net words node → IsRinged (length net) node
-ringed net words (Branch a turns) says = (
+-- and its routers or numbers are distinct ones of the network
+pub ringed : (items : Items) (net : Network) (words : List (List ℕ)) (node : Node) → SaysNode items net words node → IsRinged items (length net) node
+ringed items net words (Branch a turns) says = (
   all_saying (SaysTurn net) (λ (t : Turn). t.router < length net) (λ word turn s. named_below net s.name turn.router s.named) says.entries turns says.said,
   record { some = omega (arith, says.line.some, AllZip-long (SaysTurn net) says.entries turns says.said); distinct = says.distinct },
 )
-ringed net words (Leaf cycle) says = (
-  all_saying (IsNamed net) (λ (u : ℕ). u < length net) (named_below net) says.names cycle says.named,
-  record { some = omega (arith, says.line.some, AllZip-long (IsNamed net) says.names cycle says.named); distinct = says.distinct },
+ringed items net words (Leaf cycle) says = (
+  all_saying (NamesNumber items net) (λ (u : ℕ). u < size_of items (length net)) (NamesNumber-below items net) says.names cycle says.named,
+  record { some = omega (arith, says.line.some, AllZip-long (NamesNumber items net) says.names cycle says.named); distinct = says.distinct },
 )
-ringed net words Unvisited says = tt
+ringed items net words Unvisited says = tt
 
 -- words say one node
-pub one_node : (net : Network) → IsNetwork net → (words : List (List ℕ)) (n m : Node) → SaysNode net words n → SaysNode net words m → n ≡ m
-one_node net network words (Branch a turns) (Branch b others) one two =
+pub one_node : (items : Items) (net : Network) → IsNetwork net → (words : List (List ℕ)) (n m : Node) → SaysNode items net words n →
+    SaysNode items net words m → n ≡ m
+one_node items net network words (Branch a turns) (Branch b others) one two =
     let rest = later_words (codes "branch") (codes "branch") (one.line.address ∷ one.entries) (two.line.address ∷ two.entries)
     (sym one.line.words_are ∙ two.line.words_are) in
     let address = first_word one.line.address two.line.address one.entries two.entries rest in
@@ -121,17 +127,35 @@ one_node net network words (Branch a turns) (Branch b others) one two =
     let same_turns : turns ≡ others = one_zip (SaysTurn net) (one_turn net network) two.entries turns others
     (subst (λ (l : List (List ℕ)). AllZip (SaysTurn net) l turns) entries one.said) two.said in
     ap (λ (x : ℕ). Branch x turns) same_a ∙ ap (λ (l : List Turn). Branch b l) same_turns
-one_node net network words (Branch a turns) (Leaf cycle) one two = absurd
+one_node items net network words (Branch a turns) (Leaf cycle) one two = absurd
     (branch_no_leaf (one.line.address ∷ one.entries) two.names (sym one.line.words_are ∙ two.line.words_are))
-one_node net network words (Branch a turns) Unvisited one two = absurd (branch_no_open (one.line.address ∷ one.entries) [] (sym one.line.words_are ∙ two))
-one_node net network words (Leaf cycle) (Branch b others) one two = absurd
+one_node items net network words (Branch a turns) Unvisited one two = absurd (branch_no_open (one.line.address ∷ one.entries) [] (sym one.line.words_are ∙ two))
+one_node items net network words (Leaf cycle) (Branch b others) one two = absurd
     (branch_no_leaf (two.line.address ∷ two.entries) one.names (sym two.line.words_are ∙ one.line.words_are))
-one_node net network words (Leaf cycle) (Leaf other) one two =
+one_node items net network words (Leaf cycle) (Leaf other) one two =
     let names = later_words (codes "leaf") (codes "leaf") one.names two.names (sym one.line.words_are ∙ two.line.words_are) in
     ap (λ (l : List ℕ). Leaf l)
-    (one_zip (IsNamed net) (λ word u v. IsNamed-unique net word u v network.ascending) two.names cycle other
-    (subst (λ (l : List (List ℕ)). AllZip (IsNamed net) l cycle) names one.named) two.named)
-one_node net network words (Leaf cycle) Unvisited one two = absurd (leaf_no_open one.names [] (sym one.line.words_are ∙ two))
-one_node net network words Unvisited (Branch b others) one two = absurd (branch_no_open (two.line.address ∷ two.entries) [] (sym two.line.words_are ∙ one))
-one_node net network words Unvisited (Leaf cycle) one two = absurd (leaf_no_open two.names [] (sym two.line.words_are ∙ one))
-one_node net network words Unvisited Unvisited one two = refl
+    (one_zip (NamesNumber items net) (NamesNumber-unique items net network.ascending) two.names cycle other
+    (subst (λ (l : List (List ℕ)). AllZip (NamesNumber items net) l cycle) names one.named) two.named)
+one_node items net network words (Leaf cycle) Unvisited one two = absurd (leaf_no_open one.names [] (sym one.line.words_are ∙ two))
+one_node items net network words Unvisited (Branch b others) one two = absurd (branch_no_open (two.line.address ∷ two.entries) [] (sym two.line.words_are ∙ one))
+one_node items net network words Unvisited (Leaf cycle) one two = absurd (leaf_no_open two.names [] (sym two.line.words_are ∙ one))
+one_node items net network words Unvisited Unvisited one two = refl
+
+-- words of a leaf say the leaf of the numbers that they name
+pub leaf_says : (items : Items) (net : Network) (words names : List (List ℕ)) (numbers : List ℕ) → IsLeafLine items words names →
+    NameNumbers items net names numbers → SaysNode items net words (Leaf numbers)
+leaf_says items net words names numbers line named = record { names = names; line = line; named = named.named; distinct = named.distinct }
+
+-- and no node where they name none
+pub leaf_says_none : (items : Items) (net : Network) (words names : List (List ℕ)) → IsLeafLine items words names →
+    ((numbers : List ℕ) → NameNumbers items net names numbers → ⊥) → (node : Node) → SaysNode items net words node → ⊥
+leaf_says_none items net words names line none (Branch a turns) says =
+    branch_no_leaf (says.line.address ∷ says.entries) names (sym says.line.words_are ∙ line.words_are)
+leaf_says_none items net words names line none (Leaf cycle) says =
+    let same : says.names ≡ names = later_words (codes "leaf") (codes "leaf") says.names names (sym says.line.words_are ∙ line.words_are) in
+    none cycle (record {
+      named = subst (λ (l : List (List ℕ)). AllZip (NamesNumber items net) l cycle) same says.named;
+      distinct = says.distinct;
+    })
+leaf_says_none items net words names line none Unvisited says = leaf_no_open names [] (sym line.words_are ∙ says)

@@ -1,5 +1,5 @@
 -- How trees are printed, and that a printed tree reads back.
-use Rattle.std.specs.Prelude.{◌≡◌, ◌≢◌, ℕ, ◌^◌, ◌<◌, ◌≤◌, List, [], ◌∷◌, ◌++◌, length, map, codes, All, AllPairs}
+use Rattle.std.specs.Prelude.{◌≡◌, ◌≢◌, ℕ, ◌^◌, ◌/◌, ◌<◌, ◌≤◌, List, [], ◌∷◌, ◌++◌, length, map, codes, All, AllPairs}
 use Rattle.std.specs.List.{AllZip}
 use Rattle.net_addr.specs.Lines.{line_texts}
 use Rattle.net_model.specs.Network.{Network}
@@ -11,27 +11,43 @@ use Rattle.order_search.specs.declared.tree.Node.{Node}
 use Rattle.order_search.specs.declared.tree.Node.TheVariants.{Branch, Leaf, Unvisited}
 use Rattle.printed_lines.specs.Texts.{text_of}
 use Rattle.printed_lines.specs.Words.{joined, dotted, router_word}
-use Rattle.refutation_check.specs.TreeLines.{tree_header, letter_of, pieces_of, SaysNode}
+use Rattle.two_pass.specs.TwoTexts.{item_word}
+use Rattle.plan_theory.specs.declared.items.Items.{Items}
+use Rattle.plan_theory.specs.declared.items.Items.TheVariants.{Routers, Changes}
+use Rattle.refutation_check.specs.TreeLines.{tree_header, two_tree_header, letter_of, pieces_of, SaysNode}
 
--- a turn: the name of its router, a colon (58), and the letter of its tag
-abbrev pub entry_word : List (List ℕ) → Turn → List ℕ
-entry_word names turn = router_word names turn.router ++ 58 ∷ letter_of turn.tag ∷ []
+-- the router of a number
+abbrev pub router_of : Items → ℕ → ℕ
+router_of Routers number = number
+router_of Changes number = number / 2
+
+-- a turn by the router of its number
+abbrev pub turn_word : Items → List (List ℕ) → Turn → List ℕ
+turn_word items names turn = router_word names (router_of items turn.router) ++ 58 ∷ letter_of turn.tag ∷ []
+
+-- a number: the name of its router, or the word of its change
+abbrev pub number_word : Items → List (List ℕ) → ℕ → List ℕ
+number_word Routers names number = router_word names number
+number_word Changes names number = item_word names number
 
 -- the words of a node
-abbrev pub node_words : List (List ℕ) → Node → List (List ℕ)
-node_words names (Branch a turns) = codes "branch" ∷ dotted a ∷ map (entry_word names) turns
-node_words names (Leaf cycle) = codes "leaf" ∷ map (router_word names) cycle
-node_words names Unvisited = codes "open" ∷ []
+abbrev pub node_words : Items → List (List ℕ) → Node → List (List ℕ)
+node_words items names (Branch a turns) = codes "branch" ∷ dotted a ∷ map (turn_word items names) turns
+node_words items names (Leaf cycle) = codes "leaf" ∷ map (number_word items names) cycle
+node_words items names Unvisited = codes "open" ∷ []
 
 -- the line of a node
-abbrev pub node_line : List (List ℕ) → Node → List ℕ
-node_line names node = joined (node_words names node)
+abbrev pub node_line : Items → List (List ℕ) → Node → List ℕ
+node_line items names node = joined (node_words items names node)
 
--- the text of a tree: the header, then a line for each node
+-- the text of a tree of routers, and of one of single changes: the header, then a line for each node
 abbrev pub tree_text : List (List ℕ) → List Node → List ℕ
-tree_text names nodes = text_of (tree_header ∷ map (node_line names) nodes)
+tree_text names nodes = text_of (tree_header ∷ map (node_line Routers names) nodes)
 
--- the routers of a node are below the count
+abbrev pub two_tree_text : List (List ℕ) → List Node → List ℕ
+two_tree_text names nodes = text_of (two_tree_header ∷ map (node_line Changes names) nodes)
+
+-- the numbers of a node are below the count
 abbrev pub NodeBelow : ℕ → Node → Type 0
 NodeBelow count (Branch a turns) = All (λ (turn : Turn). turn.router < count) turns
 NodeBelow count (Leaf cycle) = All (λ (u : ℕ). u < count) cycle
@@ -57,7 +73,7 @@ IsPrintedNode Unvisited = Unit {0}
 pub record ReadsAsNodes (net : Network) (text : List ℕ) (nodes : List Node) : Type 0 where
   pub lines : List (List ℕ)
   pub text_is : line_texts text ≡ tree_header ∷ lines
-  pub said : AllZip (λ (line : List ℕ) (node : Node). SaysNode net (pieces_of line) node) lines nodes
+  pub said : AllZip (λ (line : List ℕ) (node : Node). SaysNode Routers net (pieces_of line) node) lines nodes
 
 -- the text of nodes of a network's routers reads as these nodes
 abbrev pub TreesReadBack : Type 0

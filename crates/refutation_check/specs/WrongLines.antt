@@ -10,6 +10,7 @@ use Rattle.order_core.specs.declared.turn.Turn.{Turn}
 use Rattle.order_search.specs.Trees.{Place}
 use Rattle.order_search.specs.declared.tree.Node.{Node}
 use Rattle.order_search.specs.declared.tree.Node.TheVariants.{Branch, Leaf, Unvisited}
+use Rattle.plan_theory.specs.declared.items.Items.{Items}
 use Rattle.refutation_check.specs.TreeLines.{HasForm, SaysNode}
 use Rattle.refutation_check.specs.declared.verdict.WrongKind.{WrongKind}
 use Rattle.refutation_check.specs.declared.verdict.WrongKind.TheVariants.{Form, Router, Address, Originator, Step, OneSided, NotAssumed}
@@ -52,21 +53,21 @@ WrongNode move place (Leaf cycle) kind = WrongLeaf place cycle kind
 WrongNode move place Unvisited kind = ⊥
 
 -- words say a node that is wrong at a place
-pub record SaysWrongNode (move : Migration) (place : Place) (words : List (List ℕ)) (kind : WrongKind) : Type 0 where
+pub record SaysWrongNode (items : Items) (move : Migration) (place : Place) (words : List (List ℕ)) (kind : WrongKind) : Type 0 where
   pub node : Node
-  pub says : SaysNode move.net words node
+  pub says : SaysNode items move.net words node
   pub wrong : WrongNode move place node kind
 
--- words are wrong as those of a node: they haven't its form; their names aren't those of distinct routers, so that they
--- say no node; or the node is wrong at its place
-abbrev pub WrongWords : Migration → Place → List (List ℕ) → WrongKind → Type 0
-WrongWords move place words Form = ¬ HasForm words
-WrongWords move place words Router = (node : Node) → ¬ SaysNode move.net words node
-WrongWords move place words Address = SaysWrongNode move place words Address
-WrongWords move place words Originator = SaysWrongNode move place words Originator
-WrongWords move place words Step = SaysWrongNode move place words Step
-WrongWords move place words OneSided = SaysWrongNode move place words OneSided
-WrongWords move place words NotAssumed = SaysWrongNode move place words NotAssumed
+-- words are wrong as those of a node: they haven't its form; their names aren't those of distinct routers or changes, so that
+-- they say no node; or the node is wrong at its place
+abbrev pub WrongWords : Items → Migration → Place → List (List ℕ) → WrongKind → Type 0
+WrongWords items move place words Form = ¬ HasForm items words
+WrongWords items move place words Router = (node : Node) → ¬ SaysNode items move.net words node
+WrongWords items move place words Address = SaysWrongNode items move place words Address
+WrongWords items move place words Originator = SaysWrongNode items move place words Originator
+WrongWords items move place words Step = SaysWrongNode items move place words Step
+WrongWords items move place words OneSided = SaysWrongNode items move place words OneSided
+WrongWords items move place words NotAssumed = SaysWrongNode items move place words NotAssumed
 
 -- the number of a kind
 abbrev pub kind_number : WrongKind → ℕ

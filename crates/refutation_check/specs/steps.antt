@@ -8,3 +8,4 @@ pub mod Cursors
 pub mod Walks
 pub mod Counted
 pub mod Reading
+pub mod Judged

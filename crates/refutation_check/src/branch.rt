@@ -7,38 +7,39 @@ ghost use Rattle.order_core.specs.Turns.{HasBothTags, new_routers, old_routers};
 ghost use Rattle.order_core.specs.declared.turn.Turn.{Turn};
 ghost use Rattle.prefix_atoms.specs.Classes.{IsInClass};
 ghost use Rattle.rib_mix.specs.Answers.{NextLeadsTo};
-ghost use Rattle.rib_mix.specs.Mixture.{migration_of};
 ghost use Rattle.refutation_check.specs.WrongLines.{IsLowestKind, WrongBranch};
+ghost use Rattle.refutation_check.specs.steps.Judged.{start_of, started_of};
 ghost use Rattle.refutation_check.specs.steps.Rings.{next_at};
 ghost use Rattle.refutation_check.specs.steps.Right.{IsRightBranch, tells};
 
-use crate::names::has_router;
+use crate::asked::Asked;
+use crate::names::has_number;
 use crate::verdict::WrongKind;
 use net_addr::Prefix;
 use net_model::Net;
 use order_core::{Tag, Turn};
-use rib_mix::{Mixed, Next, Phase};
+use rib_mix::{Next, Phase};
 use route_core::RouteSource;
 
 /// The lowest kind by which a branch is wrong, none where it is right.
 pub(crate) fn branch_fault<O: RouteSource, N: RouteSource>(
-    mixed: &Mixed<'_, O, N>,
+    asked: &Asked<'_, '_, O, N>,
     address: u32,
     turns: &[Turn],
 ) -> Option<WrongKind>
-    requires network { IsNetwork mixed.now.net }
-    requires below { All (λ turn. turn.router < length mixed.now.net) turns.now }
-    ensures right { IfNone result (IsRightBranch (migration_of O.table N.table mixed.now) address turns.now) }
-    ensures wrong { IfSome result (IsLowestKind (WrongBranch (migration_of O.table N.table mixed.now) address turns.now)) }
+    requires network { IsNetwork asked.now.mixed.now.net }
+    requires below { All (λ turn. turn.router < length asked.now.mixed.now.net) turns.now }
+    ensures right { IfNone result (IsRightBranch (started_of O.table N.table asked.now.mixed.now asked.now.start.now) address turns.now) }
+    ensures wrong { IfSome result (IsLowestKind (WrongBranch (started_of O.table N.table asked.now.mixed.now asked.now.start.now) address turns.now)) }
 {
-    let atom = mixed.atoms().of(address);
-    let Some(target) = mixed.atoms().target(atom) else {
+    let atom = asked.mixed.atoms().of(address);
+    let Some(target) = asked.mixed.atoms().target(atom) else {
         return Some(WrongKind::Address);
     };
-    if some_originates(mixed.net(), turns, target) {
+    if some_originates(asked.mixed.net(), turns, target) {
         return Some(WrongKind::Originator);
     }
-    if !goes_round(mixed, atom, turns) {
+    if !goes_round(asked, atom, turns) {
         return Some(WrongKind::Step);
     }
     if !has_both_tags(turns) {
@@ -63,19 +64,19 @@ fn some_originates(net: &Net, turns: &[Turn], target: Prefix) -> bool
 /// Whether each turn has the tag by which its router steps to the next one, and the last one to the first, for the
 /// addresses of a class.
 fn goes_round<O: RouteSource, N: RouteSource>(
-    mixed: &Mixed<'_, O, N>,
+    asked: &Asked<'_, '_, O, N>,
     atom: u32,
     turns: &[Turn],
 ) -> bool
-    requires atom { atom < length mixed.now.classes.samples }
-    requires below { All (λ turn. turn.router < length mixed.now.net) turns.now }
-    ensures { (a : ℕ) → IsInClass mixed.now.classes atom a → All (λ (turn : Turn). MustForward mixed.now.net a turn.router) turns.now
-        → IsTrue result ↔ AroundRing (λ (r s : Turn). IsTag (migration_of O.table N.table mixed.now) a r s.router) turns.now }
+    requires atom { atom < length asked.now.mixed.now.classes.samples }
+    requires below { All (λ turn. turn.router < length asked.now.mixed.now.net) turns.now }
+    ensures { (a : ℕ) → IsInClass asked.now.mixed.now.classes atom a → All (λ (turn : Turn). MustForward asked.now.mixed.now.net a turn.router) turns.now
+        → IsTrue result ↔ AroundRing (λ (r s : Turn). IsTag (started_of O.table N.table asked.now.mixed.now asked.now.start.now) a r s.router) turns.now }
 {
     for place in 0..turns.len() {
         let turn = turns[place];
         let next = next_turn(turns, place);
-        if !is_tagged(mixed, atom, turn, next.router) {
+        if !is_tagged(asked, atom, turn, next.router) {
             return false;
         }
     }
@@ -96,19 +97,28 @@ fn next_turn(turns: &[Turn], place: usize) -> Turn
 
 /// Whether a turn has the tag by which its router steps to another, for the addresses of a class.
 fn is_tagged<O: RouteSource, N: RouteSource>(
-    mixed: &Mixed<'_, O, N>,
+    asked: &Asked<'_, '_, O, N>,
     atom: u32,
     turn: Turn,
     next: u32,
 ) -> bool
-    requires atom { atom < length mixed.now.classes.samples }
-    requires below { turn.router < length mixed.now.net }
-    ensures { (a : ℕ) → IsInClass mixed.now.classes atom a → MustForward mixed.now.net a turn.router
-        → IsTrue result ↔ IsTag (migration_of O.table N.table mixed.now) a turn next }
+    requires atom { atom < length asked.now.mixed.now.classes.samples }
+    requires below { turn.router < length asked.now.mixed.now.net }
+    ensures { (a : ℕ) → IsInClass asked.now.mixed.now.classes atom a → MustForward asked.now.mixed.now.net a turn.router
+        → IsTrue result ↔ IsTag (started_of O.table N.table asked.now.mixed.now asked.now.start.now) a turn next }
 {
-    let old = leads_to(mixed.hops(turn.router, atom, Phase::Old), next);
-    let new = leads_to(mixed.hops(turn.router, atom, Phase::New), next);
+    let begin = begin_of(asked.start, turn.router);
+    let old = leads_to(asked.mixed.hops(turn.router, atom, begin), next);
+    let new = leads_to(asked.mixed.hops(turn.router, atom, Phase::New), next);
     is_tag_of(turn.tag, old, new)
+}
+
+/// The phase in which a router begins.
+fn begin_of(start: &[Phase], router: u32) -> Phase
+    requires { router < length start.now }
+    ensures { start_of start.now router ≡ result }
+{
+    start[router as usize]
 }
 
 /// Whether a tag says which of two phases step on.
@@ -127,7 +137,7 @@ fn leads_to(answer: Next<'_>, router: u32) -> bool
     ensures { IsTrue result ↔ NextLeadsTo answer.entry router }
 {
     match answer {
-        Next::Via(hops) => has_router(hops.as_slice(), router),
+        Next::Via(hops) => has_number(hops.as_slice(), router),
         Next::Discard | Next::Connected | Next::Absent => false,
     }
 }

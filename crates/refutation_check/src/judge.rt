@@ -1,25 +1,32 @@
-ghost use Rattle.std.specs.Prelude.{◌≡◌, ◌<◌, ◌≤◌, ◌^◌, ◌-◌, ◌↔◌, [], ◌∷◌, ℕ, List, All, IfNone, IfOk, IfSome, IsTrue};
-ghost use Rattle.std.specs.Prelude.{MatchResult, length};
+ghost use Rattle.std.specs.Prelude.{◌≡◌, ◌<◌, ◌≤◌, ◌^◌, ◌-◌, ◌+◌, ◌↔◌, [], ◌∷◌, ℕ, List, All, IfErr, IfNone, IfOk, IfSome, IsTrue};
+ghost use Rattle.std.specs.Prelude.{MatchResult, length, replicate, take};
 ghost use Rattle.net_addr.specs.Lines.{line_texts, text_lines};
 ghost use Rattle.net_addr.specs.Spans.{LiesIn};
 ghost use Rattle.net_model.specs.Refusals.{IsNetwork};
+ghost use Rattle.order_core.specs.Pairs.{Pair};
 ghost use Rattle.rib_mix.specs.Mixture.{migration_of};
-ghost use Rattle.refutation_check.specs.TreeLines.{tree_header};
-ghost use Rattle.refutation_check.specs.Verdicts.{IsTextVerdict, RefutesWhereClosed};
-ghost use Rattle.refutation_check.specs.steps.Reading.{AreTreeEntries, HasReadLines, IsEndVerdict, IsWholeVerdict, IsWrongVerdict, line_bytes};
+ghost use Rattle.plan_theory.specs.Ranked.{base_of, size_of};
+ghost use Rattle.refutation_check.specs.Verdicts.{IsHeadedVerdict, IsLinesVerdict, IsTextVerdict, IsTwoVerdict};
+ghost use Rattle.refutation_check.specs.Verdicts.{LeavesNoneWhereClosed, RefutesWhereClosed, tree_header_of};
+ghost use Rattle.refutation_check.specs.steps.Judged.{started_of};
+ghost use Rattle.refutation_check.specs.steps.Reading.{HasReadLines, IsEndVerdict, IsFirstWrongOf, IsWholeVerdict, StandBehind, line_bytes};
 
-use crate::reading::Reading;
+use crate::asked::Asked;
+use crate::reading::{Reading, WrongLine};
+use crate::shape::is_text;
 use crate::spans::bytes_at;
 use crate::tally::Tally;
 use crate::verdict::{Verdict, WrongKind};
 use crate::walk::Walk;
 use net_addr::{Line, OutOfMemory, lines};
-use rib_mix::Mixed;
+use order_core::{Tag, Turn};
+use ranked_items::{Items, base_pairs, number_count};
+use rib_mix::{Mixed, Phase};
 use route_core::RouteSource;
 use std::alloc::Global;
 
-/// The verdict on a tree file over a network and two sources of tables: the first wrong line with its lowest kind, else
-/// the count of unvisited places, else that it is a closed tree, with the counts of its branches and leaves.
+/// The verdict on a tree file of routers over a network and two sources of tables: the first wrong line with its lowest
+/// kind, else the count of unvisited places, else that it is a closed tree, with the counts of its branches and leaves.
 ///
 /// The tree may be of any depth and width. It takes time in proportion to the text, and memory for its lines, for the
 /// branches of one path and a number for each pair of routers. The only error is want of memory.
@@ -33,35 +40,136 @@ pub fn verify<O: RouteSource, N: RouteSource>(
     ensures network { IsNetwork mixed.now.net }
     ensures refutes { IfOk result (RefutesWhereClosed (migration_of O.table N.table mixed.now)) }
 {
-    let routers = mixed.net().routers();
+    verify_headed(alloc, mixed, Items::Routers, text)
+}
+
+/// The verdict on a tree file of single changes, whose first line is `tree 2`: its leaves name changes, and each router's
+/// first change before its second is assumed everywhere. A closed one leaves no list of all changes, each router's first
+/// before its second, with only sound states.
+///
+/// Time and memory as for `verify`, with twice as many numbers as routers.
+pub fn verify_two<O: RouteSource, N: RouteSource>(
+    alloc: Global,
+    mixed: &Mixed<'_, O, N>,
+    text: &[u8],
+) -> Result<Verdict, OutOfMemory>
+    requires { length text.now < 2 ^ 26 }
+    ensures verdict { IfOk result (IsTwoVerdict (migration_of O.table N.table mixed.now) text.now) }
+    ensures network { IsNetwork mixed.now.net }
+    ensures refutes { IfOk result (LeavesNoneWhereClosed Items.Changes (migration_of O.table N.table mixed.now)) }
+{
+    verify_headed(alloc, mixed, Items::Changes, text)
+}
+
+/// The verdict on a tree file with one line before its nodes, where every router begins in `Old`.
+fn verify_headed<O: RouteSource, N: RouteSource>(
+    alloc: Global,
+    mixed: &Mixed<'_, O, N>,
+    items: Items,
+    text: &[u8],
+) -> Result<Verdict, OutOfMemory>
+    requires { length text.now < 2 ^ 26 }
+    ensures verdict { IfOk result (IsHeadedVerdict items (tree_header_of items) (migration_of O.table N.table mixed.now) text.now) }
+    ensures network { IsNetwork mixed.now.net }
+{
+    let start = all_old(alloc, mixed.net().routers())?;
     let all = lines(alloc, text)?;
-    let Some(entries) = entries_of(text, all.as_slice()) else {
-        return Ok(Verdict::Wrong {
-            line: 1,
-            kind: WrongKind::Form,
-        });
+    let Some(entries) = entries_of(text, all.as_slice(), header_of(items)) else {
+        return Ok(wrong(1, WrongKind::Form));
     };
-    let start = first_reading(alloc, routers)?;
-    match read_lines(alloc, mixed, text, entries, start)? {
-        Ok(read) => Ok(end_verdict(read, entries.len() as u32 + 2)),
-        Err(wrong) => Ok(wrong),
+    let asked = Asked {
+        mixed,
+        start: start.as_slice(),
+        items,
+    };
+    judge_lines(alloc, &asked, text, entries, 2)
+}
+
+/// The start where each of so many routers is in `Old`.
+fn all_old(alloc: Global, routers: u32) -> Result<Vec<Phase>, OutOfMemory>
+    ensures { IfOk result (λ start. start.items ≡ replicate routers Phase.Old) }
+{
+    Ok(vec![in alloc; Phase::Old; routers as usize]?)
+}
+
+/// The first line of a tree file.
+fn header_of(items: Items) -> &'static [u8]
+    ensures { result.now ≡ tree_header_of items }
+{
+    match items {
+        Items::Routers => b"tree 1",
+        Items::Changes => b"tree 2",
     }
 }
 
-/// What is read before the first line behind the header.
-fn first_reading(alloc: Global, routers: u32) -> Result<Reading, OutOfMemory>
-    requires { routers ≤ 1000 }
-    ensures routers { IfOk result (λ start. start.walk.routers ≡ routers) }
-    ensures left { IfOk result (λ start. start.walk.left ≡ [] ∷ []) }
+/// That a line is wrong.
+fn wrong(line: u32, kind: WrongKind) -> Verdict
+    ensures { result ≡ Verdict.Wrong line kind }
+{
+    Verdict::Wrong { line, kind }
+}
+
+/// The verdict on the lines of nodes, the first of which has this number.
+pub(crate) fn judge_lines<O: RouteSource, N: RouteSource>(
+    alloc: Global,
+    asked: &Asked<'_, '_, O, N>,
+    text: &[u8],
+    entries: &[Line],
+    first: u32,
+) -> Result<Verdict, OutOfMemory>
+    requires short { length text.now < 2 ^ 26 }
+    requires network { IsNetwork asked.now.mixed.now.net }
+    requires inside { All (λ line. LiesIn text.now line.span) entries.now }
+    requires few { length entries.now + first < 2 ^ 32 - 2 }
+    ensures { IfOk result (IsLinesVerdict asked.now.items (started_of O.table N.table asked.now.mixed.now asked.now.start.now)
+        first (line_bytes text.now entries.now)) }
+{
+    let start = first_reading(alloc, asked.items, asked.mixed.net().routers())?;
+    match read_lines(alloc, asked, text, entries, start)? {
+        Ok(read) => Ok(end_verdict(read, entries.len() as u32 + first)),
+        Err(found) => Ok(wrong(found.place + first, found.kind)),
+    }
+}
+
+/// What is read before the first line of a node: the one place that is open assumes the base.
+fn first_reading(alloc: Global, items: Items, routers: u32) -> Result<Reading, OutOfMemory>
+    requires { routers ≤ 200 }
+    ensures routers { IfOk result (λ start. start.walk.routers ≡ size_of items routers) }
+    ensures left { IfOk result (λ start. start.walk.left ≡ base_of items routers ∷ []) }
     ensures tally { IfOk result (λ start. start.tally ≡ record { branches = 0; leaves = 0; unvisited = 0 }) }
 {
-    let walk = Walk::start(alloc, routers)?;
+    let base = base_pairs(alloc, items, routers)?;
+    let walk = Walk::start(alloc, number_count(items, routers))?;
+    let walk = walk_past(alloc, walk, base.as_slice())?;
     let tally = Tally {
         branches: 0,
         leaves: 0,
         unvisited: 0,
     };
     Ok(Reading { walk, tally })
+}
+
+/// The walk with these pairs assumed besides: each is the one child of a branch that was entered.
+fn walk_past(alloc: Global, mut walk: Walk, base: &[(u32, u32)]) -> Result<Walk, OutOfMemory>
+    requires below { All (λ (p : Pair). (p.0 < walk.routers) × (p.1 < walk.routers)) base.now }
+    requires none { walk.left ≡ [] ∷ [] }
+    ensures routers { IfOk result (λ after. after.routers ≡ walk.routers) }
+    ensures left { IfOk result (λ after. after.left ≡ base.now ∷ []) }
+{
+    for (before, after) in base {
+        let turns = [
+            Turn {
+                router: *before,
+                tag: Tag::Old,
+            },
+            Turn {
+                router: *after,
+                tag: Tag::New,
+            },
+        ];
+        walk = walk.enter(alloc, &turns)?;
+    }
+    Ok(walk)
 }
 
 /// The verdict behind the last line, where this would be the number of one more.
@@ -79,57 +187,50 @@ fn end_verdict(read: Reading, next: u32) -> Verdict
 }
 
 /// The lines after the header, where the first line is the header.
-fn entries_of<'a>(text: &[u8], lines: &'a [Line]) -> Option<&'a [Line]>
+pub(crate) fn entries_of<'a>(text: &[u8], lines: &'a [Line], header: &[u8]) -> Option<&'a [Line]>
     requires short { length text.now < 2 ^ 26 }
     requires exact { lines.now ≡ text_lines text.now }
     requires inside { All (λ line. LiesIn text.now line.span) lines.now }
     requires texts { line_bytes text.now lines.now ≡ line_texts text.now }
-    ensures none { IfNone result ((lines : List (List ℕ)) → line_texts text.now ≡ tree_header ∷ lines → ⊥) }
-    ensures some { IfSome result (λ entries. AreTreeEntries text.now entries.now) }
-    ensures few { IfSome result (λ entries. length entries.now < 2 ^ 32 - 2) }
+    ensures none { IfNone result ((lines : List (List ℕ)) → line_texts text.now ≡ header.now ∷ lines → ⊥) }
+    ensures behind { IfSome result (λ entries. StandBehind (header.now ∷ []) text.now entries.now) }
+    ensures inside { IfSome result (λ entries. All (λ line. LiesIn text.now line.span) entries.now) }
+    ensures few { IfSome result (λ entries. length entries.now + 2 < 2 ^ 32 - 2) }
 {
     let (first, entries) = lines.split_first()?;
-    if is_header(bytes_at(text, first.span)) {
+    if is_text(bytes_at(text, first.span), header) {
         Some(entries)
     } else {
         None
     }
 }
 
-/// Whether a line is the header.
-fn is_header(line: &[u8]) -> bool
-    ensures { IsTrue result ↔ (line.now ≡ tree_header) }
-{
-    line == b"tree 1".as_slice()
-}
-
 /// What is read with all these lines, or that one of them is wrong.
 fn read_lines<O: RouteSource, N: RouteSource>(
     alloc: Global,
-    mixed: &Mixed<'_, O, N>,
+    asked: &Asked<'_, '_, O, N>,
     text: &[u8],
     entries: &[Line],
     start: Reading,
-) -> Result<Result<Reading, Verdict>, OutOfMemory>
+) -> Result<Result<Reading, WrongLine>, OutOfMemory>
     requires short { length text.now < 2 ^ 26 }
-    requires network { IsNetwork mixed.now.net }
-    requires entries { AreTreeEntries text.now entries.now }
+    requires network { IsNetwork asked.now.mixed.now.net }
+    requires inside { All (λ line. LiesIn text.now line.span) entries.now }
     requires few { length entries.now < 2 ^ 32 - 2 }
-    requires routers { start.walk.routers ≡ length mixed.now.net }
-    requires start { HasReadLines (migration_of O.table N.table mixed.now) [] start }
-    ensures { IfOk result (λ read. MatchResult read
-        (HasReadLines (migration_of O.table N.table mixed.now) (line_bytes text.now entries.now))
-        (IsWrongVerdict (migration_of O.table N.table mixed.now) text.now)) }
+    requires routers { start.walk.routers ≡ size_of asked.now.items (length asked.now.mixed.now.net) }
+    requires start { HasReadLines asked.now.items (started_of O.table N.table asked.now.mixed.now asked.now.start.now) [] start }
+    ensures read { IfOk result (λ read. MatchResult read
+        (HasReadLines asked.now.items (started_of O.table N.table asked.now.mixed.now asked.now.start.now) (line_bytes text.now entries.now))
+        (IsFirstWrongOf asked.now.items (started_of O.table N.table asked.now.mixed.now asked.now.start.now) (line_bytes text.now entries.now))) }
+    ensures place { IfOk result (λ read. IfErr read (λ wrong. wrong.place < length entries.now)) }
 {
     let mut reading = start;
-    for line in entries {
-        match reading.take_line(alloc, mixed, text, line.span)? {
+    for (place, line) in entries.iter().enumerate() {
+        match reading.take_line(alloc, asked, text, line.span)? {
             Ok(after) => reading = after,
             Err(kind) => {
-                return Ok(Err(Verdict::Wrong {
-                    line: line.number,
-                    kind,
-                }));
+                let place = place as u32;
+                return Ok(Err(WrongLine { place, kind }));
             }
         }
     }

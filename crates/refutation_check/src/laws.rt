@@ -1,4 +1,4 @@
-ghost use Rattle.refutation_check.specs.Laws.{ClosedTreesRefute, HaveOneVerdict};
+ghost use Rattle.refutation_check.specs.Laws.{ClosedTreesRefute, ClosedTwoTreesRefute, HaveOneTwoVerdict, HaveOneVerdict};
 ghost use Rattle.refutation_check.specs.TreeTexts.{TreesReadBack};
 
 use igp_theory::AnyMigration;
@@ -7,8 +7,12 @@ use igp_theory::AnyMigration;
 /// seamless.
 ///
 /// Neither end needs to be sound, and no branch needs to be the one that a search would make.
+///
+/// And where a text is a closed tree of single changes, no list of all of them, each router's first before its second, has only
+/// sound states.
 pub fn closed_trees_refute<T: AnyMigration>()
-    ensures { ClosedTreesRefute T.migration }
+    ensures routers { ClosedTreesRefute T.migration }
+    ensures changes { ClosedTwoTreesRefute T.migration }
 {}
 
 /// The law that a printed tree reads as just its nodes.
@@ -18,5 +22,6 @@ pub fn trees_read_back()
 
 /// The law that a text has one verdict over a network and two sources of tables.
 pub fn texts_have_one_verdict<T: AnyMigration>()
-    ensures { HaveOneVerdict T.migration }
+    ensures routers { HaveOneVerdict T.migration }
+    ensures changes { HaveOneTwoVerdict T.migration }
 {}

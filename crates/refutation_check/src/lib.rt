@@ -8,7 +8,8 @@
 //! | `text` | how a tree is printed | the tree's names |
 //! | `laws` | what verdicts mean, that a text has one, and that printed trees read back | |
 //! | `spans`, `shape`, `names`, `node_line` | which node a line is: its words, their form, its names | the line's bytes, and of n names n squared |
-//! | `branch` | why a branch is wrong | the turns, each with the hops of its address |
+//! | `asked` | what a tree is judged over: mixed forwarding, a start, what is ranked | |
+//! | `branch`, `numbered` | why a branch is wrong, and the numbers that its turns name | the turns, each with the hops of its address |
 //! | `assumed`, `cursor`, `walk` | the open places of a tree: what is assumed there, and the children left | a pair constant; the start, routers squared |
 //! | `tally`, `reading` | what is counted; one line after another | constant besides the line |
 //!
@@ -36,10 +37,12 @@ mod spans;
 mod assumed;
 mod branch;
 mod cursor;
+mod asked;
+mod numbered;
 mod walk;
 
-pub use judge::verify;
+pub use judge::{verify, verify_two};
 pub use laws::{closed_trees_refute, texts_have_one_verdict, trees_read_back};
 pub use net_addr::OutOfMemory;
-pub use text::tree_text;
+pub use text::{tree_text, two_tree_text};
 pub use verdict::{Verdict, WrongKind};

@@ -4,7 +4,7 @@ ghost use Rattle.net_model.specs.Refusals.{IsNetwork};
 ghost use Rattle.order_core.specs.Turns.{routers_of};
 ghost use Rattle.order_core.specs.declared.turn.Turn.{Turn};
 ghost use Rattle.refutation_check.specs.TreeLines.{IsSomeEntry, SaysTurn};
-ghost use Rattle.refutation_check.specs.steps.Names.{IsFurtherRouter, IsFurtherTurn, NameRouters, NamesNoFurtherRouter, SayTurns, SaysNoFurtherTurn};
+ghost use Rattle.refutation_check.specs.steps.Names.{IsFurtherNumber, IsFurtherTurn, NameNumbers, NamesNoFurtherNumber, SayTurns, SaysNoFurtherTurn};
 ghost use Rattle.refutation_check.specs.steps.Spans.{span_texts};
 
 use crate::shape::split_entry;
@@ -13,6 +13,7 @@ use net_addr::{OutOfMemory, Span};
 use net_model::Net;
 use order_core::{Turn, Turns};
 use order_search::Cycle;
+use ranked_items::{Items, number_named};
 use std::alloc::Global;
 
 /// The turns that some entries say, none where a name is no router's or is there twice.
@@ -37,26 +38,28 @@ pub(crate) fn turns_of(
     Ok(Some(Turns::from_vec(turns)))
 }
 
-/// The routers that some spans name, none where one is no router's name or is there twice.
-pub(crate) fn routers_named(
+/// The numbers that some spans name, none where one names no number or one that is there before.
+pub(crate) fn numbers_named(
     alloc: Global,
+    items: Items,
     net: &Net,
     text: &[u8],
     names: &[Span],
 ) -> Result<Option<Cycle>, OutOfMemory>
-    requires { All (LiesIn text.now) names.now }
+    requires network { IsNetwork net.now }
+    requires inside { All (LiesIn text.now) names.now }
     ensures { IfOk result (λ found. MatchOption found
-        ((routers : List ℕ) → NameRouters net.now (span_texts text.now names.now) routers → ⊥)
-        (NameRouters net.now (span_texts text.now names.now))) }
+        ((numbers : List ℕ) → NameNumbers items net.now (span_texts text.now names.now) numbers → ⊥)
+        (NameNumbers items net.now (span_texts text.now names.now))) }
 {
-    let mut routers = Vec::new(alloc);
+    let mut numbers = Vec::new(alloc);
     for name in names {
-        match further_router(net, bytes_at(text, *name), routers.as_slice()) {
-            Some(router) => add_router(&mut routers, router)?,
+        match further_number(items, net, bytes_at(text, *name), numbers.as_slice()) {
+            Some(number) => add_number(&mut numbers, number)?,
             None => return Ok(None),
         }
     }
-    Ok(Some(Cycle::from_vec(routers)))
+    Ok(Some(Cycle::from_vec(numbers)))
 }
 
 /// The turn that an entry says, where its router is in none of these turns.
@@ -102,30 +105,32 @@ fn add_turn(turns: &mut Vec<Turn>, turn: Turn) -> Result<(), OutOfMemory>
     Ok(())
 }
 
-/// The router of a name, where it isn't among these.
-fn further_router(net: &Net, name: &[u8], routers: &[u32]) -> Option<u32>
-    ensures network { IsNetwork net.now }
-    ensures named { MatchOption result (NamesNoFurtherRouter net.now name.now routers.now) (IsFurtherRouter net.now name.now routers.now) }
+/// The number of a word, where it isn't among these.
+fn further_number(items: Items, net: &Net, word: &[u8], numbers: &[u32]) -> Option<u32>
+    requires { IsNetwork net.now }
+    ensures { MatchOption result
+        (NamesNoFurtherNumber items net.now word.now numbers.now)
+        (IsFurtherNumber items net.now word.now numbers.now) }
 {
-    let router = net.number_of(name)?;
-    if has_router(routers, router) {
+    let number = number_named(items, net, word)?;
+    if has_number(numbers, number) {
         None
     } else {
-        Some(router)
+        Some(number)
     }
 }
 
-/// Whether the router is among some.
-pub(crate) fn has_router(routers: &[u32], router: u32) -> bool
-    ensures { IsTrue result ↔ Contains routers.now router }
+/// Whether the number is among some.
+pub(crate) fn has_number(numbers: &[u32], number: u32) -> bool
+    ensures { IsTrue result ↔ Contains numbers.now number }
 {
-    routers.contains(&router)
+    numbers.contains(&number)
 }
 
-/// Adds a router to the end.
-fn add_router(routers: &mut Vec<u32>, router: u32) -> Result<(), OutOfMemory>
-    ensures { OnOk result (routers.new.items ≡ routers.old.items ++ router ∷ []) }
+/// Adds a number to the end.
+fn add_number(numbers: &mut Vec<u32>, number: u32) -> Result<(), OutOfMemory>
+    ensures { OnOk result (numbers.new.items ≡ numbers.old.items ++ number ∷ []) }
 {
-    routers.push(router)?;
+    numbers.push(number)?;
     Ok(())
 }

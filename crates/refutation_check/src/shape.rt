@@ -1,6 +1,8 @@
 ghost use Rattle.std.specs.Prelude.{◌≡◌, ◌≢◌, ◌<◌, ◌≤◌, ℕ, List, ◌∷◌, [], ◌↔◌, All, codes, length, IfNone, IfSome, IsTrue, MatchOption};
 ghost use Rattle.net_addr.specs.Spans.{LiesIn};
 ghost use Rattle.order_core.specs.declared.turn.Tag.{Tag};
+ghost use Rattle.plan_theory.specs.declared.items.Items.{Items};
+ghost use Rattle.ranked_items.specs.Numbers.{IsNumberWord};
 ghost use Rattle.refutation_check.specs.TreeLines.{HasForm, IsBranchLine, IsEntry, IsSomeEntry, letter_of};
 ghost use Rattle.refutation_check.specs.steps.Shapes.{IsShape};
 ghost use Rattle.refutation_check.specs.steps.Spans.{AreFilled, span_texts};
@@ -8,6 +10,7 @@ ghost use Rattle.refutation_check.specs.steps.Spans.{AreFilled, span_texts};
 use crate::spans::bytes_at;
 use net_addr::{Span, read_addr};
 use order_core::Tag;
+use ranked_items::{Items, is_number_word};
 
 /// What a line is by its words, before its names are looked up.
 #[derive(Clone, Copy, Debug)]
@@ -29,19 +32,19 @@ pub(crate) enum Shape<'a> {
 }
 
 /// The shape of the words of a line, none where they haven't the form of a node.
-pub(crate) fn shape_of<'a>(text: &[u8], words: &'a [Span]) -> Option<Shape<'a>>
+pub(crate) fn shape_of<'a>(items: Items, text: &[u8], words: &'a [Span]) -> Option<Shape<'a>>
     requires inside { All (LiesIn text.now) words.now }
     requires filled { AreFilled (span_texts text.now words.now) }
     ensures { MatchOption result
-        (HasForm (span_texts text.now words.now) → ⊥)
-        (IsShape text.now (span_texts text.now words.now)) }
+        (HasForm items (span_texts text.now words.now) → ⊥)
+        (IsShape items text.now (span_texts text.now words.now)) }
 {
     let (first, others) = words.split_first()?;
     let word = bytes_at(text, *first);
     if is_text(word, b"branch") {
         branch_shape(text, others)
     } else if is_text(word, b"leaf") {
-        leaf_shape(others)
+        leaf_shape(items, text, others)
     } else if is_text(word, b"open") {
         open_shape(others)
     } else {
@@ -50,7 +53,7 @@ pub(crate) fn shape_of<'a>(text: &[u8], words: &'a [Span]) -> Option<Shape<'a>>
 }
 
 /// Whether a word is this text.
-fn is_text(word: &[u8], text: &[u8]) -> bool
+pub(crate) fn is_text(word: &[u8], text: &[u8]) -> bool
     ensures { IsTrue result ↔ (word.now ≡ text.now) }
 {
     word == text
@@ -73,7 +76,7 @@ fn branch_shape<'a>(text: &[u8], others: &'a [Span]) -> Option<Shape<'a>>
     requires { All (LiesIn text.now) others.now }
     ensures none { IfNone result ((a : ℕ) (entries : List (List ℕ)) → IsBranchLine (codes "branch" ∷ span_texts text.now others.now) a entries →
         All IsSomeEntry entries → ⊥) }
-    ensures some { IfSome result (IsShape text.now (codes "branch" ∷ span_texts text.now others.now)) }
+    ensures some { IfSome result (λ shape. (items : Items) → IsShape items text.now (codes "branch" ∷ span_texts text.now others.now) shape) }
 {
     let (address, entries) = others.split_first()?;
     let address = read_addr(bytes_at(text, *address))?;
@@ -83,15 +86,30 @@ fn branch_shape<'a>(text: &[u8], others: &'a [Span]) -> Option<Shape<'a>>
     Some(Shape::Branch { address, entries })
 }
 
-/// The leaf with these words behind its first one, where they are two or more.
-fn leaf_shape<'a>(others: &'a [Span]) -> Option<Shape<'a>>
-    ensures none { IfNone result (length others.now < 2) }
+/// The leaf with these words behind its first one, where they are two or more words of numbers.
+fn leaf_shape<'a>(items: Items, text: &[u8], others: &'a [Span]) -> Option<Shape<'a>>
+    requires { All (LiesIn text.now) others.now }
+    ensures none { IfNone result ((2 ≤ length others.now) → All (IsNumberWord items) (span_texts text.now others.now) → ⊥) }
     ensures some { IfSome result (λ shape. (shape ≡ Shape.Leaf others.entry) × (2 ≤ length others.now)) }
+    ensures filled { IfSome result (λ _. All (IsNumberWord items) (span_texts text.now others.now)) }
 {
-    if others.len() < 2 {
+    if others.len() < 2 || !are_number_words(items, text, others) {
         return None;
     }
     Some(Shape::Leaf { names: others })
+}
+
+/// Whether each word has the form of a number's.
+fn are_number_words(items: Items, text: &[u8], words: &[Span]) -> bool
+    requires { All (LiesIn text.now) words.now }
+    ensures { IsTrue result ↔ All (IsNumberWord items) (span_texts text.now words.now) }
+{
+    for word in words {
+        if !is_number_word(items, bytes_at(text, *word)) {
+            return false;
+        }
+    }
+    true
 }
 
 /// Whether each word is an entry of a branch.

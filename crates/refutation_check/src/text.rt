@@ -1,15 +1,18 @@
-ghost use Rattle.std.specs.Prelude.{◌≡◌, ◌<◌, ◌++◌, ◌∷◌, [], ℕ, All, IfOk, length, map};
+ghost use Rattle.std.specs.Prelude.{◌≡◌, ◌<◌, ◌*◌, ◌++◌, ◌∷◌, [], ℕ, All, IfOk, length, map};
 ghost use Rattle.order_core.specs.declared.turn.Turn.{Turn};
 ghost use Rattle.net_model.specs.RouterNames.{names_of};
+ghost use Rattle.plan_theory.specs.Ranked.{size_of};
 ghost use Rattle.printed_lines.specs.Words.{spaced, router_word};
 ghost use Rattle.refutation_check.specs.TreeLines.{letter_of};
-ghost use Rattle.refutation_check.specs.TreeTexts.{NodeBelow, entry_word, node_line, tree_text};
+ghost use Rattle.refutation_check.specs.TreeTexts.{NodeBelow, node_line, number_word, router_of, tree_text, turn_word, two_tree_text};
 
 use net_addr::{Bytes, OutOfMemory};
 use net_model::Net;
 use order_core::{Tag, Turn};
 use order_search::{Node, Tree};
 use printed_lines::{LineBuilder, TextBuilder};
+use ranked_items::Items;
+use two_pass::with_item;
 use std::alloc::Global;
 
 /// The text of a tree of the network's routers: the line `tree 1`, then a line for each node in order. The only error is
@@ -22,62 +25,116 @@ pub fn tree_text(alloc: Global, net: &Net, tree: &Tree) -> Result<Bytes, OutOfMe
 {
     let mut text = TextBuilder::new(alloc).line(LineBuilder::start(alloc, b"tree 1")?)?;
     for node in tree.as_slice() {
-        text = text.line(node_line_of(alloc, net, node)?)?;
+        text = text.line(node_line_of(alloc, Items::Routers, net, node)?)?;
     }
     Ok(text.finish())
 }
 
+/// The text of a tree of the network's single changes: the line `tree 2`, then a line for each node in order; branches name
+/// the routers of their changes. The only error is want of memory.
+pub fn two_tree_text(alloc: Global, net: &Net, tree: &Tree) -> Result<Bytes, OutOfMemory>
+    requires { All (NodeBelow (2 * length net.now)) tree.now }
+    ensures { IfOk result (λ text. text ≡ two_tree_text (names_of net.now) tree.now) }
+{
+    let mut text = TextBuilder::new(alloc).line(LineBuilder::start(alloc, b"tree 2")?)?;
+    for node in tree.as_slice() {
+        text = text.line(node_line_of(alloc, Items::Changes, net, node)?)?;
+    }
+    Ok(text.finish())
+}
 /// The line of a node.
-fn node_line_of(alloc: Global, net: &Net, node: &Node) -> Result<LineBuilder, OutOfMemory>
-    requires { NodeBelow (length net.now) node.now }
-    ensures { IfOk result (λ line. line ≡ node_line (names_of net.now) node.now) }
+fn node_line_of(
+    alloc: Global,
+    items: Items,
+    net: &Net,
+    node: &Node,
+) -> Result<LineBuilder, OutOfMemory>
+    requires { NodeBelow (size_of items (length net.now)) node.now }
+    ensures { IfOk result (λ line. line ≡ node_line items (names_of net.now) node.now) }
 {
     match node {
         Node::Branch { address, turns } => {
             let line = LineBuilder::start(alloc, b"branch")?.address(*address)?;
-            with_turns(line, net, turns.as_slice())
+            with_turns(line, items, net, turns.as_slice())
         }
         Node::Leaf { cycle } => {
             let line = LineBuilder::start(alloc, b"leaf")?;
-            with_routers(line, net, cycle.as_slice())
+            with_numbers(line, items, net, cycle.as_slice())
         }
         Node::Unvisited => LineBuilder::start(alloc, b"open"),
     }
 }
 
-/// The line with some turns more.
-fn with_turns(mut line: LineBuilder, net: &Net, turns: &[Turn]) -> Result<LineBuilder, OutOfMemory>
-    requires { All (λ (turn : Turn). turn.router < length net.now) turns.now }
-    ensures { IfOk result (λ longer. longer ≡ line ++ spaced (map (entry_word (names_of net.now)) turns.now)) }
+/// The line with some turns more, by their routers.
+fn with_turns(
+    mut line: LineBuilder,
+    items: Items,
+    net: &Net,
+    turns: &[Turn],
+) -> Result<LineBuilder, OutOfMemory>
+    requires { All (λ (turn : Turn). turn.router < size_of items (length net.now)) turns.now }
+    ensures { IfOk result (λ longer. longer ≡ line ++ spaced (map (turn_word items (names_of net.now)) turns.now)) }
 {
     for turn in turns {
-        line = with_turn(line, net, *turn)?;
+        line = with_turn(line, items, net, *turn)?;
     }
     Ok(line)
 }
 
-/// The line with one turn more.
-fn with_turn(line: LineBuilder, net: &Net, turn: Turn) -> Result<LineBuilder, OutOfMemory>
-    requires { turn.router < length net.now }
-    ensures { IfOk result (λ longer. longer ≡ line ++ 32 ∷ entry_word (names_of net.now) turn) }
+/// The line with one turn more, by its router.
+fn with_turn(
+    line: LineBuilder,
+    items: Items,
+    net: &Net,
+    turn: Turn,
+) -> Result<LineBuilder, OutOfMemory>
+    requires { turn.router < size_of items (length net.now) }
+    ensures { IfOk result (λ longer. longer ≡ line ++ 32 ∷ turn_word items (names_of net.now) turn) }
 {
-    line.word(name_of(net, turn.router))?
+    line.word(name_of(net, router_at(items, turn.router)))?
         .attach(b':', letter(turn.tag))
 }
 
-/// The line with the names of some routers more.
-fn with_routers(
-    mut line: LineBuilder,
-    net: &Net,
-    routers: &[u32],
-) -> Result<LineBuilder, OutOfMemory>
-    requires { All (λ (u : ℕ). u < length net.now) routers.now }
-    ensures { IfOk result (λ longer. longer ≡ line ++ spaced (map (router_word (names_of net.now)) routers.now)) }
+/// The router of a number.
+fn router_at(items: Items, number: u32) -> u32
+    ensures { result ≡ router_of items number }
 {
-    for router in routers {
-        line = line.word(name_of(net, *router))?;
+    match items {
+        Items::Routers => number,
+        Items::Changes => number / 2,
+    }
+}
+
+/// The line with the words of some numbers more.
+fn with_numbers(
+    mut line: LineBuilder,
+    items: Items,
+    net: &Net,
+    numbers: &[u32],
+) -> Result<LineBuilder, OutOfMemory>
+    requires { All (λ (u : ℕ). u < size_of items (length net.now)) numbers.now }
+    ensures { IfOk result (λ longer. longer ≡ line ++ spaced (map (number_word items (names_of net.now)) numbers.now)) }
+{
+    for number in numbers {
+        line = with_number(line, items, net, *number)?;
     }
     Ok(line)
+}
+
+/// The line with the word of one number more.
+fn with_number(
+    line: LineBuilder,
+    items: Items,
+    net: &Net,
+    number: u32,
+) -> Result<LineBuilder, OutOfMemory>
+    requires { number < size_of items (length net.now) }
+    ensures { IfOk result (λ longer. longer ≡ line ++ 32 ∷ number_word items (names_of net.now) number) }
+{
+    match items {
+        Items::Routers => line.word(name_of(net, number)),
+        Items::Changes => with_item(line, net, number),
+    }
 }
 
 /// The name of a router.

@@ -32,4 +32,4 @@ pub use kind::{TwoKind, TwoRefusal};
 pub use laws::two_laws;
 pub use reading::read_two;
 pub use std::alloc::AllocError as OutOfMemory;
-pub use writing::{two_refusal_text, two_text};
+pub use writing::{two_refusal_text, two_text, with_item};

@@ -45,8 +45,8 @@ fn items_line(
     Ok(line)
 }
 
-/// The line with the word of an item more.
-fn with_item(line: LineBuilder, net: &Net, item: u32) -> Result<LineBuilder, AllocError>
+/// The line with the word of an item more: a blank, and `R1:2`. The only error is want of memory.
+pub fn with_item(line: LineBuilder, net: &Net, item: u32) -> Result<LineBuilder, AllocError>
     requires { item < 2 * length net.now }
     ensures { IfOk result (λ longer. longer ≡ line ++ 32 ∷ item_word (names_of net.now) item) }
 {

@@ -1,7 +1,8 @@
--- Words that say distinct routers, one by one.
+-- Words that say distinct routers or numbers, one by one.
 use Rattle.std.specs.Prelude.{◌≢◌, ℕ, List, AllPairs, Contains}
 use Rattle.std.specs.List.{AllZip}
-use Rattle.net_model.specs.Lookups.{IsNamed}
+use Rattle.plan_theory.specs.declared.items.Items.{Items}
+use Rattle.ranked_items.specs.Numbers.{NamesNumber}
 use Rattle.net_model.specs.Network.{Network}
 use Rattle.order_core.specs.Orders.{AreDistinct}
 use Rattle.order_core.specs.Turns.{routers_of}
@@ -13,10 +14,10 @@ pub record SayTurns (net : Network) (entries : List (List ℕ)) (turns : List Tu
   pub said : AllZip (SaysTurn net) entries turns
   pub distinct : AllPairs (λ (s t : Turn). s.router ≢ t.router) turns
 
--- names are those of these distinct routers
-pub record NameRouters (net : Network) (names : List (List ℕ)) (routers : List ℕ) : Type 0 where
-  pub named : AllZip (IsNamed net) names routers
-  pub distinct : AreDistinct routers
+-- words are those of these distinct numbers
+pub record NameNumbers (items : Items) (net : Network) (names : List (List ℕ)) (numbers : List ℕ) : Type 0 where
+  pub named : AllZip (NamesNumber items net) names numbers
+  pub distinct : AreDistinct numbers
 
 -- an entry says a turn of a router that none of these turns has
 pub record IsFurtherTurn (net : Network) (entry : List ℕ) (turns : List Turn) (turn : Turn) : Type 0 where
@@ -27,11 +28,11 @@ pub record IsFurtherTurn (net : Network) (entry : List ℕ) (turns : List Turn) 
 abbrev pub SaysNoFurtherTurn : Network → List ℕ → List Turn → Type 0
 SaysNoFurtherTurn net entry turns = (turn : Turn) → SaysTurn net entry turn → Contains (routers_of turns) turn.router
 
--- a name is that of a router that isn't among these
-pub record IsFurtherRouter (net : Network) (name : List ℕ) (routers : List ℕ) (u : ℕ) : Type 0 where
-  pub named : IsNamed net name u
-  pub absent : Contains routers u → ⊥
+-- a word names a number that isn't among these
+pub record IsFurtherNumber (items : Items) (net : Network) (word : List ℕ) (numbers : List ℕ) (number : ℕ) : Type 0 where
+  pub named : NamesNumber items net word number
+  pub absent : Contains numbers number → ⊥
 
--- a name is that of one of these routers, or of none
-abbrev pub NamesNoFurtherRouter : Network → List ℕ → List ℕ → Type 0
-NamesNoFurtherRouter net name routers = (u : ℕ) → IsNamed net name u → Contains routers u
+-- a word names one of these numbers, or none
+abbrev pub NamesNoFurtherNumber : Items → Network → List ℕ → List ℕ → Type 0
+NamesNoFurtherNumber items net word numbers = (number : ℕ) → NamesNumber items net word number → Contains numbers number

@@ -6,6 +6,9 @@ use Rattle.order_core.specs.declared.turn.Turn.{Turn}
 use Rattle.igp_theory.specs.Migrations.{Migration}
 use Rattle.order_search.specs.declared.tree.Node.{Node}
 use Rattle.order_search.specs.declared.tree.Node.TheVariants.{Branch, Leaf, Unvisited}
+use Rattle.plan_theory.specs.Ranked.{size_of}
+use Rattle.plan_theory.specs.declared.items.Items.{Items}
+use Rattle.refutation_check.specs.TreeLines.{as_said}
 use Rattle.refutation_check.specs.TreeTexts.{AreDistinctTurns, AreDistinctRouters}
 use Rattle.refutation_check.specs.Verdicts.{IsRightNode}
 use Rattle.refutation_check.specs.declared.walk.Walk.TheInside.{Inside}
@@ -47,13 +50,20 @@ pub record GoesAlong (routers : ℕ) (pairs : List Pair) (cursors : List (List P
 abbrev pub IsHeldWalk : Inside → Type 0
 IsHeldWalk w = GoesAlong w.assumed.routers w.assumed.pairs w.cursors.items
 
--- a node has two or more distinct routers, all below the count
-abbrev pub IsRinged : ℕ → Node → Type 0
-IsRinged count (Branch a turns) = All (λ (turn : Turn). turn.router < count) turns × AreDistinctTurns turns
-IsRinged count (Leaf cycle) = All (λ (u : ℕ). u < count) cycle × AreDistinctRouters cycle
-IsRinged count Unvisited = Unit {0}
+-- a node as it is said has two or more distinct routers of so many, or as many distinct numbers
+abbrev pub IsRinged : Items → ℕ → Node → Type 0
+IsRinged items count (Branch a turns) = All (λ (turn : Turn). turn.router < count) turns × AreDistinctTurns turns
+IsRinged items count (Leaf cycle) = All (λ (u : ℕ). u < size_of items count) cycle × AreDistinctRouters cycle
+IsRinged items count Unvisited = Unit {0}
 
--- a node is right at the first open place, and its children stand before the places that were open after it
-abbrev pub IsTaken : Migration → List Place → List Place → Node → Type 0
-IsTaken move [] after node = ⊥
-IsTaken move (place ∷ left) after node = IsRightNode move place node × (after ≡ places_below place node ++ left)
+-- a node that is said so is right at a place, and its children stand before these other places
+pub record IsTakenAt (items : Items) (move : Migration) (place : Place) (left after : List Place) (said : Node) : Type 0 where
+  pub node : Node
+  pub is_said : as_said items node ≡ said
+  pub right : IsRightNode items move place node
+  pub below : after ≡ places_below place node ++ left
+
+-- so it is at the first open place
+abbrev pub IsTaken : Items → Migration → List Place → List Place → Node → Type 0
+IsTaken items move [] after said = ⊥
+IsTaken items move (place ∷ left) after said = IsTakenAt items move place left after said

@@ -5,7 +5,7 @@ use Rattle.igp_theory.specs.Loops.{IsTag}
 use Rattle.igp_theory.specs.Migrations.{Migration}
 use Rattle.order_core.specs.declared.turn.Tag.TheVariants.{Old}
 use Rattle.order_core.specs.declared.turn.Turn.{Turn}
-use Rattle.rib_mix.specs.Mixture.{migration_of}
+use Rattle.refutation_check.specs.steps.Judged.{started_of}
 use Rattle.refutation_check.proofs.RingPlaces.{around_from, around_at, places_more}
 use Rattle.refutation_check.proofs.branch.goes_round.Goals as goal
 
@@ -14,7 +14,7 @@ loop-place-init g c = λ a class must k d less. absurd (omega (arith, less))
 
 pub returns-then-not-is_tagged : goal.returns-then-not-is_tagged
 returns-then-not-is_tagged g c = λ a class must.
-    let move : Migration = migration_of g.O.RouteSource.table g.N.RouteSource.table c.args.mixed.now in
+    let move : Migration = started_of g.O.RouteSource.table g.N.RouteSource.table c.args.asked.now.mixed.now c.args.asked.now.start.now in
     let d : Turn = record { router = 0; tag = Old } in (
       λ e. absurd (false≢true e),
       λ round.
@@ -25,7 +25,7 @@ returns-then-not-is_tagged g c = λ a class must.
 
 pub loop-place-preserved : goal.loop-place-preserved
 loop-place-preserved g c = λ a class must.
-    let move : Migration = migration_of g.O.RouteSource.table g.N.RouteSource.table c.args.mixed.now in
+    let move : Migration = started_of g.O.RouteSource.table g.N.RouteSource.table c.args.asked.now.mixed.now c.args.asked.now.start.now in
     let e : Turn = record { router = 0; tag = Old } in
     places_more (λ (r s : Turn). IsTag move a r s.router) c.args.turns.now c.loop-place.place (c.loop-place.invariant a class must)
     (λ d.
@@ -37,7 +37,7 @@ loop-place-preserved g c = λ a class must.
 
 pub returns : goal.returns
 returns g c = λ a class must.
-    let move : Migration = migration_of g.O.RouteSource.table g.N.RouteSource.table c.args.mixed.now in (
+    let move : Migration = started_of g.O.RouteSource.table g.N.RouteSource.table c.args.asked.now.mixed.now c.args.asked.now.start.now in (
       λ e. around_from (λ (r s : Turn). IsTag move a r s.router) c.args.turns.now
           (λ k d within. c.loop-place.invariant a class must k d (omega (arith, within, c.loop-place-test.false))),
       λ round. refl,

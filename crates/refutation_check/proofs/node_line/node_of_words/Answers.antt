@@ -9,15 +9,15 @@ use Rattle.refutation_check.proofs.node_line.node_of_words.Goals as goal
 pub returns-in-Some-2 : goal.returns-in-Some-2
 returns-in-Some-2 c =
     let words = span_texts c.args.text.now c.args.words.now in
-    subst (λ (o : Option Node). MatchOption o ((n : Node) → SaysNode c.args.net.now words n → ⊥) (SaysNode c.args.net.now words)) c.in-Some-2.is
+    subst (λ (o : Option Node). MatchOption o ((n : Node) → SaysNode c.args.items c.args.net.now words n → ⊥) (SaysNode c.args.items c.args.net.now words)) c.in-Some-2.is
     (c.in_ok-node-in-Some.ensures words c.in-Some.ensures)
 
 pub returns-in-None-2 : goal.returns-in-None-2
 returns-in-None-2 c =
     let words = span_texts c.args.text.now c.args.words.now in
     record {
-      form = shape_form c.args.text.now words c.in-Some.shape c.in-Some.ensures;
+      form = shape_form c.args.items c.args.text.now words c.in-Some.shape c.in-Some.ensures;
       none =
-          subst (λ (o : Option Node). MatchOption o ((n : Node) → SaysNode c.args.net.now words n → ⊥) (SaysNode c.args.net.now words)) c.in-None-2.is
+          subst (λ (o : Option Node). MatchOption o ((n : Node) → SaysNode c.args.items c.args.net.now words n → ⊥) (SaysNode c.args.items c.args.net.now words)) c.in-None-2.is
           (c.in_ok-node-in-Some.ensures words c.in-Some.ensures);
     }

@@ -20,7 +20,7 @@ are_entries-requires c = All-rest (LiesIn c.args.text.now) c.in_ok-address.addre
     c.in_ok-address.ensures.cases.0 c.requires
 
 pub returns-clause-some : goal.returns-clause-some
-returns-clause-some c = record {
+returns-clause-some c = λ items. record {
   line = record {
     address = bytes_of c.args.text.now c.in_ok-address.address.now;
     words_are = ap (λ (l : List Span). codes "branch" ∷ span_texts c.args.text.now l) c.in_ok-address.ensures.cases.0;
