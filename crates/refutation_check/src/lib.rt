@@ -34,10 +34,10 @@ mod shape;
 mod spans;
 
 // Whether it is right at its place.
+mod asked;
 mod assumed;
 mod branch;
 mod cursor;
-mod asked;
 mod numbered;
 mod walk;
 

@@ -8,8 +8,8 @@ ghost use Rattle.refutation_check.specs.steps.Judged.{started_of};
 ghost use Rattle.refutation_check.specs.steps.Reading.{IsNotTaken, TakesLine};
 ghost use Rattle.refutation_check.specs.steps.Walks.{IsRinged, IsTaken};
 
-use crate::branch::branch_fault;
 use crate::asked::Asked;
+use crate::branch::branch_fault;
 use crate::node_line::read_node;
 use crate::numbered::numbered;
 use crate::tally::Tally;

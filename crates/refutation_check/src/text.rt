@@ -12,8 +12,8 @@ use order_core::{Tag, Turn};
 use order_search::{Node, Tree};
 use printed_lines::{LineBuilder, TextBuilder};
 use ranked_items::Items;
-use two_pass::with_item;
 use std::alloc::Global;
+use two_pass::with_item;
 
 /// The text of a tree of the network's routers: the line `tree 1`, then a line for each node in order. The only error is
 /// want of memory.
