@@ -13,6 +13,9 @@ use Rattle.migrate_cli.specs.AnswerLaws.MayEnd.{by_memory, by_write_fault}
 use Rattle.migrate_cli.specs.Answers.{Answers, Ends, IsAnswer, ReadsAgree}
 use Rattle.migrate_cli.specs.Answers.Ends.{whole, cut, no_memory}
 use Rattle.migrate_cli.specs.Calls.{Call, Outside, course}
+use Rattle.migrate_cli.specs.ChangesPromise.{DecidesChanges, DecidesRefutation}
+use Rattle.migrate_cli.specs.ChangesPromise.DecidesChanges.{no_memory as none_for_changes}
+use Rattle.migrate_cli.specs.ChangesPromise.DecidesRefutation.{unjudged}
 use Rattle.migrate_cli.specs.Claim.{Claim}
 use Rattle.migrate_cli.specs.Completeness.{Decides, DecidesTree, NoFaultRose, Writes}
 use Rattle.migrate_cli.specs.Completeness.Decides.{memory}
@@ -31,7 +34,8 @@ use Rattle.migrate_cli.specs.SplitPromise.DecidesSplit.{no_memory as none_for_sp
 use Rattle.migrate_cli.specs.TablesPromise.{HasTables}
 use Rattle.migrate_cli.proofs.AnswerFacts.{reads_or_not}
 use Rattle.migrate_cli.proofs.CallLaws.{ends_so}
-use Rattle.migrate_cli.proofs.CompletenessLaws.{check_decides, prepare_writes, refute_decides, replay_decides, scripts_write}
+use Rattle.migrate_cli.proofs.ChangesPromiseLaws.{change_check_decides, check_decides, refute_decides}
+use Rattle.migrate_cli.proofs.CompletenessLaws.{prepare_writes, replay_decides, scripts_write}
 use Rattle.migrate_cli.proofs.DeltaPromiseLaws.{delta_writes, new_lines_alone}
 use Rattle.migrate_cli.proofs.DesignPromiseLaws.{design_writes, has_designed}
 use Rattle.migrate_cli.proofs.PairPromiseLaws.{has_paired, pair_check_decides, pair_decides, pair_refute_decides, pair_scripts_write}
@@ -105,7 +109,9 @@ module _ (call : Call) (before after : Outside) where
           decides = λ it calm. calm_so (PlansOrNot (ospf_to_isis it.net)) none_planned (plan_decides call it asked) ends fails calm;
         };
         checks = λ it calm. calm_so Decides memory (check_decides call it asked) ends fails calm;
-        refutes = λ it calm. calm_so (DecidesTree (ospf_to_isis it.net) it.tree) none_for_tree (refute_decides call it asked) ends fails calm;
+        change_checks = λ it calm. calm_so (DecidesChanges (ospf_to_isis it.net) it.ranks) none_for_changes (change_check_decides call it asked) ends fails
+            calm;
+        refutes = λ it calm. calm_so (DecidesRefutation it.net it.tree) unjudged (refute_decides call it asked) ends fails calm;
         replays = λ it calm. calm_so Decides memory (replay_decides call it asked) ends fails calm;
         scripts = record {
           writes = λ it calm. calm_so Writes unwritten (scripts_write call it asked) ends fails calm;

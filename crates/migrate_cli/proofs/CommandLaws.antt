@@ -1,6 +1,5 @@
 -- A command decides one thing of its input, and what it decides has a text.
 use Rattle.std.proofs.Common.{◌≡◌, ◌∙◌, ◌∷◌, [], List, ap, get_or, sym, subst}
-use Rattle.igp_theory.specs.Migrations.{ospf_to_isis}
 use Rattle.net_model.specs.Refusals.{NamesAscend}
 use Rattle.migrate_words.specs.declared.command.CommandKind.{CommandKind}
 use Rattle.migrate_words.specs.declared.command.CommandKind.TheVariants.{Check, Prepare, Plan, Refute, Scripts, Replay, Sample}
@@ -16,10 +15,11 @@ use Rattle.migrate_cli.specs.Decisions.{Input, IsDecision}
 use Rattle.migrate_cli.specs.DeltaDecision.{IsDeltaDecision, settled_lines_alone}
 use Rattle.migrate_cli.specs.PrepareDecision.{IsPrepareDecision, configured, with_settled_lines}
 use Rattle.migrate_cli.specs.Reading.{NamedText}
-use Rattle.migrate_cli.specs.RefuteDecision.{IsTreeDecision}
+use Rattle.migrate_cli.specs.RefuteDecision.{IsRefuteDecision, IsTreeDecision}
 use Rattle.migrate_cli.specs.ReplayDecision.{IsReplayDecision, journal_of}
 use Rattle.migrate_cli.specs.ScriptsDecision.{IsScriptsDecision}
 use Rattle.migrate_cli.specs.SplitDecision.{IsSplitDecision}
+use Rattle.migrate_cli.proofs.ChangesLaws.{judged_order_tellable, judged_tree_tellable, one_judged_order, one_judged_tree}
 use Rattle.migrate_cli.proofs.CheckLaws.{check_tellable, one_check_decision}
 use Rattle.migrate_cli.proofs.DesignLaws.{design_tellable, one_design_decision}
 use Rattle.migrate_cli.proofs.PairLaws.{one_pair_decision, one_script, pair_tellable, script_tellable}
@@ -46,13 +46,13 @@ redesigned {one = one} P first second holds =
 pub one_decision : (kind : CommandKind) (input : Input) {d e : Decision} → NamesAscend input.net → IsDecision kind input d →
     IsDecision kind input e → d ≡ e
 one_decision Check input {e = e} ascending one other =
-    one_check_decision (ospf_to_isis input.net) one.0 ascending one.2 (moved (λ file. IsCheckDecision file input.net e) one.1 other.1 other.2)
+    one_judged_order ascending one.2 (moved (λ file. IsCheckDecision file input.net e) one.1 other.1 other.2)
 one_decision Prepare input {e = e} ascending one other =
     one_settled_decision one.0 input.net (with_settled_lines (configured input.configs input.net)) one.2
     (moved (λ file. IsPrepareDecision file (configured input.configs input.net) e) one.1 other.1 other.2)
 one_decision Plan input ascending one other = one_plan_decision one other
 one_decision Refute input {e = e} ascending one other =
-    one_tree_decision one.2 (moved (λ file. IsTreeDecision (ospf_to_isis input.net) file.text e) one.1 other.1 other.2)
+    one_judged_tree one.2 (moved (λ file. IsRefuteDecision file.text input.net e) one.1 other.1 other.2)
 one_decision Scripts input {e = e} ascending one other =
     one_scripts_decision one.0 input.net ascending one.2 (moved (λ file. IsScriptsDecision file input.net e) one.1 other.1 other.2)
 one_decision Replay input {e = e} ascending one other =
@@ -91,11 +91,11 @@ one_decision Tables input ascending one other = one_tables_decision one other
 one_decision Design input ascending one other = one_design_decision one other
 
 pub decision_tellable : (kind : CommandKind) (input : Input) (d : Decision) → IsDecision kind input d → IsTellable input.net d
-decision_tellable Check input d is = check_tellable is.2
+decision_tellable Check input d is = judged_order_tellable is.2
 decision_tellable Prepare input d is =
     settled_tellable is.0 input.net (with_settled_lines (configured input.configs input.net)) (λ settled. tt) is.2
 decision_tellable Plan input d is = plan_decision_tellable is
-decision_tellable Refute input d is = tree_tellable is.2
+decision_tellable Refute input d is = judged_tree_tellable is.2
 decision_tellable Scripts input d is = scripts_tellable is.0 input.net is.2
 decision_tellable Replay input d is = replay_tellable is.3
 decision_tellable Sample input d is = sample_tellable is

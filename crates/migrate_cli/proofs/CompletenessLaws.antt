@@ -3,10 +3,10 @@ use Rattle.std.proofs.Common.{◌≡◌, ◌≢◌, ℕ, List, [], ◌∷◌, Al
 use Rattle.net_model.specs.Network.{Network}
 use Rattle.net_model.specs.Refusals.{NamesAscend}
 use Rattle.design_file.specs.Answers.{SaysDesign}
-use Rattle.igp_theory.specs.Migrations.{Migration, ospf_to_isis}
+use Rattle.igp_theory.specs.Migrations.{Migration}
 use Rattle.migrate_words.proofs.OneCommand.{one_command}
 use Rattle.migrate_words.specs.declared.command.Command.{Command}
-use Rattle.migrate_words.specs.declared.command.CommandKind.TheVariants.{Check, Prepare, Refute, Scripts, Replay}
+use Rattle.migrate_words.specs.declared.command.CommandKind.TheVariants.{Prepare, Scripts, Replay}
 use Rattle.step_scripts.specs.WaveFiles.{NamesWaves}
 use Rattle.step_scripts.specs.declared.version.Version.{Version}
 use Rattle.step_scripts.proofs.WaveFileLaws.{no_fault}
@@ -23,7 +23,7 @@ use Rattle.migrate_cli.specs.CheckDecision.IsCheckOver.{faulty_order, of_order, 
 use Rattle.migrate_cli.specs.CheckDecision.IsOrderDecision.{safe, unsafe}
 use Rattle.migrate_cli.specs.CheckDecision.IsWavesDecision.{safe_waves, unsafe_wave}
 use Rattle.migrate_cli.specs.CommandFiles.{NeedsStart, command_of, config_texts, files_of, groups_of, own_texts, given_texts}
-use Rattle.migrate_cli.specs.Completeness.{AcceptsCheck, AcceptsRefute, AcceptsReplay, AcceptsScripts, Decides, DecidesTree, IsAccepted, Writes}
+use Rattle.migrate_cli.specs.Completeness.{AcceptsReplay, AcceptsScripts, Decides, IsAccepted, Writes}
 use Rattle.migrate_cli.specs.Completeness.Decides.{yes, no}
 use Rattle.migrate_cli.specs.Completeness.Writes.{written}
 use Rattle.migrate_cli.specs.Configurations.{GiveNetwork, GiveNetworks, IsAtStart}
@@ -33,7 +33,6 @@ use Rattle.migrate_cli.specs.Outcomes.IsOutcome.{faulty_configuration, no_networ
 use Rattle.migrate_cli.specs.PrepareDecision.{configured, with_settled_lines}
 use Rattle.migrate_cli.specs.PreparePromise.{AcceptsPrepare}
 use Rattle.migrate_cli.specs.Reading.{NamedText, named_text, named_texts}
-use Rattle.migrate_cli.specs.RefuteDecision.{IsTreeDecision}
 use Rattle.migrate_cli.specs.ReplayDecision.{IsJournalDecision, IsReplayDecision, Journal, journal_of}
 use Rattle.migrate_cli.specs.ReplayDecision.IsJournalDecision.{reached, departs}
 use Rattle.migrate_cli.specs.ReplayDecision.IsReplayDecision.{faulty_waves as faulty_replay, of_waves as replay_of}
@@ -44,7 +43,6 @@ use Rattle.migrate_cli.proofs.CallLaws.OfFiles.{above, stopped, all_read}
 use Rattle.migrate_cli.proofs.CallLaws.OfWords.{refused, asks}
 use Rattle.migrate_cli.proofs.GroupLaws.{given_unrefused, none_refuses, same_networks}
 use Rattle.migrate_cli.proofs.SettlingLaws.{settled_writes}
-use Rattle.migrate_cli.proofs.RefuteLaws.{tree_decides}
 use Rattle.migrate_cli.proofs.StopLaws.{one_list, told_files, told_with, IsToldOf}
 
 -- ---- what is decided, is decided of the network ----
@@ -142,13 +140,6 @@ check_of_waves {move} {order} {version} {ranks} ascending names (faulty_order n 
 check_of_waves ascending names (of_order _ _ _ is) = order_decides is
 check_of_waves ascending names (of_waves _ _ _ is) = waves_decide is
 
-pub check_decides : (call : Call) → AcceptsCheck call → (asked : List (List ℕ)) (outcome : Outcome) → status_of outcome ≢ ReadFault →
-    IsAnswer call asked outcome → Decides (status_of outcome)
-check_decides call it =
-    ends_decided call (command_of Check (it.file ∷ []) it.configs 0) it.texts it.net [] it.accepted Decides
-    (λ decision is. check_of_waves (names_ascend it.accepted.gives.0)
-    (said_of it.file (λ t. NamesWaves it.net t it.version it.ranks) it.text_is is.1 it.names) is.2)
-
 -- ---- `scripts` ----
 
 scripts_of_waves : {order : NamedText} {net : Network} {d : Decision} {version : Version} {ranks : List ℕ} → NamesAscend net →
@@ -187,15 +178,7 @@ replay_decides call it =
     replay_of_waves {order = is.0} {journal = journal_of is.1.text it.net} (names_ascend it.accepted.gives.0)
     (subst (λ (file : NamedText). NamesWaves it.net file.text it.version it.ranks) same it.names) is.3)
 
--- ---- `refute` and `prepare` ----
-
-pub refute_decides : (call : Call) → (it : AcceptsRefute call) → (asked : List (List ℕ)) (outcome : Outcome) → status_of outcome ≢ ReadFault
-    → IsAnswer call asked outcome → DecidesTree (ospf_to_isis it.net) it.tree (status_of outcome)
-refute_decides call it =
-    ends_decided call (command_of Refute (it.file ∷ []) it.configs 0) it.texts it.net [] it.accepted (DecidesTree (ospf_to_isis it.net) it.tree)
-    (λ decision is. let lists : named_text it.file it.tree ∷ [] ≡ is.0 ∷ [] = ap (named_texts (it.file ∷ [])) (sym it.tree_is) ∙ is.1 in
-    let same : named_text it.file it.tree ≡ is.0 = cc lists in
-    tree_decides it.tree (ospf_to_isis it.net) (subst (λ (file : NamedText). IsTreeDecision (ospf_to_isis it.net) file.text decision) (sym same) is.2))
+-- ---- `prepare` ----
 
 pub prepare_writes : (call : Call) → AcceptsPrepare call → (asked : List (List ℕ)) (outcome : Outcome) → status_of outcome ≢ ReadFault →
     IsAnswer call asked outcome → Writes (status_of outcome)

@@ -17,6 +17,7 @@ use Rattle.order_search.specs.Trees.{branch_count}
 use Rattle.order_search.specs.declared.found.Found.TheVariants.{Waves, Refuted, Spent}
 use Rattle.plan_theory.specs.Laws.{AreSeamlessWithOrder}
 use Rattle.plan_theory.specs.Plans.{IsPlanned, fault_told}
+use Rattle.plan_theory.specs.declared.items.Items.TheVariants.{Routers}
 use Rattle.plan_theory.specs.declared.planned.Planned.{Planned}
 use Rattle.plan_theory.specs.declared.planned.Planned.TheVariants.{UnsoundOld, UnsoundNew, Searched}
 use Rattle.plan_theory.proofs.Meaning.{plan_means}
@@ -58,7 +59,7 @@ module _ (move : Migration) where
     delivers : (state : State) → IsSound move state → DeliversAll move state
     delivers state sound a p address target = sound_delivers move state a p old_hops new_hops sound address target
 
-    pub headline : (planned : Planned) → IsPlanned move budget planned → Headline move budget (plan_status planned) (plan_text (names_of move.net) planned)
+    pub headline : (planned : Planned) → IsPlanned move budget planned → Headline move budget (plan_status planned) (plan_text Routers (names_of move.net) planned)
     headline (UnsoundOld fault) is = record {
       ends = unsound_end (λ ends. faulty_not_sound is ends.first);
       safe_waves = λ e. absurd (Prim.cc e);
@@ -81,7 +82,7 @@ module _ (move : Migration) where
     }
     headline (Searched (Waves ranks pairs chain trail)) is =
         let means : AreSeamlessWithOrder move ranks = plan_means move budget (Searched (Waves ranks pairs chain trail)) begins is in
-        let reads = plan_reads_back move budget network some (Waves ranks pairs chain trail) is.is_found in
+        let reads = plan_reads_back move budget network some Routers tt (Waves ranks pairs chain trail) is.is_found in
         record {
           ends = waves is.ends;
           safe_waves = λ _. record {
@@ -102,7 +103,7 @@ module _ (move : Migration) where
         }
     headline (Searched (Refuted tree)) is =
         let means : HasNoneSeamless move = plan_means move budget (Searched (Refuted tree)) begins is in
-        let reads = plan_reads_back move budget network some (Refuted tree) is.is_found in
+        let reads = plan_reads_back move budget network some Routers tt (Refuted tree) is.is_found in
         record {
           ends = refutation is.ends;
           safe_waves = λ e. absurd (Prim.cc e);
@@ -116,7 +117,7 @@ module _ (move : Migration) where
           no_more = λ e. absurd (Prim.cc e);
         }
     headline (Searched (Spent tree)) is =
-        let reads = plan_reads_back move budget network some (Spent tree) is.is_found in
+        let reads = plan_reads_back move budget network some Routers tt (Spent tree) is.is_found in
         record {
           ends = budget_spent is.ends;
           safe_waves = λ e. absurd (Prim.cc e);

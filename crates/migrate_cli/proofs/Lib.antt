@@ -8,6 +8,7 @@ mod ConfigurationFacts
 mod StatusFacts
 mod FaultFacts
 mod TableFacts
+mod ChangeWaveFacts
 mod CheckLaws
 mod NextFacts
 mod PrepareFacts
@@ -15,6 +16,7 @@ mod SettlingLaws
 mod OriginatedFacts
 mod PlanLaws
 mod RefuteLaws
+mod ChangesLaws
 mod ReplayLaws
 mod ScriptsLaws
 mod SplitLaws
@@ -28,6 +30,7 @@ mod AnswerFacts
 mod StopLaws
 mod CallLaws
 mod CompletenessLaws
+mod ChangesPromiseLaws
 mod NetworkFacts
 mod DecidedLaws
 mod HeadlineLaws

@@ -7,6 +7,7 @@ use Rattle.order_search.specs.declared.found.Found.TheVariants.{Waves}
 use Rattle.order_search.specs.Trees.{branch_count}
 use Rattle.order_search.specs.declared.tree.Node.{Node}
 use Rattle.plan_theory.specs.Plans.{IsPlanned}
+use Rattle.plan_theory.specs.declared.items.Items.TheVariants.{Routers}
 use Rattle.plan_theory.specs.declared.planned.Planned.{Planned}
 use Rattle.plan_theory.specs.declared.planned.Planned.TheVariants.{UnsoundOld, UnsoundNew, Searched}
 use Rattle.plan_theory.proofs.OnePlan.{one_plan}
@@ -23,10 +24,10 @@ use Rattle.migrate_cli.proofs.FaultFacts.{fault_below}
 use Rattle.migrate_cli.proofs.OriginatedFacts.{one_count}
 
 -- a plan is of the network's routers
-pub plan_tellable : (move : Migration) (budget : ℕ) (planned : Planned) → IsPlanned move budget planned → IsPlanTellable move.net planned
+pub plan_tellable : (move : Migration) (budget : ℕ) (planned : Planned) → IsPlanned move budget planned → IsPlanTellable Routers move.net planned
 plan_tellable move budget (UnsoundOld fault) is = fault_below move move.start fault is
 plan_tellable move budget (UnsoundNew fault) is = fault_below move all_new fault is.last
-plan_tellable move budget (Searched found) is = plan_printable move budget found is.is_found
+plan_tellable move budget (Searched found) is = plan_printable Routers move budget found is.is_found
 
 pub plan_decision_tellable : {budget : ℕ} {move : Migration} {d : Decision} → IsPlanOver move budget d → IsTellable move.net d
 plan_decision_tellable {budget} {move} (plans planned _ _ is) = plan_tellable move budget planned is

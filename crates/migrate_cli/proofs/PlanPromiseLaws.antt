@@ -14,10 +14,12 @@ use Rattle.migrate_cli.specs.Answers.{IsAnswer}
 use Rattle.migrate_cli.specs.Calls.{Call, Course}
 use Rattle.migrate_cli.specs.CommandFiles.{command_of}
 use Rattle.migrate_cli.specs.Headline.{Headline}
+use Rattle.migrate_cli.specs.JudgedTexts.{IsJudgedSo}
 use Rattle.migrate_cli.specs.PlanDecision.{IsPlanDecision}
 use Rattle.migrate_cli.specs.PlanDecision.IsPlanOver.{plans}
 use Rattle.migrate_cli.specs.PlanPromise.{AcceptsPlan, HasPlanned, IsOfPlan, PlansOrNot}
 use Rattle.migrate_cli.specs.PlanPromise.PlansOrNot.{planned as as_planned}
+use Rattle.migrate_cli.proofs.ChangesPromiseLaws.{judged_so}
 use Rattle.migrate_cli.proofs.CompletenessLaws.{ends_decided}
 use Rattle.migrate_cli.proofs.DecidedLaws.{IsNoRefusal, answer_decided}
 use Rattle.migrate_cli.proofs.HeadlineLaws.{headline}
@@ -52,6 +54,8 @@ answer_means call budget configs outside {outcome = outcome} asks is adds of =
       written = adds;
       means =
           subst (λ (o : Outcome). Headline (ospf_to_isis it.net) budget (status_of o) (outcome_text o)) (sym it.outcome_is) (decision_means it.is);
+      judged =
+          subst (λ (o : Outcome). IsJudgedSo it.net (status_of o) (outcome_text o)) (sym it.outcome_is) (judged_so (decision_means it.is));
     }
 
 pub plan_decides : (call : Call) → (it : AcceptsPlan call) → (asked : List (List ℕ)) (outcome : Outcome) → status_of outcome ≢ ReadFault →

@@ -21,10 +21,10 @@ pub tree_tellable : {move : Migration} {tree : List ℕ} {d : Decision} → IsTr
 tree_tellable (judged_tree _ _ _ _) = tt
 
 -- no other verdict is that of a closed tree
-closed_or_unfinished : (b l u : ℕ) → Closed b l ≡ Unfinished u → ⊥
+pub closed_or_unfinished : (b l u : ℕ) → Closed b l ≡ Unfinished u → ⊥
 closed_or_unfinished b l u e = Prim.cc e
 
-closed_or_wrong : (b l n : ℕ) (k : WrongKind) → Closed b l ≡ Wrong n k → ⊥
+pub closed_or_wrong : (b l n : ℕ) (k : WrongKind) → Closed b l ≡ Wrong n k → ⊥
 closed_or_wrong b l n k e = Prim.cc e
 
 -- so it tells whether the tree is closed

@@ -25,15 +25,17 @@ use Rattle.step_scripts.specs.declared.version.Version.TheVariants.{One, Two}
 use Rattle.migration_report.specs.Outcomes.{IsTellable, decision_status}
 use Rattle.migration_report.specs.declared.decision.Decision.{Decision}
 use Rattle.migration_report.specs.declared.decision.Decision.TheVariants.{Split}
-use Rattle.migrate_cli.specs.CheckDecision.{IsCheckDecision, IsCheckOver, IsOrderDecision, IsWavesDecision}
+use Rattle.migrate_cli.specs.CheckDecision.{IsCheckOver, IsOrderDecision, IsWavesDecision}
 use Rattle.migrate_cli.specs.CheckDecision.IsOrderDecision.{safe, unsafe as unsafe_order}
 use Rattle.migrate_cli.specs.CheckDecision.IsWavesDecision.{safe_waves, unsafe_wave}
+use Rattle.migrate_cli.specs.CheckDecision.IsCheckDecision.{by_routers}
 use Rattle.migrate_cli.specs.CheckDecision.IsCheckOver.{faulty_order, of_order, of_waves}
 use Rattle.migrate_cli.specs.Reading.{NamedText}
 use Rattle.migrate_cli.specs.SplitDecision.{IsCutOf, IsSplitDecision, IsYes}
 use Rattle.migrate_cli.specs.SplitDecision.IsSplitDecision.{unsafe, cut}
 use Rattle.migrate_cli.specs.SplitPromise.{DecidesSplit, IsSafelySplit}
 use Rattle.migrate_cli.specs.SplitPromise.DecidesSplit.{is_split, is_unsafe}
+use Rattle.migrate_cli.proofs.ChangesLaws.{names_no_changes}
 use Rattle.migrate_cli.proofs.CheckLaws.{check_tellable, one_check_decision}
 
 -- ---- what an order file names ----
@@ -140,5 +142,6 @@ safely_split net most ranks split some seamless is =
       reads_back = reads;
       cuts = is.cuts;
       smaller = smaller;
-      safe = λ file. of_waves split _ reads (safe_waves (refinement_is_seamless (ospf_to_isis net) ranks split seamless is.ranking smaller.refines));
+      safe = λ file. by_routers _ (names_no_changes net (wave_list_text (names_of net) (waves_in split)) Two split reads)
+          (of_waves split _ reads (safe_waves (refinement_is_seamless (ospf_to_isis net) ranks split seamless is.ranking smaller.refines)));
     }

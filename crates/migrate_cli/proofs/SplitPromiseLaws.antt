@@ -1,6 +1,6 @@
 -- What a call of `split` promises.
 use Rattle.std.proofs.Common.{◌≡◌, ◌≢◌, ◌<◌, ◌≤◌, [], ℕ, List, arith, subst}
-use Rattle.igp_theory.specs.Migrations.{ospf_to_isis}
+use Rattle.igp_theory.specs.Migrations.{Migration, ospf_to_isis}
 use Rattle.store_edge.specs.Sink.{AddsBytes}
 use Rattle.net_model.specs.Network.{Network}
 use Rattle.net_model.specs.RouterNames.{names_of}
@@ -14,7 +14,7 @@ use Rattle.migration_report.specs.declared.outcome.Outcome.{Outcome}
 use Rattle.migration_report.specs.declared.status.Status.TheVariants.{Done, ReadFault}
 use Rattle.migrate_cli.specs.Answers.{IsAnswer}
 use Rattle.migrate_cli.specs.Calls.{Call, Course}
-use Rattle.migrate_cli.specs.CheckDecision.{IsCheckDecision}
+use Rattle.migrate_cli.specs.CheckDecision.{IsCheckOver}
 use Rattle.migrate_cli.specs.CheckDecision.IsCheckOver.{faulty_order, of_order, of_waves}
 use Rattle.migrate_cli.specs.CheckDecision.IsOrderDecision.{safe, unsafe as unsafe_order}
 use Rattle.migrate_cli.specs.CheckDecision.IsWavesDecision.{safe_waves, unsafe_wave}
@@ -28,7 +28,7 @@ use Rattle.migrate_cli.proofs.PreparePromiseLaws.{own_is}
 use Rattle.migrate_cli.proofs.SplitLaws.{safely_split, split_decides}
 
 -- what is no yes isn't done
-not_done : {order : NamedText} {net : Network} {d : Decision} → IsCheckDecision order net d → ¬ IsYes d → decision_status d ≢ Done
+not_done : {order : NamedText} {move : Migration} {d : Decision} → IsCheckOver move order d → ¬ IsYes d → decision_status d ≢ Done
 not_done (faulty_order _ _ _) not e = Prim.cc e
 not_done (of_order _ _ _ (safe _)) not e = not tt
 not_done (of_order _ _ _ (unsafe_order _ _ _ _)) not e = Prim.cc e

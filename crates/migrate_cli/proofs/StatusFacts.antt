@@ -8,8 +8,8 @@ use Rattle.refutation_check.specs.declared.verdict.Verdict.{Verdict}
 use Rattle.refutation_check.specs.declared.verdict.Verdict.TheVariants.{Closed, Unfinished, Wrong}
 use Rattle.migration_report.specs.Outcomes.{decision_status, found_status, plan_status, verdict_status}
 use Rattle.migration_report.specs.declared.decision.Decision.{Decision}
-use Rattle.migration_report.specs.declared.decision.Decision.TheVariants.{Safe, SafeWaves, Unsafe, UnsafeWave, Plan, Summary, Tree, Script}
-use Rattle.migration_report.specs.declared.decision.Decision.TheVariants.{Reached, Departs, Prepared, PairScript, Designed, BadPair, BadOrder, BadDesign, Split, Delta, Tables}
+use Rattle.migration_report.specs.declared.decision.Decision.TheVariants.{Safe, SafeWaves, Unsafe, UnsafeWave, Plan, TwoPass, Summary, Tree, Script}
+use Rattle.migration_report.specs.declared.decision.Decision.TheVariants.{Reached, Departs, Prepared, PairScript, Designed, BadPair, BadOrder, BadChanges, BadDesign, Split, Delta, Tables}
 use Rattle.migration_report.specs.declared.status.Status.{Status}
 use Rattle.migration_report.specs.declared.status.Status.TheVariants as status
 
@@ -53,6 +53,7 @@ decision_no_fault (SafeWaves waves) = done_no_fault
 decision_no_fault (Unsafe state fault) = negative_no_fault
 decision_no_fault (UnsafeWave wave fault) = negative_no_fault
 decision_no_fault (Plan planned) = plan_no_fault planned
+decision_no_fault (TwoPass planned) = plan_no_fault planned
 decision_no_fault (Summary counts waves) = done_no_fault
 decision_no_fault (Tree verdict) = verdict_no_fault verdict
 decision_no_fault (Script version waves) = done_no_fault
@@ -63,6 +64,7 @@ decision_no_fault (PairScript text) = done_no_fault
 decision_no_fault (Designed text) = done_no_fault
 decision_no_fault (BadPair refusal) = refused_no_fault
 decision_no_fault (BadOrder file line kind) = refused_no_fault
+decision_no_fault (BadChanges text) = refused_no_fault
 decision_no_fault (BadDesign file path kind) = refused_no_fault
 decision_no_fault (Split text) = done_no_fault
 decision_no_fault (Delta text) = done_no_fault

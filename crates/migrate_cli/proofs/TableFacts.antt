@@ -6,11 +6,10 @@ use Rattle.igp_theory.specs.Migrations.{Migration, listed_migration, migration}
 use Rattle.igp_theory.specs.Ospf.{OspfEntry}
 use Rattle.igp_theory.specs.Routes.{HaveSameEntries, Tables}
 use Rattle.igp_theory.specs.States.{IsSeamless}
-use Rattle.igp_theory.specs.Phases.{all_old}
-use Rattle.igp_theory.specs.Timetables.{router_times}
+use Rattle.igp_theory.specs.Timetables.{IsSoundThroughout, Timetable}
 use Rattle.igp_theory.specs.WaveFaults.{IsTimesFault}
 use Rattle.igp_theory.specs.Waves.{AreSeamlessWaves, HasNoneSeamless}
-use Rattle.igp_theory.proofs.SameTables.{first_fault_over, seamless_over}
+use Rattle.igp_theory.proofs.SameTables.{first_fault_over, seamless_over, sound_over}
 use Rattle.igp_theory.proofs.WaveFaultLaws.{seamless_waves_over, times_fault_over}
 use Rattle.isis_routes.specs.RouteTables.{AreIsisRoutes}
 use Rattle.net_model.specs.Network.{Network}
@@ -18,7 +17,9 @@ use Rattle.ospf_routes.specs.RouteTables.{AreOspfRoutes, table_at}
 use Rattle.ospf_routes.specs.declared.source.OspfRoutes.{OspfRoutes}
 use Rattle.plan_theory.specs.Plans.{IsPlanned}
 use Rattle.plan_theory.specs.declared.planned.Planned.{Planned}
-use Rattle.refutation_check.specs.Verdicts.{IsTextVerdict, RefutesWhereClosed}
+use Rattle.plan_theory.specs.declared.items.Items.TheVariants.{Changes}
+use Rattle.refutation_check.specs.TreeLines.{two_tree_header}
+use Rattle.refutation_check.specs.Verdicts.{IsTextVerdict, IsTwoVerdict, RefutesWhereClosed}
 use Rattle.refutation_check.specs.declared.verdict.Verdict.{Verdict}
 use Rattle.refutation_check.specs.declared.verdict.Verdict.TheVariants.{Closed, Unfinished, Wrong}
 use Rattle.refutation_check.proofs.SameVerdicts as same_verdicts
@@ -71,10 +72,15 @@ module _ (of : NetworkMove) (m : Mixture OspfRoutes NewRoutes) (mixes : MixesTab
   seamless_waves ranks is =
       subst (λ (n : Network). AreSeamlessWaves (moved n) ranks) mixes.net_is (seamless_waves_over mixes.same is)
 
-  pub waves_fault : (ranks : List ℕ) (w : ℕ) (fault : Fault) → IsTimesFault (migration_of table_at new_table m) (router_times all_old ranks) w fault →
-      IsTimesFault (move_of of) (router_times all_old ranks) w fault
-  waves_fault ranks w fault is =
-      subst (λ (n : Network). IsTimesFault (moved n) (router_times all_old ranks) w fault) mixes.net_is (times_fault_over mixes.same is)
+  pub sound_throughout : (time : Timetable) → IsSoundThroughout (migration_of table_at new_table m) time → IsSoundThroughout (move_of of) time
+  sound_throughout time is =
+      subst (λ (n : Network). IsSoundThroughout (moved n) time) mixes.net_is
+      (record { table = is.table; sound = λ state reached. sound_over mixes.same (is.sound state reached) })
+
+  pub times_fault : (time : Timetable) (w : ℕ) (fault : Fault) → IsTimesFault (migration_of table_at new_table m) time w fault →
+      IsTimesFault (move_of of) time w fault
+  times_fault time w fault is =
+      subst (λ (n : Network). IsTimesFault (moved n) time w fault) mixes.net_is (times_fault_over mixes.same is)
 
   pub planned_of : (budget : ℕ) (planned : Planned) → IsPlanned (migration_of table_at new_table m) budget planned →
       IsPlanned (move_of of) budget planned
@@ -87,6 +93,12 @@ module _ (of : NetworkMove) (m : Mixture OspfRoutes NewRoutes) (mixes : MixesTab
   text_verdict text verdict is =
       subst (λ (n : Network). IsTextVerdict (moved n) text verdict) mixes.net_is
       (same_verdicts.verdict_over (migration_of table_at new_table m) (moved of.net).old (moved of.net).new mixes.same text verdict is)
+
+  pub two_verdict : (text : List ℕ) (verdict : Verdict) → IsTwoVerdict (migration_of table_at new_table m) text verdict →
+      IsTwoVerdict (move_of of) text verdict
+  two_verdict text verdict is =
+      subst (λ (n : Network). IsTwoVerdict (moved n) text verdict) mixes.net_is
+      (same_verdicts.headed_over Changes (migration_of table_at new_table m) (moved of.net).old (moved of.net).new mixes.same two_tree_header text verdict is)
 
   pub refutes_where_closed : (verdict : Verdict) → RefutesWhereClosed (migration_of table_at new_table m) verdict →
       RefutesWhereClosed (move_of of) verdict

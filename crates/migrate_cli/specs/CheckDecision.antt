@@ -16,6 +16,9 @@ use Rattle.step_scripts.specs.declared.version.Version.TheVariants.{One, Two}
 use Rattle.step_scripts.specs.declared.kind.OrderKind.{OrderKind}
 use Rattle.migration_report.specs.declared.decision.Decision.{Decision}
 use Rattle.migration_report.specs.declared.decision.Decision.TheVariants.{Safe, SafeWaves, Unsafe, UnsafeWave, BadOrder}
+use Rattle.two_pass.specs.TwoFaults.{two_header}
+use Rattle.migrate_cli.specs.ChangesDecision.{IsChangesCheck}
+use Rattle.migrate_cli.specs.FirstLines.{BeginsWith}
 use Rattle.migrate_cli.specs.Reading.{NamedText}
 
 -- what is decided of an order, by the tables of the two protocols: it is safe where in every state of it each packet
@@ -44,6 +47,10 @@ pub data IsCheckOver (move : Migration) (order : NamedText) : Decision → Type 
   of_waves : (ranks : List ℕ) (decision : Decision) → NamesWaves move.net order.text Two ranks →
       IsWavesDecision move ranks decision → IsCheckOver move order decision
 
--- by the tables of OSPF and of IS-IS
-abbrev pub IsCheckDecision : NamedText → Network → Decision → Type 0
-IsCheckDecision order net decision = IsCheckOver (ospf_to_isis net) order decision
+-- by the tables of OSPF and of IS-IS, where a file whose first line is that of single changes is one of these, and every other file
+-- one of routers
+pub data IsCheckDecision (order : NamedText) (net : Network) : Decision → Type 0 where
+  by_routers : (decision : Decision) → ¬ BeginsWith two_header order.text → IsCheckOver (ospf_to_isis net) order decision →
+      IsCheckDecision order net decision
+  by_changes : (decision : Decision) → BeginsWith two_header order.text → IsChangesCheck (ospf_to_isis net) order decision →
+      IsCheckDecision order net decision

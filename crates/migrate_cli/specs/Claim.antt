@@ -7,7 +7,8 @@ use Rattle.migration_report.specs.declared.status.Status.TheVariants.{ReadFault,
 use Rattle.migrate_cli.specs.AnswerLaws.{EndsByAnswer}
 use Rattle.migrate_cli.specs.Answers.{Answers}
 use Rattle.migrate_cli.specs.Calls.{Call, Outside}
-use Rattle.migrate_cli.specs.Completeness.{CheckDecides, RefuteDecides, ReplayDecides}
+use Rattle.migrate_cli.specs.ChangesPromise.{ChangesCheckDecides, RefuteDecides}
+use Rattle.migrate_cli.specs.Completeness.{CheckDecides, ReplayDecides}
 use Rattle.migrate_cli.specs.DeltaPromise.{DeltaPromise}
 use Rattle.migrate_cli.specs.DesignPromise.{DesignPromise}
 use Rattle.migrate_cli.specs.PairPromise.{PairCheckDecides, PairPromise, PairRefuteDecides, PairScriptsWrites}
@@ -34,7 +35,9 @@ pub record Claim (call : Call) (before after : Outside) (status : Status) : Type
   pub plans : PlanPromise call before after status
   -- `check` says yes exactly where each state of the order is sound
   pub checks : CheckDecides call before after status
-  -- `refute` says yes exactly where the text is a closed tree, and then nothing is safe
+  -- and so it does of single changes
+  pub change_checks : ChangesCheckDecides call before after status
+  -- `refute` says yes exactly where the text is a closed tree, and then nothing is safe; of single changes too
   pub refutes : RefuteDecides call before after status
   -- `replay` says where a journal stands
   pub replays : ReplayDecides call before after status

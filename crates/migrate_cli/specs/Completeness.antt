@@ -4,7 +4,7 @@ use Rattle.net_model.specs.Network.{Network}
 use Rattle.migrate_words.specs.declared.command.Command.{Command}
 use Rattle.migrate_words.specs.declared.command.CommandKind.TheVariants.{Check, Refute, Scripts, Replay}
 use Rattle.refutation_check.specs.Verdicts.{IsClosedText}
-use Rattle.igp_theory.specs.Migrations.{Migration, ospf_to_isis}
+use Rattle.igp_theory.specs.Migrations.{Migration}
 use Rattle.igp_theory.specs.Waves.{HasNoneSeamless}
 use Rattle.step_scripts.specs.WaveFiles.{NamesWaves}
 use Rattle.step_scripts.specs.declared.version.Version.{Version}
@@ -110,10 +110,6 @@ CheckDecides call before after result = AcceptsCheck call → NoFaultRose before
 -- and so does `replay`
 abbrev pub ReplayDecides : Call → Outside → Outside → Status → Type 0
 ReplayDecides call before after result = AcceptsReplay call → NoFaultRose before after → Decides result
-
--- `refute` decides on its tree
-abbrev pub RefuteDecides : Call → Outside → Outside → Status → Type 0
-RefuteDecides call before after result = (accepts : AcceptsRefute call) → NoFaultRose before after → DecidesTree (ospf_to_isis accepts.net) accepts.tree result
 
 -- and `scripts` writes
 abbrev pub ScriptsWrites : Call → Outside → Outside → Status → Type 0

@@ -1,6 +1,5 @@
 -- What each command decides, in a file of its own.
 use Rattle.std.specs.Prelude.{◌≡◌, ℕ, List, [], ◌∷◌}
-use Rattle.igp_theory.specs.Migrations.{ospf_to_isis}
 use Rattle.net_model.specs.Network.{Network}
 use Rattle.migrate_words.specs.Schemes.{AskedScheme}
 use Rattle.migrate_words.specs.declared.command.Command.{Command}
@@ -17,7 +16,7 @@ use Rattle.ospf_pair.specs.NetworkPairs.{network_pair}
 use Rattle.migrate_cli.specs.PairDecision.{IsPairCheck, IsPairPlan, IsPairScripts, IsPairTree}
 use Rattle.migrate_cli.specs.PlanDecision.{IsPlanDecision}
 use Rattle.migrate_cli.specs.Reading.{NamedText, named_texts}
-use Rattle.migrate_cli.specs.RefuteDecision.{IsTreeDecision}
+use Rattle.migrate_cli.specs.RefuteDecision.{IsRefuteDecision}
 use Rattle.migrate_cli.specs.ReplayDecision.{IsReplayDecision, journal_of}
 use Rattle.migrate_cli.specs.SampleDecision.{IsSampleDecision}
 use Rattle.migrate_cli.specs.ScriptsDecision.{IsScriptsDecision}
@@ -51,7 +50,7 @@ IsDecision Prepare input decision =
     (design : NamedText) × (input.own ≡ design ∷ []) × IsPrepareDecision design (configured input.configs input.net) decision
 IsDecision Plan input decision = IsPlanDecision input.number input.net decision
 IsDecision Refute input decision =
-    (tree : NamedText) × (input.own ≡ tree ∷ []) × IsTreeDecision (ospf_to_isis input.net) tree.text decision
+    (tree : NamedText) × (input.own ≡ tree ∷ []) × IsRefuteDecision tree.text input.net decision
 IsDecision Scripts input decision = (order : NamedText) × (input.own ≡ order ∷ []) × IsScriptsDecision order input.net decision
 IsDecision Replay input decision =
     (order : NamedText) × (journal : NamedText) × (input.own ≡ order ∷ journal ∷ []) ×

@@ -59,7 +59,7 @@ pub record NoneDelivers (move : Migration) : Type 0 where
 -- ---- what the text of each status says ----
 
 -- a text names a wave list of the network that delivers throughout, and so does the order that writes it wave by wave: each
--- state of either is sound. `check` of it says that it is safe. Its last line is a chain, one router of each wave: each two
+-- state of either is sound. `check`, or `paircheck`, of it says that it is safe. Its last line is a chain, one router of each wave: each two
 -- neighbors are tagged Old and New in one loop of the network
 pub record NamesSafeWaves (move : Migration) (text : List ℕ) : Type 0 where
   pub ranks : List ℕ
@@ -73,7 +73,7 @@ pub record NamesSafeWaves (move : Migration) (text : List ℕ) : Type 0 where
   pub chain_written : text ≡ waves_text (names_of move.net) ranks chain
   pub chain_tagged : IsTaggedChain move chain
 
--- no wave list and no order delivers throughout, and the text shows it: `refute` of it says that it is a closed tree
+-- no wave list and no order delivers throughout, and the text shows it: `refute`, or `pairrefute`, of it says that it is a closed tree
 pub record ShowsThereIsNone (move : Migration) (text : List ℕ) : Type 0 where
   pub none : NoneDelivers move
   pub branches : ℕ

@@ -3,6 +3,8 @@ pub mod Calls
 pub mod CommandFiles
 pub mod CallWords
 pub mod Configurations
+pub mod FirstLines
+pub mod ChangesDecision
 pub mod CheckDecision
 pub mod SettledDesigns
 pub mod PrepareDecision
@@ -22,7 +24,9 @@ pub mod Outcomes
 pub mod Answers
 pub mod AnswerLaws
 pub mod Completeness
+pub mod ChangesPromise
 pub mod Headline
+pub mod JudgedTexts
 pub mod PlanPromise
 pub mod PreparePromise
 pub mod DeltaPromise

@@ -12,6 +12,7 @@ use Rattle.migrate_cli.specs.CommandFiles.{command_of, files_of}
 use Rattle.migrate_cli.specs.Completeness.{IsAccepted, NoFaultRose}
 use Rattle.migrate_cli.specs.Configurations.{GiveNetwork, IsAtStart}
 use Rattle.migrate_cli.specs.Headline.{Headline, Plans}
+use Rattle.migrate_cli.specs.JudgedTexts.{IsJudgedSo}
 use Rattle.migrate_cli.specs.Reading.{AreRead, AreWithin}
 
 -- the statuses with which a command has planned
@@ -24,7 +25,7 @@ IsOfPlan _ = ⊥
 
 -- a call has planned the network of its files: what was read of them is within the limits, so it is all that they hold; it gives
 -- this network; every router of it is where a migration starts, so the first state is the one that the configurations say; and
--- a text was written after what stood before, which means what the status says
+-- a text was written after what stood before, which means what the status says, and of which `check` and `refute` say so
 pub record HasPlanned (call : Call) (budget : ℕ) (configs : List (List ℕ)) (outside : Course) (status : Status) : Type 0 where
   pub texts : List (List ℕ)
   pub read : AreRead call.content (files_of (command_of Plan [] configs budget)) texts
@@ -35,6 +36,7 @@ pub record HasPlanned (call : Call) (budget : ℕ) (configs : List (List ℕ)) (
   pub text : List ℕ
   pub written : AddsBytes outside.before.written outside.after.written text
   pub means : Headline (ospf_to_isis net) budget status text
+  pub judged : IsJudgedSo net status text
 
 -- `plan` of these files, of which nothing is refused
 pub record AcceptsPlan (call : Call) : Type 0 where

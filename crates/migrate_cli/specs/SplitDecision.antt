@@ -12,7 +12,7 @@ use Rattle.step_scripts.specs.WavesTexts.{wave_list_text, waves_in}
 use Rattle.step_scripts.specs.declared.version.Version.{Version}
 use Rattle.migration_report.specs.declared.decision.Decision.{Decision}
 use Rattle.migration_report.specs.declared.decision.Decision.TheVariants.{Safe, SafeWaves, Split}
-use Rattle.migrate_cli.specs.CheckDecision.{IsCheckDecision}
+use Rattle.migrate_cli.specs.CheckDecision.{IsCheckOver}
 use Rattle.migrate_cli.specs.Reading.{NamedText}
 
 -- `check` says yes
@@ -27,10 +27,10 @@ pub record IsCutOf (net : Network) (most : ℕ) (ranks split : List ℕ) : Type 
   pub ranking : IsRanking (length net) split
   pub cuts : waves_in split ≡ cut_waves most ranks
 
--- what `check` says of the order file, where that is no yes; or the file names a wave list, in version 1 one router a wave, which
+-- what `check` says of the order file as one of routers, where that is no yes; or the file names a wave list, in version 1 one router a wave, which
 -- is seamless, and the order file is written of the waves that it is cut into
 pub data IsSplitDecision (order : NamedText) (most : ℕ) (net : Network) : Decision → Type 0 where
-  unsafe : (decision : Decision) → IsCheckDecision order net decision → ¬ IsYes decision → IsSplitDecision order most net decision
+  unsafe : (decision : Decision) → IsCheckOver (ospf_to_isis net) order decision → ¬ IsYes decision → IsSplitDecision order most net decision
   cut : (version : Version) (ranks split : List ℕ) → NamesWaves net order.text version ranks →
       AreSeamlessWaves (ospf_to_isis net) ranks → IsCutOf net most ranks split →
       IsSplitDecision order most net (Split (wave_list_text (names_of net) (waves_in split)))

@@ -6,7 +6,9 @@ ghost use Rattle.migrate_cli.specs.Reading.{NamedText, named_text};
 ghost use Rattle.migrate_cli.specs.steps.Tables.{MixesTables, NetworkMove, move_of};
 
 use crate::OutOfMemory;
+use crate::changes::check_changes;
 use crate::files::{FILE_MOST, bad_order};
+use crate::first_lines::begins_with;
 use crate::moves::Move;
 use crate::tables::{NewRoutes, Tables};
 use loop_finder::Finder;
@@ -20,7 +22,8 @@ use std::alloc::{AllocError, Global};
 use step_scripts::{OrderRefusal, Version, WaveFile, read_waves};
 use wave_oracle::whole_fault;
 
-/// What is decided of the text of an order file and a network with a router, by the tables of OSPF and of IS-IS.
+/// What is decided of the text of an order file, of routers or of single changes, and a network with a router, by the tables of
+/// OSPF and of IS-IS.
 pub(crate) fn judge_check(
     alloc: Global,
     file: &str,
@@ -31,10 +34,15 @@ pub(crate) fn judge_check(
     requires some { 0 < length net.now }
     ensures { IfOk result (IsCheckDecision (named_text file.now text.now) net.now) }
 {
-    check_over(alloc, file, text, &Move::to_isis(net))
+    let of = Move::to_isis(net);
+    if begins_with(b"order 3", text.as_slice()) {
+        check_changes(alloc, file, text, &of)
+    } else {
+        check_over(alloc, file, text, &of)
+    }
 }
 
-/// What is decided of the text of an order file and a migration of a network with a router.
+/// What is decided of the text of an order file of routers and a migration of a network with a router.
 pub(crate) fn check_over(
     alloc: Global,
     file: &str,

@@ -7,11 +7,13 @@
 //! |---|---|
 //! | `run_call` | `run`: words, files, the outcome, the delivery of its text |
 //! | `files`, `reading` | which files a command names, with their limits, and reading one after another |
+//! | `first_lines` | the line by which a file of single changes is told from one of routers |
 //! | `configurations`, `judging` | configurations and the network, the start, and then the command's own decision |
 //! | `commands` | the commands, and whether one asks for the start of a migration |
 //! | `tables` | the tables of both protocols of a network, and mixed forwarding over them |
 //! | `settling` | what a design settles for a network |
 //! | `design`, `prepare`, `delta`, `shown`, `plan`, `check`, `refute` | what each command decides, `tables` in `shown` |
+//! | `changes` | what `check` and `refute` decide of files of single changes |
 //! | `split`, `scripts`, `replay`, `pair`, `sample` | the same of those for the night, and of the others |
 //! | `sending` | writing in pieces of 4,096 bytes |
 //! | `originated` | how many prefixes a network originates |
@@ -30,6 +32,7 @@ mod sending;
 mod commands;
 mod configurations;
 mod files;
+mod first_lines;
 mod judging;
 mod moves;
 mod reading;
@@ -37,6 +40,7 @@ mod settling;
 mod tables;
 
 // what each command decides
+mod changes;
 mod check;
 mod delta;
 mod design;

@@ -1,10 +1,11 @@
 ghost use Rattle.std.specs.Prelude.{◌≤◌, IfOk, length};
-ghost use Rattle.igp_theory.specs.Migrations.{ospf_to_isis};
-ghost use Rattle.migrate_cli.specs.RefuteDecision.{IsTreeDecision};
+ghost use Rattle.migrate_cli.specs.RefuteDecision.{IsRefuteDecision, IsTreeDecision};
 ghost use Rattle.migrate_cli.specs.steps.Tables.{move_of};
 
 use crate::OutOfMemory;
+use crate::changes::refute_changes;
 use crate::files::FILE_MOST;
+use crate::first_lines::begins_with;
 use crate::moves::Move;
 use crate::tables::Tables;
 use migration_report::Decision;
@@ -13,15 +14,20 @@ use net_model::Net;
 use refutation_check::verify;
 use std::alloc::Global;
 
-/// What is decided of the text of a tree file and a network, by the tables of OSPF and of IS-IS.
+/// What is decided of the text of a tree file, of routers or of single changes, and a network, by the tables of OSPF and of IS-IS.
 pub(crate) fn judge_refute(alloc: Global, tree: &Bytes, net: &Net) -> Result<Decision, OutOfMemory>
     requires { length tree.now ≤ FILE_MOST }
-    ensures { IfOk result (IsTreeDecision (ospf_to_isis net.now) tree.now) }
+    ensures { IfOk result (IsRefuteDecision tree.now net.now) }
 {
-    refute_over(alloc, tree, &Move::to_isis(net))
+    let of = Move::to_isis(net);
+    if begins_with(b"tree 2", tree.as_slice()) {
+        refute_changes(alloc, tree, &of)
+    } else {
+        refute_over(alloc, tree, &of)
+    }
 }
 
-/// What is decided of the text of a tree file and a migration, by the tables before and after.
+/// What is decided of the text of a tree file of routers and a migration, by the tables before and after.
 pub(crate) fn refute_over(
     alloc: Global,
     tree: &Bytes,

@@ -11,6 +11,8 @@ use Rattle.ospf_pair.specs.declared.refusal.PairRefusal.TheVariants.{OutOfMemory
 use Rattle.plan_theory.specs.Plans.{fault_told}
 use Rattle.plan_theory.specs.declared.planned.Planned.{Planned}
 use Rattle.plan_theory.specs.declared.planned.Planned.TheVariants.{UnsoundOld, UnsoundNew, Searched}
+use Rattle.plan_theory.specs.declared.items.Items.{Items}
+use Rattle.plan_theory.specs.declared.items.Items.TheVariants.{Routers, Changes}
 use Rattle.planned_texts.specs.PlannedTexts.{IsPrintable, planned_text}
 use Rattle.refutation_check.specs.declared.verdict.Verdict.{Verdict}
 use Rattle.refutation_check.specs.declared.verdict.Verdict.TheVariants.{Closed, Unfinished, Wrong}
@@ -24,8 +26,8 @@ use Rattle.migration_report.specs.Texts.{IsPrinted, faulty_text, long_file_text,
 use Rattle.migration_report.specs.Texts.{read_fault_text, safe_text, unsafe_text, waves_safe_text, waves_unsafe_text, words_refused_text}
 use Rattle.migration_report.specs.TreeVerdictTexts.{verdict_text}
 use Rattle.migration_report.specs.declared.decision.Decision.{Decision}
-use Rattle.migration_report.specs.declared.decision.Decision.TheVariants.{Safe, SafeWaves, Unsafe, UnsafeWave, Plan, Summary, Tree, Script}
-use Rattle.migration_report.specs.declared.decision.Decision.TheVariants.{Reached, Departs, Prepared, PairScript, Designed, BadPair, BadOrder, BadDesign, Split, Delta, Tables}
+use Rattle.migration_report.specs.declared.decision.Decision.TheVariants.{Safe, SafeWaves, Unsafe, UnsafeWave, Plan, TwoPass, Summary, Tree, Script}
+use Rattle.migration_report.specs.declared.decision.Decision.TheVariants.{Reached, Departs, Prepared, PairScript, Designed, BadPair, BadOrder, BadChanges, BadDesign, Split, Delta, Tables}
 use Rattle.migration_report.specs.declared.ends.End.TheVariants.{Old, New}
 use Rattle.migration_report.specs.declared.outcome.Outcome.{Outcome}
 use Rattle.migration_report.specs.declared.outcome.Outcome.TheVariants.{Refused, Decided}
@@ -79,11 +81,11 @@ plan_status (UnsoundOld fault) = status.Unsound
 plan_status (UnsoundNew fault) = status.Unsound
 plan_status (Searched found) = found_status found
 
--- and what it writes, by the names of the routers
-abbrev pub plan_text : List (List ℕ) → Planned → List ℕ
-plan_text names (UnsoundOld fault) = unsound_text Old names (fault_told fault)
-plan_text names (UnsoundNew fault) = unsound_text New names (fault_told fault)
-plan_text names (Searched found) = planned_text names found
+-- and what it writes, of waves of routers or of single changes, by the names of the routers
+abbrev pub plan_text : Items → List (List ℕ) → Planned → List ℕ
+plan_text items names (UnsoundOld fault) = unsound_text Old names (fault_told fault)
+plan_text items names (UnsoundNew fault) = unsound_text New names (fault_told fault)
+plan_text items names (Searched found) = planned_text items names found
 
 -- how a call ends with a decision: it is a yes or a no, a plan ends as it says, and what is refused is refused
 abbrev pub decision_status : Decision → Status
@@ -92,6 +94,7 @@ decision_status (SafeWaves waves) = status.Done
 decision_status (Unsafe state fault) = status.Negative
 decision_status (UnsafeWave wave fault) = status.Negative
 decision_status (Plan planned) = plan_status planned
+decision_status (TwoPass planned) = plan_status planned
 decision_status (Summary counts waves) = status.Done
 decision_status (Tree verdict) = verdict_status verdict
 decision_status (Script version waves) = status.Done
@@ -102,6 +105,7 @@ decision_status (PairScript text) = status.Done
 decision_status (Designed text) = status.Done
 decision_status (BadPair refusal) = status.Refused
 decision_status (BadOrder file line kind) = status.Refused
+decision_status (BadChanges text) = status.Refused
 decision_status (BadDesign file path kind) = status.Refused
 decision_status (Split text) = status.Done
 decision_status (Delta text) = status.Done
@@ -113,7 +117,8 @@ decision_text net Safe = safe_text (2 * length net)
 decision_text net (SafeWaves waves) = waves_safe_text (2 * length net) waves
 decision_text net (Unsafe state fault) = unsafe_text (names_of net) state (fault_told fault)
 decision_text net (UnsafeWave wave fault) = waves_unsafe_text (names_of net) wave (fault_told fault)
-decision_text net (Plan planned) = plan_text (names_of net) planned
+decision_text net (Plan planned) = plan_text Routers (names_of net) planned
+decision_text net (TwoPass planned) = plan_text Changes (names_of net) planned
 decision_text net (Summary counts waves) = summary_text (names_of net) counts waves
 decision_text net (Tree verdict) = verdict_text verdict
 decision_text net (Script version waves) = script_text version net waves
@@ -124,22 +129,24 @@ decision_text net (PairScript text) = text
 decision_text net (Designed text) = text
 decision_text net (BadPair refusal) = pair_refusal_text refusal
 decision_text net (BadOrder file line kind) = faulty_text file line (order_kind_name kind)
+decision_text net (BadChanges text) = text
 decision_text net (BadDesign file path kind) = refused_design_text file path kind
 decision_text net (Split text) = text
 decision_text net (Delta text) = text
 decision_text net (Tables text) = text
 
 -- a plan has a text: it is of the routers of the network
-abbrev pub IsPlanTellable : Network → Planned → Type 0
-IsPlanTellable net (UnsoundOld fault) = EndFaultBelow (length net) fault
-IsPlanTellable net (UnsoundNew fault) = EndFaultBelow (length net) fault
-IsPlanTellable net (Searched found) = IsPrintable net found
+abbrev pub IsPlanTellable : Items → Network → Planned → Type 0
+IsPlanTellable items net (UnsoundOld fault) = EndFaultBelow (length net) fault
+IsPlanTellable items net (UnsoundNew fault) = EndFaultBelow (length net) fault
+IsPlanTellable items net (Searched found) = IsPrintable items net found
 
 -- a decision has a text: it is of the routers of the network, and no want of memory is told
 abbrev pub IsTellable : Network → Decision → Type 0
 IsTellable net (Unsafe state fault) = EndFaultBelow (length net) fault
 IsTellable net (UnsafeWave wave fault) = EndFaultBelow (length net) fault
-IsTellable net (Plan planned) = IsPlanTellable net planned
+IsTellable net (Plan planned) = IsPlanTellable Routers net planned
+IsTellable net (TwoPass planned) = IsPlanTellable Changes net planned
 IsTellable net (Summary counts waves) = length waves ≡ length net
 IsTellable net (Script version waves) = length waves ≡ length net
 IsTellable net (Reached made nexts) = length nexts ≡ length net

@@ -18,7 +18,7 @@ use net_model::Net;
 use order_core::Waves;
 use order_search::Found;
 use ospf_pair::{PairRefusal, pair_refusal_text};
-use plan_theory::{EndFault, Planned};
+use plan_theory::{EndFault, Items, Planned};
 use planned_texts::planned_text;
 use refutation_check::Verdict;
 use std::alloc::{AllocError, Global};
@@ -50,6 +50,11 @@ pub enum Decision {
     },
     /// What is planned.
     Plan {
+        /// An end that isn't sound, or what was found between sound ends.
+        planned: Planned,
+    },
+    /// What is planned where a router makes its two changes apart.
+    TwoPass {
         /// An end that isn't sound, or what was found between sound ends.
         planned: Planned,
     },
@@ -113,6 +118,11 @@ pub enum Decision {
         /// Why it is faulty.
         kind: OrderKind,
     },
+    /// A line of an order file of single changes is faulty.
+    BadChanges {
+        /// The line that tells it.
+        text: Bytes,
+    },
     /// A design is refused.
     BadDesign {
         /// The name of the file.
@@ -149,6 +159,7 @@ pub(crate) fn decision_status(decision: &Decision) -> Status
         Decision::Unsafe { .. } => Status::Negative,
         Decision::UnsafeWave { .. } => Status::Negative,
         Decision::Plan { planned } => plan_status(planned),
+        Decision::TwoPass { planned } => plan_status(planned),
         Decision::Summary { .. } => Status::Done,
         Decision::Tree { verdict } => verdict_status(*verdict),
         Decision::Script { .. } => Status::Done,
@@ -159,6 +170,7 @@ pub(crate) fn decision_status(decision: &Decision) -> Status
         Decision::Designed { .. } => Status::Done,
         Decision::BadPair { .. } => Status::Refused,
         Decision::BadOrder { .. } => Status::Refused,
+        Decision::BadChanges { .. } => Status::Refused,
         Decision::BadDesign { .. } => Status::Refused,
         Decision::Split { .. } => Status::Done,
         Decision::Delta { .. } => Status::Done,
@@ -213,7 +225,8 @@ pub(crate) fn decision_text(
         Decision::SafeWaves { waves } => waves_safe_text(alloc, 2 * net.routers(), waves),
         Decision::Unsafe { state, fault } => unsafe_text(alloc, net, state, &fault),
         Decision::UnsafeWave { wave, fault } => waves_unsafe_text(alloc, net, wave, &fault),
-        Decision::Plan { planned } => plan_text(alloc, net, &planned),
+        Decision::Plan { planned } => plan_text(alloc, Items::Routers, net, &planned),
+        Decision::TwoPass { planned } => plan_text(alloc, Items::Changes, net, &planned),
         Decision::Summary { counts, waves } => summary_text(alloc, net, counts, &waves),
         Decision::Tree { verdict } => verdict_text(alloc, verdict),
         Decision::Script { version, waves } => script_text(alloc, net, &waves, version),
@@ -226,6 +239,7 @@ pub(crate) fn decision_text(
         Decision::BadOrder { file, line, kind } => {
             faulty_line(alloc, file.as_slice(), line, order_kind_name(kind))
         }
+        Decision::BadChanges { text } => Ok(text),
         Decision::BadDesign { file, path, kind } => {
             refused_design_text(alloc, file.as_slice(), path.as_slice(), kind)
         }
@@ -236,13 +250,18 @@ pub(crate) fn decision_text(
 }
 
 /// What is printed of a plan.
-fn plan_text(alloc: Global, net: &Net, planned: &Planned) -> Result<Bytes, AllocError>
-    requires { IsPlanTellable net.now planned.now }
-    ensures { IfOk result (λ text. text ≡ plan_text (names_of net.now) planned.now) }
+fn plan_text(
+    alloc: Global,
+    items: Items,
+    net: &Net,
+    planned: &Planned,
+) -> Result<Bytes, AllocError>
+    requires { IsPlanTellable items net.now planned.now }
+    ensures { IfOk result (λ text. text ≡ plan_text items (names_of net.now) planned.now) }
 {
     match planned {
         Planned::UnsoundOld { fault } => unsound_text(alloc, net, End::Old, fault),
         Planned::UnsoundNew { fault } => unsound_text(alloc, net, End::New, fault),
-        Planned::Searched { found } => planned_text(alloc, net, found),
+        Planned::Searched { found } => planned_text(alloc, items, net, found),
     }
 }

@@ -1,3 +1,4 @@
+pub mod ChangeRankings
 pub mod TreeNodes
 pub mod TreesAsTexts
 pub mod WavesAsTexts

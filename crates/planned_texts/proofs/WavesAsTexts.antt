@@ -1,5 +1,5 @@
 -- The waves that a search finds: their chain has one router of each, and each two neighbors of it are tagged in one loop.
-use Rattle.std.proofs.Common.{◌≡◌, ℕ, suc, ◌<◌, inl, inr, List, [], ◌∷◌, ◌++◌, length, get_or, All, Contains, arith}
+use Rattle.std.proofs.Common.{◌≡◌, ℕ, suc, ◌<◌, ap, inl, inr, List, [], ◌∷◌, ◌++◌, length, get_or, All, Contains, arith}
 use Rattle.std.proofs.Common.{subst, sym, ◌∙◌}
 use Rattle.std.proofs.lemmas.Bool.{cases_lt}
 use Rattle.std.proofs.lemmas.List.Elements.{All-contains, Contains-push_cases}
@@ -11,7 +11,11 @@ use Rattle.igp_theory.specs.Migrations.{Migration}
 use Rattle.order_search.specs.Answers.{FoundWaves, AreFoundWaves}
 use Rattle.order_search.specs.Meanings.{Meaning}
 use Rattle.order_search.specs.Places.{IsFoundNode, LeadsToRanking}
-use Rattle.plan_theory.specs.WavesMeaning.{waves_meaning}
+use Rattle.net_model.proofs.Members.{Contains-map}
+use Rattle.igp_theory.specs.Changes.{first, second}
+use Rattle.igp_theory.specs.Timetables.{change_number}
+use Rattle.order_core.specs.Rankings.{numbers_below}
+use Rattle.plan_theory.specs.WavesMeaning.{changes_meaning, waves_meaning}
 use Rattle.order_search.specs.Trees.{Place, Real}
 use Rattle.order_search.specs.declared.tree.Node.{Node}
 use Rattle.order_search.specs.declared.tree.Node.TheVariants.{Branch, Leaf, Unvisited}
@@ -19,7 +23,7 @@ use Rattle.order_search.specs.Layers.{IsChain}
 use Rattle.step_scripts.specs.WavesTexts.{AreOneOfEach, waves_in}
 use Rattle.step_scripts.proofs.TextFacts.{wave_there, waves_long}
 use Rattle.step_scripts.proofs.Zips.{zip_from}
-use Rattle.planned_texts.specs.Chains.{AreTaggedInLoop, IsTaggedChain}
+use Rattle.planned_texts.specs.Chains.{AreTaggedInLoop, IsChangeChain, IsTaggedChain, MustPrecede, of_one_router, of_loop}
 use Rattle.planned_texts.proofs.TreeNodes.{Fill-each}
 
 -- One router of each wave
@@ -76,28 +80,49 @@ trail_branch m place ranks trail address turns leads has =
       | inr same ↦ cc
     ]
 
-module _ (move : Migration) where
-  module _ (budget : ℕ) (found : FoundWaves) (are : AreFoundWaves (waves_meaning move) budget found) where
-    pub found_one_of_each : AreOneOfEach found.ranks found.chain
-    found_one_of_each =
-        let layered = are.leads.layered in
-        chain_one_of_each (length move.net) found.pairs found.ranks found.chain layered.layers.whole layered.below are.chained
+-- What is found
 
-    pub found_each : length found.ranks ≡ length move.net
-    found_each = are.leads.layered.layers.whole
+module _ (m : Meaning) (budget : ℕ) (found : FoundWaves) (are : AreFoundWaves m budget found) where
+  pub found_one_of_each : AreOneOfEach found.ranks found.chain
+  found_one_of_each =
+      let layered = are.leads.layered in
+      chain_one_of_each m.size found.pairs found.ranks found.chain layered.layers.whole layered.below are.chained
 
-    -- a pair that is assumed is tagged in a loop of the trail
-    pair_tagged : (pair : Pair) → Contains found.pairs pair → AreTaggedInLoop move pair.0 pair.1
-    pair_tagged pair has = elim (are.turned pair has) [
-      | inl base ↦ absurd (omega (arith, base.1))
-      | inr turned ↦ record {
-        address = turned.address;
-        ring = turned.turns;
-        is_loop = trail_branch (waves_meaning move) found.pairs found.ranks found.trail turned.address turned.turns are.leads turned.branch;
-        is_old = turned.old;
-        is_new = turned.new;
-      }
-    ]
+  pub found_each : length found.ranks ≡ m.size
+  found_each = are.leads.layered.layers.whole
 
-    pub found_tagged : IsTaggedChain move found.chain
-    found_tagged k within = pair_tagged (get_or found.chain k 0, get_or found.chain (suc k) 0) (are.neighbors k within)
+-- of routers a pair that is assumed is tagged in a loop of the trail
+module _ (move : Migration) (budget : ℕ) (found : FoundWaves) (are : AreFoundWaves (waves_meaning move) budget found) where
+  pair_tagged : (pair : Pair) → Contains found.pairs pair → AreTaggedInLoop move pair.0 pair.1
+  pair_tagged pair has = elim (are.turned pair has) [
+    | inl base ↦ absurd (omega (arith, base.1))
+    | inr turned ↦ record {
+      address = turned.address;
+      ring = turned.turns;
+      is_loop = trail_branch (waves_meaning move) found.pairs found.ranks found.trail turned.address turned.turns are.leads turned.branch;
+      is_old = turned.old;
+      is_new = turned.new;
+    }
+  ]
+
+  pub found_tagged : IsTaggedChain move found.chain
+  found_tagged k within = pair_tagged (get_or found.chain k 0, get_or found.chain (suc k) 0) (are.neighbors k within)
+
+-- and of changes it is, or it is that of one router's changes
+module _ (move : Migration) (budget : ℕ) (found : FoundWaves) (are : AreFoundWaves (changes_meaning move) budget found) where
+  pair_precedes : (pair : Pair) → Contains found.pairs pair → MustPrecede move pair.0 pair.1
+  pair_precedes pair has = elim (are.turned pair has) [
+    | inl base ↦
+        let its = Contains-map {A = Pair} (λ (u : ℕ). (change_number (first u), change_number (second u))) (numbers_below (length move.net)) pair base in
+        of_one_router its.item (ap (λ (p : Pair). p.0) (sym its.gives)) (ap (λ (p : Pair). p.1) (sym its.gives))
+    | inr turned ↦ of_loop (record {
+      address = turned.address;
+      turns = turned.turns;
+      is_loop = trail_branch (changes_meaning move) found.pairs found.ranks found.trail turned.address turned.turns are.leads turned.branch;
+      is_old = turned.old;
+      is_new = turned.new;
+    })
+  ]
+
+  pub found_precedes : IsChangeChain move found.chain
+  found_precedes k within = pair_precedes (get_or found.chain k 0, get_or found.chain (suc k) 0) (are.neighbors k within)

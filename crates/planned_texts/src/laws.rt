@@ -1,4 +1,4 @@
-ghost use Rattle.planned_texts.specs.ReadingBack.{ChainsAreTagged, PlannedTextsReadBack, PlansArePrintable};
+ghost use Rattle.planned_texts.specs.ReadingBack.{ChainsAreTagged, ChangeChainsAreTagged, PlannedTextsReadBack, PlansArePrintable};
 
 use igp_theory::AnyMigration;
 
@@ -10,8 +10,8 @@ pub fn plans_are_printable<T: AnyMigration>()
 
 /// The law that the text of a plan reads back.
 ///
-/// The text of planned waves is an order file that names these waves, and they are seamless; that of a refutation is a
-/// closed tree; that of a tree where the budget was spent has unvisited places. Each reads so in one way only.
+/// The text of planned waves is an order file that names these waves, and the migration is sound throughout them; that of a
+/// refutation is a closed tree; that of a tree where the budget was spent has unvisited places. Each reads so in one way only.
 pub fn planned_texts_read_back<T: AnyMigration>()
     ensures { PlannedTextsReadBack T.migration }
 {}
@@ -20,6 +20,10 @@ pub fn planned_texts_read_back<T: AnyMigration>()
 ///
 /// In that loop the first of them has to be switched before the second, unless another router tagged `Old` is switched
 /// before another one tagged `New`.
+///
+/// Of single changes the two may also be those of one router, and a turn of the loop names the change at which its router
+/// switches the address.
 pub fn chains_are_tagged<T: AnyMigration>()
-    ensures { ChainsAreTagged T.migration }
+    ensures routers { ChainsAreTagged T.migration }
+    ensures changes { ChangeChainsAreTagged T.migration }
 {}

@@ -1,4 +1,4 @@
-//! The texts of what was planned between sound ends, and that they read back.
+//! The texts of what was planned between sound ends, of routers or of single changes, and that they read back.
 //!
 //! | File | What it holds |
 //! |---|---|

@@ -17,7 +17,8 @@ use Rattle.refutation_check.specs.Verdicts.{IsClosedTreeOf, IsHeadedVerdict, IsR
 use Rattle.refutation_check.specs.declared.verdict.Verdict.{Verdict}
 use Rattle.refutation_check.specs.declared.verdict.Verdict.TheVariants.{Closed, Unfinished, Wrong}
 
-asked_base : (items : Items) (move : Migration) → (night_meaning items move).base ≡ base_of items (length move.net)
+-- what a search asks begins with the pairs that every ranking keeps
+pub asked_base : (items : Items) (move : Migration) → (night_meaning items move).base ≡ base_of items (length move.net)
 asked_base Routers move = refl
 asked_base Changes move = refl
 

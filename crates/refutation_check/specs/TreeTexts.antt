@@ -14,7 +14,9 @@ use Rattle.printed_lines.specs.Words.{joined, dotted, router_word}
 use Rattle.two_pass.specs.TwoTexts.{item_word}
 use Rattle.plan_theory.specs.declared.items.Items.{Items}
 use Rattle.plan_theory.specs.declared.items.Items.TheVariants.{Routers, Changes}
-use Rattle.refutation_check.specs.TreeLines.{tree_header, two_tree_header, letter_of, pieces_of, SaysNode}
+use Rattle.plan_theory.specs.Ranked.{size_of}
+use Rattle.refutation_check.specs.TreeLines.{as_said, tree_header, two_tree_header, letter_of, pieces_of, SaysNode}
+use Rattle.refutation_check.specs.Verdicts.{tree_header_of}
 
 -- the router of a number
 abbrev pub router_of : Items → ℕ → ℕ
@@ -40,7 +42,11 @@ node_words items names Unvisited = codes "open" ∷ []
 abbrev pub node_line : Items → List (List ℕ) → Node → List ℕ
 node_line items names node = joined (node_words items names node)
 
--- the text of a tree of routers, and of one of single changes: the header, then a line for each node
+-- the text of a tree: the header of what is ranked, then a line for each node
+abbrev pub ranked_tree_text : Items → List (List ℕ) → List Node → List ℕ
+ranked_tree_text items names nodes = text_of (tree_header_of items ∷ map (node_line items names) nodes)
+
+-- of a tree of routers, and of one of single changes
 abbrev pub tree_text : List (List ℕ) → List Node → List ℕ
 tree_text names nodes = text_of (tree_header ∷ map (node_line Routers names) nodes)
 
@@ -63,20 +69,21 @@ pub record AreDistinctRouters (cycle : List ℕ) : Type 0 where
   pub some : 2 ≤ length cycle
   pub distinct : AreDistinct cycle
 
--- a node that reads back: a branch of an address with such turns, a leaf of such routers
+-- a node that reads back, as its line says it: a branch of an address with such turns, a leaf of such routers or changes
 abbrev pub IsPrintedNode : Node → Type 0
 IsPrintedNode (Branch a turns) = (a < 2 ^ 32) × AreDistinctTurns turns
 IsPrintedNode (Leaf cycle) = AreDistinctRouters cycle
 IsPrintedNode Unvisited = Unit {0}
 
 -- the text of some nodes reads as these: its lines are the header and lines that say them
-pub record ReadsAsNodes (net : Network) (text : List ℕ) (nodes : List Node) : Type 0 where
+pub record ReadsAsNodes (items : Items) (net : Network) (text : List ℕ) (nodes : List Node) : Type 0 where
   pub lines : List (List ℕ)
-  pub text_is : line_texts text ≡ tree_header ∷ lines
-  pub said : AllZip (λ (line : List ℕ) (node : Node). SaysNode Routers net (pieces_of line) node) lines nodes
+  pub text_is : line_texts text ≡ tree_header_of items ∷ lines
+  pub said : AllZip (λ (line : List ℕ) (node : Node). SaysNode items net (pieces_of line) (as_said items node)) lines nodes
 
--- the text of nodes of a network's routers reads as these nodes
+-- the text of nodes of what is ranked in a network reads as these nodes
 abbrev pub TreesReadBack : Type 0
 TreesReadBack =
-    (net : Network) (nodes : List Node) → IsNetwork net → All (NodeBelow (length net)) nodes → All IsPrintedNode nodes →
-    ReadsAsNodes net (tree_text (names_of net) nodes) nodes
+    (items : Items) (net : Network) (nodes : List Node) → IsNetwork net → All (NodeBelow (size_of items (length net))) nodes →
+    All (λ node. IsPrintedNode (as_said items node)) nodes →
+    ReadsAsNodes items net (ranked_tree_text items (names_of net) nodes) nodes

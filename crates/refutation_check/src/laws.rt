@@ -15,7 +15,7 @@ pub fn closed_trees_refute<T: AnyMigration>()
     ensures changes { ClosedTwoTreesRefute T.migration }
 {}
 
-/// The law that a printed tree reads as just its nodes.
+/// The law that a printed tree reads as just its nodes, of routers and of single changes.
 pub fn trees_read_back()
     ensures { TreesReadBack }
 {}

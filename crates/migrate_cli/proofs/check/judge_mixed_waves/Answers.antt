@@ -12,7 +12,7 @@ use Rattle.migration_report.specs.declared.decision.Decision.TheVariants.{SafeWa
 use Rattle.migrate_cli.specs.CheckDecision.{IsWavesDecision}
 use Rattle.migrate_cli.specs.CheckDecision.IsWavesDecision.{safe_waves, unsafe_wave}
 use Rattle.migrate_cli.specs.steps.Tables.{move_of, new_table}
-use Rattle.migrate_cli.proofs.TableFacts.{seamless_waves, waves_fault}
+use Rattle.migrate_cli.proofs.TableFacts.{seamless_waves, times_fault}
 use Rattle.migrate_cli.proofs.check.judge_mixed_waves.Goals as goal
 
 pub waves_fault-requires : goal.waves_fault-requires
@@ -42,6 +42,6 @@ returns c = λ of mixes.
     let whole = c.in_ok-fault-in-Some.fault in
     let fault = subst (IsTimesFault move (router_times all_old ranks) c.in-Some.wave)
     (sym (c.in_ok-fault-in-Some.ensures ∙ ap (told_fault c.in-Some.fault) c.ring.ensures))
-    (waves_fault of c.args.mixed.now mixes ranks c.in-Some.wave told first) in
+    (times_fault of c.args.mixed.now mixes (router_times all_old ranks) c.in-Some.wave told first) in
     unsafe_wave c.in-Some.wave whole
     (λ seamless. times_fault_unsound move (router_times all_old ranks) c.in-Some.wave _ fault seamless.throughout) fault

@@ -1,13 +1,12 @@
 use Rattle.std.proofs.Common.{◌≡◌, ◌∙◌, ◌<◌, arith, length, refl, subst, sym}
 use Rattle.std.proofs.lemmas.Result.{IfOk-weaker}
 use Rattle.std.specs.Prelude.{slice_index_or, []}
-use Rattle.igp_theory.specs.Migrations.{ospf_to_isis}
 use Rattle.migrate_words.specs.declared.command.CommandKind.{CommandKind}
 use Rattle.migrate_words.specs.declared.command.CommandKind.TheVariants.{Check, Prepare, Refute, Replay, Scripts, Split, Delta}
 use Rattle.migrate_cli.specs.CommandFiles.{given_texts}
 use Rattle.migrate_cli.specs.Decisions.{Input, IsDecision, input_of}
 use Rattle.migrate_cli.specs.Reading.{named_text}
-use Rattle.migrate_cli.specs.RefuteDecision.{IsTreeDecision}
+use Rattle.migrate_cli.specs.RefuteDecision.{IsRefuteDecision}
 use Rattle.migrate_cli.specs.ReplayDecision.{IsReplayDecision, journal_of}
 use Rattle.migrate_cli.proofs.CommandFacts.{one_own, place_short, text_count, two_own}
 use Rattle.migrate_cli.proofs.StopFacts.{element}
@@ -69,7 +68,7 @@ returns-in-Refute c =
     let text_is : text ≡ slice_index_or own 0 [] = c.index-own-0.is ∙ element own 0 text [] here in
     let file = slice_index_or command.own 0 [] in
     let one = one_own command own Refute c.in-Refute.is c.requires.range c.requires.own file text refl refl text_is in
-    IfOk-weaker c.judge_refute.result (IsTreeDecision (ospf_to_isis c.args.net.now) text) (IsDecision command.kind input)
+    IfOk-weaker c.judge_refute.result (IsRefuteDecision text c.args.net.now) (IsDecision command.kind input)
     (λ d is. subst (λ (kind : CommandKind). IsDecision kind input d) (sym c.in-Refute.is) (named_text file text, one, is)) c.judge_refute.ensures
 
 pub returns-in-Replay : goal.returns-in-Replay

@@ -1,0 +1,39 @@
+use Rattle.std.proofs.Common.{length, subst}
+use Rattle.std.proofs.lemmas.Result.{IfOk-weaker}
+use Rattle.net_model.specs.Network.{Network}
+use Rattle.two_pass.specs.TwoFaults.{IsLeastTwoFault, RefusesTwo}
+use Rattle.two_pass.specs.TwoFiles.{AreTwoWaves, NamesTwo}
+use Rattle.two_pass.specs.TwoTexts.{two_refusal_text}
+use Rattle.migration_report.specs.declared.decision.Decision.TheVariants.{BadChanges}
+use Rattle.migrate_cli.specs.ChangesDecision.{IsChangesCheck, IsChangesDecision}
+use Rattle.migrate_cli.specs.ChangesDecision.IsChangesCheck.{faulty_changes, named_changes}
+use Rattle.migrate_cli.specs.Reading.{named_text}
+use Rattle.migrate_cli.specs.steps.Tables.{move_of}
+use Rattle.migrate_cli.proofs.AnswerFacts.{from_equal}
+use Rattle.migrate_cli.proofs.changes.check_changes.Goals as goal
+
+pub judge_changes-requires : goal.judge_changes-requires
+judge_changes-requires c = subst (λ (net : Network). AreTwoWaves (length net) c.in-Ok.waves) c.net.ensures c.in-Ok.ensures.in_turn
+
+pub returns-in-Ok : goal.returns-in-Ok
+returns-in-Ok c =
+    let of = c.args.of.now in
+    let waves = c.in-Ok.waves in
+    let names = subst (λ text. NamesTwo of.net text waves) c.as_slice.ensures
+    (subst (λ (net : Network). NamesTwo net c.as_slice.result.now waves) c.net.ensures c.in-Ok.ensures.ok) in
+    let turn = subst (λ (net : Network). AreTwoWaves (length net) waves) c.net.ensures c.in-Ok.ensures.in_turn in
+    IfOk-weaker c.judge_changes.result (IsChangesDecision (move_of of) waves) (IsChangesCheck (move_of of) (named_text c.args.file.now c.args.text.now))
+    (λ decision is. named_changes waves decision names turn is) c.judge_changes.ensures
+
+pub returns-in-Err-Bad : goal.returns-in-Err-Bad
+returns-in-Err-Bad c =
+    let of = c.args.of.now in
+    let file = c.args.file.now in
+    let line = c.in-Err-Bad.line in
+    let kind = c.in-Err-Bad.kind in
+    from_equal c.bad_changes.result (BadChanges (two_refusal_text file line kind)) (IsChangesCheck (move_of of) (named_text file c.args.text.now))
+    c.bad_changes.ensures
+    (faulty_changes line kind
+    (subst (λ text. IsLeastTwoFault of.net text line kind) c.as_slice.ensures
+    (subst (λ (net : Network). IsLeastTwoFault net c.as_slice.result.now line kind) c.net.ensures
+    (subst (RefusesTwo c.net.result.now c.as_slice.result.now) c.in-Err-Bad.field-0-is c.in-Err-Bad.ensures.err))))
