@@ -42,12 +42,7 @@ pub(crate) fn check_changes(
 }
 
 /// What is decided where a line of an order file of single changes is faulty.
-fn bad_changes(
-    alloc: Global,
-    file: &str,
-    line: u32,
-    kind: TwoKind,
-) -> Result<Decision, OutOfMemory>
+fn bad_changes(alloc: Global, file: &str, line: u32, kind: TwoKind) -> Result<Decision, OutOfMemory>
     ensures { IfOk result (λ decision. decision ≡ Decision.BadChanges (two_refusal_text file.now line kind)) }
 {
     let text = two_refusal_text(alloc, file, line, kind)?;

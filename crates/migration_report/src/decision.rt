@@ -250,12 +250,7 @@ pub(crate) fn decision_text(
 }
 
 /// What is printed of a plan.
-fn plan_text(
-    alloc: Global,
-    items: Items,
-    net: &Net,
-    planned: &Planned,
-) -> Result<Bytes, AllocError>
+fn plan_text(alloc: Global, items: Items, net: &Net, planned: &Planned) -> Result<Bytes, AllocError>
     requires { IsPlanTellable items net.now planned.now }
     ensures { IfOk result (λ text. text ≡ plan_text items (names_of net.now) planned.now) }
 {

@@ -1,7 +1,7 @@
 -- The nodes of a tree whose branches are loops of a network: they are of its routers, or of their changes, and they read back.
 use Rattle.std.proofs.Common.{ℕ, ◌*◌, ◌<◌, ◌≤◌, List, [], ◌∷◌, ◌++◌, length, get_or, map, All, arith, ap, subst, sym}
 use Rattle.std.proofs.lemmas.List.Elements.{All-append, All-cons, All-contains, All-head, All-map, All-nil, All-push, All-tail, All-weaker, Contains-get_or}
-use Rattle.igp_theory.specs.Changes.{first, second}
+use Rattle.igp_theory.specs.Changes.{first as first_change, second as second_change}
 use Rattle.igp_theory.specs.Migrations.{Migration}
 use Rattle.igp_theory.specs.Timetables.{change_number}
 use Rattle.igp_theory.proofs.LoopLaws.{loop_inside}
@@ -60,7 +60,7 @@ cycle_some pairs cycle is = omega (arith, is.some, ap (λ (vs : List ℕ). lengt
 base_below : (items : Items) (n : ℕ) → AreBelow (size_of items n) (base_of items n)
 base_below Routers n = All-nil (λ (p : Pair). (p.0 < n) × (p.1 < n))
 base_below Changes n =
-    All-map (λ (p : Pair). (p.0 < 2 * n) × (p.1 < 2 * n)) (λ (u : ℕ). (change_number (first u), change_number (second u))) (numbers_below n)
+    All-map (λ (p : Pair). (p.0 < 2 * n) × (p.1 < 2 * n)) (λ (u : ℕ). (change_number (first_change u), change_number (second_change u))) (numbers_below n)
     (λ k d within. let below = (numbers_are_below n (get_or (numbers_below n) k d)).0 (Contains-get_or (numbers_below n) k d within) in
     (omega (arith, below), omega (arith, below)))
 
@@ -95,9 +95,10 @@ module _ (items : Items) (move : Migration) where
       by_items : (some : Items) → (night_meaning some move).real a turns → IsPrintableNode some (length move.net) (Branch a turns)
       by_items Routers loops = (loop_inside move a turns loops, (loops.address, record { some = loops.some; distinct = loops.distinct }))
       by_items Changes loops =
-          let ring = loops.is_loop in
-          (changes_below (length move.net) turns (loop_inside move a (map by_router turns) ring),
-          (ring.address, record { some = ring.some; distinct = ring.distinct }))
+          let ring = loops.is_loop in (
+            changes_below (length move.net) turns (loop_inside move a (map by_router turns) ring),
+            (ring.address, record { some = ring.some; distinct = ring.distinct }),
+          )
 
   node_printable : (place : Place) (node : Node) → AreBelow (size_of items (length move.net)) place → IsRightNode items move place node →
       IsPrintableNode items (length move.net) node × All (AreBelow (size_of items (length move.net))) (places_below place node)
