@@ -1,9 +1,9 @@
-use Rattle.std.proofs.Common.{◌≡◌, ℕ, ◌*◌, ◌/◌, arith, length, refl, subst, sym, ◌∙◌}
+use Rattle.std.proofs.Common.{ap, arith, length, refl}
 use Rattle.migrate_cli.proofs.ChangeWaveFacts.{ranked_more, times_of_changes}
 use Rattle.migrate_cli.proofs.changes.change_waves.Goals as goal
 
 pub loop-router-init : goal.loop-router-init
-loop-router-init c = record { many = refl; each = λ u below. absurd (omega (arith, below)) }
+loop-router-init c = record { many = ap length c.new-times.ensures.items; each = λ u below. absurd (omega (arith, below)) }
 
 pub loop-router-preserved : goal.loop-router-preserved
 loop-router-preserved c =
