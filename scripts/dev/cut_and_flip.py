@@ -38,6 +38,11 @@ BRANCH = rb"branch " + ADDRESS + TURNS + rb"\n"
 LEAF = rb"leaf " + NAME + NAMES + rb"\n"
 CLOSED_TREE = rb"tree 1\n(?:" + BRANCH + rb"|" + LEAF + rb")+"
 OPEN_TREE = rb"tree 1\n(?:" + BRANCH + rb"|" + LEAF + rb")*(?:open\n)+"
+CHANGE = rb" " + NAME + rb":[12]"
+CHANGE_LEAF = rb"leaf(?:" + CHANGE + rb"){2,}\n"
+CLOSED_CHANGES = rb"tree 2\n(?:" + BRANCH + rb"|" + CHANGE_LEAF + rb")+"
+OPEN_CHANGES = rb"tree 2\n(?:" + BRANCH + rb"|" + CHANGE_LEAF + rb")*(?:open\n)+"
+CHANGE_WAVES = rb"order 3\n(?:wave(?:" + CHANGE + rb")+\n)+chain(?:" + CHANGE + rb")+\n"
 WAVES = rb"order 2\n(?:wave" + NAMES + rb"\n)+chain" + NAMES + rb"\n"
 SCRIPT = (
     rb"(?:! \d+ " + NAME + rb"\n|! wave \d+\n|! end\n|router isis(?: [!-~]+)?\n|router ospf \d+\n| distance (?:115|255)\n)*"
@@ -99,6 +104,8 @@ TEXTS = {
     "sample": {0: SUMMARY, 2: rb"(?s:words refused\n.*)"},
 }
 
+TEXTS["twopass"] = {**TEXTS["plan"], 0: CHANGE_WAVES, 1: CLOSED_CHANGES, 8: OPEN_CHANGES}
+
 for ours, theirs in (("plan", "pair"), ("check", "paircheck"), ("refute", "pairrefute")):
     TEXTS[theirs] = {**TEXTS[ours], 5: PAIR_REFUSED}
 
@@ -129,6 +136,9 @@ def calls_of_examples():
         ["plan", *example("levels", *square)],
         ["plan", "--budget", "5", *example("square", *square)],
         ["refute", *example("square", "tree.txt", *square)],
+        ["twopass", *example("twopass", *square, "r5.cfg")],
+        ["twopass", "--budget", "5", *example("square", *square)],
+        ["check", *example("twopass", "passes.txt", *square, "r5.cfg")],
         ["scripts", *example("triangle", "waves.txt", *triangle)],
         ["replay", *example("triangle", "waves.txt", "journal.txt", *triangle)],
         ["pair", *example("redesign", "old.cfg", "new.cfg")],

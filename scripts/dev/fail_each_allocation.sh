@@ -194,6 +194,7 @@ refuse_each_command() {
     levels="levels/r1.cfg levels/r2.cfg levels/r3.cfg levels/r4.cfg"
     design=
     [ ! -f design/design.toml ] || design="design/design.toml design/r1.cfg design/r2.cfg design/r3.cfg"
+    passes="twopass/r1.cfg twopass/r2.cfg twopass/r3.cfg twopass/r4.cfg twopass/r5.cfg"
     pair="redesign/old.cfg redesign/new.cfg"
     merged="redesign/two-areas.cfg redesign/one-area.cfg"
     wrong=0
@@ -204,7 +205,8 @@ refuse_each_command() {
         "refute square/tree.txt $square" "refute square/order.txt $square" "scripts triangle/waves.txt $triangle" \
         "replay triangle/waves.txt triangle/journal.txt $triangle" "replay triangle/waves.txt triangle/safe.txt $triangle" \
         "prepare $design" "prepare design/safe.txt design/r1.cfg" "plan $triangle" "plan $levels" "plan $square" \
-        "plan --budget 1 $square" "plan triangle/r1.cfg" \
+        "plan --budget 1 $square" "plan triangle/r1.cfg" "twopass $triangle" "twopass --budget 1 $square" \\
+        "check twopass/passes.txt $passes" "scripts twopass/passes.txt $passes" \
         "pair $pair" "pair $merged" "pair --budget 1 $merged" "pair redesign/old.cfg redesign/old.cfg" "paircheck redesign/waves.txt $pair" \
         "pairrefute redesign/tree.txt $merged" "pairscripts redesign/waves.txt $pair" "sample 3" "check" "explain a.cfg" "plan --budget 0 a.cfg" "--help"; do
         refuse_each end_of_program "$1" $call || wrong=1

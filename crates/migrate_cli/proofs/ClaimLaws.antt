@@ -32,6 +32,7 @@ use Rattle.migrate_cli.specs.SamplePromise.{AcceptsSample}
 use Rattle.migrate_cli.specs.SplitPromise.{DecidesSplit, HasSplit}
 use Rattle.migrate_cli.specs.SplitPromise.DecidesSplit.{no_memory as none_for_split}
 use Rattle.migrate_cli.specs.TablesPromise.{HasTables}
+use Rattle.migrate_cli.specs.TwoPassPromise.{HasPlannedChanges}
 use Rattle.migrate_cli.proofs.AnswerFacts.{reads_or_not}
 use Rattle.migrate_cli.proofs.CallLaws.{ends_so}
 use Rattle.migrate_cli.proofs.ChangesPromiseLaws.{change_check_decides, check_decides, refute_decides}
@@ -45,6 +46,7 @@ use Rattle.migrate_cli.proofs.SamplePromiseLaws.{sample_decides, sample_means}
 use Rattle.migrate_cli.proofs.ScriptsPromiseLaws.{typed_forward}
 use Rattle.migrate_cli.proofs.SplitPromiseLaws.{has_split, split_is_decided}
 use Rattle.migrate_cli.proofs.TablesPromiseLaws.{has_tables, tables_are_written}
+use Rattle.migrate_cli.proofs.TwoPassPromiseLaws.{has_planned_changes, two_pass_decides}
 
 module _ (call : Call) (before after : Outside) where
   -- a write fault is one of the sink
@@ -107,6 +109,11 @@ module _ (call : Call) (before after : Outside) where
           means = λ budget configs asks. wrote_so IsOfPlan (HasPlanned call budget configs (course before after)) (λ q. q) (λ q. q)
               (λ outcome is adds of. answer_means call budget configs (course before after) asks is adds of) ends;
           decides = λ it calm. calm_so (PlansOrNot (ospf_to_isis it.net)) none_planned (plan_decides call it asked) ends fails calm;
+        };
+        two_passes = record {
+          means = λ budget configs asks. wrote_so IsOfPlan (HasPlannedChanges call budget configs (course before after)) (λ q. q) (λ q. q)
+              (λ outcome is adds of. has_planned_changes call budget configs (course before after) asks is adds of) ends;
+          decides = λ it calm. calm_so (PlansOrNot (ospf_to_isis it.net)) none_planned (two_pass_decides call it asked) ends fails calm;
         };
         checks = λ it calm. calm_so Decides memory (check_decides call it asked) ends fails calm;
         change_checks = λ it calm. calm_so (DecidesChanges (ospf_to_isis it.net) it.ranks) none_for_changes (change_check_decides call it asked) ends fails

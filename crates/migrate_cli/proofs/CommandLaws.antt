@@ -1,8 +1,8 @@
 -- A command decides one thing of its input, and what it decides has a text.
-use Rattle.std.proofs.Common.{◌≡◌, ◌∙◌, ◌∷◌, [], List, ap, get_or, sym, subst}
+use Rattle.std.proofs.Common.{◌≡◌, ◌∙◌, ◌∷◌, [], List, ap, get_or, refl, sym, subst}
 use Rattle.net_model.specs.Refusals.{NamesAscend}
 use Rattle.migrate_words.specs.declared.command.CommandKind.{CommandKind}
-use Rattle.migrate_words.specs.declared.command.CommandKind.TheVariants.{Check, Prepare, Plan, Refute, Scripts, Replay, Sample}
+use Rattle.migrate_words.specs.declared.command.CommandKind.TheVariants.{Check, Prepare, Plan, TwoPass, Refute, Scripts, Replay, Sample}
 use Rattle.migrate_words.specs.declared.command.CommandKind.TheVariants.{Pair, PairScripts, PairCheck, PairRefute, Design, Split, Delta, Tables}
 use Rattle.migration_report.specs.Outcomes.{IsTellable}
 use Rattle.migration_report.specs.declared.decision.Decision.{Decision}
@@ -30,6 +30,7 @@ use Rattle.migrate_cli.proofs.ScriptsLaws.{one_scripts_decision, scripts_tellabl
 use Rattle.migrate_cli.proofs.SettlingLaws.{settled_tellable, one_settled_decision}
 use Rattle.migrate_cli.proofs.SplitLaws.{one_split_decision, split_tellable}
 use Rattle.migrate_cli.proofs.TablesLaws.{one_tables_decision, tables_tellable}
+use Rattle.migrate_cli.proofs.TwoPassLaws.{one_two_pass_decision, two_pass_tellable}
 
 -- what is decided of one own file is decided of the other one, where they are the same list
 moved : {own : List NamedText} {one other : NamedText} (P : NamedText → Type 0) → own ≡ one ∷ [] → own ≡ other ∷ [] → P other → P one
@@ -51,6 +52,7 @@ one_decision Prepare input {e = e} ascending one other =
     one_settled_decision one.0 input.net (with_settled_lines (configured input.configs input.net)) one.2
     (moved (λ file. IsPrepareDecision file (configured input.configs input.net) e) one.1 other.1 other.2)
 one_decision Plan input ascending one other = one_plan_decision one other
+one_decision TwoPass input ascending one other = one_two_pass_decision (λ u. refl) one other
 one_decision Refute input {e = e} ascending one other =
     one_judged_tree one.2 (moved (λ file. IsRefuteDecision file.text input.net e) one.1 other.1 other.2)
 one_decision Scripts input {e = e} ascending one other =
@@ -95,6 +97,7 @@ decision_tellable Check input d is = judged_order_tellable is.2
 decision_tellable Prepare input d is =
     settled_tellable is.0 input.net (with_settled_lines (configured input.configs input.net)) (λ settled. tt) is.2
 decision_tellable Plan input d is = plan_decision_tellable is
+decision_tellable TwoPass input d is = two_pass_tellable is
 decision_tellable Refute input d is = judged_tree_tellable is.2
 decision_tellable Scripts input d is = scripts_tellable is.0 input.net is.2
 decision_tellable Replay input d is = replay_tellable is.3

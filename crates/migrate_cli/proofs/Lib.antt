@@ -14,7 +14,9 @@ mod NextFacts
 mod PrepareFacts
 mod SettlingLaws
 mod OriginatedFacts
+mod OldStarts
 mod PlanLaws
+mod TwoPassLaws
 mod RefuteLaws
 mod ChangesLaws
 mod ReplayLaws
@@ -34,7 +36,9 @@ mod ChangesPromiseLaws
 mod NetworkFacts
 mod DecidedLaws
 mod HeadlineLaws
+mod ChangesHeadlineLaws
 mod PlanPromiseLaws
+mod TwoPassPromiseLaws
 mod PreparePromiseLaws
 mod DeltaPromiseLaws
 mod ScriptsPromiseLaws

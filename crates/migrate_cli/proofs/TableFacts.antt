@@ -15,7 +15,7 @@ use Rattle.isis_routes.specs.RouteTables.{AreIsisRoutes}
 use Rattle.net_model.specs.Network.{Network}
 use Rattle.ospf_routes.specs.RouteTables.{AreOspfRoutes, table_at}
 use Rattle.ospf_routes.specs.declared.source.OspfRoutes.{OspfRoutes}
-use Rattle.plan_theory.specs.Plans.{IsPlanned}
+use Rattle.plan_theory.specs.Plans.{IsNightPlanned, IsPlanned}
 use Rattle.plan_theory.specs.declared.planned.Planned.{Planned}
 use Rattle.plan_theory.specs.declared.items.Items.TheVariants.{Changes}
 use Rattle.refutation_check.specs.TreeLines.{two_tree_header}
@@ -29,7 +29,7 @@ use Rattle.route_tables.specs.Tables.{Routes}
 use Rattle.migrate_cli.specs.declared.tables.NewRoutes.{NewRoutes}
 use Rattle.migrate_cli.specs.declared.tables.NewRoutes.TheVariants.{Isis, Ospf}
 use Rattle.migrate_cli.specs.steps.Tables.{AreBothTables, AreNewRoutes, MixesTables, NetworkMove, move_of, network_move, new_entries, new_table}
-use Rattle.plan_theory.proofs.PlanTables.{planned_over}
+use Rattle.plan_theory.proofs.PlanTables.{night_planned_over, planned_over}
 
 -- a mixture of the tables of a migration
 module _ (of : NetworkMove) (old : OspfRoutes) (new : NewRoutes) (tables : AreBothTables of old new) where
@@ -87,6 +87,12 @@ module _ (of : NetworkMove) (m : Mixture OspfRoutes NewRoutes) (mixes : MixesTab
   planned_of budget planned is =
       subst (λ (n : Network). IsPlanned (moved n) budget planned) mixes.net_is
       (planned_over (migration_of table_at new_table m) (moved of.net).old (moved of.net).new mixes.same budget planned is)
+
+  pub changes_planned_of : (budget : ℕ) (planned : Planned) → IsNightPlanned Changes (migration_of table_at new_table m) budget planned →
+      IsNightPlanned Changes (move_of of) budget planned
+  changes_planned_of budget planned is =
+      subst (λ (n : Network). IsNightPlanned Changes (moved n) budget planned) mixes.net_is
+      (night_planned_over (migration_of table_at new_table m) (moved of.net).old (moved of.net).new mixes.same Changes budget planned is)
 
   pub text_verdict : (text : List ℕ) (verdict : Verdict) → IsTextVerdict (migration_of table_at new_table m) text verdict →
       IsTextVerdict (move_of of) text verdict

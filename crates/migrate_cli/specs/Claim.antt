@@ -19,6 +19,7 @@ use Rattle.migrate_cli.specs.SamplePromise.{SamplePromise}
 use Rattle.migrate_cli.specs.ScriptsPromise.{ScriptsPromise}
 use Rattle.migrate_cli.specs.SplitPromise.{SplitPromise}
 use Rattle.migrate_cli.specs.TablesPromise.{TablesPromise}
+use Rattle.migrate_cli.specs.TwoPassPromise.{TwoPassPromise}
 
 pub record Claim (call : Call) (before after : Outside) (status : Status) : Type 0 where
   -- it asks for its command's files in their order, and what they come to is written whole or cut, or nothing for want of memory
@@ -33,6 +34,8 @@ pub record Claim (call : Call) (before after : Outside) (status : Status) : Type
   pub unless_write_fault : status ≢ WriteFault → after.sink_faults ≡ before.sink_faults
   -- `plan` plans: 0, 1, 7 and 8 mean in packets what the headline says
   pub plans : PlanPromise call before after status
+  -- `twopass` plans single changes: its statuses mean the same of lists of all changes
+  pub two_passes : TwoPassPromise call before after status
   -- `check` says yes exactly where each state of the order is sound
   pub checks : CheckDecides call before after status
   -- and so it does of single changes

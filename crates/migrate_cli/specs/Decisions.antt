@@ -4,7 +4,7 @@ use Rattle.net_model.specs.Network.{Network}
 use Rattle.migrate_words.specs.Schemes.{AskedScheme}
 use Rattle.migrate_words.specs.declared.command.Command.{Command}
 use Rattle.migrate_words.specs.declared.command.CommandKind.{CommandKind}
-use Rattle.migrate_words.specs.declared.command.CommandKind.TheVariants.{Check, Prepare, Plan, Refute, Scripts, Replay, Sample}
+use Rattle.migrate_words.specs.declared.command.CommandKind.TheVariants.{Check, Prepare, Plan, TwoPass, Refute, Scripts, Replay, Sample}
 use Rattle.migrate_words.specs.declared.command.CommandKind.TheVariants.{Pair, PairScripts, PairCheck, PairRefute, Split, Delta, Tables, Design}
 use Rattle.migration_report.specs.declared.decision.Decision.{Decision}
 use Rattle.migrate_cli.specs.CommandFiles.{GivenTexts}
@@ -22,6 +22,7 @@ use Rattle.migrate_cli.specs.SampleDecision.{IsSampleDecision}
 use Rattle.migrate_cli.specs.ScriptsDecision.{IsScriptsDecision}
 use Rattle.migrate_cli.specs.SplitDecision.{IsSplitDecision}
 use Rattle.migrate_cli.specs.TablesDecision.{IsTablesDecision}
+use Rattle.migrate_cli.specs.TwoPassDecision.{IsTwoPassDecision}
 
 -- what a command decides on: its own files, its number and its scheme, the texts of the configurations, the network that their
 -- first group makes, and those of the other groups
@@ -49,6 +50,7 @@ IsDecision Check input decision = (order : NamedText) × (input.own ≡ order �
 IsDecision Prepare input decision =
     (design : NamedText) × (input.own ≡ design ∷ []) × IsPrepareDecision design (configured input.configs input.net) decision
 IsDecision Plan input decision = IsPlanDecision input.number input.net decision
+IsDecision TwoPass input decision = IsTwoPassDecision input.number input.net decision
 IsDecision Refute input decision =
     (tree : NamedText) × (input.own ≡ tree ∷ []) × IsRefuteDecision tree.text input.net decision
 IsDecision Scripts input decision = (order : NamedText) × (input.own ≡ order ∷ []) × IsScriptsDecision order input.net decision

@@ -10,6 +10,7 @@ pub mod SettledDesigns
 pub mod PrepareDecision
 pub mod DeltaDecision
 pub mod PlanDecision
+pub mod TwoPassDecision
 pub mod OriginatedPrefixes
 pub mod SampleDecision
 pub mod RefuteDecision
@@ -26,8 +27,10 @@ pub mod AnswerLaws
 pub mod Completeness
 pub mod ChangesPromise
 pub mod Headline
+pub mod ChangesHeadline
 pub mod JudgedTexts
 pub mod PlanPromise
+pub mod TwoPassPromise
 pub mod PreparePromise
 pub mod DeltaPromise
 pub mod ScriptsPromise

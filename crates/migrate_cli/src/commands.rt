@@ -21,6 +21,7 @@ use crate::sample::judge_sample;
 use crate::scripts::judge_scripts;
 use crate::shown::judge_tables;
 use crate::split::judge_split;
+use crate::twopass::judge_two_pass;
 use migrate_words::{Command, CommandKind};
 use migration_report::Decision;
 use net_addr::Bytes;
@@ -64,6 +65,7 @@ pub(crate) fn judge_command(
             judge_prepare(alloc, file, design, configs, net)
         }
         CommandKind::Plan => judge_plan(alloc, command.number, net),
+        CommandKind::TwoPass => judge_two_pass(alloc, command.number, net),
         CommandKind::Refute => judge_refute(alloc, &own[0], net),
         CommandKind::Scripts => {
             let (file, order) = first_own(command, own);

@@ -13,7 +13,7 @@
 //! | `tables` | the tables of both protocols of a network, and mixed forwarding over them |
 //! | `settling` | what a design settles for a network |
 //! | `design`, `prepare`, `delta`, `shown`, `plan`, `check`, `refute` | what each command decides, `tables` in `shown` |
-//! | `changes` | what `check` and `refute` decide of files of single changes |
+//! | `twopass`, `changes` | of single changes: what `twopass` decides, and what `check` and `refute` decide of their files |
 //! | `split`, `scripts`, `replay`, `pair`, `sample` | the same of those for the night, and of the others |
 //! | `sending` | writing in pieces of 4,096 bytes |
 //! | `originated` | how many prefixes a network originates |
@@ -53,6 +53,7 @@ mod sample;
 mod scripts;
 mod shown;
 mod split;
+mod twopass;
 
 // what is counted, and laws
 mod laws;

@@ -2,7 +2,7 @@
 use Rattle.std.specs.Prelude.{List, [], ◌∷◌, codes}
 use Rattle.clap.specs.Words.{Text}
 use Rattle.migrate_words.specs.declared.command.CommandKind.{CommandKind}
-use Rattle.migrate_words.specs.declared.command.CommandKind.TheVariants.{Check, Prepare, Plan, Refute, Scripts, Replay, Sample}
+use Rattle.migrate_words.specs.declared.command.CommandKind.TheVariants.{Check, Prepare, Plan, TwoPass, Refute, Scripts, Replay, Sample}
 use Rattle.migrate_words.specs.declared.command.CommandKind.TheVariants.{Pair, PairScripts, PairCheck, PairRefute, Design, Split, Delta, Tables}
 use Rattle.migrate_words.specs.declared.subcommands.ConfigFiles.{ConfigFiles}
 use Rattle.migrate_words.specs.declared.subcommands.ConfigFiles.TheVariants.{NoConfigs, Several, Networks}
@@ -29,6 +29,7 @@ abbrev pub usage_of : CommandKind → Usage
 usage_of Check = usage (codes "check") NoNumber (codes "ORDER" ∷ []) Several
 usage_of Prepare = usage (codes "prepare") NoNumber (codes "DESIGN" ∷ []) Several
 usage_of Plan = usage (codes "plan") Budget [] Several
+usage_of TwoPass = usage (codes "twopass") Budget [] Several
 usage_of Refute = usage (codes "refute") NoNumber (codes "TREE" ∷ []) Several
 usage_of Scripts = usage (codes "scripts") NoNumber (codes "ORDER" ∷ []) Several
 usage_of Replay = usage (codes "replay") NoNumber (codes "ORDER" ∷ codes "JOURNAL" ∷ []) Several
@@ -45,5 +46,5 @@ usage_of Design = usage (codes "design") DesignOptions [] Several
 -- the commands, in the order in which help tells them
 abbrev pub kinds : List CommandKind
 kinds =
-    Check ∷ Prepare ∷ Plan ∷ Refute ∷ Scripts ∷ Replay ∷ Sample ∷ Pair ∷ PairScripts ∷ PairCheck ∷ PairRefute ∷ Split ∷ Delta ∷ Tables
+    Check ∷ Prepare ∷ Plan ∷ TwoPass ∷ Refute ∷ Scripts ∷ Replay ∷ Sample ∷ Pair ∷ PairScripts ∷ PairCheck ∷ PairRefute ∷ Split ∷ Delta ∷ Tables
     ∷ Design ∷ []

@@ -24,12 +24,14 @@ pub const MOST_WAVE: u32 = 4_294_967_295;
 /// The commands of the program.
 #[derive(Clone, Copy, Debug, PartialEq, Eq)]
 pub enum CommandKind {
-    /// `check ORDER CONFIG...`: the verdict on an order of the migration, or on a list of waves.
+    /// `check ORDER CONFIG...`: the verdict on an order of the migration, or on a list of waves, of routers or of single changes.
     Check,
     /// `prepare DESIGN CONFIG...`: the configurations with their IS-IS lines.
     Prepare,
     /// `plan [--budget N] CONFIG...`: waves of the migration that are safe throughout.
     Plan,
+    /// `twopass [--budget N] CONFIG...`: waves of single changes, each router's two apart, that are safe throughout.
+    TwoPass,
     /// `refute TREE CONFIG...`: the verdict on a tree that is to show that no order is safe.
     Refute,
     /// `scripts ORDER CONFIG...`: the lines of every change of an order or of a list of waves.

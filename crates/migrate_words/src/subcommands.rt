@@ -80,7 +80,7 @@ pub(crate) fn networks() -> &'static [OwnFile]
     &NETWORKS
 }
 
-static SUBCOMMANDS: [Subcommand; 15] = [
+static SUBCOMMANDS: [Subcommand; 16] = [
     Subcommand {
         kind: CommandKind::Check,
         word: "check",
@@ -104,6 +104,15 @@ static SUBCOMMANDS: [Subcommand; 15] = [
         word: "plan",
         about: "Finds waves of routers that are safe in each state on the way, or a tree that shows that there are none",
         usage: "migrate plan [--budget N] CONFIG...",
+        number: NumberTaken::Budget,
+        own: &[],
+        configs: ConfigFiles::Several,
+    },
+    Subcommand {
+        kind: CommandKind::TwoPass,
+        word: "twopass",
+        about: "Finds waves of single changes, the two of a router apart, that are safe in each state, or a tree",
+        usage: "migrate twopass [--budget N] CONFIG...",
         number: NumberTaken::Budget,
         own: &[],
         configs: ConfigFiles::Several,
