@@ -11,8 +11,7 @@ loop_address-address-requires g c =
 
 pub returns-in-Some-clause-breaks : goal.returns-in-Some-clause-breaks
 returns-in-Some-clause-breaks g c address answer =
-    let move = migration_of g.O.RouteSource.table g.N.RouteSource.table in
     let same : c.loop_address-address.result ≡ address = cc in
     let is : c.in-Some.fault ≡ Loop address = c.loop_address-address.ensures ∙ ap (λ (a : ℕ). Loop a) same in
-    told_breaks (move c.self.inside.finder.mixture) (move c.waves_fault.new.self.mixture) c.args.ranks.now c.in-Some._wave
-    c.in-Some.fault address c.waves_fault.new.self.ring c.self.invariant.ends c.in-Some.ensures.fault is (ap move c.in-Some.ensures.mixture)
+    told_breaks (migration_of g.O.RouteSource.table g.N.RouteSource.table c.self.inside.finder.mixture) c.args.ranks.now c.in-Some._wave
+    c.in-Some.fault address c.waves_fault.new.self.ring c.self.invariant.ends c.in-Some.ensures.fault is

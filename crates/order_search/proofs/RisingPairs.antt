@@ -1,9 +1,8 @@
 -- Pairs of numbers, the lower one first, have no cycle.
 use Rattle.std.proofs.Common.{ℕ, ◌<◌, ◌≤◌, List, [], ◌∷◌, length, arith}
 use Rattle.std.proofs.lemmas.List.Elements.{All-contains, All-weaker}
-use Rattle.order_core.specs.Pairs.{Pair, IsPath, Leads, HasNoCycle}
-use Rattle.order_search.specs.Meanings.{IsBase}
-use Rattle.worked_examples.specs.Wanting.{AreRising}
+use Rattle.order_core.specs.Pairs.{Pair, IsPath, HasNoCycle}
+use Rattle.order_search.specs.Meanings.{AreRising, IsBase}
 
 -- along a path numbers don't fall
 rises_along : (n : ℕ) (pairs : List Pair) → AreRising n pairs → (path : List ℕ) (x y : ℕ) → IsPath pairs x path y → x ≤ y
