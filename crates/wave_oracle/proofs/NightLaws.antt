@@ -1,31 +1,35 @@
 -- What the finder of a night tells between sound ends, and what its oracle means.
-use Rattle.std.proofs.Common.{◌≡◌, ◌≢◌, ℕ, ◌+◌, ◌*◌, ◌<◌, ◌≤◌, List, length, map, All, AllPairs, Contains, refl, sym, ap, ◌∙◌, subst, arith}
-use Rattle.std.proofs.lemmas.List.{get_or-map, length-map}
+use Rattle.std.proofs.Common.{◌≡◌, ◌≢◌, ℕ, ◌+◌, ◌*◌, ◌^◌, ◌<◌, ◌≤◌, inl, inr, List, length, map, All, AllPairs, Contains, refl, sym, ap, ◌∙◌, subst, arith}
+use Rattle.std.proofs.lemmas.Bool.{cases_lt}
+use Rattle.std.proofs.lemmas.List.{get_or-map, get_or_past, length-map}
 use Rattle.std.proofs.lemmas.List.FromFn.{length-range_with_len}
-use Rattle.std.proofs.lemmas.List.Elements.{All-contains_itself, All-map, All-nil, All-weaker}
+use Rattle.std.proofs.lemmas.List.Elements.{All-contains_itself, All-map, All-nil, All-weaker, Contains-get_or}
 use Rattle.igp_theory.specs.Changes.{first, second}
 use Rattle.igp_theory.specs.Forwarding.{MustForward}
 use Rattle.igp_theory.specs.LoopLaws.{AreSoundEnds}
 use Rattle.igp_theory.specs.Loops.{IsLoop, loop}
 use Rattle.igp_theory.specs.Migrations.{Migration, started}
+use Rattle.igp_theory.specs.Phases.{State}
 use Rattle.igp_theory.specs.TimetableLaws.{IsLoopOfWave}
-use Rattle.igp_theory.specs.Timetables.{IsTimetable, change_number}
+use Rattle.igp_theory.specs.Timetables.{IsTimetable, Timetable, change_number}
 use Rattle.igp_theory.specs.WaveFaults.{IsTimesFault}
 use Rattle.igp_theory.specs.declared.phase.Phase.{Phase}
 use Rattle.igp_theory.proofs.LoopLaws.{loop_inside}
 use Rattle.igp_theory.proofs.LoopsDecide.{times_fault_between_ends}
 use Rattle.order_core.specs.Pairs.{Pair}
-use Rattle.order_core.specs.Rankings.{IsRanking, KeepsPairs, numbers_below}
+use Rattle.order_core.specs.Rankings.{IsRanking, KeepsPairs, numbers_below, rank_of}
 use Rattle.order_core.specs.Turns.{routers_of}
 use Rattle.order_core.specs.declared.turn.Tag.TheVariants as tag
 use Rattle.order_core.specs.declared.turn.Turn.{Turn}
 use Rattle.order_core.proofs.DistinctLists.{length-le_from_distinct}
-use Rattle.order_core.proofs.WaveLists.{numbers_are_below}
+use Rattle.order_core.proofs.WaveLists.{count_le_length, numbers_are_below, rank_below_count}
 use Rattle.rib_mix.specs.Mixture.{Mixture, migration_of}
-use Rattle.loop_finder.specs.Faults.{state_in, told_fault}
+use Rattle.loop_finder.specs.Faults.{searched, state_in, told_fault}
 use Rattle.loop_finder.specs.Mixes.{Listing}
+use Rattle.loop_finder.specs.Times.{times_in}
 use Rattle.loop_finder.specs.declared.fault.Fault.{Fault}
 use Rattle.loop_finder.specs.declared.fault.Fault.TheVariants.{Loop, Missing}
+use Rattle.loop_finder.specs.declared.times.ChangeWaves.{ChangeWaves}
 use Rattle.order_search.specs.Meanings.{Break, IsBase, Meaning, SameMeaning}
 use Rattle.order_search.proofs.RisingPairs.{IsBase-rising}
 use Rattle.order_search.proofs.SameMeanings.{SameMeaning-itself}
@@ -37,7 +41,7 @@ use Rattle.plan_theory.proofs.ItemsServe.{items_ask, items_serve, ranked_base, r
 use Rattle.plan_theory.proofs.WaveBreaks.{fault_breaks, no_missing_step}
 use Rattle.ranked_items.specs.Numbers.{AreNumbered}
 use Rattle.ranked_items.proofs.NumberedTurns.{turns_must}
-use Rattle.wave_oracle.specs.Nights.{Night, night_move, night_start}
+use Rattle.wave_oracle.specs.Nights.{IsNightFinder, Night, NightParts, can_from, night_move, night_start}
 use Rattle.wave_oracle.specs.steps.ToldLoops.{IsToldLoop}
 use Rattle.wave_oracle.specs.steps.RankedTimes.{times_from}
 
@@ -131,6 +135,14 @@ module _ (items : Items) (move : Migration) (can : CanRank items move) (ranks : 
 -- Its oracle
 
 module _ {O N : Type 0} (old : Listing O) (new : Listing N) where
+  -- what is told of a night is told of another with what is mixed, what is ranked and the start the same
+  pub over_same : (one other : Night O N) → other.mixture ≡ one.mixture → other.items ≡ one.items → other.start ≡ one.start →
+      (P : Items → Migration → Type 0) → P other.items (night_move old new other) → P one.items (night_move old new one)
+  over_same one other mixture items start P has =
+      subst (λ (m : Mixture O N). P one.items (started (night_start one.items one.start) (migration_of old new m))) mixture
+      (subst (λ (s : List Phase). P one.items (started (night_start one.items s) (migration_of old new other.mixture))) start
+      (subst (λ (i : Items). P i (started (night_start i other.start) (migration_of old new other.mixture))) items has))
+
   -- what is meant stays where what is mixed, what is ranked and the start do
   pub night_stays : (one other : Night O N) → other.mixture ≡ one.mixture → other.items ≡ one.items → other.start ≡ one.start →
       SameMeaning (night_meaning one.items (night_move old new one)) (night_meaning other.items (night_move old new other))
@@ -140,3 +152,43 @@ module _ {O N : Type 0} (old : Listing O) (new : Listing N) where
       subst (λ (i : Items). SameMeaning first (meaning i other.start other.mixture)) (sym items)
       (subst (λ (s : List Phase). SameMeaning first (meaning one.items s other.mixture)) (sym start)
       (subst (λ (m : Mixture O N). SameMeaning first (meaning one.items one.start m)) (sym mixture) (SameMeaning-itself first)))
+
+-- Its finder
+
+module _ {O N : Type 0} (old : Listing O) (new : Listing N) (p : NightParts O N) (is : IsNightFinder p) (ranks : List ℕ)
+    (times : List ChangeWaves) (filled : times_in times ≡ times_from p.items (state_in p.start) ranks) where
+  abbrev move_here : Migration
+  move_here = started (night_start p.items p.start) (migration_of old new p.mixture)
+
+  times_are : times_in times ≡ (ranked p.items move_here).times ranks
+  times_are = filled ∙ times_by_start p.items move_here p.start ranks refl
+
+  module _ (P : Migration → Timetable → Type 0) where
+    -- what the finder of faults tells of its timetable is told of the ranking
+    pub over_ranking : P (searched old new p.finding) (times_in times) → P move_here ((ranked p.items move_here).times ranks)
+    over_ranking has =
+        subst (P move_here) times_are
+        (subst (λ (s : State). P (started s (migration_of old new p.mixture)) (times_in times)) is.begins
+        (subst (λ (m : Mixture O N). P (started (state_in p.finding.start) (migration_of old new m)) (times_in times)) is.same has))
+
+    -- and the other way
+    pub over_times : P move_here ((ranked p.items move_here).times ranks) → P (searched old new p.finding) (times_in times)
+    over_times has =
+        subst (λ (m : Mixture O N). P (started (state_in p.finding.start) (migration_of old new m)) (times_in times)) (sym is.same)
+        (subst (λ (s : State). P (started s (migration_of old new p.mixture)) (times_in times)) (sym is.begins)
+        (subst (P move_here) (sym times_are) has))
+
+  pub table_here : IsRanking (size_of p.items (length p.mixture.net)) ranks → KeepsPairs ranks (base_of p.items (length p.mixture.net)) →
+      IsTimetable (length p.finding.mixture.net) (state_in p.finding.start) (times_in times)
+  table_here waves keeps =
+      over_times (λ m t. IsTimetable (length m.net) m.start t)
+      (night_table p.items move_here (can_from old new p.items p.start p.mixture) ranks waves keeps)
+
+-- a rank is far below 2 ^ 32
+pub night_rank_fits : (n : ℕ) (ranks : List ℕ) (k : ℕ) → n ≤ 1000 → IsRanking n ranks → rank_of ranks k + 1 < 2 ^ 32
+night_rank_fits n ranks k few ranking = elim (cases_lt k (length ranks)) [
+  | inl within ↦
+      let count = rank_below_count ranks (rank_of ranks k) (Contains-get_or ranks k 0 within) in
+      omega (arith, count, count_le_length n ranks ranking, few)
+  | inr past ↦ let none : rank_of ranks k ≡ 0 = get_or_past ranks k 0 past in omega (arith, none)
+]

@@ -1,5 +1,5 @@
 -- What is planned of a night.
-use Rattle.std.proofs.Common.{◌≡◌, ℕ, ◌<◌, ◌≤◌, List, length, Option, Some, None, IfSome, IfNone, refl, sym, ◌∙◌, subst, arith}
+use Rattle.std.proofs.Common.{◌≡◌, ℕ, ◌<◌, ◌≤◌, List, length, Option, Some, None, IfSome, IfNone, refl, sym, ap, ◌∙◌, subst, arith}
 use Rattle.igp_theory.specs.LoopLaws.{AreSoundEnds}
 use Rattle.igp_theory.specs.Loops.{IsFault}
 use Rattle.igp_theory.specs.Migrations.{Migration, started}
@@ -86,6 +86,12 @@ module _ {O N : Type 0} (old : Listing O) (new : Listing N) (mixture : Mixture O
         (subst (λ (s : List Phase). P items (started (night_start items s) (migration_of old new night.mixture))) (sym is.start_is)
         (subst (λ (m : Mixture O N). P items (started (night_start items start) (migration_of old new m))) (sym is.mixture_is)
         (subst (λ (s : State). P items (started s (migration_of old new mixture))) (sym begins) has)))
+
+  -- where that is all Old, so is the night's
+  pub night_from_old : (night : Night O N) → IsNightOf mixture items start night → state_in start ≡ all_old →
+      night_start night.items night.start ≡ all_old
+  night_from_old night is old_start =
+      ap (λ (i : Items). night_start i night.start) is.items_are ∙ ap (night_start items) is.start_is ∙ begins ∙ old_start
 
   -- where the start has a fault
   pub start_is_planned : (night : Night O N) → IsNightOf mixture items start night → (budget : ℕ) (fault : EndFault) →

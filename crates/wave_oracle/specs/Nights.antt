@@ -57,7 +57,7 @@ pub record IsNightFinder {O N : Type 0} (p : NightParts O N) : Type 0 where
   pub turns_fit : length p.mixture.net ≤ p.room
 
 -- there what is ranked can be: single changes from the state in which every router is Old
-can_from : {O N : Type 0} (old : Listing O) (new : Listing N) (items : Items) (start : List Phase) (m : Mixture O N) →
+pub can_from : {O N : Type 0} (old : Listing O) (new : Listing N) (items : Items) (start : List Phase) (m : Mixture O N) →
     CanRank items (started (night_start items start) (migration_of old new m))
 can_from old new Routers start m = tt
 can_from old new Changes start m = λ u. refl

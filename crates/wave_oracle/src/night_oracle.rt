@@ -18,7 +18,8 @@ pub struct NightOracle<'a, O: RouteSource, N: RouteSource> {
 }
 
 impl<'a, O: RouteSource, N: RouteSource> Model for NightOracle<'a, O, N> {
-    ghost use Rattle.wave_oracle.specs.Nights.{Night};
+    ghost use Rattle.igp_theory.specs.LoopLaws.{AreSoundEnds};
+    ghost use Rattle.wave_oracle.specs.Nights.{Night, night_move};
 
     ghost Value = { Night O N };
 
@@ -42,7 +43,7 @@ impl<'a, O: RouteSource, N: RouteSource> Oracle for NightOracle<'a, O, N> {
     ghost use Rattle.plan_theory.specs.WavesMeaning.{night_meaning};
     ghost use Rattle.plan_theory.proofs.Decided.{rankings_decided};
     ghost use Rattle.plan_theory.proofs.ItemsServe.{items_ask, items_serve};
-    ghost use Rattle.wave_oracle.specs.Nights.{night_can};
+    ghost use Rattle.wave_oracle.specs.Nights.{night_can, night_move};
 
     ghost meaning = { λ o. night_meaning o.items (night_move O.table N.table o) };
 
