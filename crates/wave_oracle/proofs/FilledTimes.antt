@@ -7,7 +7,7 @@ use Rattle.igp_theory.specs.Changes.{Change, first, second}
 use Rattle.igp_theory.specs.Phases.{State}
 use Rattle.igp_theory.specs.Timetables.{Timetable, is_made}
 use Rattle.igp_theory.specs.declared.phase.Phase.{Phase}
-use Rattle.igp_theory.specs.declared.phase.Phase.TheVariants.{Old, Middle, New}
+use Rattle.igp_theory.specs.declared.phase.Phase.TheVariants.{Old}
 use Rattle.loop_finder.specs.Faults.{state_in}
 use Rattle.loop_finder.specs.Times.{times_in, waves_of}
 use Rattle.loop_finder.specs.declared.times.ChangeWaves.{ChangeWaves}

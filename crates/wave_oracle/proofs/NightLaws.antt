@@ -1,5 +1,5 @@
 -- What the finder of a night tells between sound ends, and what its oracle means.
-use Rattle.std.proofs.Common.{◌≡◌, ◌≢◌, ℕ, ◌+◌, ◌*◌, ◌^◌, ◌<◌, ◌≤◌, inl, inr, List, length, map, All, AllPairs, Contains, refl, sym, ap, ◌∙◌, subst, arith}
+use Rattle.std.proofs.Common.{◌≡◌, ◌≢◌, ℕ, ◌+◌, ◌*◌, ◌^◌, ◌<◌, ◌≤◌, inl, inr, List, length, All, AllPairs, Contains, refl, sym, ap, ◌∙◌, subst, arith}
 use Rattle.std.proofs.lemmas.Bool.{cases_lt}
 use Rattle.std.proofs.lemmas.List.{get_or-map, get_or_past, length-map}
 use Rattle.std.proofs.lemmas.List.FromFn.{length-range_with_len}
@@ -11,7 +11,7 @@ use Rattle.igp_theory.specs.Loops.{IsLoop, loop}
 use Rattle.igp_theory.specs.Migrations.{Migration, started}
 use Rattle.igp_theory.specs.Phases.{State}
 use Rattle.igp_theory.specs.TimetableLaws.{IsLoopOfWave}
-use Rattle.igp_theory.specs.Timetables.{IsTimetable, Timetable, change_number}
+use Rattle.igp_theory.specs.Timetables.{IsSoundThroughout, IsTimetable, Timetable, change_number}
 use Rattle.igp_theory.specs.WaveFaults.{IsTimesFault}
 use Rattle.igp_theory.specs.declared.phase.Phase.{Phase}
 use Rattle.igp_theory.proofs.LoopLaws.{loop_inside}
@@ -87,6 +87,13 @@ module _ (items : Items) (move : Migration) (can : CanRank items move) (ranks : 
   night_table = (items_serve items move can).table ranks (subst (λ (n : ℕ). IsRanking n ranks) (sym (ranked_size items move)) waves)
       (subst (KeepsPairs ranks) (sym (ranked_base items move)) keeps)
 
+  pub night_good : IsSoundThroughout move ((ranked items move).times ranks) → (night_meaning items move).good ranks
+  night_good sound = ((items_ask items move).good ranks).1 (record {
+    waves = subst (λ (n : ℕ). IsRanking n ranks) (sym (ranked_size items move)) waves;
+    keeps = subst (KeepsPairs ranks) (sym (ranked_base items move)) keeps;
+    throughout = sound;
+  })
+
   module _ (ends : AreSoundEnds move) (w : ℕ) where
     -- what is told is a loop
     pub night_told : (fault : Fault) (ring : List Turn) → IsTimesFault move ((ranked items move).times ranks) w (told_fault fault ring) →
@@ -155,6 +162,18 @@ module _ {O N : Type 0} (old : Listing O) (new : Listing N) where
 
 -- Its finder
 
+module _ {O N : Type 0} (old : Listing O) (new : Listing N) (p : NightParts O N) (is : IsNightFinder p) (P : Migration → Type 0) where
+  -- what the finder of faults tells from its start is told of the night, and the other way
+  pub over_start : P (searched old new p.finding) → P (started (night_start p.items p.start) (migration_of old new p.mixture))
+  over_start has =
+      subst (λ (s : State). P (started s (migration_of old new p.mixture))) is.begins
+      (subst (λ (m : Mixture O N). P (started (state_in p.finding.start) (migration_of old new m))) is.same has)
+
+  pub over_found : P (started (night_start p.items p.start) (migration_of old new p.mixture)) → P (searched old new p.finding)
+  over_found has =
+      subst (λ (m : Mixture O N). P (started (state_in p.finding.start) (migration_of old new m))) (sym is.same)
+      (subst (λ (s : State). P (started s (migration_of old new p.mixture))) (sym is.begins) has)
+
 module _ {O N : Type 0} (old : Listing O) (new : Listing N) (p : NightParts O N) (is : IsNightFinder p) (ranks : List ℕ)
     (times : List ChangeWaves) (filled : times_in times ≡ times_from p.items (state_in p.start) ranks) where
   abbrev move_here : Migration
@@ -166,17 +185,11 @@ module _ {O N : Type 0} (old : Listing O) (new : Listing N) (p : NightParts O N)
   module _ (P : Migration → Timetable → Type 0) where
     -- what the finder of faults tells of its timetable is told of the ranking
     pub over_ranking : P (searched old new p.finding) (times_in times) → P move_here ((ranked p.items move_here).times ranks)
-    over_ranking has =
-        subst (P move_here) times_are
-        (subst (λ (s : State). P (started s (migration_of old new p.mixture)) (times_in times)) is.begins
-        (subst (λ (m : Mixture O N). P (started (state_in p.finding.start) (migration_of old new m)) (times_in times)) is.same has))
+    over_ranking has = subst (P move_here) times_are (over_start old new p is (λ m. P m (times_in times)) has)
 
     -- and the other way
     pub over_times : P move_here ((ranked p.items move_here).times ranks) → P (searched old new p.finding) (times_in times)
-    over_times has =
-        subst (λ (m : Mixture O N). P (started (state_in p.finding.start) (migration_of old new m)) (times_in times)) (sym is.same)
-        (subst (λ (s : State). P (started s (migration_of old new p.mixture)) (times_in times)) (sym is.begins)
-        (subst (P move_here) (sym times_are) has))
+    over_times has = over_found old new p is (λ m. P m (times_in times)) (subst (P move_here) (sym times_are) has)
 
   pub table_here : IsRanking (size_of p.items (length p.mixture.net)) ranks → KeepsPairs ranks (base_of p.items (length p.mixture.net)) →
       IsTimetable (length p.finding.mixture.net) (state_in p.finding.start) (times_in times)

@@ -1,12 +1,12 @@
 -- What is planned of a night.
-use Rattle.std.proofs.Common.{◌≡◌, ℕ, ◌<◌, ◌≤◌, List, length, Option, Some, None, IfSome, IfNone, refl, sym, ap, ◌∙◌, subst, arith}
-use Rattle.igp_theory.specs.LoopLaws.{AreSoundEnds}
+use Rattle.std.proofs.Common.{◌≡◌, ℕ, ◌≤◌, List, length, Option, Some, None, IfSome, IfNone, refl, sym, ◌∙◌, subst, arith}
+use Rattle.igp_theory.specs.LoopLaws.{AreSoundEnds, IsFromStart}
 use Rattle.igp_theory.specs.Loops.{IsFault}
 use Rattle.igp_theory.specs.Migrations.{Migration, started}
-use Rattle.igp_theory.specs.Phases.{State, all_new, all_old}
+use Rattle.igp_theory.specs.Phases.{State, all_new, all_old, made_in}
 use Rattle.igp_theory.specs.States.{IsSound}
 use Rattle.igp_theory.specs.declared.phase.Phase.{Phase}
-use Rattle.igp_theory.specs.declared.phase.Phase.TheVariants.{New}
+use Rattle.igp_theory.specs.declared.phase.Phase.TheVariants.{Old, Middle, New}
 use Rattle.igp_theory.proofs.AlikeStates.{AreAlike, sound_alike}
 use Rattle.rib_mix.specs.Mixture.{Mixture, migration_of}
 use Rattle.loop_finder.specs.Faults.{state_in}
@@ -37,6 +37,11 @@ some_told P told fault is given = subst (λ (t : Option EndFault). IfSome t P) i
 pub some_ranked : (items : Items) (n : ℕ) → 1 ≤ n → 1 ≤ size_of items n
 some_ranked Routers n some = some
 some_ranked Changes n some = omega (arith, some)
+
+made_few : (phase : Phase) → made_in phase ≤ 2
+made_few Old = omega arith
+made_few Middle = omega arith
+made_few New = omega arith
 
 -- a night goes on from its start
 pub start_of_night : (items : Items) (start : List Phase) (move : Migration) → CanRank items (started (state_in start) move) →
@@ -87,11 +92,9 @@ module _ {O N : Type 0} (old : Listing O) (new : Listing N) (mixture : Mixture O
         (subst (λ (m : Mixture O N). P items (started (night_start items start) (migration_of old new m))) (sym is.mixture_is)
         (subst (λ (s : State). P items (started s (migration_of old new mixture))) (sym begins) has)))
 
-  -- where that is all Old, so is the night's
-  pub night_from_old : (night : Night O N) → IsNightOf mixture items start night → state_in start ≡ all_old →
-      night_start night.items night.start ≡ all_old
-  night_from_old night is old_start =
-      ap (λ (i : Items). night_start i night.start) is.items_are ∙ ap (night_start items) is.start_is ∙ begins ∙ old_start
+  -- no router is in an earlier phase than at the start, at the start and in the last state
+  pub from_start : (night : Night O N) → IsNightOf mixture items start night → IsFromStart (night_move old new night) (state_in start)
+  from_start night is = over_night night is (λ _ m. IsFromStart m (state_in start)) (λ u below. omega arith)
 
   -- where the start has a fault
   pub start_is_planned : (night : Night O N) → IsNightOf mixture items start night → (budget : ℕ) (fault : EndFault) →
@@ -101,6 +104,10 @@ module _ {O N : Type 0} (old : Listing O) (new : Listing N) (mixture : Mixture O
   module _ (phases listed : List Phase) (n : ℕ) (many : n ≡ length mixture.net) (last : EachHas n phases New) (same : listed ≡ phases) where
     alike : AreAlike (length mixture.net) (state_in listed) all_new
     alike = is_alike mixture.net phases listed New n many same last
+
+    pub from_last : (night : Night O N) → IsNightOf mixture items start night → IsFromStart (night_move old new night) (state_in listed)
+    from_last night is = over_night night is (λ _ m. IsFromStart m (state_in listed))
+        (λ u below. subst (λ (p : Phase). made_in (state_in start u) ≤ made_in p) (sym (alike u below)) (made_few (state_in start u)))
 
     -- where the last state has one
     pub last_is_planned_night : (one other : Night O N) → IsNightOf mixture items start one → IsNightOf mixture items start other → (budget : ℕ)
@@ -120,10 +127,11 @@ module _ {O N : Type 0} (old : Listing O) (new : Listing N) (mixture : Mixture O
       last = sound_alike alike (over_move other too (λ _ m. IsSound m (state_in listed)) last_sound);
     })
 
-    pub found_is_planned : (night third : Night O N) → IsNightOf mixture items start night → IsNightOf mixture items start third → (budget : ℕ)
-        (found : Found) → AreSoundEnds (night_move old new third) → IsFound (night_meaning night.items (night_move old new night)) budget found →
-        IsNightPlanned items move budget (Searched found)
-    found_is_planned night third is too budget found ends searched = record {
-      ends = over_move third too (λ _ m. AreSoundEnds m) ends;
-      is_found = over_move night is (λ i m. IsFound (night_meaning i m) budget found) searched;
-    }
+  -- what was found between them
+  pub found_is_planned : (night third : Night O N) → IsNightOf mixture items start night → IsNightOf mixture items start third → (budget : ℕ)
+      (found : Found) → AreSoundEnds (night_move old new third) → IsFound (night_meaning night.items (night_move old new night)) budget found →
+      IsNightPlanned items move budget (Searched found)
+  found_is_planned night third is too budget found ends searched = record {
+    ends = over_move third too (λ _ m. AreSoundEnds m) ends;
+    is_found = over_move night is (λ i m. IsFound (night_meaning i m) budget found) searched;
+  }

@@ -1,10 +1,10 @@
 ghost use Rattle.std.specs.Prelude.{◌≡◌, ◌<◌, ℕ, IfOk, IfSome, IfNone, length};
+ghost use Rattle.igp_theory.specs.LoopLaws.{IsFromStart};
 ghost use Rattle.igp_theory.specs.Loops.{IsFault};
-ghost use Rattle.igp_theory.specs.Phases.{all_old};
 ghost use Rattle.igp_theory.specs.States.{IsSound};
 ghost use Rattle.loop_finder.specs.Faults.{state_in, told_fault};
 ghost use Rattle.plan_theory.specs.Plans.{fault_told};
-ghost use Rattle.wave_oracle.specs.Nights.{night_move, night_start};
+ghost use Rattle.wave_oracle.specs.Nights.{night_move};
 
 use crate::night::NightFinder;
 use igp_theory::Phase;
@@ -15,14 +15,14 @@ use rib_mix::OutOfMemory;
 use route_core::RouteSource;
 use std::alloc::Global;
 
-/// The fault of a state of a night; none where it is sound.
+/// The fault of a state of a night in which no router is in an earlier phase than at the start; none where it is sound.
 pub(crate) fn end_fault<O: RouteSource, N: RouteSource>(
     alloc: Global,
     night: &mut NightFinder<'_, O, N>,
     phases: &[Phase],
 ) -> Result<Option<EndFault>, OutOfMemory>
     requires each { length phases.now ≡ length night.old.mixture.net }
-    requires begins { night_start night.old.items night.old.start ≡ all_old }
+    requires from { IsFromStart (night_move O.table N.table night.old) (state_in phases.now) }
     ensures sound { IfOk result (λ fault. IfNone fault (IsSound (night_move O.table N.table night.old) (state_in phases.now))) }
     ensures fault { IfOk result (λ fault. IfSome fault (λ whole.
         IsFault (night_move O.table N.table night.old) (state_in phases.now) (fault_told whole))) }

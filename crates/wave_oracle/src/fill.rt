@@ -11,12 +11,7 @@ use loop_finder::ChangeWaves;
 use plan_theory::Items;
 
 /// Fills in the waves of each router's changes by a ranking, where each router starts in the phase at its place.
-pub(crate) fn fill_times(
-    items: Items,
-    start: &[Phase],
-    ranks: &[u32],
-    times: &mut Vec<ChangeWaves>,
-)
+pub(crate) fn fill_times(items: Items, start: &[Phase], ranks: &[u32], times: &mut Vec<ChangeWaves>)
     requires many { vec_len times.old ≡ length start.now }
     requires each { length ranks.now ≡ size_of items (length start.now) }
     requires few { (k : ℕ) → rank_of ranks.now k + 1 < 2 ^ 32 }

@@ -2,7 +2,8 @@ ghost use Rattle.std.specs.Prelude.{◌≡◌, ◌≤◌, ◌↔◌, ℕ, [], Al
 ghost use Rattle.igp_theory.specs.Forwarding.{MustForward};
 ghost use Rattle.igp_theory.specs.Loops.{IsFault};
 ghost use Rattle.igp_theory.specs.Migrations.{started};
-ghost use Rattle.igp_theory.specs.Phases.{State, all_old};
+ghost use Rattle.igp_theory.specs.LoopLaws.{IsFromStart};
+ghost use Rattle.igp_theory.specs.Phases.{State};
 ghost use Rattle.igp_theory.specs.States.{IsSound};
 ghost use Rattle.igp_theory.specs.Timetables.{IsSoundThroughout};
 ghost use Rattle.igp_theory.specs.WaveFaults.{IsTimesFault};
@@ -12,7 +13,7 @@ ghost use Rattle.rib_mix.specs.Mixture.{migration_of};
 ghost use Rattle.loop_finder.specs.Faults.{KeepsRing, state_in, told, told_fault};
 ghost use Rattle.plan_theory.specs.Ranked.{CanRank, base_of, size_of};
 ghost use Rattle.ranked_items.specs.Numbers.{AreNumbered};
-ghost use Rattle.wave_oracle.specs.Nights.{night_move, night_start, night_times};
+ghost use Rattle.wave_oracle.specs.Nights.{night_move, night_times};
 
 use crate::fill::fill_times;
 use igp_theory::Phase;
@@ -135,10 +136,10 @@ impl<'a, O: RouteSource, N: RouteSource> NightFinder<'a, O, N> {
         self.finder.times_fault(self.times.as_slice())
     }
 
-    /// The fault of the state that gives each router the phase at its place; none where it's sound.
+    /// The fault of a state in which no router is in an earlier phase than at the start; none where it's sound.
     pub fn state_fault(&mut self, phases: &[Phase]) -> Option<Fault>
         requires each { length phases.now ≡ length self.old.mixture.net }
-        requires begins { night_start self.old.items self.old.start ≡ all_old }
+        requires from { IsFromStart (night_move O.table N.table self.old) (state_in phases.now) }
         ensures sound { IsNone result ↔ IsSound (night_move O.table N.table self.old) (state_in phases.now) }
         ensures fault { IfSome result (λ fault.
             IsFault (night_move O.table N.table self.old) (state_in phases.now) (told_fault fault self.new.ring)) }
@@ -146,7 +147,7 @@ impl<'a, O: RouteSource, N: RouteSource> NightFinder<'a, O, N> {
         ensures items { self.new.items ≡ self.old.items }
         ensures start { self.new.start ≡ self.old.start }
     {
-        self.finder.state_fault(phases)
+        self.finder.night_fault(phases)
     }
 
     /// The ring of the latest loop, with its tags by the start; empty before the first.

@@ -1,6 +1,5 @@
 ghost use Rattle.std.specs.Prelude.{◌≡◌, ◌≤◌, IfOk, length};
 ghost use Rattle.igp_theory.specs.Migrations.{started};
-ghost use Rattle.igp_theory.specs.Phases.{all_old};
 ghost use Rattle.rib_mix.specs.Mixture.{migration_of};
 ghost use Rattle.loop_finder.specs.Faults.{state_in};
 ghost use Rattle.plan_theory.specs.Plans.{IsNightPlanned, IsPlanned};
@@ -47,7 +46,6 @@ pub fn plan_night<'a, O: RouteSource, N: RouteSource>(
     requires few { size_of items (length mixed.now.net) ≤ 1000 }
     requires each { length start.now ≡ length mixed.now.net }
     requires ranks { CanRank items (started (state_in start.now) (migration_of O.table N.table mixed.now)) }
-    requires begins { state_in start.now ≡ all_old }
     ensures planned { IfOk result (IsNightPlanned items (started (state_in start.now) (migration_of O.table N.table mixed.now)) budget) }
 {
     let mut night = NightFinder::new(alloc, mixed, items, start)?;

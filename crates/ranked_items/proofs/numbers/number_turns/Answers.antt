@@ -1,4 +1,4 @@
-use Rattle.std.proofs.Common.{◌≡◌, ℕ, ◌+◌, ◌<◌, List, [], ◌∷◌, ◌++◌, length, get_or, take, All, arith, sym, subst}
+use Rattle.std.proofs.Common.{◌+◌, ◌<◌, List, [], length, get_or, take, All, arith, sym, subst}
 use Rattle.std.proofs.lemmas.List.{take_all}
 use Rattle.std.proofs.lemmas.List.Elements.{All-nil, All-push}
 use Rattle.igp_theory.specs.Forwarding.{MustForward}

@@ -1,4 +1,4 @@
-use Rattle.std.proofs.Common.{◌≡◌, ◌↔◌, ℕ, List, IfSome, IsNone, length, sym, ap, ◌∙◌, subst}
+use Rattle.std.proofs.Common.{◌↔◌, List, IfSome, IsNone, length, sym, ap, ◌∙◌, subst}
 use Rattle.order_core.specs.Rankings.{IsRanking, KeepsPairs}
 use Rattle.igp_theory.specs.Timetables.{IsSoundThroughout}
 use Rattle.igp_theory.specs.WaveFaults.{IsTimesFault}

@@ -1,4 +1,4 @@
-use Rattle.std.proofs.Common.{◌≡◌, List, length, arith, sym, ap, ◌∙◌}
+use Rattle.std.proofs.Common.{◌≡◌, length, arith, sym, ap, ◌∙◌}
 use Rattle.rib_mix.specs.Mixture.{migration_of}
 use Rattle.loop_finder.specs.Faults.{state_in}
 use Rattle.plan_theory.specs.Ranked.{base_of}
