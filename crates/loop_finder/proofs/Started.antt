@@ -7,10 +7,11 @@ use Rattle.net_addr.specs.Addresses.{Block}
 use Rattle.order_core.specs.Turns.{routers_of}
 use Rattle.order_core.specs.declared.turn.Turn.{Turn}
 use Rattle.igp_theory.specs.Forwarding.{Usable, Counts, connected_counts, old_counts, new_counts, Steps, HasStep, MustForward}
-use Rattle.igp_theory.specs.Loops.{IsTagOf, IsTag, EachToNext, AroundRing, IsFoundRing, loop, missing}
+use Rattle.igp_theory.specs.LoopLaws.{IsFromStart}
+use Rattle.igp_theory.specs.Loops.{IsTagOf, IsTag, EachToNext, AroundRing, IsFoundRing, loop, missing, IsFault, missing_step, loop_arises}
 use Rattle.igp_theory.specs.Migrations.{Migration, started}
 use Rattle.igp_theory.specs.Phases.{State, all_old}
-use Rattle.igp_theory.specs.States.{IsSoundAt, IsSound}
+use Rattle.igp_theory.specs.States.{StepsIn, IsSoundAt, IsSound}
 use Rattle.igp_theory.specs.TimetableLaws.{IsStateOfSomeWave}
 use Rattle.igp_theory.specs.Timetables.{Timetable, IsTimetable, IsStateOfWave}
 use Rattle.igp_theory.specs.WaveFaults.{StepsInSome, IsLeastUnsound, IsFaultOver, missing_in_one, loop_over_all, IsTimesFault}
@@ -151,6 +152,32 @@ told_from move start time (Some (w, Missing a u)) turns other same tags is = rec
   before = λ v one less state of_wave. sound_from start (is.before v one less state of_wave);
   here = missing_from start is.here;
 }
+
+-- so it is of a state from the start on
+pub state_steps_from : (move : Migration) (start state : State) (found : Option Told) (turns : List Turn) → IsFromStart (started start move) state →
+    IfSome found (λ fault. IsFault move state (told_fault fault turns)) → IfSome found (λ fault. TurnsStep move start fault turns)
+state_steps_from move start state None turns from is = tt
+state_steps_from move start state (Some (Loop a)) turns from (loop_arises address below moves found tags) =
+    around_ring_over {R = StepsIn move state a} {S = StepsFrom move start a} (λ u h step. start_or_new_step (start u) (state u)
+    (from u step.must.router) step) (routers_of turns) (found_goes_round found)
+state_steps_from move start state (Some (Missing a u)) turns from is = tt
+
+pub state_from : (move : Migration) (start state : State) (found : Option Told) (turns other : List Turn) → routers_of other ≡ routers_of turns →
+    IfSome found (λ fault. TurnsAreTagged (started start move) fault other) → IfSome found (λ fault. IsFault move state (told_fault fault turns)) →
+    IfSome found (λ fault. IsFault (started start move) state (told_fault fault other))
+state_from move start state None turns other same tags is = tt
+state_from move start state (Some (Loop a)) turns other same tags (loop_arises address below moves found tags_before) = loop_arises address
+    (λ b less. sound_at_from start (below b less)) (λ v must. has_step_from start (moves v must))
+    (subst (IsFoundRing (StepsIn (started start move) state a) (length move.net)) (sym same)
+    (found_ring_over (λ u h. (λ steps. steps_from start steps, λ steps. steps_from move.start steps)) found)) tags
+state_from move start state (Some (Missing a u)) turns other same tags (missing_step address below must lacks others) = missing_step address
+    (λ b less. sound_at_from start (below b less)) must (λ has. lacks (has_step_from move.start has))
+    (λ v before has_to. has_step_from start (others v before has_to))
+
+pub state_sound : (move : Migration) (start state : State) (found : Option Told) → IfNone found (IsSound move state) →
+    IfNone found (IsSound (started start move) state)
+state_sound move start state None sound = sound_from start sound
+state_sound move start state (Some found) sound = tt
 
 -- no other answer changes the ring, in two steps
 pub keeps_twice : (found : Option Told) (one two three : List Turn) → KeepsRing found one two → KeepsRing found two three → KeepsRing found one three

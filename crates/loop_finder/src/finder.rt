@@ -1,4 +1,5 @@
 ghost use Rattle.std.specs.Prelude.{◌≡◌, ◌↔◌, ◌*◌, ◌≤◌, [], length, IfOk, IfSome, IsNone};
+ghost use Rattle.igp_theory.specs.LoopLaws.{IsFromStart};
 ghost use Rattle.igp_theory.specs.Loops.{IsFault, IsFirstFault};
 ghost use Rattle.order_core.specs.Orders.{IsOrder};
 ghost use Rattle.order_core.specs.Rankings.{IsRanking};
@@ -172,6 +173,28 @@ impl<'a, O: RouteSource, N: RouteSource> Finder<'a, O, N> {
         ensures start { self.new.start ≡ self.old.start }
     {
         state_fault(self.mixed, self.parts.as_slice(), phases, &mut self.room)
+    }
+
+    /// The fault of a state that no router is in an earlier phase of than at the start, with the tags of the ring by the start;
+    /// none where it's sound.
+    pub fn night_fault(&mut self, phases: &[Phase]) -> Option<Fault>
+        requires many { length phases.now ≡ length self.old.mixture.net }
+        requires from { IsFromStart (searched O.table N.table self.old) (state_in phases.now) }
+        ensures sound { IsNone result ↔ IsSound (searched O.table N.table self.old) (state_in phases.now) }
+        ensures fault { IfSome result (λ fault.
+            IsFault (searched O.table N.table self.old) (state_in phases.now) (told_fault fault self.new.ring)) }
+        ensures ring { KeepsRing result self.old.ring self.new.ring }
+        ensures mixture { self.new.mixture ≡ self.old.mixture }
+        ensures start { self.new.start ≡ self.old.start }
+    {
+        let found = state_fault(self.mixed, self.parts.as_slice(), phases, &mut self.room);
+        tag_found(
+            self.mixed,
+            self.start.as_slice(),
+            found,
+            &mut self.room.ring,
+        );
+        found
     }
 
     /// The number of the first unsound state of an order, with that state's fault; none where the order is

@@ -31,21 +31,20 @@ impl Oracle for Ascending {
     ghost use Rattle.order_search.specs.Meanings.{KeepsPairs-nil};
     ghost use Rattle.migrate_bench.specs.Ascending.{IsAscending, AreRisingTurns, RanksSomeOldFirst-ascending};
 
-    ghost good = { λ o ranks. IsAscending o.size ranks };
-
-    ghost real = { λ o address turns. AreRisingTurns o.size turns };
-
-    ghost picked = { λ o ranks address turns. Unit {0} };
-
-    ghost size = { λ o. o.size };
-
-    ghost base = { λ o. [] };
+    ghost meaning = { λ o. record {
+      good = λ ranks. IsAscending o.size ranks;
+      real = λ address turns. AreRisingTurns o.size turns;
+      picked = λ ranks address turns. Unit {0};
+      size = o.size;
+      base = [];
+    } };
 
     ghost shown = { λ o. o.turns };
 
-    ghost keeps_base = { λ o ranks _. KeepsPairs-nil ranks };
-
-    ghost decides = { λ _ _ _ ranks rising _ ascending. RanksSomeOldFirst-ascending ranks rising ascending };
+    ghost decisive = { λ o. record {
+      keeps_base = λ ranks ascending. KeepsPairs-nil ranks;
+      decides = λ address turns ranks rising both ascending. RanksSomeOldFirst-ascending ranks rising ascending;
+    } };
 
     fn size(&self) -> u32 {
         self.size

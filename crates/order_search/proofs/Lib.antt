@@ -4,7 +4,8 @@ pub mod Turned
 mod LeafFacts
 mod CursorFacts
 mod RankFacts
-mod SameMeanings
+pub mod SameMeanings
 mod SearchSteps
 pub mod TreeRefutes
 pub mod OneAnswer
+pub mod RisingPairs

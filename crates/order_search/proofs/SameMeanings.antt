@@ -1,10 +1,10 @@
 -- Where two oracles mean the same, a search over the one stands and ends as a search over the other.
 use Rattle.std.proofs.Common.{◌≡◌, ℕ, ◌+◌, List, ◌∷◌, [], length, Option, None, Some, subst, sym, refl, ◌∙◌}
 use Rattle.order_core.specs.Pairs.{Pair}
-use Rattle.order_search.specs.Meanings.{Meaning}
+use Rattle.order_search.specs.Meanings.{Meaning, SameMeaning}
 use Rattle.order_search.specs.Places.{IsFoundNode, IsLayered}
 use Rattle.order_search.specs.Trees.{Place, Fill}
-use Rattle.order_search.specs.steps.Steps.{SameMeaning, IsSearching, IsAsked, EndsBy, StepsTo}
+use Rattle.order_search.specs.steps.Steps.{IsSearching, IsAsked, EndsBy, StepsTo}
 use Rattle.order_search.specs.steps.Waiting.{places_of, IsUnder}
 use Rattle.order_search.specs.declared.ending.Ending.{Ending}
 use Rattle.order_search.specs.declared.ending.Ending.TheVariants.{Good, Spent, Closed}

@@ -1,15 +1,14 @@
-ghost use Rattle.std.specs.Prelude.{◌≡◌, ℕ, List, ◌+◌, ◌<◌, ◌≤◌, ◌∷◌, [], ◌++◌, ◌↔◌, IfOk, OnOk, length, map};
+ghost use Rattle.std.specs.Prelude.{◌≡◌, ℕ, List, ◌+◌, ◌<◌, ◌≤◌, ◌∷◌, [], ◌++◌, IfOk, OnOk, length, map};
 ghost use Rattle.std.specs.Prelude.{Contains, IfNone};
 ghost use Rattle.std.specs.Bool.{OnTrue, OnFalse};
 ghost use Rattle.order_core.specs.Pairs.{Pair};
 ghost use Rattle.order_core.specs.Turns.{child_pairs, new_routers};
-ghost use Rattle.order_core.specs.declared.turn.Turn.{Turn};
-ghost use Rattle.order_search.specs.Meanings.{Break};
+ghost use Rattle.order_search.specs.Meanings.{Break, SameMeaning};
 ghost use Rattle.order_search.specs.Places.{IsLayered};
 ghost use Rattle.order_search.specs.Answers.{IsFound};
 ghost use Rattle.order_search.specs.steps.Waiting.{child_of, places_of, children_below, IsUnder};
 ghost use Rattle.order_search.specs.steps.Leaves.{GrowsLeaves};
-ghost use Rattle.order_search.specs.steps.Steps.{IsSearching, SameMeaning, StepsTo};
+ghost use Rattle.order_search.specs.steps.Steps.{IsSearching, StepsTo};
 
 use crate::assumptions::Assumptions;
 use crate::ending::{Ending, end};
@@ -27,20 +26,10 @@ use std::alloc::{AllocError, Global};
 /// the oracle may have changed.
 pub fn search<Q: Oracle>(alloc: Global, oracle: &mut Q, budget: u32) -> Result<Found, AllocError>
     requires budget_some { 1 ≤ budget }
-    requires size_some { 1 ≤ Q.size oracle.old }
-    requires size_few { Q.size oracle.old ≤ 1000 }
-    ensures found { IfOk result (IsFound (record {
-      good = Q.good oracle.old;
-      real = Q.real oracle.old;
-      picked = Q.picked oracle.old;
-      size = Q.size oracle.old;
-      base = Q.base oracle.old;
-    }) budget) }
-    ensures size_stays { Q.size oracle.new ≡ Q.size oracle.old }
-    ensures base_stays { Q.base oracle.new ≡ Q.base oracle.old }
-    ensures good_stays { (ranks : List ℕ) → Q.good oracle.new ranks ↔ Q.good oracle.old ranks }
-    ensures real_stays { (a : ℕ) (t : List Turn) → Q.real oracle.new a t ↔ Q.real oracle.old a t }
-    ensures picked_stays { (ranks : List ℕ) (a : ℕ) (t : List Turn) → Q.picked oracle.new ranks a t ↔ Q.picked oracle.old ranks a t }
+    requires size_some { 1 ≤ (Q.meaning oracle.old).size }
+    requires size_few { (Q.meaning oracle.old).size ≤ 1000 }
+    ensures found { IfOk result (IsFound (Q.meaning oracle.old) budget) }
+    ensures same { SameMeaning (Q.meaning oracle.old) (Q.meaning oracle.new) }
 {
     let mut stand = Stand::new(alloc, &*oracle)?;
     loop {
@@ -58,35 +47,11 @@ fn take_step<Q: Oracle>(
     stand: &mut Stand,
     budget: u32,
 ) -> Result<Option<Ending>, AllocError>
-    requires few { Q.size oracle.old ≤ 1000 }
-    requires searching { IsSearching (record {
-      good = Q.good oracle.old;
-      real = Q.real oracle.old;
-      picked = Q.picked oracle.old;
-      size = Q.size oracle.old;
-      base = Q.base oracle.old;
-    }) budget stand.old }
-    ensures step { IfOk result (StepsTo (record {
-      good = Q.good oracle.old;
-      real = Q.real oracle.old;
-      picked = Q.picked oracle.old;
-      size = Q.size oracle.old;
-      base = Q.base oracle.old;
-    }) budget stand.new) }
+    requires few { (Q.meaning oracle.old).size ≤ 1000 }
+    requires searching { IsSearching (Q.meaning oracle.old) budget stand.old }
+    ensures step { IfOk result (StepsTo (Q.meaning oracle.old) budget stand.new) }
     ensures branches { IfOk result (λ ending. IfNone ending (stand.new.branches ≡ stand.old.branches + 1)) }
-    ensures same { SameMeaning (record {
-      good = Q.good oracle.old;
-      real = Q.real oracle.old;
-      picked = Q.picked oracle.old;
-      size = Q.size oracle.old;
-      base = Q.base oracle.old;
-    }) (record {
-      good = Q.good oracle.new;
-      real = Q.real oracle.new;
-      picked = Q.picked oracle.new;
-      size = Q.size oracle.new;
-      base = Q.base oracle.new;
-    }) }
+    ensures same { SameMeaning (Q.meaning oracle.old) (Q.meaning oracle.new) }
 {
     let address = match visit(oracle, &mut stand.held, &mut stand.ranks) {
         Answer::Fine => return Ok(Some(Ending::Good)),
@@ -111,23 +76,13 @@ fn take_step<Q: Oracle>(
 /// Asks the oracle for the layered list of the assumed pairs.
 fn visit<Q: Oracle>(oracle: &mut Q, held: &mut Assumptions, ranks: &mut [u32]) -> Answer
     requires ranks_length { length ranks.old ≡ held.old.routers }
-    requires size { Q.size oracle.old ≡ held.old.routers }
-    requires base { (pair : Pair) → Contains (Q.base oracle.old) pair → Contains held.old.pairs pair }
+    requires size { (Q.meaning oracle.old).size ≡ held.old.routers }
+    requires base { (pair : Pair) → Contains (Q.meaning oracle.old).base pair → Contains held.old.pairs pair }
     ensures same { held.new ≡ held.old }
     ensures layered { IsLayered held.old.routers held.old.pairs ranks.new }
-    ensures fine { result ≡ Answer.Fine → Q.good oracle.old ranks.new }
-    ensures breaks { (address : ℕ) → result ≡ Answer.Breaks address → Break (record {
-      good = Q.good oracle.old;
-      real = Q.real oracle.old;
-      picked = Q.picked oracle.old;
-      size = Q.size oracle.old;
-      base = Q.base oracle.old;
-    }) ranks.new address (Q.shown oracle.new) }
-    ensures size_stays { Q.size oracle.new ≡ Q.size oracle.old }
-    ensures base_stays { Q.base oracle.new ≡ Q.base oracle.old }
-    ensures good_stays { (ranks : List ℕ) → Q.good oracle.new ranks ↔ Q.good oracle.old ranks }
-    ensures real_stays { (a : ℕ) (t : List Turn) → Q.real oracle.new a t ↔ Q.real oracle.old a t }
-    ensures picked_stays { (ranks : List ℕ) (a : ℕ) (t : List Turn) → Q.picked oracle.new ranks a t ↔ Q.picked oracle.old ranks a t }
+    ensures fine { result ≡ Answer.Fine → (Q.meaning oracle.old).good ranks.new }
+    ensures breaks { (address : ℕ) → result ≡ Answer.Breaks address → Break (Q.meaning oracle.old) ranks.new address (Q.shown oracle.new) }
+    ensures meant { SameMeaning (Q.meaning oracle.old) (Q.meaning oracle.new) }
 {
     held.layers(ranks);
     oracle.ask(ranks)

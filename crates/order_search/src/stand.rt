@@ -25,14 +25,8 @@ pub(crate) struct Stand {
 impl Stand {
     /// At the first place, which assumes the base alone.
     pub(crate) fn new<Q: Oracle>(alloc: Global, oracle: &Q) -> Result<Stand, AllocError>
-        requires { Q.size oracle.now ≤ 1000 }
-        ensures { IfOk result (λ stand. (budget : ℕ) → IsSearching (record {
-          good = Q.good oracle.now;
-          real = Q.real oracle.now;
-          picked = Q.picked oracle.now;
-          size = Q.size oracle.now;
-          base = Q.base oracle.now;
-        }) budget stand) }
+        requires { (Q.meaning oracle.now).size ≤ 1000 }
+        ensures { IfOk result (λ stand. (budget : ℕ) → IsSearching (Q.meaning oracle.now) budget stand) }
     {
         let size = oracle.size();
         Ok(Stand {

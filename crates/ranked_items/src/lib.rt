@@ -12,7 +12,7 @@
 mod numbers;
 mod words;
 
-pub use numbers::{base_pairs, number_at, number_count};
+pub use numbers::{base_pairs, number_at, number_count, number_turns};
 pub use plan_theory::Items;
 pub use rib_mix::OutOfMemory;
 pub use words::{is_number_word, number_named};

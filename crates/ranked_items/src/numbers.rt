@@ -1,5 +1,7 @@
-ghost use Rattle.std.specs.Prelude.{◌≡◌, ◌*◌, ◌<◌, ◌≤◌, ◌↔◌, ℕ, List, ◌∷◌, [], Contains, IfOk, IsTrue, MatchBool, length};
+ghost use Rattle.std.specs.Prelude.{◌≡◌, ◌*◌, ◌<◌, ◌≤◌, ◌↔◌, ℕ, List, ◌∷◌, [], All, Contains, IfOk, IsTrue, MatchBool, length};
+ghost use Rattle.std.specs.Vec.{vec_capacity};
 ghost use Rattle.order_core.specs.declared.turn.Tag.{Tag};
+ghost use Rattle.order_core.specs.declared.turn.Turn.{Turn};
 ghost use Rattle.igp_theory.specs.Forwarding.{MustForward};
 ghost use Rattle.igp_theory.specs.Migrations.{started};
 ghost use Rattle.igp_theory.specs.Phases.{State};
@@ -8,9 +10,10 @@ ghost use Rattle.prefix_atoms.specs.Classes.{IsInClass};
 ghost use Rattle.rib_mix.specs.Answers.{NextLeadsTo};
 ghost use Rattle.rib_mix.specs.Mixture.{migration_of};
 ghost use Rattle.plan_theory.specs.Ranked.{base_of, ranked, size_of};
-ghost use Rattle.ranked_items.specs.Numbers.{ForwardAlike, turn_of};
+ghost use Rattle.ranked_items.specs.Numbers.{AreNumbered, ForwardAlike, turn_of};
 
 use igp_theory::Phase;
+use order_core::Turn;
 use plan_theory::Items;
 use rib_mix::{Mixed, Next, OutOfMemory};
 use route_core::RouteSource;
@@ -75,6 +78,33 @@ pub fn number_at<O: RouteSource, N: RouteSource>(
                 router + router + 1
             }
         }
+    }
+}
+
+/// The turns of a ring by the numbers that they have to name for an address, in room for them.
+pub fn number_turns<O: RouteSource, N: RouteSource>(
+    items: Items,
+    mixed: &Mixed<'_, O, N>,
+    address: u32,
+    turns: &[Turn],
+    numbered: &mut Vec<Turn>,
+)
+    requires few { length mixed.now.net ≤ 1000 }
+    requires must { All (λ (turn : Turn). MustForward mixed.now.net address turn.router) turns.now }
+    requires room { length turns.now ≤ vec_capacity numbered.old }
+    ensures numbered { (start : State)
+        → AreNumbered items (started start (migration_of O.table N.table mixed.now)) address turns.now numbered.new.items }
+    ensures below { All (λ turn. turn.router < size_of items (length mixed.now.net)) numbered.new.items }
+    ensures capacity { vec_capacity numbered.old ≤ vec_capacity numbered.new }
+{
+    let atom = mixed.atoms().of(address);
+    numbered.clear();
+    for turn in turns {
+        let router = number_at(items, mixed, atom, turn.router);
+        numbered.push_reserved(Turn {
+            router,
+            tag: turn.tag,
+        });
     }
 }
 

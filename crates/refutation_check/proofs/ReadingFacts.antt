@@ -33,7 +33,7 @@ use Rattle.refutation_check.specs.declared.verdict.Verdict.TheVariants.{Closed, 
 use Rattle.refutation_check.specs.declared.verdict.WrongKind.{WrongKind}
 use Rattle.refutation_check.specs.declared.verdict.WrongKind.TheVariants.{Form, Router}
 use Rattle.refutation_check.specs.steps.Counted.{CountsNode}
-use Rattle.refutation_check.specs.steps.Judged.{AreNumbered}
+use Rattle.ranked_items.specs.Numbers.{AreNumbered}
 use Rattle.refutation_check.specs.steps.Reading.{HasReadLines, IsFirstWrongOf, IsNotTaken, TakesLine, IsEndVerdict, IsWholeVerdict}
 use Rattle.refutation_check.specs.steps.Shapes.{SaysNoNode}
 use Rattle.refutation_check.specs.steps.Right.{IsRightBranch}

@@ -1,13 +1,14 @@
 ghost use Rattle.std.specs.Prelude.{◌<◌, All, IfOk, length};
 ghost use Rattle.net_model.specs.Refusals.{IsNetwork};
 ghost use Rattle.plan_theory.specs.Ranked.{size_of};
-ghost use Rattle.refutation_check.specs.steps.Judged.{AreNumbered, started_of};
+ghost use Rattle.ranked_items.specs.Numbers.{AreNumbered};
+ghost use Rattle.refutation_check.specs.steps.Judged.{started_of};
 ghost use Rattle.refutation_check.specs.steps.Right.{IsRightBranch};
 
 use crate::asked::Asked;
 use net_addr::OutOfMemory;
 use order_core::{Turn, Turns};
-use ranked_items::number_at;
+use ranked_items::number_turns;
 use route_core::RouteSource;
 use std::alloc::Global;
 
@@ -25,14 +26,7 @@ pub(crate) fn numbered<O: RouteSource, N: RouteSource>(
         (started_of O.table N.table asked.now.mixed.now asked.now.start.now) address turns.now) }
     ensures below { IfOk result (All (λ turn. turn.router < size_of asked.now.items (length asked.now.mixed.now.net))) }
 {
-    let atom = asked.mixed.atoms().of(address);
-    let mut all = Vec::new(alloc);
-    for turn in turns {
-        let router = number_at(asked.items, asked.mixed, atom, turn.router);
-        all.push(Turn {
-            router,
-            tag: turn.tag,
-        })?;
-    }
-    Ok(Turns::from_vec(all))
+    let mut numbered = Vec::with_capacity(alloc, turns.len())?;
+    number_turns(asked.items, asked.mixed, address, turns, &mut numbered);
+    Ok(Turns::from_vec(numbered))
 }

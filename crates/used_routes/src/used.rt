@@ -34,6 +34,7 @@ pub struct UsedRoute {
 }
 
 /// A network with its old and its new tables.
+#[derive(Drop)]
 pub struct Sources<'a, O: RouteSource, N: RouteSource> {
     /// The network.
     pub net: &'a Net,

@@ -1,3 +1,5 @@
 mod Told
 mod EndStates
-mod PlanSteps
+mod FilledTimes
+pub mod NightLaws
+mod PlanNight

@@ -1,2 +1,3 @@
 pub mod Oracles
+pub mod Nights
 pub mod steps

@@ -1,1 +1,2 @@
-pub mod EndFaults
+pub mod ToldLoops
+pub mod RankedTimes

@@ -1,38 +1,47 @@
 ghost use Rattle.std.specs.Prelude.{◌≡◌, ◌<◌, ℕ, IfOk, IfSome, IfNone, length};
+ghost use Rattle.igp_theory.specs.LoopLaws.{IsFromStart};
+ghost use Rattle.igp_theory.specs.Loops.{IsFault};
+ghost use Rattle.igp_theory.specs.States.{IsSound};
 ghost use Rattle.loop_finder.specs.Faults.{state_in, told_fault};
-ghost use Rattle.rib_mix.specs.Mixture.{migration_of};
 ghost use Rattle.plan_theory.specs.Plans.{fault_told};
-ghost use Rattle.wave_oracle.specs.steps.EndFaults.{HasEndFault, IsSoundEnd};
+ghost use Rattle.wave_oracle.specs.Nights.{night_move};
 
+use crate::night::NightFinder;
 use igp_theory::Phase;
-use loop_finder::{Fault, Finder};
+use loop_finder::Fault;
 use order_core::{Turn, Turns};
 use plan_theory::EndFault;
 use rib_mix::OutOfMemory;
 use route_core::RouteSource;
 use std::alloc::Global;
 
-/// The fault of the state in which every router is in this phase; none where it is sound.
+/// The fault of a state of a night in which no router is in an earlier phase than at the start; none where it is sound.
 pub(crate) fn end_fault<O: RouteSource, N: RouteSource>(
     alloc: Global,
-    finder: &mut Finder<'_, O, N>,
-    routers: u32,
-    phase: Phase,
+    night: &mut NightFinder<'_, O, N>,
+    phases: &[Phase],
 ) -> Result<Option<EndFault>, OutOfMemory>
-    requires { routers ≡ length finder.old.mixture.net }
-    ensures sound { IfOk result (λ fault. IfNone fault (IsSoundEnd (migration_of O.table N.table finder.old.mixture) phase)) }
-    ensures fault { IfOk result (λ fault. IfSome fault (HasEndFault (migration_of O.table N.table finder.old.mixture) phase)) }
-    ensures mixture { finder.new.mixture ≡ finder.old.mixture }
+    requires each { length phases.now ≡ length night.old.mixture.net }
+    requires from { IsFromStart (night_move O.table N.table night.old) (state_in phases.now) }
+    ensures sound { IfOk result (λ fault. IfNone fault (IsSound (night_move O.table N.table night.old) (state_in phases.now))) }
+    ensures fault { IfOk result (λ fault. IfSome fault (λ whole.
+        IsFault (night_move O.table N.table night.old) (state_in phases.now) (fault_told whole))) }
+    ensures mixture { night.new.mixture ≡ night.old.mixture }
+    ensures items { night.new.items ≡ night.old.items }
+    ensures start { night.new.start ≡ night.old.start }
 {
-    let phases = phases_of(alloc, routers, phase)?;
-    match finder.state_fault(&phases) {
+    match night.state_fault(phases) {
         None => Ok(None),
-        Some(fault) => Ok(Some(whole_fault(alloc, fault, finder.ring())?)),
+        Some(fault) => Ok(Some(whole_fault(alloc, fault, night.ring())?)),
     }
 }
 
 /// The state in which each of so many routers is in this phase.
-fn phases_of(alloc: Global, routers: u32, phase: Phase) -> Result<Vec<Phase>, OutOfMemory>
+pub(crate) fn phases_of(
+    alloc: Global,
+    routers: u32,
+    phase: Phase,
+) -> Result<Vec<Phase>, OutOfMemory>
     ensures count { IfOk result (λ phases. length phases.items ≡ routers) }
     ensures each { IfOk result (λ phases. (u : ℕ) → u < routers → state_in phases.items u ≡ phase) }
 {

@@ -1,7 +1,13 @@
-//! The oracle of a network's wave lists, over the finder of their faults, and the plan of the network.
+//! The oracles of a network's rankings, over the finder of their faults, and the plan of the network.
 //!
-//! `plan_waves` (`plan.rt`) makes the finder, looks whether both ends are sound (`ends.rt`), and searches with the oracle
-//! (`oracle.rt`). It takes the time of `Finder::new` and of one question to the finder for each wave list that is tried.
+//! | File | What it holds |
+//! |---|---|
+//! | `plan` | the plan: whether both ends are sound (`ends`), and a search between them |
+//! | `night_oracle` | whom the search asks: of wave lists of routers from any start, and of those of single changes |
+//! | `night`, `fill` | the faults of rankings, by the timetables that they make |
+//! | `oracle` | whom the search asks of wave lists of routers that all start in `Old` |
+//!
+//! A plan takes the time of `Finder::new` and of one question to the finder for each ranking that is tried.
 #![tactic(auto)]
 
 // the plan
@@ -9,9 +15,17 @@ mod ends;
 mod plan;
 
 // whom the search asks
+mod night_oracle;
 mod oracle;
 
+// the faults of rankings
+mod fill;
+mod night;
+
 pub use ends::whole_fault;
+pub use night::NightFinder;
+pub use night_oracle::NightOracle;
 pub use oracle::WaveOracle;
-pub use plan::plan_waves;
+pub use plan::{plan_night, plan_waves};
+pub use plan_theory::Items;
 pub use rib_mix::OutOfMemory;

@@ -1,7 +1,7 @@
 ghost use Rattle.std.specs.Prelude.{◌≡◌, length};
 ghost use Rattle.rib_mix.specs.Mixture.{migration_of};
 ghost use Rattle.wave_oracle.specs.Oracles.{HasSoundEnds};
-ghost use Rattle.wave_oracle.specs.steps.EndFaults.{IsToldLoop};
+ghost use Rattle.wave_oracle.specs.steps.ToldLoops.{IsToldLoop};
 
 use loop_finder::{Fault, Finder};
 use order_search::{Answer, Oracle, Turn};
@@ -41,28 +41,14 @@ impl<'a, O: RouteSource, N: RouteSource> WaveOracle<'a, O, N> {
 }
 
 impl<'a, O: RouteSource, N: RouteSource> Oracle for WaveOracle<'a, O, N> {
-    ghost use Rattle.std.specs.Prelude.{[]};
-    ghost use Rattle.order_search.specs.Meanings.{KeepsPairs-nil};
-    ghost use Rattle.igp_theory.specs.Loops.{IsLoop};
-    ghost use Rattle.igp_theory.specs.Waves.{AreSeamlessWaves};
-    ghost use Rattle.plan_theory.specs.WavesMeaning.{IsPickedFault};
-    ghost use Rattle.plan_theory.proofs.Decided.{seamless_ranks_old_first};
+    ghost use Rattle.plan_theory.specs.WavesMeaning.{waves_meaning};
+    ghost use Rattle.plan_theory.proofs.Decided.{waves_are_decisive};
 
-    ghost good = { λ o. AreSeamlessWaves (migration_of O.table N.table o.mixture) };
-
-    ghost real = { λ o. IsLoop (migration_of O.table N.table o.mixture) };
-
-    ghost picked = { λ o. IsPickedFault (migration_of O.table N.table o.mixture) };
-
-    ghost size = { λ o. length o.mixture.net };
-
-    ghost base = { λ o. [] };
+    ghost meaning = { λ o. waves_meaning (migration_of O.table N.table o.mixture) };
 
     ghost shown = { λ o. o.ring };
 
-    ghost keeps_base = { λ o ranks _. KeepsPairs-nil ranks };
-
-    ghost decides = { λ o. seamless_ranks_old_first (migration_of O.table N.table o.mixture) };
+    ghost decisive = { λ o. waves_are_decisive (migration_of O.table N.table o.mixture) };
 
     fn size(&self) -> u32 {
         self.routers
@@ -86,7 +72,7 @@ impl<'a, O: RouteSource, N: RouteSource> Oracle for WaveOracle<'a, O, N> {
 }
 
 /// The address of a loop.
-fn loop_address(fault: Fault) -> u32
+pub(crate) fn loop_address(fault: Fault) -> u32
     requires { IsToldLoop fault }
     ensures { fault ≡ Fault.Loop result }
 {

@@ -7,10 +7,6 @@ use Rattle.order_core.specs.Rankings.{KeepsPairs}
 use Rattle.order_core.specs.declared.turn.Turn.{Turn}
 use Rattle.order_search.specs.TwoTurns.{two_turns, RanksSomeOldFirst-two}
 
--- each pair is of two numbers below n, the lower one first
-abbrev pub AreRising : ℕ → List Pair → Type 0
-AreRising n pairs = All (λ (p : Pair). (p.0 < p.1) × (p.1 < n)) pairs
-
 -- each pair is of two different numbers below n
 abbrev pub AreApart : ℕ → List Pair → Type 0
 AreApart n pairs = All (λ (p : Pair). (p.0 < n) × (p.1 < n) × (p.0 ≢ p.1)) pairs

@@ -1,7 +1,8 @@
 ghost use Rattle.std.specs.Prelude.{◌≡◌, ◌↔◌, ◌<◌, ◌≤◌, length, Contains, IsTrue, IfSome, IfNone};
 ghost use Rattle.order_core.specs.Rankings.{rank_of, KeepsPairs};
 ghost use Rattle.order_search.specs.TwoTurns.{two_turns};
-ghost use Rattle.worked_examples.specs.Wanting.{AreRising, AreApart};
+ghost use Rattle.order_search.specs.Meanings.{AreRising};
+ghost use Rattle.worked_examples.specs.Wanting.{AreApart};
 
 use order_search::{Answer, Oracle, Tag, Turn};
 
@@ -42,21 +43,20 @@ impl<'a> Wanting<'a> {
 impl Oracle for Wanting<'_> {
     ghost use Rattle.worked_examples.specs.Wanting.{AreWanted, RanksSomeOldFirst-wanted};
 
-    ghost good = { λ o ranks. KeepsPairs ranks o.base.now × KeepsPairs ranks o.wants.now };
-
-    ghost real = { λ o address turns. AreWanted o.wants.now turns };
-
-    ghost picked = { λ o ranks address turns. Unit {0} };
-
-    ghost size = { λ o. o.size };
-
-    ghost base = { λ o. o.base.now };
+    ghost meaning = { λ o. record {
+      good = λ ranks. KeepsPairs ranks o.base.now × KeepsPairs ranks o.wants.now;
+      real = λ address turns. AreWanted o.wants.now turns;
+      picked = λ ranks address turns. Unit {0};
+      size = o.size;
+      base = o.base.now;
+    } };
 
     ghost shown = { λ o. o.turns };
 
-    ghost keeps_base = { λ o ranks good. good.0 };
-
-    ghost decides = { λ o address turns ranks wanted _ good. RanksSomeOldFirst-wanted o.wants.now turns ranks wanted good.1 };
+    ghost decisive = { λ o. record {
+      keeps_base = λ ranks good. good.0;
+      decides = λ address turns ranks wanted both good. RanksSomeOldFirst-wanted o.wants.now turns ranks wanted good.1;
+    } };
 
     fn size(&self) -> u32 {
         self.size

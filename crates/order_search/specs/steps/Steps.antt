@@ -1,6 +1,5 @@
 -- Where the search stands, what its steps give, and how it ends.
-use Rattle.std.specs.Prelude.{◌≡◌, ℕ, ◌+◌, ◌<◌, ◌≤◌, ◌↔◌, List, [], ◌∷◌, ◌++◌, length, replicate, vec_len, All, Option, Some, None}
-use Rattle.order_core.specs.declared.turn.Turn.{Turn}
+use Rattle.std.specs.Prelude.{◌≡◌, ℕ, ◌+◌, ◌<◌, ◌≤◌, List, [], ◌∷◌, ◌++◌, length, replicate, vec_len, All, Option, Some, None}
 use Rattle.precedence_set.specs.Layers.{IsLayeredChain}
 use Rattle.order_search.specs.Answers.{IsRefutation}
 use Rattle.order_search.specs.Meanings.{Meaning}
@@ -14,14 +13,6 @@ use Rattle.order_search.specs.declared.found.Found.TheVariants.{Waves, Refuted, 
 use Rattle.order_search.specs.declared.stand.Stand.{Stand}
 use Rattle.order_search.specs.declared.tree.Node.{Node}
 use Rattle.order_search.specs.declared.tree.Node.TheVariants.{Unvisited}
-
--- two oracles mean the same
-pub record SameMeaning (old new : Meaning) : Type 0 where
-  pub size : new.size ≡ old.size
-  pub base : new.base ≡ old.base
-  pub good : (ranks : List ℕ) → new.good ranks ↔ old.good ranks
-  pub real : (address : ℕ) (turns : List Turn) → new.real address turns ↔ old.real address turns
-  pub picked : (ranks : List ℕ) (address : ℕ) (turns : List Turn) → new.picked ranks address turns ↔ old.picked ranks address turns
 
 -- the search stands at a place: the nodes before it leave it open, and then the places of those that wait; where each
 -- branch has one child, none waits, and each branch has assumed a pair

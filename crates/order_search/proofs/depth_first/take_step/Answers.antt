@@ -10,7 +10,7 @@ pub returns-in-Fine-clause-step : goal.returns-in-Fine-clause-step
 returns-in-Fine-clause-step g c =
     let asked = IsAsked-visited _ c.args.budget c.args.stand.now c.visit.new.held c.visit.new.ranks c.requires.searching c.visit.ensures.same
     (omega (arith, c.visit.auto.ranks, c.deref_mut.ensures.len, c.requires.searching.room)) c.visit.ensures.layered in
-    (asked.0, subst (λ (xs : List ℕ). g.Q.Oracle.good c.args.oracle.now xs) (sym asked.1) (c.in-Fine.ensures.fine refl))
+    (asked.0, subst (λ (xs : List ℕ). (g.Q.Oracle.meaning c.args.oracle.now).good xs) (sym asked.1) (c.in-Fine.ensures.fine refl))
 
 pub returns-then-stand-budget-clause-step : goal.returns-then-stand-budget-clause-step
 returns-then-stand-budget-clause-step g c =
@@ -18,8 +18,8 @@ returns-then-stand-budget-clause-step g c =
     (omega (arith, c.visit.auto.ranks, c.deref_mut.ensures.len, c.requires.searching.room)) c.visit.ensures.layered in
     let told = c.in-Breaks.ensures.breaks c.in-Breaks.address refl in
     let bad = not_good _ _ _ _ told
-    (g.met.Q.Oracle.decides c.args.oracle.now c.in-Breaks.address (g.Q.Oracle.shown c.visit.new.oracle) c.visit.new.ranks told.is_real told.both) in
-    (asked.0, (λ good. bad (subst (λ (xs : List ℕ). g.Q.Oracle.good c.args.oracle.now xs) asked.1 good)), c.if-stand-budget.true)
+    ((g.met.Q.Oracle.decisive c.args.oracle.now).decides c.in-Breaks.address (g.Q.Oracle.shown c.visit.new.oracle) c.visit.new.ranks told.is_real told.both) in
+    (asked.0, (λ good. bad (subst (λ (xs : List ℕ). (g.Q.Oracle.meaning c.args.oracle.now).good xs) asked.1 good)), c.if-stand-budget.true)
 
 pub go_below-requires-clause-some : goal.go_below-requires-clause-some
 go_below-requires-clause-some g c =
@@ -32,8 +32,8 @@ go_below-requires-clause-stands g c =
     (omega (arith, c.visit.auto.ranks, c.deref_mut.ensures.len, c.requires.searching.room)) c.visit.ensures.layered in
     let branched = branch_is_made _ c.args.budget _ c.visit.new.ranks c.in-Breaks.address c.turns-turns.result.now _ asked
     (c.in-Breaks.ensures.breaks c.in-Breaks.address refl) c.turns-turns.ensures c.if-stand-budget.false in (
-      g.Q.Oracle.base c.args.oracle.now,
-      subst (λ (n : ℕ). IsUnder n (g.Q.Oracle.base c.args.oracle.now) c.visit.new.held.pairs
+      (g.Q.Oracle.meaning c.args.oracle.now).base,
+      subst (λ (n : ℕ). IsUnder n ((g.Q.Oracle.meaning c.args.oracle.now).base) c.visit.new.held.pairs
           (children_below c.visit.new.held.pairs c.turns-turns.result.now c.args.stand.now.waiting))
           (sym asked.0.searching.routers) branched.under,
     )
@@ -45,11 +45,11 @@ returns-then-more-clause-step g c =
     let branched = branch_is_made _ c.args.budget _ c.visit.new.ranks c.in-Breaks.address c.turns-turns.result.now _ asked
     (c.in-Breaks.ensures.breaks c.in-Breaks.address refl) c.turns-turns.ensures c.if-stand-budget.false in
     let routers = c.in_ok-more.ensures.routers ∙ asked.0.searching.routers in
-    let stands = c.in_ok-more.ensures.stands (g.Q.Oracle.base c.args.oracle.now)
-    (subst (λ (n : ℕ). IsUnder n (g.Q.Oracle.base c.args.oracle.now) c.visit.new.held.pairs
+    let stands = c.in_ok-more.ensures.stands ((g.Q.Oracle.meaning c.args.oracle.now).base)
+    (subst (λ (n : ℕ). IsUnder n ((g.Q.Oracle.meaning c.args.oracle.now).base) c.visit.new.held.pairs
     (children_below c.visit.new.held.pairs c.turns-turns.result.now c.args.stand.now.waiting)) (sym asked.0.searching.routers) branched.under) in
     place_is_next _ c.args.budget _ _ branched (OnTrue_at c.if-more.true c.in_ok-more.ensures.found)
-    (subst (λ (n : ℕ). IsUnder n (g.Q.Oracle.base c.args.oracle.now) c.go_below.new.held.pairs c.go_below.new.waiting) routers stands)
+    (subst (λ (n : ℕ). IsUnder n ((g.Q.Oracle.meaning c.args.oracle.now).base) c.go_below.new.held.pairs c.go_below.new.waiting) routers stands)
     refl routers asked.0.searching.room
 
 pub returns-else-more-clause-step : goal.returns-else-more-clause-step

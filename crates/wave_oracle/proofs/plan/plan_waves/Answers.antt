@@ -1,29 +1,18 @@
-use Rattle.std.proofs.Common.{refl, ap}
+use Rattle.std.proofs.Common.{◌≡◌, IfOk, ap, ◌∙◌, subst}
+use Rattle.igp_theory.specs.Migrations.{started}
+use Rattle.igp_theory.specs.Phases.{State, all_old}
 use Rattle.rib_mix.specs.Mixture.{migration_of}
-use Rattle.wave_oracle.proofs.PlanSteps.{none_told, first_is_planned, last_is_planned, ends_are_sound}
+use Rattle.loop_finder.specs.Faults.{state_in}
+use Rattle.plan_theory.specs.Plans.{IsNightPlanned}
+use Rattle.plan_theory.specs.declared.items.Items.TheVariants.{Routers}
+use Rattle.wave_oracle.proofs.EndStates.{is_all_old}
 use Rattle.wave_oracle.proofs.plan.plan_waves.Goals as goal
 
-pub returns-in-Some : goal.returns-in-Some
-returns-in-Some g c =
-    let move = migration_of g.O.RouteSource.table g.N.RouteSource.table in
+pub returns : goal.returns
+returns g c =
+    let old : state_in c.as_slice.result.now ≡ all_old = ap state_in c.as_slice.ensures.value
+    ∙ is_all_old c.in_ok-start.start.items c.routers.result c.in_ok-start.ensures.count c.in_ok-start.ensures.each in
     record {
-      planned = first_is_planned (move c.in_ok-finder.finder.mixture) (move c.args.mixed.now) c.args.budget c.in_ok-fault.field-0
-          c.in-Some.fault refl (ap move c.in_ok-finder.ensures.mixture) c.in-Some.is c.in_ok-fault.ensures.fault;
+      planned = subst (λ (s : State). IfOk c.plan_night.result (IsNightPlanned Routers
+          (started s (migration_of g.O.RouteSource.table g.N.RouteSource.table c.args.mixed.now)) c.args.budget)) old c.plan_night.ensures.planned;
     }
-
-pub returns-in-Some-2 : goal.returns-in-Some-2
-returns-in-Some-2 g c =
-    let move = migration_of g.O.RouteSource.table g.N.RouteSource.table in
-    record {
-      planned = last_is_planned (move c.in_ok-finder.finder.mixture) (move c.end_fault.new.finder.mixture) (move c.args.mixed.now)
-          c.args.budget c.in_ok-fault-2.field-0 c.in-Some-2.fault refl (ap move c.in_ok-finder.ensures.mixture) (ap move c.in_ok-fault.ensures.mixture)
-          (none_told c.in_ok-fault.field-0 c.in_default.not-Some c.in_ok-fault.ensures.sound) c.in-Some-2.is c.in_ok-fault-2.ensures.fault;
-    }
-
-pub new-oracle-requires-clause-ends : goal.new-oracle-requires-clause-ends
-new-oracle-requires-clause-ends g c =
-    let move = migration_of g.O.RouteSource.table g.N.RouteSource.table in
-    ends_are_sound (move c.in_ok-finder.finder.mixture) (move c.end_fault.new.finder.mixture) (move c.end_fault-2.new.finder.mixture)
-    refl (ap move c.in_ok-fault.ensures.mixture) (ap move c.in_ok-fault-2.ensures.mixture)
-    (none_told c.in_ok-fault.field-0 c.in_default.not-Some c.in_ok-fault.ensures.sound)
-    (none_told c.in_ok-fault-2.field-0 c.in_default-2.not-Some c.in_ok-fault-2.ensures.sound)

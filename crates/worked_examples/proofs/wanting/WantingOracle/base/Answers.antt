@@ -1,5 +1,5 @@
 -- Few rising pairs are a base.
-use Rattle.worked_examples.proofs.Rising.{IsBase-rising}
+use Rattle.order_search.proofs.RisingPairs.{IsBase-rising}
 use Rattle.worked_examples.proofs.wanting.WantingOracle.base.Goals as goal
 
 pub returns-clause-is_base : goal.returns-clause-is_base

@@ -1,0 +1,9 @@
+pub mod ToldItems
+pub mod RingWords
+pub mod ReasonTexts
+pub mod UseWords
+pub mod WayTexts
+pub mod FaultPlaces
+pub mod WayStates
+pub mod TextLaws
+pub mod steps

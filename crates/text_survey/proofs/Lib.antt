@@ -1,0 +1,4 @@
+pub mod InsideFacts
+pub mod NameFacts
+pub mod ToldFacts
+pub mod WordFacts
