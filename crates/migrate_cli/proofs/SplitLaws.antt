@@ -1,6 +1,7 @@
 -- `split` decides one thing of an order file, a number of routers and a network, and what it writes is safe.
 use Rattle.std.proofs.Common.{◌≡◌, ◌<◌, ◌∙◌, ◌++◌, ℕ, Contains, List, ap, arith, length, refl, subst, sym}
 use Rattle.igp_theory.specs.LoopLaws.{BeginsOld}
+use Rattle.net_model.specs.Refusals.{IsNetwork}
 use Rattle.igp_theory.specs.Migrations.{Migration, ospf_to_isis}
 use Rattle.igp_theory.specs.States.{IsSeamless}
 use Rattle.igp_theory.specs.Waves.{AreSeamlessWaves}
@@ -31,7 +32,8 @@ use Rattle.migrate_cli.specs.CheckDecision.IsWavesDecision.{safe_waves, unsafe_w
 use Rattle.migrate_cli.specs.CheckDecision.IsCheckDecision.{by_routers}
 use Rattle.migrate_cli.specs.CheckDecision.IsCheckOver.{faulty_order, of_order, of_waves}
 use Rattle.migrate_cli.specs.Reading.{NamedText}
-use Rattle.migrate_cli.specs.SplitDecision.{IsCutOf, IsSplitDecision, IsYes}
+use Rattle.migrate_cli.specs.SplitDecision.{IsCutOf, IsCutText, IsSplitDecision, IsYes}
+use Rattle.migrate_cli.specs.SplitDecision.IsCutText.{cut_text}
 use Rattle.migrate_cli.specs.SplitDecision.IsSplitDecision.{unsafe, cut}
 use Rattle.migrate_cli.specs.SplitPromise.{DecidesSplit, IsSafelySplit}
 use Rattle.migrate_cli.specs.SplitPromise.DecidesSplit.{is_split, is_unsafe}
@@ -145,3 +147,9 @@ safely_split net most ranks split some seamless is =
       safe = λ file. by_routers _ (names_no_changes net (wave_list_text (names_of net) (waves_in split)) Two split reads)
           (of_waves split _ reads (safe_waves (refinement_is_seamless (ospf_to_isis net) ranks split seamless is.ranking smaller.refines)));
     }
+
+-- the text of the waves that a seamless list is cut into is what is decided of its order file
+pub cut_decides : (net : Network) (order : NamedText) (most : ℕ) (version : Version) (ranks : List ℕ) {d : Decision} →
+    NamesWaves net order.text version ranks → (IsNetwork net → AreSeamlessWaves (ospf_to_isis net) ranks) → IsCutText net most ranks d →
+    IsSplitDecision order most net d
+cut_decides net order most version ranks names seamless (cut_text split of) = cut version ranks split names (seamless of.network) of

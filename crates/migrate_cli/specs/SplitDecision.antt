@@ -27,8 +27,12 @@ pub record IsCutOf (net : Network) (most : ℕ) (ranks split : List ℕ) : Type 
   pub ranking : IsRanking (length net) split
   pub cuts : waves_in split ≡ cut_waves most ranks
 
--- what `check` says of the order file as one of routers, where that is no yes; or the file names a wave list, in version 1 one router a wave, which
--- is seamless, and the order file is written of the waves that it is cut into
+-- the order file of the waves that a wave list is cut into
+pub data IsCutText (net : Network) (most : ℕ) (ranks : List ℕ) : Decision → Type 0 where
+  cut_text : (split : List ℕ) → IsCutOf net most ranks split → IsCutText net most ranks (Split (wave_list_text (names_of net) (waves_in split)))
+
+-- what `check` says of the order file as one of routers, where that is no yes; or the file names a wave list, in version 1 one
+-- router a wave, which is seamless, and the order file is written of the waves that it is cut into
 pub data IsSplitDecision (order : NamedText) (most : ℕ) (net : Network) : Decision → Type 0 where
   unsafe : (decision : Decision) → IsCheckOver (ospf_to_isis net) order decision → ¬ IsYes decision → IsSplitDecision order most net decision
   cut : (version : Version) (ranks split : List ℕ) → NamesWaves net order.text version ranks →

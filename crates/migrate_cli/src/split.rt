@@ -1,7 +1,7 @@
 ghost use Rattle.std.specs.Prelude.{◌≡◌, ◌<◌, ◌≤◌, ◌↔◌, IfOk, IsTrue, length};
 ghost use Rattle.step_scripts.specs.WaveFiles.{NamesWaves};
 ghost use Rattle.migrate_cli.specs.Reading.{NamedText, named_text};
-ghost use Rattle.migrate_cli.specs.SplitDecision.{IsSplitDecision, IsYes};
+ghost use Rattle.migrate_cli.specs.SplitDecision.{IsCutText, IsSplitDecision, IsYes};
 
 use crate::OutOfMemory;
 use crate::check::check_read;
@@ -43,9 +43,18 @@ fn split_read(alloc: Global, read: &WaveFile, most: u32, net: &Net) -> Result<De
         IfOk result (IsSplitDecision order most net.now) }
 {
     let checked = check_read(alloc, read, &Move::to_isis(net))?;
-    if !is_yes(&checked) {
-        return Ok(checked);
+    if is_yes(&checked) {
+        return cut_read(alloc, read, most, net);
     }
+    Ok(checked)
+}
+
+/// The order file of the waves of an order file, cut.
+fn cut_read(alloc: Global, read: &WaveFile, most: u32, net: &Net) -> Result<Decision, OutOfMemory>
+    requires most { 1 ≤ most }
+    requires each { length read.now.waves ≡ length net.now }
+    ensures { IfOk result (IsCutText net.now most read.now.waves) }
+{
     let _routers = net.routers();
     let split = split_waves(alloc, &read.waves, most)?;
     let text = wave_list_text(alloc, net, &split)?;

@@ -20,11 +20,7 @@ use std::alloc::Global;
 use wave_oracle::plan_night;
 
 /// What is decided of a network: what is planned of its single changes with a budget of so many branches.
-pub(crate) fn judge_two_pass(
-    alloc: Global,
-    budget: u32,
-    net: &Net,
-) -> Result<Decision, OutOfMemory>
+pub(crate) fn judge_two_pass(alloc: Global, budget: u32, net: &Net) -> Result<Decision, OutOfMemory>
     requires budget { 1 ≤ budget }
     requires some { 0 < length net.now }
     ensures { IfOk result (IsTwoPassDecision budget net.now) }

@@ -1,8 +1,5 @@
-use Rattle.std.proofs.Common.{ap, length, ◌∙◌}
-use Rattle.std.proofs.lemmas.List.{length-replicate}
-use Rattle.igp_theory.specs.declared.phase.Phase.TheVariants.{Old}
 use Rattle.migrate_cli.proofs.OldStarts.{old_everywhere}
 use Rattle.migrate_cli.proofs.twopass.old_start.Goals as goal
 
 pub returns-clause-old : goal.returns-clause-old
-returns-clause-old c = old_everywhere _ c.args.routers (c.in_ok-from_elem.ensures.items_if_clones_equal (λ y same. same))
+returns-clause-old c = old_everywhere _ c.args.routers (c.in_ok-vec.ensures.items_if_clones_equal (λ y same. same))
