@@ -20,4 +20,4 @@ pub returns : goal.returns
 returns c =
     let move : Migration = migration_of table_at new_table c.args.mixed.now in
     let same : state_in c.as_slice.result.now ≡ all_old = ap state_in c.as_slice.ensures.value ∙ c.in_ok-start.ensures.old in
-    subst (λ (start : State). IfOk c.plan_night.result (IsNightPlanned Changes (started start move) c.args.budget)) same c.plan_night.ensures
+    subst (λ (start : State). IfOk c.plan_night.result (IsNightPlanned Changes (started start move) c.args.budget)) same c.plan_night.ensures.planned
