@@ -21,8 +21,8 @@ abbrev pub top_line : ℕ → List ℕ → ToldLine
 top_line number bytes = record { number = number; place = Top; head = bytes; own = bytes }
 
 -- a line below the first one of a section
-abbrev pub below : LinePlace → List ℕ → ℕ → List ℕ → ToldLine
-below place head number own = record { number = number; place = place; head = head; own = own }
+abbrev pub line_below : LinePlace → List ℕ → ℕ → List ℕ → ToldLine
+line_below place head number own = record { number = number; place = place; head = head; own = own }
 
 -- ---- interfaces that are in a VRF ----
 
@@ -60,7 +60,7 @@ place_below names _ = Elsewhere
 
 -- the lines below the first line of a section
 abbrev pub told_below : LinePlace → List ℕ → List TextLine → List ToldLine
-told_below place head lines = map (λ (line : TextLine). below place head line.number line.bytes) lines
+told_below place head lines = map (λ (line : TextLine). line_below place head line.number line.bytes) lines
 
 -- the lines of a section: that at indent 0, and those below it
 abbrev pub told_section : List Word → TextSection → List ToldLine

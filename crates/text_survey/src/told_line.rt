@@ -37,7 +37,7 @@ impl<'a> Model for ToldLine<'a> {
 }
 
 impl<'a> ToldLine<'a> {
-    ghost use Rattle.text_survey.specs.ToldLines.{below, top_line};
+    ghost use Rattle.text_survey.specs.ToldLines.{line_below, top_line};
 
     /// A line at indent 0.
     pub(crate) fn top(number: u32, bytes: &'a [u8]) -> ToldLine<'a>
@@ -58,7 +58,7 @@ impl<'a> ToldLine<'a> {
         number: u32,
         own: &'a [u8],
     ) -> ToldLine<'a>
-        ensures { result ≡ below place head.entry.now number own.entry.now }
+        ensures { result ≡ line_below place head.entry.now number own.entry.now }
     {
         ToldLine {
             number,

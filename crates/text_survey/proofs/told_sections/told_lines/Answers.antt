@@ -28,6 +28,7 @@ loop-i-preserved c =
                 ∙ rest_on c.args.counted.now c.loop-i.i c.index-counted-i.result c.loop-i-test.true c.index-counted-i.is c.loop-i.start c.loop-i.invariant.start
                 c.loop-i.invariant.rest on;
             told = ap (λ t. t.items) w.told-is
-                ∙ part_on c.args.counted.now c.loop-i.i c.index-counted-i.result c.loop-i-test.true c.index-counted-i.is c.loop-i.told.items on c.loop-i.invariant.told;
+                ∙ part_on c.args.counted.now c.loop-i.i c.index-counted-i.result c.loop-i-test.true c.index-counted-i.is
+                c.loop-i.told.items on c.loop-i.invariant.told;
           }
     ]
