@@ -21,7 +21,7 @@ use Rattle.igp_theory.proofs.Rings.{around_at}
 use Rattle.igp_theory.proofs.TableLaws.{hops_unique}
 use Rattle.igp_theory.proofs.WaveFaultLaws.{times_fault_unique}
 use Rattle.explained_waves.proofs.Reasons.{forbids_earlier}
-use Rattle.explained_texts.specs.ReasonTexts.{IsLowestBefore, IsToldOf, IsReasonsText, after_words, comes_after, may_be_earlier, of_first_wave}
+use Rattle.explained_texts.specs.ReasonTexts.{IsLowestBefore, IsReasonLine, IsReasonsText, after_words, comes_after, may_be_earlier, of_first_wave}
 use Rattle.explained_texts.specs.TextLaws.{HasOneEntry}
 use Rattle.explained_texts.specs.UseWords.{AreUseWords, phase_word, uses_none, uses_one, usable_words}
 use Rattle.explained_texts.specs.WayTexts.{AreOriginators, IsFirstLacking, IsTargetLine, IsUseLine, IsWayText, StateSpan, UsesTowards, of_ring, of_router, turn_phase}
@@ -39,7 +39,7 @@ lowest_once ranks ring other v u w same one two =
     omega (arith, first, second)
 
 module _ (move : Migration) (ranks : List ℕ) where
-  one_told_of : (v : ℕ) (s t : List ℕ) → IsToldOf move ranks v s → IsToldOf move ranks v t → s ≡ t
+  one_told_of : (v : ℕ) (s t : List ℕ) → IsReasonLine move ranks v s → IsReasonLine move ranks v t → s ≡ t
   one_told_of v s t (of_first_wave _) (of_first_wave _) = refl
   one_told_of v s t (of_first_wave first) (may_be_earlier later _) = absurd (omega (arith, first, later))
   one_told_of v s t (of_first_wave first) (comes_after _ _ _ later _ _) = absurd (omega (arith, first, later))
@@ -58,7 +58,7 @@ module _ (move : Migration) (ranks : List ℕ) where
       λ i. line (router_word (names_of move.net) v) (after_words (names_of move.net) ranks v (routers i) (address i) (rings i))
 
   pub one_reasons_text : (text other : List ℕ) → IsReasonsText move ranks text → IsReasonsText move ranks other → text ≡ other
-  one_reasons_text text other is its = one_told (IsToldOf move ranks) (λ v inside. one_told_of v) is its
+  one_reasons_text text other is its = one_told (IsReasonLine move ranks) (λ v inside. one_told_of v) is its
 
 -- ---- the way of a packet ----
 

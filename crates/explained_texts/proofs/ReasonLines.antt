@@ -28,7 +28,7 @@ use Rattle.rib_mix.specs.Mixture.{migration_of}
 use Rattle.explained_waves.specs.Reasons.{MayBeEarlier, one_earlier}
 use Rattle.explained_waves.proofs.Reasons.{fault_reason}
 use Rattle.explained_texts.specs.ReasonTexts.{KeepsLater}
-use Rattle.explained_texts.specs.steps.Asking.{AskedList, IsAsked, is_old_of}
+use Rattle.explained_texts.specs.steps.Asking.{AskedList, IsListAsked, is_old_of}
 
 -- ---- the ranks of the list ----
 
@@ -43,7 +43,7 @@ module _ (ranks : List ℕ) (v : ℕ) where
 -- ---- what is searched ----
 
 module _ {O N : Type 0} (old : Listing O) (new : Listing N) (list : AskedList O N) (finding : Finding O N) (room : ℕ)
-    (asked : IsAsked old new list finding room) (times : List ChangeWaves) (v : ℕ)
+    (asked : IsListAsked old new list finding room) (times : List ChangeWaves) (v : ℕ)
     (are : times_in times ≡ router_times all_old (one_earlier list.ranks v)) where
   abbrev move : Migration
   move = migration_of old new list.mixture

@@ -13,9 +13,9 @@ use Rattle.igp_theory.proofs.Rings.{around_at}
 use Rattle.igp_theory.proofs.SameTables.{arises_over, around_ring_over, has_step_over, loop_over, same_tables_sym, sound_over, steps_over, uses_over}
 use Rattle.igp_theory.proofs.WaveFaultLaws.{times_fault_over}
 use Rattle.explained_waves.specs.Reasons.{IsReason}
-use Rattle.explained_texts.specs.ReasonTexts.{IsToldOf, IsReasonsText, comes_after, may_be_earlier, of_first_wave}
+use Rattle.explained_texts.specs.ReasonTexts.{IsReasonLine, IsReasonsText, comes_after, may_be_earlier, of_first_wave}
 use Rattle.explained_texts.specs.UseWords.{AreUseWords, uses_none, uses_one}
-use Rattle.explained_texts.specs.WayTexts.{IsFirstLacking, IsUseLine, IsWayText, StandsIn, StateSpan, UsesTowards, goes_round, lacks_step, of_ring}
+use Rattle.explained_texts.specs.WayTexts.{IsFirstLacking, IsUseLine, IsWayText, IsFaultInSpan, StateSpan, UsesTowards, goes_round, lacks_step, of_ring}
 use Rattle.explained_texts.specs.WayTexts.{of_router, turn_phase}
 use Rattle.explained_texts.proofs.ToldTexts.{told_over}
 
@@ -46,14 +46,14 @@ module _ {move : Migration} {old' new' : Tables} (same : HaveSameTables move old
     none_earlier = reason.none_earlier;
   }
 
-  told_of_over : (ranks : List ℕ) (v : ℕ) (text : List ℕ) → IsToldOf move ranks v text → IsToldOf other ranks v text
+  told_of_over : (ranks : List ℕ) (v : ℕ) (text : List ℕ) → IsReasonLine move ranks v text → IsReasonLine other ranks v text
   told_of_over ranks v text (of_first_wave first) = of_first_wave first
   told_of_over ranks v text (may_be_earlier later may) = may_be_earlier later (throughout_over may)
   told_of_over ranks v text (comes_after a after ring later keeps lowest) =
       comes_after a after ring later (record { told = times_fault_over same keeps.told; reason = reason_over keeps.reason }) lowest
 
   pub reasons_over : {ranks text : List ℕ} → IsReasonsText move ranks text → IsReasonsText other ranks text
-  reasons_over {ranks} is = told_over (IsToldOf move ranks) (IsToldOf other ranks) (λ v told inside. told_of_over ranks v told) is
+  reasons_over {ranks} is = told_over (IsReasonLine move ranks) (IsReasonLine other ranks) (λ v told inside. told_of_over ranks v told) is
 
   -- ---- the way of a packet ----
 
@@ -117,7 +117,7 @@ module _ {move : Migration} {old' new' : Tables} (same : HaveSameTables move old
   way_over (of_router a u phase first rest target lacks is) =
       of_router a u phase first rest target (lacking_over lacks) (line_over lacks.must.router is)
 
-  pub stands_over : {span : StateSpan} {fault : Fault} → StandsIn move span fault → StandsIn other span fault
+  pub stands_over : {span : StateSpan} {fault : Fault} → IsFaultInSpan move span fault → IsFaultInSpan other span fault
   stands_over (lacks_step a u phase address must between lacks) =
       lacks_step a u phase address must between (λ has. lacks (has_step_over (same_tables_sym same) has))
   stands_over {span} (goes_round a ring address some goes) =

@@ -19,7 +19,7 @@ use Rattle.igp_theory.proofs.Phases.{step_of_ends}
 use Rattle.igp_theory.proofs.Rings.{around_both, around_inside, around_of_routers, found_goes_round, some_turn}
 use Rattle.igp_theory.proofs.SameTables.{around_ring_over}
 use Rattle.igp_theory.proofs.Switches.{router_after, router_before}
-use Rattle.explained_texts.specs.WayTexts.{StandsIn, StateSpan, goes_round, lacks_step, order_span, told_phase, turn_phase, wave_span}
+use Rattle.explained_texts.specs.WayTexts.{IsFaultInSpan, StateSpan, goes_round, lacks_step, order_span, told_phase, turn_phase, wave_span}
 
 -- ---- the state of an order ----
 
@@ -29,7 +29,7 @@ told_alone state tag.New u = refl
 told_alone state tag.Both u = refl
 
 module _ (move : Migration) (state : State) where
-  stands_in_state : (fault : Fault) → IsFault move state fault → StandsIn move (record { first = state; last = state }) fault
+  stands_in_state : (fault : Fault) → IsFault move state fault → IsFaultInSpan move (record { first = state; last = state }) fault
   stands_in_state fault (missing_step {a = a} {u = u} address below must lacks lowest) =
       lacks_step a u (state u) address must (record { from = omega arith; upto = omega arith }) lacks
   stands_in_state fault (loop_arises {a = a} {ring = ring} address below forwards found tags) =
@@ -41,7 +41,7 @@ module _ (move : Migration) (state : State) where
       (around_of_routers (StepsIn move state a) ring (found_goes_round found)))
 
 pub order_stands : (move : Migration) (order : List ℕ) (k : ℕ) (fault : Fault) → IsFirstFault move order k fault →
-    StandsIn move (order_span order k) fault
+    IsFaultInSpan move (order_span order k) fault
 order_stands move order k fault first = stands_in_state move (state_of order k) fault first.here
 
 -- ---- the states of a wave ----
@@ -99,7 +99,7 @@ module _ (move : Migration) (begins : BeginsOld move) (ranks : List ℕ) (w : �
       (step_of_ends (span.first r.router) (span.last r.router) (both.1.state r.router)
       (both.1.among r.router both.1.steps.must.router) both.1.steps)
 
-  stands_in_wave : (fault : Fault) → IsFaultOver move states fault → StandsIn move span fault
+  stands_in_wave : (fault : Fault) → IsFaultOver move states fault → IsFaultInSpan move span fault
   stands_in_wave fault (missing_in_one {a = a} {u = u} least lacks lowest) =
       lacks_step a u (lacks.state u) least.address lacks.must (lacks.among u lacks.must.router) lacks.lacks
   stands_in_wave fault (loop_over_all {a = a} {ring = ring} least all found tags) =
@@ -109,5 +109,5 @@ module _ (move : Migration) (begins : BeginsOld move) (ranks : List ℕ) (w : �
       (around_of_routers (StepsInSome move states a) ring (found_goes_round found))))
 
 pub waves_stand : (move : Migration) (ranks : List ℕ) (w : ℕ) (fault : Fault) → BeginsOld move →
-    IsTimesFault move (router_times move.start ranks) w fault → StandsIn move (wave_span move.start ranks w) fault
+    IsTimesFault move (router_times move.start ranks) w fault → IsFaultInSpan move (wave_span move.start ranks w) fault
 waves_stand move ranks w fault begins is = stands_in_wave move begins ranks w is.from_one fault is.here

@@ -18,9 +18,9 @@ use Rattle.igp_theory.proofs.Rings.{around_at, around_inside}
 use Rattle.igp_theory.proofs.SameTables.{has_step_over, same_tables_sym}
 use Rattle.prefix_atoms.specs.Classes.{AreClasses, Classes, SourceEntry, new_occurs, old_occurs}
 use Rattle.explained_texts.specs.TextLaws.{HasOneEntry}
-use Rattle.explained_texts.specs.WayTexts.{InSpan, IsFirstLacking, IsTargetLine, IsUseLine, IsWayText, StandsIn, StateSpan, UsesTowards}
+use Rattle.explained_texts.specs.WayTexts.{InSpan, IsFirstLacking, IsTargetLine, IsUseLine, IsWayText, IsFaultInSpan, StateSpan, UsesTowards}
 use Rattle.explained_texts.specs.WayTexts.{goes_round, lacks_step, of_ring, turn_phase}
-use Rattle.explained_texts.specs.steps.Mixing.{IsLawful}
+use Rattle.explained_texts.specs.steps.Mixing.{HasLawfulTables}
 use Rattle.explained_texts.specs.steps.Telling.{TellsAll}
 use Rattle.explained_texts.proofs.OneUse.{uses_towards}
 
@@ -32,18 +32,18 @@ module _ (move : Migration) (span : StateSpan) where
     pub some : 0 < length ring
     pub goes : AroundRing (λ (r s : Turn). Steps move r.router (turn_phase span r) a s.router) ring
 
-  pub round_of : {a : ℕ} {ring : List Turn} → StandsIn move span (loop a ring) → GoesSo a ring
+  pub round_of : {a : ℕ} {ring : List Turn} → IsFaultInSpan move span (loop a ring) → GoesSo a ring
   round_of (goes_round a ring address some goes) = record { some = some; goes = goes }
 
   pub must_of : {a : ℕ} {ring : List Turn} → GoesSo a ring → (turn : Turn) → Contains ring turn → MustForward move.net a turn.router
   must_of {a} {ring} round turn inside =
       (around_at (λ (r s : Turn). Steps move r.router (turn_phase span r) a s.router) ring turn round.goes inside).1.must
 
-  pub ring_inside : {a : ℕ} {ring : List Turn} → StandsIn move span (loop a ring) → All (λ (turn : Turn). turn.router < length move.net) ring
+  pub ring_inside : {a : ℕ} {ring : List Turn} → IsFaultInSpan move span (loop a ring) → All (λ (turn : Turn). turn.router < length move.net) ring
   ring_inside {a} {ring} stands k d below =
       (must_of (round_of stands) (get_or ring k d) (Contains-get_or ring k d below)).router
 
-  pub ring_target : {a : ℕ} {ring : List Turn} → StandsIn move span (loop a ring) → (p : Block) × IsTarget move.net a p
+  pub ring_target : {a : ℕ} {ring : List Turn} → IsFaultInSpan move span (loop a ring) → (p : Block) × IsTarget move.net a p
   ring_target {a} {ring} stands = first_target ring (round_of stands)
     where
       first_target : (turns : List Turn) → GoesSo a turns → (p : Block) × IsTarget move.net a p
@@ -55,12 +55,12 @@ module _ (move : Migration) (span : StateSpan) where
     pub must : MustForward move.net a u
     pub some : (phase : Phase) × InSpan span u phase × (¬ HasStep move u phase a)
 
-  pub lack_of : {a u : ℕ} → StandsIn move span (missing a u) → LacksSo a u
+  pub lack_of : {a u : ℕ} → IsFaultInSpan move span (missing a u) → LacksSo a u
   lack_of (lacks_step a u phase address must between lacks) = record { must = must; some = (phase, between, lacks) }
 
 -- ---- the texts ----
 
-pub ring_way : (move : Migration) → IsLawful move → (span : StateSpan) (a : ℕ) (ring : List Turn) → StandsIn move span (loop a ring) →
+pub ring_way : (move : Migration) → HasLawfulTables move → (span : StateSpan) (a : ℕ) (ring : List Turn) → IsFaultInSpan move span (loop a ring) →
     (first longer : List ℕ) → IsTargetLine move.net a first →
     TellsAll (λ (turn : Turn). IsUseLine move a turn.router (turn_phase span turn)) ring first longer →
     IsWayText move span (loop a ring) longer
@@ -94,7 +94,7 @@ module _ (net : Network) (old new mixed_old mixed_new : ℕ → List (Block × E
       one_entry (table u) p e f (lawful.distinct u (omega (arith, below, many))) one other
 
   pub are_lawful : (o n : ℕ) (link other : ℕ → ℕ → Type 0) → IsNetwork net → o ≡ length net → n ≡ length net →
-      AreTables o old link → AreTables n new other → IsLawful (listed_migration net old new)
+      AreTables o old link → AreTables n new other → HasLawfulTables (listed_migration net old new)
   are_lawful o n link other network many as_many one two = record {
     network = network;
     one_old = one_of o old link many one;

@@ -38,14 +38,14 @@ after_words names ranks v after a ring =
     ∷ map (tagged_word names) ring
 
 -- what is told of router v: nothing of the first wave, else one line
-pub data IsToldOf (move : Migration) (ranks : List ℕ) (v : ℕ) : List ℕ → Type 0 where
-  of_first_wave : rank_of ranks v ≡ 0 → IsToldOf move ranks v []
+pub data IsReasonLine (move : Migration) (ranks : List ℕ) (v : ℕ) : List ℕ → Type 0 where
+  of_first_wave : rank_of ranks v ≡ 0 → IsReasonLine move ranks v []
   may_be_earlier : 0 < rank_of ranks v → MayBeEarlier move ranks v →
-      IsToldOf move ranks v (line (router_word (names_of move.net) v) (may_words ranks v))
+      IsReasonLine move ranks v (line (router_word (names_of move.net) v) (may_words ranks v))
   comes_after : (a after : ℕ) (ring : List Turn) → 0 < rank_of ranks v → KeepsLater move ranks v (loop a ring) →
       IsLowestBefore ranks ring v after →
-      IsToldOf move ranks v (line (router_word (names_of move.net) v) (after_words (names_of move.net) ranks v after a ring))
+      IsReasonLine move ranks v (line (router_word (names_of move.net) v) (after_words (names_of move.net) ranks v after a ring))
 
 -- the text of all of them, wave by wave, and in a wave by the numbers of the routers
 abbrev pub IsReasonsText : Migration → List ℕ → List ℕ → Type 0
-IsReasonsText move ranks text = AreTold (IsToldOf move ranks) (flat_of ranks) text
+IsReasonsText move ranks text = AreTold (IsReasonLine move ranks) (flat_of ranks) text

@@ -13,7 +13,7 @@ use Rattle.igp_theory.specs.Timetables.{IsStateOfWave, router_times}
 use Rattle.igp_theory.specs.WaveFaults.{IsTimesFault}
 use Rattle.explained_texts.specs.ReasonTexts.{IsReasonsText}
 use Rattle.explained_texts.specs.WayStates.{IsShownInOne}
-use Rattle.explained_texts.specs.WayTexts.{IsWayText, StandsIn, StateSpan, order_span, wave_span}
+use Rattle.explained_texts.specs.WayTexts.{IsWayText, IsFaultInSpan, StateSpan, order_span, wave_span}
 
 -- of a wave list there is one text of reasons
 abbrev pub HasOneReasonsText : Migration → Type 0
@@ -33,12 +33,12 @@ HasOneWayText move =
 -- the way of the first fault of an order can be told, and that of the fault of a wave list where every router begins in Old
 abbrev pub FirstFaultsStandInTheirState : Migration → Type 0
 FirstFaultsStandInTheirState move =
-    (order : List ℕ) (k : ℕ) (fault : Fault) → IsFirstFault move order k fault → StandsIn move (order_span order k) fault
+    (order : List ℕ) (k : ℕ) (fault : Fault) → IsFirstFault move order k fault → IsFaultInSpan move (order_span order k) fault
 
 abbrev pub WaveFaultsStandInTheirWave : Migration → Type 0
 WaveFaultsStandInTheirWave move =
     (ranks : List ℕ) (w : ℕ) (fault : Fault) → BeginsOld move → IsTimesFault move (router_times move.start ranks) w fault →
-    StandsIn move (wave_span move.start ranks w) fault
+    IsFaultInSpan move (wave_span move.start ranks w) fault
 
 -- what is told of a fault is so in one state: in that of the order, or in one of the wave
 abbrev pub WaysOfOrdersAreInOneState : Migration → Type 0

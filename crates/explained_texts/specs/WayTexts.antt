@@ -98,8 +98,8 @@ pub data IsWayText (move : Migration) (span : StateSpan) : Fault → List ℕ �
 
 -- what is asked of a fault so that its way can be told: a router that has to pass packets on lacks a step in some phase of the
 -- span; or those of a ring step each to the next in the phases that are told
-pub data StandsIn (move : Migration) (span : StateSpan) : Fault → Type 0 where
+pub data IsFaultInSpan (move : Migration) (span : StateSpan) : Fault → Type 0 where
   lacks_step : (a u : ℕ) (phase : Phase) → a < 2 ^ 32 → MustForward move.net a u → InSpan span u phase →
-      ¬ HasStep move u phase a → StandsIn move span (missing a u)
+      ¬ HasStep move u phase a → IsFaultInSpan move span (missing a u)
   goes_round : (a : ℕ) (ring : List Turn) → a < 2 ^ 32 → 0 < length ring →
-      AroundRing (λ (r s : Turn). Steps move r.router (turn_phase span r) a s.router) ring → StandsIn move span (loop a ring)
+      AroundRing (λ (r s : Turn). Steps move r.router (turn_phase span r) a s.router) ring → IsFaultInSpan move span (loop a ring)

@@ -11,8 +11,9 @@ ghost use Rattle.order_core.specs.Turns.{old_routers};
 ghost use Rattle.order_core.specs.declared.turn.Turn.{Turn};
 ghost use Rattle.printed_lines.specs.Words.{joined, router_word, spaced};
 ghost use Rattle.rib_mix.specs.Mixture.{migration_of};
-ghost use Rattle.explained_texts.specs.RingWords.{tag_letter, tagged_word};
-ghost use Rattle.explained_texts.specs.ReasonTexts.{IsLowestBefore, IsToldOf, KeepsLater, after_words, may_words};
+ghost use Rattle.explained_texts.specs.RingWords.{tagged_word};
+ghost use Rattle.refutation_check.specs.TreeLines.{letter_of};
+ghost use Rattle.explained_texts.specs.ReasonTexts.{IsLowestBefore, IsReasonLine, KeepsLater, after_words, may_words};
 ghost use Rattle.explained_texts.specs.steps.Asking.{is_old_of};
 ghost use Rattle.explained_texts.specs.steps.Telling.{TellsMore};
 
@@ -40,13 +41,13 @@ pub(crate) struct EarlierList<'a, O: RouteSource, N: RouteSource> {
 
 impl<'a, O: RouteSource, N: RouteSource> Model for EarlierList<'a, O, N> {
     ghost use Rattle.std.specs.Prelude.{vec_len};
-    ghost use Rattle.explained_texts.specs.steps.Asking.{AskedList, IsAsked};
+    ghost use Rattle.explained_texts.specs.steps.Asking.{AskedList, IsListAsked};
 
     ghost Value = { AskedList O N };
 
     ghost view = { λ x. record { mixture = x.mixed.now; ranks = x.ranks.now; ring = x.finder.ring } };
 
-    ghost invariant = { λ x. IsAsked O.table N.table
+    ghost invariant = { λ x. IsListAsked O.table N.table
         (record { mixture = x.mixed.now; ranks = x.ranks.now; ring = x.finder.ring }) x.finder (vec_len x.times) };
 }
 
@@ -89,7 +90,7 @@ impl<'a, O: RouteSource, N: RouteSource> EarlierList<'a, O, N> {
         ensures mixture { self.new.mixture ≡ self.old.mixture }
         ensures ranks { self.new.ranks ≡ self.old.ranks }
         ensures told { IfOk result (TellsMore
-            (IsToldOf (migration_of O.table N.table self.old.mixture) self.old.ranks) router text) }
+            (IsReasonLine (migration_of O.table N.table self.old.mixture) self.old.ranks) router text) }
     {
         if self.ranks[router as usize] == 0 {
             return Ok(text);
@@ -105,7 +106,7 @@ impl<'a, O: RouteSource, N: RouteSource> EarlierList<'a, O, N> {
         ensures mixture { self.new.mixture ≡ self.old.mixture }
         ensures ranks { self.new.ranks ≡ self.old.ranks }
         ensures told { IfOk result (λ line.
-            IsToldOf (migration_of O.table N.table self.old.mixture) self.old.ranks router (line ++ 10 ∷ [])) }
+            IsReasonLine (migration_of O.table N.table self.old.mixture) self.old.ranks router (line ++ 10 ∷ [])) }
     {
         let found = self.earlier_fault(router);
         told_line(
@@ -150,7 +151,7 @@ fn told_line<O: RouteSource, N: RouteSource>(
     requires kept { IfSome told.1 (λ fault. KeepsLater (migration_of O.table N.table mixed.now) ranks.now told.0
         (told_fault fault ring.now)) }
     ensures { IfOk result (λ line.
-        IsToldOf (migration_of O.table N.table mixed.now) ranks.now told.0 (line ++ 10 ∷ [])) }
+        IsReasonLine (migration_of O.table N.table mixed.now) ranks.now told.0 (line ++ 10 ∷ [])) }
 {
     let (router, found) = told;
     let net = mixed.net();
@@ -175,7 +176,7 @@ fn fault_line<O: RouteSource, N: RouteSource>(
     requires later { 0 < rank_of ranks.now told.0 }
     requires kept { KeepsLater (migration_of O.table N.table mixed.now) ranks.now told.0 (told_fault told.1 ring.now) }
     ensures { IfOk result (λ line.
-        IsToldOf (migration_of O.table N.table mixed.now) ranks.now told.0 (line ++ 10 ∷ [])) }
+        IsReasonLine (migration_of O.table N.table mixed.now) ranks.now told.0 (line ++ 10 ∷ [])) }
 {
     let (router, fault) = told;
     let net = mixed.net();
@@ -323,7 +324,7 @@ fn with_turns(line: LineBuilder, net: &Net, ring: &[Turn]) -> Result<LineBuilder
 
 /// The letter of a tag.
 fn letter(tag: Tag) -> &'static [u8]
-    ensures { result.now ≡ tag_letter tag ∷ [] }
+    ensures { result.now ≡ letter_of tag ∷ [] }
 {
     match tag {
         Tag::Old => b"O",

@@ -12,8 +12,8 @@ ghost use Rattle.rib_mix.specs.Mixture.{migration_of};
 ghost use Rattle.route_core.specs.Tables.{HasEntry};
 ghost use Rattle.explained_texts.specs.FaultPlaces.{span_of};
 ghost use Rattle.explained_texts.specs.ToldItems.{AreTold};
-ghost use Rattle.explained_texts.specs.WayTexts.{IsFirstLacking, IsUseLine, IsWayText, InSpan, StandsIn, turn_phase};
-ghost use Rattle.explained_texts.specs.steps.Mixing.{IsLawful};
+ghost use Rattle.explained_texts.specs.WayTexts.{IsFirstLacking, IsUseLine, IsWayText, InSpan, IsFaultInSpan, turn_phase};
+ghost use Rattle.explained_texts.specs.steps.Mixing.{HasLawfulTables};
 ghost use Rattle.explained_texts.specs.steps.Telling.{TellsAll, TellsMore};
 
 use crate::OutOfMemory;
@@ -47,7 +47,7 @@ pub fn way_text<O: RouteSource, N: RouteSource>(
     requires same { HaveSameTables
         (listed_migration sources.now.net.now (O.table sources.now.old.now) (N.table sources.now.new.now))
         (HasEntry (O.table mixed.now.old)) (HasEntry (N.table mixed.now.new)) }
-    requires fault { StandsIn
+    requires fault { IsFaultInSpan
         (listed_migration sources.now.net.now (O.table sources.now.old.now) (N.table sources.now.new.now)) (span_of place)
         (fault_told fault.now) }
     ensures { IfOk result (IsWayText
@@ -78,7 +78,7 @@ fn ring_text<O: RouteSource, N: RouteSource>(
     requires same { HaveSameTables
         (listed_migration sources.now.net.now (O.table sources.now.old.now) (N.table sources.now.new.now))
         (HasEntry (O.table mixed.now.old)) (HasEntry (N.table mixed.now.new)) }
-    requires ring { StandsIn
+    requires ring { IsFaultInSpan
         (listed_migration sources.now.net.now (O.table sources.now.old.now) (N.table sources.now.new.now)) (span_of told.0)
         (loop told.1 ring.now) }
     ensures { IfOk result (IsWayText
@@ -104,7 +104,7 @@ fn router_text<O: RouteSource, N: RouteSource>(
     requires same { HaveSameTables
         (listed_migration sources.now.net.now (O.table sources.now.old.now) (N.table sources.now.new.now))
         (HasEntry (O.table mixed.now.old)) (HasEntry (N.table mixed.now.new)) }
-    requires router { StandsIn
+    requires router { IsFaultInSpan
         (listed_migration sources.now.net.now (O.table sources.now.old.now) (N.table sources.now.new.now)) (span_of told.0)
         (missing told.1 router) }
     ensures { IfOk result (IsWayText
@@ -126,7 +126,7 @@ fn promise<O: RouteSource, N: RouteSource>(sources: &Sources<'_, O, N>, mixed: &
     requires same { HaveSameTables
         (listed_migration sources.now.net.now (O.table sources.now.old.now) (N.table sources.now.new.now))
         (HasEntry (O.table mixed.now.old)) (HasEntry (N.table mixed.now.new)) }
-    ensures { IsLawful (listed_migration sources.now.net.now (O.table sources.now.old.now) (N.table sources.now.new.now)) }
+    ensures { HasLawfulTables (listed_migration sources.now.net.now (O.table sources.now.old.now) (N.table sources.now.new.now)) }
 {
     let _routers = sources.net.routers();
     let _old = sources.old.routers();

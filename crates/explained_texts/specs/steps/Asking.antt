@@ -16,7 +16,7 @@ pub record AskedList (O N : Type 0) : Type 0 where
   pub ring : List Turn
 
 -- the migration is sound throughout the list, and the finder searches it from the start of all Old, with room for a timetable
-pub record IsAsked {O N : Type 0} (old : Listing O) (new : Listing N) (list : AskedList O N) (finding : Finding O N)
+pub record IsListAsked {O N : Type 0} (old : Listing O) (new : Listing N) (list : AskedList O N) (finding : Finding O N)
     (room : ℕ) : Type 0 where
   pub each : length list.ranks ≡ length list.mixture.net
   pub few : (u : ℕ) → rank_of list.ranks u + 1 < 2 ^ 32

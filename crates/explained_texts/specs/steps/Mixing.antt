@@ -27,7 +27,7 @@ pub record NamesOriginators (net : Network) (p : Block) (n : ℕ) (line longer :
   pub longer_is : longer ≡ line ++ spaced (map (router_word (names_of net)) routers)
 
 -- what the tables of a network keep: of each router one entry for a prefix, and prefixes that are blocks of addresses
-pub record IsLawful (move : Migration) : Type 0 where
+pub record HasLawfulTables (move : Migration) : Type 0 where
   pub network : IsNetwork move.net
   pub one_old : HasOneEntry move.net move.old
   pub one_new : HasOneEntry move.net move.new

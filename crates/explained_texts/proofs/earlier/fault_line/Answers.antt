@@ -7,7 +7,7 @@ use Rattle.loop_finder.specs.Faults.{told_fault}
 use Rattle.loop_finder.specs.declared.fault.Fault.{Fault}
 use Rattle.printed_lines.specs.Words.{joined, router_word}
 use Rattle.rib_mix.specs.Mixture.{migration_of}
-use Rattle.explained_texts.specs.ReasonTexts.{IsToldOf, KeepsLater, after_words, comes_after}
+use Rattle.explained_texts.specs.ReasonTexts.{IsReasonLine, KeepsLater, after_words, comes_after}
 use Rattle.explained_texts.proofs.ReasonLines.{all_inside, old_inside, some_before}
 use Rattle.explained_texts.proofs.earlier.fault_line.Goals as goal
 
@@ -63,8 +63,8 @@ returns g c =
     let after = c.lowest_before-after.result in
     IfOk-weaker c.after_line.result
     (λ (l : List ℕ). l ≡ joined (router_word (names_of net) v ∷ after_words (names_of net) ranks v after a ring))
-    (λ (l : List ℕ). IsToldOf move ranks v (l ++ 10 ∷ []))
-    (λ l is. subst (IsToldOf move ranks v) (sym (ap (λ (t : List ℕ). t ++ 10 ∷ []) (is
+    (λ (l : List ℕ). IsReasonLine move ranks v (l ++ 10 ∷ []))
+    (λ l is. subst (IsReasonLine move ranks v) (sym (ap (λ (t : List ℕ). t ++ 10 ∷ []) (is
     ∙ ap (λ (n : Network). joined (router_word (names_of n) v ∷ after_words (names_of n) ranks v after a ring)) c.net-net.ensures)))
     (comes_after a after ring c.requires.later
     (subst (λ (f : Fault). KeepsLater move ranks v (told_fault f ring)) c.in-Loop.is c.requires.kept)

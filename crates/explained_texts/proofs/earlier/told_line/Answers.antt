@@ -7,7 +7,7 @@ use Rattle.loop_finder.specs.declared.fault.Fault.{Fault}
 use Rattle.printed_lines.specs.Words.{joined, router_word}
 use Rattle.rib_mix.specs.Mixture.{migration_of}
 use Rattle.explained_waves.specs.Reasons.{MayBeEarlier}
-use Rattle.explained_texts.specs.ReasonTexts.{IsToldOf, KeepsLater, may_be_earlier, may_words}
+use Rattle.explained_texts.specs.ReasonTexts.{IsReasonLine, KeepsLater, may_be_earlier, may_words}
 use Rattle.explained_texts.proofs.earlier.told_line.Goals as goal
 
 pub fault_line-requires-clause-kept : goal.fault_line-requires-clause-kept
@@ -23,8 +23,8 @@ returns-in-None g c =
     let v = c.args.told.0 in
     let net = c.net-net.result.now in
     IfOk-weaker c.may_line.result (λ (l : List ℕ). l ≡ joined (router_word (names_of net) v ∷ may_words ranks v))
-    (λ (l : List ℕ). IsToldOf move ranks v (l ++ 10 ∷ []))
-    (λ l is. subst (IsToldOf move ranks v) (sym (ap (λ (t : List ℕ). t ++ 10 ∷ []) (is
+    (λ (l : List ℕ). IsReasonLine move ranks v (l ++ 10 ∷ []))
+    (λ l is. subst (IsReasonLine move ranks v) (sym (ap (λ (t : List ℕ). t ++ 10 ∷ []) (is
     ∙ ap (λ (n : Network). joined (router_word (names_of n) v ∷ may_words ranks v)) c.net-net.ensures)))
     (may_be_earlier c.requires.later
     (subst (λ (o : Option Fault). IfNone o (MayBeEarlier move ranks v)) c.in-None.is c.requires.free))) c.may_line.ensures

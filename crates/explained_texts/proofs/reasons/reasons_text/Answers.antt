@@ -1,7 +1,7 @@
 use Rattle.std.proofs.Common.{◌∙◌, ◌+◌, ◌<◌, ◌^◌, ℕ, List, [], get_or, length, subst, sym}
 use Rattle.order_core.specs.Rankings.{flat_of, rank_of}
 use Rattle.rib_mix.specs.Mixture.{Mixture, migration_of}
-use Rattle.explained_texts.specs.ReasonTexts.{IsToldOf}
+use Rattle.explained_texts.specs.ReasonTexts.{IsReasonLine}
 use Rattle.explained_texts.specs.ToldItems.{AreTold, none_told}
 use Rattle.explained_texts.specs.steps.Telling.{TellsMore}
 use Rattle.explained_texts.proofs.ReasonLines.{few_ranks, flat_inside}
@@ -17,7 +17,7 @@ pub loop-router-init : goal.loop-router-init
 loop-router-init g c = record {
   mixture = c.in_ok-list.ensures.mixture;
   ranks = c.in_ok-list.ensures.ranks ∙ c.ranks.ensures.ranks;
-  told = subst (AreTold (IsToldOf (migration_of g.O.RouteSource.table g.N.RouteSource.table c.args.mixed.now) c.args.waves.now) [])
+  told = subst (AreTold (IsReasonLine (migration_of g.O.RouteSource.table g.N.RouteSource.table c.args.mixed.now) c.args.waves.now) [])
       (sym c.new-text.ensures) none_told;
 }
 
@@ -40,14 +40,14 @@ loop-router-preserved g c =
     let text = c.loop-router.text in
     let longer = c.in_ok-text.text in
     let kept = c.loop-router.invariant in
-    let more : TellsMore (IsToldOf (migration_of old new c.args.mixed.now) c.args.waves.now) (get_or flat k 0) text longer =
-    subst (λ (m : Mixture g.row.O.Denot g.row.N.Denot). TellsMore (IsToldOf (migration_of old new m) c.args.waves.now) (get_or flat k 0)
+    let more : TellsMore (IsReasonLine (migration_of old new c.args.mixed.now) c.args.waves.now) (get_or flat k 0) text longer =
+    subst (λ (m : Mixture g.row.O.Denot g.row.N.Denot). TellsMore (IsReasonLine (migration_of old new m) c.args.waves.now) (get_or flat k 0)
     text longer) kept.mixture
-    (subst (λ (l : List ℕ). TellsMore (IsToldOf (migration_of old new list.mixture) l) (get_or flat k 0) text longer) kept.ranks
+    (subst (λ (l : List ℕ). TellsMore (IsReasonLine (migration_of old new list.mixture) l) (get_or flat k 0) text longer) kept.ranks
     c.in_ok-text.ensures.told) in
     record {
       mixture = c.with_told.ensures.mixture ∙ kept.mixture;
       ranks = c.with_told.ensures.ranks ∙ kept.ranks;
-      told = told_next (IsToldOf (migration_of old new c.args.mixed.now) c.args.waves.now) flat k 0 text longer c.loop-router-test.true
+      told = told_next (IsReasonLine (migration_of old new c.args.mixed.now) c.args.waves.now) flat k 0 text longer c.loop-router-test.true
           kept.told more;
     }

@@ -3,7 +3,7 @@ use Rattle.order_core.specs.declared.turn.Turn.{Turn}
 use Rattle.loop_finder.specs.Faults.{told_fault}
 use Rattle.rib_mix.specs.Mixture.{Mixture, migration_of}
 use Rattle.explained_waves.specs.Reasons.{MayBeEarlier}
-use Rattle.explained_texts.specs.ReasonTexts.{IsToldOf, KeepsLater}
+use Rattle.explained_texts.specs.ReasonTexts.{IsReasonLine, KeepsLater}
 use Rattle.explained_texts.specs.steps.Asking.{AskedList}
 use Rattle.explained_texts.proofs.earlier.EarlierList.reason_line.Goals as goal
 
@@ -44,8 +44,8 @@ returns-clause-told g c =
     let v = c.args.router in
     let mixture_is = ap (λ (l : AskedList g.row.O.Denot g.row.N.Denot). l.mixture) c.self.view_is ∙ c.earlier_fault-found.ensures.mixture in
     let ranks_are = ap (λ (l : AskedList g.row.O.Denot g.row.N.Denot). l.ranks) c.self.view_is ∙ c.earlier_fault-found.ensures.ranks in
-    subst (λ (l : List ℕ). IfOk c.told_line.result (λ line. IsToldOf (migration_of old new c.args.self.now.mixture) l v (line ++ 10 ∷ [])))
+    subst (λ (l : List ℕ). IfOk c.told_line.result (λ line. IsReasonLine (migration_of old new c.args.self.now.mixture) l v (line ++ 10 ∷ [])))
     ranks_are
     (subst (λ (m : Mixture g.row.O.Denot g.row.N.Denot).
-    IfOk c.told_line.result (λ line. IsToldOf (migration_of old new m) c.self.inside.ranks.now v (line ++ 10 ∷ []))) mixture_is
+    IfOk c.told_line.result (λ line. IsReasonLine (migration_of old new m) c.self.inside.ranks.now v (line ++ 10 ∷ []))) mixture_is
     c.told_line.ensures)
