@@ -43,6 +43,11 @@ CHANGE_LEAF = rb"leaf(?:" + CHANGE + rb"){2,}\n"
 CLOSED_CHANGES = rb"tree 2\n(?:" + BRANCH + rb"|" + CHANGE_LEAF + rb")+"
 OPEN_CHANGES = rb"tree 2\n(?:" + BRANCH + rb"|" + CHANGE_LEAF + rb")*(?:open\n)+"
 CHANGE_WAVES = rb"order 3\n(?:wave(?:" + CHANGE + rb")+\n)+chain(?:" + CHANGE + rb")+\n"
+REST = rb"rest 1\n(?:done\n|(?:wave" + NAMES + rb"\n)+chain" + NAMES + rb"\n)"
+START = rb"start(?:" + CHANGE + rb")*\n"
+CLOSED_REST = rb"tree 3\n" + START + rb"(?:" + BRANCH + rb"|" + LEAF + rb")+"
+OPEN_REST = rb"tree 3\n" + START + rb"(?:" + BRANCH + rb"|" + LEAF + rb")*(?:open\n)+"
+UNDONE = rb"(?:! undo \d+ " + NAME + rb"\n(?:router (?:isis(?: [!-~]+)?|ospf \d+)\n distance \d+\n)?)*"
 WAVES = rb"order 2\n(?:wave" + NAMES + rb"\n)+chain" + NAMES + rb"\n"
 SCRIPT = (
     rb"(?:! \d+ " + NAME + rb"\n|! wave \d+\n|! end\n|router isis(?: [!-~]+)?\n|router ospf \d+\n| distance (?:115|255)\n)*"
@@ -64,7 +69,30 @@ LIMIT = rb"limit (?:files|total|routers|interfaces|prefixes) \d+\n|limit bytes F
 LINE_REFUSED = rb"refused FILE \d+ " + KIND + rb"\n|" + NETWORK
 PAIR = rb"refused pair (?:RouterMissing|InterfacesDiffer|HasIsis|ProcessClash|NotIdle) " + NAME + rb"\n"
 PAIR_REFUSED = LINE_REFUSED + rb"|" + PAIR
+PREFIX = ADDRESS + rb"/\d+"
+PROTOCOL = rb"(?:ospf|level-1|level-2)"
+SURVEYED = (
+    rb"survey \d+ routers \d+ interfaces \d+ links \d+ prefixes\n"
+    + rb"(?:router " + NAME + rb" up \d+ ospf \d+ isis \d+ areas(?: \d+)*\n)+"
+)
+UNEVEN = rb"uneven " + PREFIX + rb" " + PROTOCOL + rb" " + NAME + rb" \d+ " + NAME + rb" \d+\n"
+ODDITY = (
+    rb"(?:(?:silent|start) " + NAME
+    + rb"|half " + PREFIX + rb" " + NAME + rb" [^\n]+"
+    + rb"|masks " + PREFIX + rb" " + NAME + rb" " + PREFIX + rb" " + NAME
+    + rb"|oneside " + PROTOCOL + rb" " + PREFIX + rb" " + NAME + rb" [^\n]+"
+    + rb"|apart " + NAME + rb" " + NAME
+    + rb"|odd FILE \d+|flat FILE|acts FILE \d+ [^\n]+)\n"
+)
+ALL_FAULTS = rb"(?:fault FILE \d+ " + KIND + rb"(?: [^\n]+)?\n)+faults \d+ in \d+ files\n"
+ALL_REFUSALS = rb"(?:limit (?:routers|interfaces|prefixes) \d+\n|" + NETWORK + rb")+"
 PAIR_SCRIPT = rb"(?:! \d+ " + NAME + rb"\n|! wave \d+\n|! end\n|router ospf \d+\n distance (?:115|255)\n)*"
+
+# What `why` prints behind the line of `check`.
+REASON = NAME + rb" wave \d+ (?:may be earlier|after " + NAME + rb" " + ADDRESS + TURNS + rb")\n"
+PREFIX = ADDRESS + rb"/\d+"
+USE = rb"(?:none|" + PREFIX + rb" (?:connected 0|(?:ospf|isis) \d+ (?:discard|to" + NAMES + rb")))\n"
+WAY = rb"target " + PREFIX + rb" at" + NAMES + rb"\n(?:at " + NAME + rb" (?:old|middle|new) " + USE + rb")+"
 
 # What each command may print, by its status. FILE stands for the name of a file of the call.
 TEXTS = {
@@ -101,10 +129,29 @@ TEXTS = {
         6: LIMIT,
     },
     "pairscripts": {0: PAIR_SCRIPT, 5: PAIR_REFUSED, 6: LIMIT},
+    "survey": {
+        0: SURVEYED + rb"(?:" + UNEVEN + rb")*",
+        1: ALL_FAULTS + rb"|" + ALL_REFUSALS + rb"|" + SURVEYED + rb"(?:" + ODDITY + rb"|" + UNEVEN + rb")+",
+        6: LIMIT,
+    },
     "sample": {0: SUMMARY, 2: rb"(?s:words refused\n.*)"},
 }
 
+TEXTS["why"] = {
+    **TEXTS["check"],
+    0: TEXTS["check"][0] + rb"(?:" + REASON + rb")*",
+    1: TEXTS["check"][1] + WAY,
+}
 TEXTS["twopass"] = {**TEXTS["plan"], 0: CHANGE_WAVES, 1: CLOSED_CHANGES, 8: OPEN_CHANGES}
+
+TEXTS["replan"] = {
+    **TEXTS["plan"],
+    0: REST,
+    1: CLOSED_REST + rb"|" + TEXTS["replay"][1],
+    7: rb"unsound (?:start|new) " + FAULT,
+    8: OPEN_REST,
+}
+TEXTS["rollback"] = {**TEXTS["replay"], 0: UNDONE}
 
 for ours, theirs in (("plan", "pair"), ("check", "paircheck"), ("refute", "pairrefute")):
     TEXTS[theirs] = {**TEXTS[ours], 5: PAIR_REFUSED}
@@ -132,6 +179,9 @@ def calls_of_examples():
     return [
         ["check", *example("border", "safe.txt", *square)],
         ["check", *example("triangle", "waves.txt", *triangle)],
+        ["survey", *example("survey/pager", *triangle)],
+        ["why", *example("triangle", "waves.txt", *triangle)],
+        ["why", *example("triangle", "unsafe.txt", *triangle)],
         ["prepare", str(design), *map(str, prepared)] if design else ["prepare"],
         ["plan", *example("levels", *square)],
         ["plan", "--budget", "5", *example("square", *square)],
@@ -141,6 +191,10 @@ def calls_of_examples():
         ["check", *example("twopass", "passes.txt", *square, "r5.cfg")],
         ["scripts", *example("triangle", "waves.txt", *triangle)],
         ["replay", *example("triangle", "waves.txt", "journal.txt", *triangle)],
+        ["replan", *example("stopped", "waves.txt", "journal.txt", "before.cfg")],
+        ["replan", *example("stopped", "square-order.txt", "square-journal.txt"), *example("square", *square)],
+        ["refute", *example("stopped", "tree.txt"), *example("square", *square)],
+        ["rollback", *example("stopped", "waves.txt", "journal.txt", "before.cfg")],
         ["pair", *example("redesign", "old.cfg", "new.cfg")],
         ["pair", "--budget", "5", *example("redesign", "two-areas.cfg", "one-area.cfg")],
         ["paircheck", *example("redesign", "waves.txt", "old.cfg", "new.cfg")],

@@ -179,7 +179,7 @@ refuse_deepest() {
         "refute tree.txt ring.cfg" "scripts waves.txt ring.cfg" "replay waves.txt journal.txt ring.cfg" \
         "pair without_isis.cfg new.cfg" "pair --budget 100 without_isis.cfg new.cfg" "paircheck waves.txt without_isis.cfg new.cfg" \
         "pairrefute tree.txt without_isis.cfg new.cfg" "pairscripts waves.txt without_isis.cfg new.cfg" \
-        "prepare design.toml without_isis.cfg" "sample 60"; do
+        "prepare design.toml without_isis.cfg" "survey ring.cfg" "sample 60"; do
         refuse_each end_of_program "$1" $call || wrong=1
     done
     return $wrong
@@ -195,6 +195,7 @@ refuse_each_command() {
     design=
     [ ! -f design/design.toml ] || design="design/design.toml design/r1.cfg design/r2.cfg design/r3.cfg"
     passes="twopass/r1.cfg twopass/r2.cfg twopass/r3.cfg twopass/r4.cfg twopass/r5.cfg"
+    stopped="stopped/waves.txt stopped/journal.txt stopped/before.cfg"
     pair="redesign/old.cfg redesign/new.cfg"
     merged="redesign/two-areas.cfg redesign/one-area.cfg"
     wrong=0
@@ -202,11 +203,15 @@ refuse_each_command() {
     # shellcheck disable=SC2086
     for call in "check triangle/safe.txt $triangle" "check triangle/waves.txt $triangle" "check triangle/unsafe.txt $triangle" \
         "check border/safe.txt $border" "check triangle/safe.txt square/r1.cfg square/r1.cfg" "check missing.txt $triangle" \
+        "why triangle/waves.txt $triangle" "why triangle/safe.txt $triangle" "why triangle/unsafe.txt $triangle" "why border/safe.txt $border" \
         "refute square/tree.txt $square" "refute square/order.txt $square" "scripts triangle/waves.txt $triangle" \
         "replay triangle/waves.txt triangle/journal.txt $triangle" "replay triangle/waves.txt triangle/safe.txt $triangle" \
+        "replan $stopped" "replan --budget 1 stopped/square-order.txt stopped/square-journal.txt $square" "rollback $stopped" \
+        "refute stopped/tree.txt $square" "replan triangle/waves.txt triangle/safe.txt $triangle" \
         "prepare $design" "prepare design/safe.txt design/r1.cfg" "plan $triangle" "plan $levels" "plan $square" \
-        "plan --budget 1 $square" "plan triangle/r1.cfg" "twopass $triangle" "twopass --budget 1 $square" \\
+        "plan --budget 1 $square" "plan triangle/r1.cfg" "twopass $triangle" "twopass --budget 1 $square" \
         "check twopass/passes.txt $passes" "scripts twopass/passes.txt $passes" \
+        "survey $border" "survey survey/lost-indentation/r1.cfg survey/pager/r1.cfg" "survey square/tree.txt square/order.txt" \
         "pair $pair" "pair $merged" "pair --budget 1 $merged" "pair redesign/old.cfg redesign/old.cfg" "paircheck redesign/waves.txt $pair" \
         "pairrefute redesign/tree.txt $merged" "pairscripts redesign/waves.txt $pair" "sample 3" "check" "explain a.cfg" "plan --budget 0 a.cfg" "--help"; do
         refuse_each end_of_program "$1" $call || wrong=1

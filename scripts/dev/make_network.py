@@ -4,6 +4,7 @@
     scripts/dev/make_network.py grid ROWS COLUMNS > all.cfg
     scripts/dev/make_network.py ring N, lan N, areas N > all.cfg
     scripts/dev/make_network.py hostile KIND FILE [--bytes N] [--lines N]
+    scripts/dev/make_network.py faulty OUT [--right] [--bytes N] [--files N]
     scripts/dev/make_network.py levels FOLDER OUT
     scripts/dev/make_network.py fill FOLDER OUT SIZE
     scripts/dev/make_network.py without-isis FOLDER OUT
@@ -141,6 +142,58 @@ def hostile(kind, size, count):
     head, tail = "hostname H\n", "router ospf 1\n" + lines + "end\n"
     parts = interfaces_within(size - len(head) - len(tail))
     return len(parts), head + "".join(parts) + tail
+
+
+# ---- files of faulty lines ----
+
+# A faulty line of nearly each kind, and the right one in its place.
+FAULTY_LINES = (
+    ("hostname R!{n}", "hostname R-{n}"),
+    ("interface GigabitEthernet0/{n}", None),
+    (" ip address 10.0.12.256 255.255.255.0", " ip address 10.0.12.1 255.255.255.0"),
+    (" ip address 10.0.12.1 255.255.0.255", " ip address 10.0.12.1 255.255.255.0"),
+    (" ip ospf cost 0", " ip ospf cost 1"),
+    (" ip ospf 1 area x", " ip ospf 1 area 0"),
+    (" ip ospf 2 area 0", " ip ospf 1 area 0"),
+    (" ip unnumbered Loopback0", " no ip redirects"),
+    (" isis metric 0 level-2", " isis metric 1 level-2"),
+    (" isis circuit-type level-2", " isis circuit-type level-1"),
+    ("interface Loopback{n}", None),
+    (" ip address 10.1.0.1 255.255.255.0", " ip address 10.1.0.1 255.255.255.255"),
+    ("interface Port-channel{n}", None),
+    (" ip address 10.2.0.1 255.255.255.0", None),
+    (" bandwidth 0", " bandwidth 1"),
+    ("router ospf 1", None),
+    (" distance 300", " distance 110"),
+    (" distance 115", " distance 110"),
+    (" area 1 range 10.1.0.0 255.255.0.0 cost x", " area 1 range 10.1.0.0 255.255.0.0 cost 1"),
+    ("router isis", None),
+    (" is-type level-2", " is-type level-1"),
+    (" metric-style wide", None),
+)
+
+# How such a text begins and ends: its processes, with the one `net` line that may be right, and what may stand behind `end`.
+FAULTY_ENDS = ("router ospf 1\nrouter isis\n net 49.0001.0000.0000.0009.0\n", "end\nhostname R\n")
+RIGHT_ENDS = ("router ospf 1\nrouter isis\n net 49.0001.0000.0000.0009.00\n", "end\n")
+
+
+def faulty_parts(right):
+    """Lines that are faulty, or right, for ever: those of every kind for the first time, for the second one, and so on."""
+    for n in itertools.count():
+        for faulty, other in FAULTY_LINES:
+            yield (other if right and other else faulty).format(n=n) + "\n"
+
+
+def faulty_text(size, right):
+    """The text of a configuration of at most so many bytes whose lines are faulty by each kind, or of the right ones."""
+    head, last = RIGHT_ENDS if right else FAULTY_ENDS
+    parts = []
+    size -= len(head) + len(last)
+    for part in faulty_parts(right):
+        size -= len(part)
+        if size < 0:
+            return head + "".join(parts) + last
+        parts.append(part)
 
 
 # ---- copies with level 1 areas ----
@@ -282,6 +335,13 @@ def make_hostile(given):
     print(f"{count} interfaces, {given.lines} network lines")
 
 
+def make_faulty(given):
+    out = pathlib.Path(given.out)
+    out.mkdir(parents=True, exist_ok=True)
+    for place in range(given.files):
+        (out / f"f{place:03d}.cfg").write_text(faulty_text(given.bytes // given.files, given.right))
+
+
 def subcommands():
     """The reader of the words, with a call for each subcommand."""
     parser = argparse.ArgumentParser(description=__doc__, formatter_class=argparse.RawDescriptionHelpFormatter)
@@ -309,6 +369,12 @@ def subcommands():
     words.add_argument("file")
     words.add_argument("--bytes", type=int, default=16 << 20, help="of the file, 16 MiB unless given")
     words.add_argument("--lines", type=int, default=100_000, help="how many `network` lines, 100,000 unless given")
+    words = add("faulty", make_faulty, "Files of faulty lines of every kind: what `survey` is measured on. With `--right` each has "
+                "the right line in its place, so that `check` reads all of them and refuses their network.")
+    words.add_argument("out", help="the folder of the files")
+    words.add_argument("--right", action="store_true", help="right lines in place of the faulty ones")
+    words.add_argument("--bytes", type=int, default=16 << 20, help="of all files together, 16 MiB unless given")
+    words.add_argument("--files", type=int, default=200, help="how many files, 200 unless given")
     for name, call, said in (
             ("levels", lambda given: copy(given.folder, given.out, with_levels, others=True),
              "A copy with level 1 areas of a network whose routers all run level 2. A router off the backbone gets `is-type "

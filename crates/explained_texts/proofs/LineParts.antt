@@ -23,7 +23,8 @@ use Rattle.used_routes.specs.UsedRoutes.{IsUsedRoute, entry_at, usable_at}
 use Rattle.used_routes.specs.declared.used.UsedRoute.{UsedRoute}
 use Rattle.explained_texts.specs.UseWords.{AreUseWords, usable_words, uses_one}
 use Rattle.explained_texts.specs.WayTexts.{IsTargetLine}
-use Rattle.explained_texts.specs.steps.Mixing.{HasHopsBelow, NamesOriginators}
+use Rattle.explained_texts.specs.steps.Mixing.{NamesOriginators}
+use Rattle.igp_theory.specs.Routes.{HasHopsBelow}
 use Rattle.explained_texts.proofs.ToldTexts.{word_on}
 
 -- ---- entries ----

@@ -13,13 +13,13 @@ use Rattle.order_core.specs.declared.turn.Turn.{Turn}
 use Rattle.order_core.proofs.WaveLists.{count_le_length, rank_below_count}
 use Rattle.igp_theory.specs.Loops.{Fault as WholeFault, IsLoop, loop, missing}
 use Rattle.igp_theory.specs.Migrations.{Migration, started}
-use Rattle.igp_theory.specs.Phases.{all_old}
+use Rattle.igp_theory.specs.Phases.{all_old, state_in}
 use Rattle.igp_theory.specs.Timetables.{IsSoundThroughout, IsTimetable, Timetable, router_times}
 use Rattle.igp_theory.specs.WaveFaults.{IsTimesFault}
 use Rattle.igp_theory.proofs.FlatOrders.{flat_lists}
 use Rattle.igp_theory.proofs.LoopLaws.{loop_inside, old_listed, old_turn}
 use Rattle.igp_theory.proofs.Switches.{routers_have_times}
-use Rattle.loop_finder.specs.Faults.{Finding, searched, state_in, told, told_fault}
+use Rattle.loop_finder.specs.Faults.{Finding, searched, told, told_fault}
 use Rattle.loop_finder.specs.Mixes.{Listing}
 use Rattle.loop_finder.specs.Times.{times_in}
 use Rattle.loop_finder.specs.declared.fault.Fault.{Fault}

@@ -5,7 +5,7 @@ ghost use Rattle.printed_lines.specs.Words.{prefix_word, router_word, spaced};
 ghost use Rattle.used_routes.specs.UsedRoutes.{IsOfTables, entry_at, usable_at};
 ghost use Rattle.explained_texts.specs.UseWords.{action_words, phase_word, usable_words};
 ghost use Rattle.explained_texts.specs.WayTexts.{IsUseLine};
-ghost use Rattle.explained_texts.specs.steps.Mixing.{HasHopsBelow};
+ghost use Rattle.igp_theory.specs.Routes.{HasHopsBelow};
 
 use crate::OutOfMemory;
 use crate::earlier::name_of;

@@ -8,6 +8,7 @@ pub mod OrderedLists
 pub mod ChangeCounts
 pub mod FlatOrders
 pub mod AlikeStates
+pub mod ListedStates
 pub mod OnesWaves
 pub mod OnesRuns
 pub mod Delivery

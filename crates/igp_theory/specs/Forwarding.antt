@@ -35,6 +35,10 @@ pub data Usable : Type 0 where
   of_old : Entry → Usable
   of_new : Entry → Usable
 
+-- a kind of entries that count: by their prefix, distance and what is used
+abbrev pub Kind : Type 1
+Kind = Block → ℕ → Usable → Type 0
+
 -- OSPF counts in the phases Old and Middle, IS-IS in Middle and New
 abbrev pub OldCounts : Phase → Type 0
 OldCounts Old = Unit {0}

@@ -1,5 +1,5 @@
 -- What both protocols' tables have in common.
-use Rattle.std.specs.Prelude.{ℕ, ◌<◌, ◌↔◌, length, Contains}
+use Rattle.std.specs.Prelude.{ℕ, ◌<◌, ◌↔◌, length, All, Contains}
 use Rattle.net_addr.specs.Addresses.{Block}
 use Rattle.net_model.specs.Network.{Network}
 use Rattle.route_core.specs.Hops.{AreHops}
@@ -19,6 +19,11 @@ ForwardsTo hop Discard = ⊥
 abbrev pub EntryLeadsTo : Entry → ℕ → Type 0
 EntryLeadsTo (Via hops) h = Contains hops h
 EntryLeadsTo Discard h = ⊥
+
+-- the hops of an entry are below n
+abbrev pub HasHopsBelow : ℕ → Entry → Type 0
+HasHopsBelow n (Via hops) = All (λ h. h < n) hops
+HasHopsBelow n Discard = Unit {0}
 
 -- at the routers of the network two tables have the same entries
 abbrev pub HaveSameEntries : Network → Tables → Tables → Type 0

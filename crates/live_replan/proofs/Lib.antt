@@ -1,2 +1,3 @@
 pub mod ToldFacts
 pub mod RestFacts
+pub mod NightFacts

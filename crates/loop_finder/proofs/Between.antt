@@ -1,7 +1,7 @@
 -- The states between two: their steps are those of both.
 use Rattle.std.proofs.Common.{◌≡◌, ℕ, ◌⊎◌, List, ◌∷◌, length, Option, None, Some, IfNone, inl, inr, arith, refl, sym, subst}
 use Rattle.igp_theory.specs.Forwarding.{MustForward, HasStep}
-use Rattle.igp_theory.specs.Phases.{State}
+use Rattle.igp_theory.specs.Phases.{State, state_in}
 use Rattle.igp_theory.specs.States.{StepsIn}
 use Rattle.igp_theory.specs.Timetables.{IsBetweenPhases}
 use Rattle.igp_theory.specs.declared.phase.Phase.{Phase}
@@ -10,7 +10,6 @@ use Rattle.igp_theory.proofs.ForwardingLaws.{every_phase_steps}
 use Rattle.igp_theory.proofs.Phases.{step_of_ends}
 use Rattle.igp_theory.proofs.SameTables.{follows_over}
 use Rattle.order_core.specs.declared.turn.Turn.{Turn}
-use Rattle.loop_finder.specs.Faults.{state_in}
 use Rattle.loop_finder.specs.Mixes.{sample_of, Mix, migration_in}
 use Rattle.loop_finder.specs.steps.ClassSteps.{ClassState, ClassStep, MovesIn, Moves}
 use Rattle.loop_finder.specs.Soundness.{SoundAt}

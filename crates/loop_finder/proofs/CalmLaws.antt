@@ -7,19 +7,19 @@ use Rattle.std.proofs.lemmas.Bool.{cases_eq, cases_lt}
 use Rattle.std.proofs.lemmas.List.{get_or-set_other, get_or-set_same}
 use Rattle.std.proofs.Math.ListN.{length-set}
 use Rattle.igp_theory.specs.Changes as change
-use Rattle.igp_theory.specs.Phases.{State}
-use Rattle.igp_theory.specs.Timetables.{Timetable, IsStateOfWave, state_before}
+use Rattle.igp_theory.specs.Phases.{state_in}
+use Rattle.igp_theory.specs.Timetables.{Timetable, state_before}
 use Rattle.igp_theory.specs.declared.phase.Phase.{Phase}
 use Rattle.igp_theory.proofs.AlikeStates.{sound_alike}
 use Rattle.igp_theory.proofs.SameTables.{follows_over}
 use Rattle.loop_finder.specs.Calm.{WaveStep, ChangesIn, IsCalmBefore, IsUnstirred, AreCalm}
 use Rattle.loop_finder.specs.steps.Calm.{AreLowered}
-use Rattle.loop_finder.specs.Faults.{state_in}
 use Rattle.loop_finder.specs.Parts.{ClassPart, part_hops, IsPart, AreParts}
+use Rattle.loop_finder.specs.Pieces.{AreMadeOf}
 use Rattle.loop_finder.specs.steps.Parts.{AreSteppers, IsBareIn}
 use Rattle.loop_finder.specs.Returns.{NeverReturnsTo}
 use Rattle.loop_finder.specs.Mixes.{sample_of, Mix}
-use Rattle.loop_finder.specs.Soundness.{SoundAt, Sound}
+use Rattle.loop_finder.specs.Soundness.{Sound}
 use Rattle.loop_finder.specs.Times.{waves_of, times_in, phase_before}
 use Rattle.loop_finder.specs.steps.Times.{IsInOrder, AreMovedFrom}
 use Rattle.loop_finder.specs.steps.Verdicts.{IsClearAt, SoundWave, SoundWavesBefore}
@@ -28,6 +28,7 @@ use Rattle.loop_finder.specs.steps.WaveStarts.{AreClearParts, BeginsSound}
 use Rattle.loop_finder.specs.declared.times.ChangeWaves.{ChangeWaves}
 use Rattle.loop_finder.proofs.ClassVerdicts.{sample_in}
 use Rattle.loop_finder.proofs.PartLists.{sound_whole}
+use Rattle.loop_finder.proofs.PieceLaws.{never_in}
 use Rattle.loop_finder.proofs.StateVerdicts.{sound_from_classes}
 use Rattle.loop_finder.proofs.WavePhases.{phase_moved, wave_moved, Listed, listed}
 use Rattle.loop_finder.proofs.ToldOfWaves.{AreEnds, wave_between, state_between}
@@ -200,54 +201,52 @@ taken_more times kept taken n within is before =
 
 -- Waves
 
--- where the first state of a wave is sound, its states are sound for the parts that are calm in it
-sound_in_calm : (m : Mix) (part : ClassPart) (time : Timetable) (c w : ℕ) (first last : List Phase) (state : State)
-    → IsPart m part → AreEnds (length m.net) time w first last → IsCalmBefore part time c → 1 ≤ w → w < c →
-    SoundAt m (state_in first) (sample_of m.classes part.atom) → IsStateOfWave (length m.net) time w state
-    → SoundAt m state (sample_of m.classes part.atom)
-sound_in_calm m part time c w first last state is ends calm some less begun of_wave =
-    part_wave_sound m part time w first last state is ends (calm.moves (omega (arith, some, less))) (λ u within. (calm.calm w some less u within).never) begun of_wave
-
-pub clear_parts : (m : Mix) (parts : List ClassPart) (time : Timetable) (calm : List ℕ) (w : ℕ) (first last : List Phase)
-    → AreParts m parts (length m.classes.samples) → AreEnds (length m.net) time w first last → 1 ≤ w → AreCalm parts time calm
-    → BeginsSound m time w → AreClearParts (IsClearAt m first last) parts calm w
-clear_parts m parts time calm w first last are ends some calms begun p d within less state between =
+-- where the first state of a wave is sound, its states are sound for the parts whose pieces are calm in it
+pub clear_parts : (m : Mix) (parts pieces : List ClassPart) (made : List (List ℕ)) (time : Timetable) (calm : List ℕ) (w : ℕ) (first last : List Phase)
+    → AreParts m parts (length m.classes.samples) → AreMadeOf pieces parts (length parts) made → AreEnds (length m.net) time w first last → 1 ≤ w
+    → AreCalm pieces time calm → BeginsSound m time w → AreClearParts (IsClearAt m first last) parts made calm w
+clear_parts m parts pieces made time calm w first last are making ends some calms begun p d within moves less state between =
     let is : IsPart m (get_or parts p d) = are.each p d within in
     let begun_first : Sound m (state_in first) = sound_alike (λ u inside. sym (ends.begins u inside)) begun in
-    sound_in_calm m (get_or parts p d) time (get_or calm p 0) w first last state is ends (calms.each p d within) some less
+    part_wave_sound m (get_or parts p d) time w first last state is ends moves
+    (λ u inside changes. never_in pieces (get_or parts p d) (get_or made p []) time calm w u (making.each p within d) calms less some changes)
     (begun_first (sample_of m.classes (get_or parts p d).atom) (sample_in m.classes (get_or parts p d).atom are.classes is.class).address)
     (state_between state ends between)
 
--- a wave in which all parts are calm is sound where its first state is
-sound_wave : (m : Mix) (parts : List ClassPart) (time : Timetable) (calm : List ℕ) (start w : ℕ) → IsInOrder time
-    → AreParts m parts (length m.classes.samples) → AreCalm parts time calm → ((p : ℕ) → p < length calm → start ≤ get_or calm p 0) → 1 ≤ w →
-    w < start → BeginsSound m time w → SoundWave m time w
-sound_wave m parts time calm start w order are calms least some less begun state of_wave =
+-- a wave in which all pieces are calm is sound where its first state is
+sound_wave : (m : Mix) (parts pieces : List ClassPart) (made : List (List ℕ)) (time : Timetable) (calm : List ℕ) (start w : ℕ) → IsInOrder time
+    → AreParts m parts (length m.classes.samples) → AreMadeOf pieces parts (length parts) made → All (λ (part : ClassPart). part.moves ≡ true) parts
+    → AreCalm pieces time calm → ((p : ℕ) → p < length calm → start ≤ get_or calm p 0) → 1 ≤ w → w < start → BeginsSound m time w → SoundWave m time w
+sound_wave m parts pieces made time calm start w order are making moves calms least some less begun state of_wave =
     let first : Listed (length m.net) (state_before time w) = listed (length m.net) (state_before time w) in
     let last : Listed (length m.net) (state_before time (w + 1)) = listed (length m.net) (state_before time (w + 1)) in
     let none : ClassPart = record { atom = 0; moves = true; rows = [] } in
     let ends : AreEnds (length m.net) time w first.phases last.phases = record { order = order; begins = first.each; ends = last.each } in
-    let clear : AreClearParts (IsClearAt m first.phases last.phases) parts calm w =
-    clear_parts m parts time calm w first.phases last.phases are ends some calms begun in
+    let clear : AreClearParts (IsClearAt m first.phases last.phases) parts made calm w =
+    clear_parts m parts pieces made time calm w first.phases last.phases are making ends some calms begun in
     sound_from_classes m state (length m.classes.samples) are.classes (omega arith)
     (λ k below. sound_whole m parts (length m.classes.samples) none state are
-    (λ p within. clear p none within (let more : start ≤ get_or calm p 0 = least p (omega (arith, within, calms.many)) in omega (arith, more, less)) state
-    (wave_between state ends of_wave)) k below)
+    (λ p within. clear p none within (moves p none within) (λ i d inside.
+    let place : get_or (get_or made p []) i d < length pieces = (making.each p within none).below i d inside in
+    let more : start ≤ get_or calm (get_or (get_or made p []) i d) 0 = least (get_or (get_or made p []) i d) (omega (arith, place, calms.many)) in
+    omega (arith, more, less)) state (wave_between state ends of_wave)) k below)
 
--- so the waves before one that no part has a lesser one than are sound
-pub sound_waves_before : (m : Mix) (parts : List ClassPart) (time : Timetable) (calm : List ℕ) (begun : Bool) (start : ℕ) → IsInOrder time
-    → AreParts m parts (length m.classes.samples) → AreCalm parts time calm → OnTrue begun (BeginsSound m time 1) → (1 < start → begun ≡ true)
+-- so the waves before one that no piece has a lesser one than are sound
+pub sound_waves_before : (m : Mix) (parts pieces : List ClassPart) (made : List (List ℕ)) (time : Timetable) (calm : List ℕ) (begun : Bool) (start : ℕ)
+    → IsInOrder time → AreParts m parts (length m.classes.samples) → AreMadeOf pieces parts (length parts) made → AreCalm pieces time calm
+    → OnTrue begun (BeginsSound m time 1) → (1 < start → begun ≡ true) → (1 < start → All (λ (part : ClassPart). part.moves ≡ true) parts)
     → (1 < start → (p : ℕ) → p < length calm → start ≤ get_or calm p 0) → (w : ℕ) → w ≤ start → SoundWavesBefore m time w
-sound_waves_before m parts time calm begun start order are calms first known least zero most = λ v one less. absurd (omega (arith, less))
-sound_waves_before m parts time calm begun start order are calms first known least (suc w) most =
+sound_waves_before m parts pieces made time calm begun start order are making calms first known moves least zero most =
+    λ v one less. absurd (omega (arith, less))
+sound_waves_before m parts pieces made time calm begun start order are making calms first known moves least (suc w) most =
     let before : SoundWavesBefore m time w =
-    sound_waves_before m parts time calm begun start order are calms first known least w (omega (arith, most)) in
+    sound_waves_before m parts pieces made time calm begun start order are making calms first known moves least w (omega (arith, most)) in
     λ v one less. elim (cases_lt v w) [
       | inl sooner ↦ before v one sooner
       | inr later ↦
           let is : w ≡ v = omega (arith, less, later) in
           let some : 1 ≤ w = omega (arith, is, one) in
           let more : 1 < start = omega (arith, some, most) in
-          subst (λ (x : ℕ). SoundWave m time x) is (sound_wave m parts time calm start w order are calms (least more) some (omega (arith, most))
-          (begins_sound m time w begun order some first before (inl (known more))))
+          subst (λ (x : ℕ). SoundWave m time x) is (sound_wave m parts pieces made time calm start w order are making (moves more) calms (least more) some
+          (omega (arith, most)) (begins_sound m time w begun order some first before (inl (known more))))
     ]

@@ -24,5 +24,6 @@ mod OrderStates
 mod WaveSteps
 mod FaultLaws
 mod WatchLaws
+mod PieceLaws
 mod CalmLaws
 mod Started

@@ -4,10 +4,9 @@ use Rattle.std.proofs.Common.{Bool, true, false, arith, refl, sym, ap, ◌∙◌
 use Rattle.std.proofs.lemmas.Bool.Decides.{eqb_tells}
 use Rattle.std.proofs.lemmas.List.{get_or_read, take_more, take_all}
 use Rattle.std.proofs.lemmas.List.Elements.{Contains-get_or}
-use Rattle.igp_theory.specs.Phases.{State}
+use Rattle.igp_theory.specs.Phases.{State, state_in}
 use Rattle.igp_theory.specs.States.{changes_of, changes_on, phase_after, state_of}
 use Rattle.igp_theory.specs.declared.phase.Phase.{Phase}
-use Rattle.loop_finder.specs.Faults.{state_in}
 use Rattle.loop_finder.specs.steps.Orders.{next_phase, IsOrderState, IsAdvanced}
 
 -- two states that give each router one phase are one

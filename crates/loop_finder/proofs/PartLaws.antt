@@ -4,7 +4,7 @@ use Rattle.std.proofs.lemmas.Bool.{OnTrue_at, cases_lt}
 use Rattle.std.proofs.lemmas.Bool.Decides.{eqb_tells}
 use Rattle.std.proofs.lemmas.List.{get_or_past}
 use Rattle.igp_theory.specs.Forwarding.{MustForward}
-use Rattle.igp_theory.specs.Phases.{State}
+use Rattle.igp_theory.specs.Phases.{State, state_in}
 use Rattle.igp_theory.specs.States.{Follows}
 use Rattle.igp_theory.specs.declared.phase.Phase.{Phase}
 use Rattle.igp_theory.proofs.ForwardingLaws.{every_phase_steps}
@@ -12,7 +12,6 @@ use Rattle.igp_theory.proofs.LoopLaws.{old_or_new_step}
 use Rattle.igp_theory.proofs.SameTables.{follows_over}
 use Rattle.order_core.specs.Marks.{IsMarked}
 use Rattle.prefix_atoms.specs.Classes.{HasTarget}
-use Rattle.loop_finder.specs.Faults.{state_in}
 use Rattle.loop_finder.specs.Parts.{PhaseHops, ClassPart, hops_of, no_hops, part_hops, StepsOf, StepsEver, HasStepOf, AllMove, IsPart}
 use Rattle.loop_finder.specs.steps.Parts.{PartStep, DifferAt}
 use Rattle.loop_finder.specs.Parts.{HaveReturning, NeverUnsound, SoundWith}

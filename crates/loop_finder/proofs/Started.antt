@@ -1,8 +1,7 @@
 -- A migration that goes on from another start: it steps as before, and has other tags.
-use Rattle.std.proofs.Common.{◌≡◌, ℕ, suc, ◌+◌, ◌<◌, ◌≤◌, List, [], ◌∷◌, length, get_or, set, replicate, Bool, true, false, ◌&&◌, Option, None, Some, IfSome, IfNone, inl, inr, arith, ap, sym, ◌∙◌, subst, below_more}
+use Rattle.std.proofs.Common.{◌≡◌, ℕ, suc, ◌+◌, ◌<◌, ◌≤◌, List, [], ◌∷◌, length, get_or, set, Bool, true, false, ◌&&◌, Option, None, Some, IfSome, IfNone, inl, inr, arith, ap, sym, ◌∙◌, subst, below_more}
 use Rattle.std.specs.Bool.{OnTrue}
-use Rattle.std.proofs.lemmas.List.{map-set, length-map, length-replicate, get_or-map, get_or-replicate, set-get_or, get_or_past, get_or-set_same, get_or-set_other}
-use Rattle.std.proofs.lemmas.Bool.{cases_lt}
+use Rattle.std.proofs.lemmas.List.{map-set, length-map, get_or-map, set-get_or, get_or-set_same, get_or-set_other}
 use Rattle.net_addr.specs.Addresses.{Block}
 use Rattle.order_core.specs.Turns.{routers_of}
 use Rattle.order_core.specs.declared.turn.Turn.{Turn}
@@ -22,14 +21,13 @@ use Rattle.igp_theory.proofs.Rings.{found_goes_round}
 use Rattle.igp_theory.proofs.SameTables.{follows_over, found_ring_over, around_ring_over}
 use Rattle.igp_theory.proofs.Tags.{tags_over}
 use Rattle.igp_theory.proofs.Timetables.{start_first}
-use Rattle.loop_finder.specs.Faults.{KeepsRing, state_in, told, told_fault}
+use Rattle.loop_finder.specs.Faults.{KeepsRing, told, told_fault}
 use Rattle.loop_finder.specs.Mixes.{Mix}
 use Rattle.loop_finder.specs.Soundness.{Sound}
 use Rattle.loop_finder.specs.steps.Rings.{next_in}
 use Rattle.loop_finder.specs.steps.Starts.{StepsFrom, TurnsStep, TurnsAreTagged}
 use Rattle.loop_finder.specs.declared.fault.Fault.{Fault as Told}
 use Rattle.loop_finder.specs.declared.fault.Fault.TheVariants.{Loop, Missing}
-use Rattle.loop_finder.proofs.OrderStates.{same_state}
 use Rattle.loop_finder.proofs.TagSteps.{ring_step}
 
 -- The same steps. Back again one goes from the other's start to this one's
@@ -239,15 +237,3 @@ pub begun_old : (m : Mix) (start : State) (begun old : Bool) → OnTrue begun (S
 begun_old m start true true sound is = subst (Sound m) is sound
 begun_old m start true false sound is = tt
 begun_old m start false old sound is = tt
-
--- the state of some phases that are all Old
-pub all_same : (phases : List Phase) → ((k : ℕ) → k < length phases → get_or phases k Old ≡ Old) → state_in phases ≡ all_old
-all_same phases each = same_state (state_in phases) all_old (λ u. elim (cases_lt u (length phases)) [
-  | inl within ↦ each u within
-  | inr past ↦ get_or_past phases u Old past
-])
-
-pub replicated_old : (phases : List Phase) (n : ℕ) → phases ≡ replicate n Old → state_in phases ≡ all_old
-replicated_old phases n is =
-    let many : length phases ≡ n = ap (λ (xs : List Phase). length xs) is ∙ length-replicate n Old in
-    all_same phases (λ k within. subst (λ (xs : List Phase). get_or xs k Old ≡ Old) (sym is) (get_or-replicate n k Old Old (omega (arith, within, many))))

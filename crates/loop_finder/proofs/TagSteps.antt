@@ -8,7 +8,7 @@ use Rattle.order_core.specs.Turns.{routers_of}
 use Rattle.order_core.specs.declared.turn.Tag.TheVariants as tag
 use Rattle.order_core.specs.declared.turn.Turn.{Turn}
 use Rattle.loop_finder.specs.steps.Rings.{next_in}
-use Rattle.loop_finder.specs.Faults.{state_in}
+use Rattle.igp_theory.specs.Phases.{state_in}
 use Rattle.loop_finder.specs.steps.ClassSteps.{ClassState, StepsBy, ClassStep, IsTagged}
 use Rattle.loop_finder.proofs.RingLaws.{each_at, each_to_next_push}
 

@@ -2,7 +2,7 @@
 use Rattle.std.proofs.Common.{◌≡◌, ℕ, ◌+◌, ◌^◌, ◌<◌, List, length, Option, Some, None, IfSome, IfNone, inl, inr, arith, refl, sym, subst}
 use Rattle.order_core.specs.declared.turn.Turn.{Turn}
 use Rattle.igp_theory.specs.Forwarding.{MustForward}
-use Rattle.igp_theory.specs.Phases.{State}
+use Rattle.igp_theory.specs.Phases.{State, state_in}
 use Rattle.igp_theory.specs.Timetables.{Timetable, IsTimetable, IsBetweenPhases, IsStateOfWave, state_before}
 use Rattle.igp_theory.specs.WaveFaults.{StepsInSome, LacksStep, HasStepsInAll, IsLeastUnsound, missing_in_one, loop_over_all}
 use Rattle.igp_theory.specs.declared.phase.Phase.{Phase}
@@ -10,7 +10,7 @@ use Rattle.igp_theory.proofs.FoundRings.{found_ring_returns}
 use Rattle.igp_theory.proofs.SameTables.{SameHops, found_ring_over}
 use Rattle.igp_theory.proofs.Timetables.{first_of_wave, last_of_wave}
 use Rattle.igp_theory.proofs.WaveLoops.{InWave, return_is_unsound}
-use Rattle.loop_finder.specs.Faults.{state_in, told_fault}
+use Rattle.loop_finder.specs.Faults.{told_fault}
 use Rattle.loop_finder.specs.Parts.{ClassPart, AreParts}
 use Rattle.loop_finder.specs.Mixes.{sample_of, Mix, migration_in}
 use Rattle.loop_finder.specs.steps.ClassSteps.{ClassState, ClassStep, IsStuck, Moves}

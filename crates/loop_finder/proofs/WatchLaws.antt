@@ -4,10 +4,9 @@ use Rattle.std.proofs.Common.{arith, sym, ◌∙◌, ap, subst}
 use Rattle.std.specs.List.{AllPairs}
 use Rattle.std.proofs.lemmas.List.{get_or_default}
 use Rattle.std.proofs.lemmas.List.Quantifiers.{all_pairs_push}
-use Rattle.igp_theory.specs.Phases.{State}
+use Rattle.igp_theory.specs.Phases.{State, state_in}
 use Rattle.igp_theory.specs.declared.phase.Phase.{Phase}
 use Rattle.order_core.specs.declared.turn.Turn.{Turn}
-use Rattle.loop_finder.specs.Faults.{state_in}
 use Rattle.loop_finder.specs.Parts.{PhaseHops, ClassPart, hops_of, no_hops, IsPart, AreParts, part_hops}
 use Rattle.loop_finder.specs.steps.Parts.{AddsUnless, AreAllBut, PartStep}
 use Rattle.loop_finder.specs.Returns.{NeverReturnsTo}

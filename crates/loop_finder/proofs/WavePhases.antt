@@ -10,11 +10,10 @@ use Rattle.std.proofs.lemmas.Bool.{cases_lt}
 use Rattle.std.proofs.lemmas.List.{take-append-le, take_all, get_or_past, get_or_default, get_or-set_other, get_or-set_same}
 use Rattle.std.proofs.lemmas.List.Elements.{Contains-get_or}
 use Rattle.igp_theory.specs.Changes.{Change, first, second}
-use Rattle.igp_theory.specs.Phases.{State, all_old}
+use Rattle.igp_theory.specs.Phases.{State, all_old, state_in}
 use Rattle.igp_theory.specs.Timetables.{Timetable, router_times, state_before}
 use Rattle.igp_theory.specs.declared.phase.Phase.{Phase}
 use Rattle.igp_theory.specs.declared.phase.Phase.TheVariants.{Old, Middle, New}
-use Rattle.loop_finder.specs.Faults.{state_in}
 use Rattle.loop_finder.specs.Times.{waves_of, times_in, phase_before}
 use Rattle.loop_finder.specs.Parts.{ClassPart, part_hops}
 use Rattle.loop_finder.specs.steps.Times.{IsMovedFrom, AreMovedFrom}

@@ -5,7 +5,7 @@ use Rattle.std.specs.Bool.{OnTrue}
 use Rattle.std.proofs.lemmas.Bool.{cases_eq, cases_lt}
 use Rattle.std.proofs.lemmas.Bool.Decides.{leb_tells}
 use Rattle.igp_theory.specs.Changes as change
-use Rattle.igp_theory.specs.Phases.{State}
+use Rattle.igp_theory.specs.Phases.{State, state_in}
 use Rattle.igp_theory.specs.Timetables.{Timetable, IsTimetable, IsBetweenPhases, IsStateOfWave, state_before}
 use Rattle.igp_theory.specs.declared.phase.Phase.{Phase}
 use Rattle.igp_theory.proofs.AlikeStates.{sound_at_alike, sound_alike}
@@ -13,7 +13,6 @@ use Rattle.igp_theory.proofs.Phases.{phases_same}
 use Rattle.igp_theory.proofs.SameTables.{follows_over}
 use Rattle.igp_theory.proofs.Timetables.{made_before, last_of_wave}
 use Rattle.loop_finder.specs.Calm.{WaveStep, ChangesIn}
-use Rattle.loop_finder.specs.Faults.{state_in}
 use Rattle.loop_finder.specs.Parts.{ClassPart, part_hops, IsPart}
 use Rattle.loop_finder.specs.steps.Parts.{PartStep}
 use Rattle.loop_finder.specs.Returns.{NeverReturnsTo}

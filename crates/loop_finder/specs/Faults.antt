@@ -1,19 +1,14 @@
 -- What an answer tells: a fault, with the ring of its loop beside it.
-use Rattle.std.specs.Prelude.{◌≡◌, ℕ, List, Option, Some, None, slice_index_or}
+use Rattle.std.specs.Prelude.{◌≡◌, ℕ, List, Option, Some, None}
 use Rattle.igp_theory.specs.Loops.{Fault as WholeFault, missing, loop}
-use Rattle.igp_theory.specs.Phases.{State}
+use Rattle.igp_theory.specs.Phases.{state_in}
 use Rattle.igp_theory.specs.declared.phase.Phase.{Phase}
-use Rattle.igp_theory.specs.declared.phase.Phase.TheVariants.{Old}
 use Rattle.igp_theory.specs.Migrations.{Migration, started}
 use Rattle.rib_mix.specs.Mixture.{Mixture, migration_of}
 use Rattle.order_core.specs.declared.turn.Turn.{Turn}
 use Rattle.loop_finder.specs.Mixes.{Listing}
 use Rattle.loop_finder.specs.declared.fault.Fault.{Fault}
 use Rattle.loop_finder.specs.declared.fault.Fault.TheVariants.{Loop, Missing}
-
--- the state that gives each router the phase at its place
-abbrev pub state_in : List Phase → State
-state_in phases u = slice_index_or phases u Old
 
 -- what contracts see of a finder: what it searches, the phase from which each router starts, and the ring of its latest loop
 pub record Finding (O N : Type 0) : Type 0 where

@@ -13,4 +13,5 @@ pub mod Parts
 pub mod Findings
 pub mod Watches
 pub mod Calm
+pub mod Pieces
 pub mod steps

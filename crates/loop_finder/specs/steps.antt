@@ -10,6 +10,7 @@ pub mod Times
 pub mod Starts
 pub mod Targets
 pub mod Calm
+pub mod Cuts
 pub mod ClassSteps
 pub mod Orders
 pub mod Parts

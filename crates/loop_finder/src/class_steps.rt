@@ -1,7 +1,7 @@
 ghost use Rattle.std.specs.Prelude.{◌≡◌, ◌<◌, ◌↔◌, ℕ, Contains, IsTrue, length};
 ghost use Rattle.std.specs.Bool.{OnFalse, OnTrue};
 ghost use Rattle.igp_theory.specs.Forwarding.{MustForward};
-ghost use Rattle.loop_finder.specs.Faults.{state_in};
+ghost use Rattle.igp_theory.specs.Phases.{state_in};
 ghost use Rattle.loop_finder.specs.Mixes.{sample_of};
 ghost use Rattle.loop_finder.specs.steps.ClassSteps.{AreForwarders, FirstStuck, IsStuck, IsStuckIn, Moves, MovesIn, StepsBy, state_over};
 

@@ -65,6 +65,13 @@ impl<'m> EndLists<'m> {
         Some(&self.all[router as usize])
     }
 
+    /// Puts hops in the place of a router's, where the router is there.
+    pub fn set(&mut self, router: u32, ends: Ends<'m>) {
+        if let Some(own) = self.all.get_mut(router as usize) {
+            *own = ends;
+        }
+    }
+
     /// Puts hops in the place of a router's.
     fn put(&mut self, router: u32, ends: Ends<'m>)
         requires { router < length self.old.olds }

@@ -4,12 +4,12 @@ ghost use Rattle.igp_theory.specs.Loops.{IsFault, IsFirstFault};
 ghost use Rattle.order_core.specs.Orders.{IsOrder};
 ghost use Rattle.order_core.specs.Rankings.{IsRanking};
 ghost use Rattle.igp_theory.specs.States.{IsSeamless, IsSound};
-ghost use Rattle.igp_theory.specs.Phases.{all_old};
+ghost use Rattle.igp_theory.specs.Phases.{all_old, state_in};
 ghost use Rattle.igp_theory.specs.Timetables.{IsSoundThroughout, IsTimetable, router_times};
 ghost use Rattle.igp_theory.specs.WaveFaults.{IsTimesFault};
 ghost use Rattle.igp_theory.specs.Waves.{AreSeamlessWaves};
 ghost use Rattle.rib_mix.specs.Mixture.{migration_of};
-ghost use Rattle.loop_finder.specs.Faults.{KeepsRing, searched, state_in, told, told_fault};
+ghost use Rattle.loop_finder.specs.Faults.{KeepsRing, searched, told, told_fault};
 ghost use Rattle.loop_finder.specs.Times.{times_in};
 
 use crate::calm::none_known;
@@ -18,6 +18,7 @@ use crate::known::{shared_states, sound_states};
 use crate::order_fault::{is_sound, order_fault, state_fault};
 use crate::part::Part;
 use crate::parts::parts_of;
+use crate::pieces::{Pieces, pieces_of};
 use crate::retag::{is_all_old, is_old_begun, tag_found};
 use crate::room::Room;
 use crate::times::{ChangeWaves, rank_waves};
@@ -33,17 +34,19 @@ use std::marker::Model;
 ///
 /// All room that its calls need is made with it, so that a finder that was made once decides every state,
 /// every order, every wave list, and every timetable from its start. What is found of the latest order and of the
-/// parts of the latest timetable is kept.
+/// pieces of parts in the latest timetable is kept.
 #[derive(Drop)]
 pub struct Finder<'a, O: RouteSource, N: RouteSource> {
     mixed: &'a Mixed<'a, O, N>,
     /// The classes that are looked at.
     parts: Vec<Part<'a>>,
+    /// The pieces of which they are made.
+    pieces: Pieces<'a>,
     /// For each router the parts that a change of it may make unsound.
     watch: Vec<Places>,
     /// The latest timetable.
     times: Vec<ChangeWaves>,
-    /// For each part a wave of it before which it is calm.
+    /// For each piece a wave of it before which it is calm.
     calm: Vec<u32>,
     /// Room for the timetable of a wave list.
     asked: Vec<ChangeWaves>,
@@ -74,6 +77,7 @@ impl<'a, O: RouteSource, N: RouteSource> Model for Finder<'a, O, N> {
 
     ghost invariant = { λ x. IsFinding (mix_of O.table N.table x.mixed.now) (record {
       parts = x.parts.items;
+      pieces = x.pieces;
       watch = x.watch.items;
       times = x.times.items;
       calm =
@@ -129,6 +133,7 @@ impl<'a, O: RouteSource, N: RouteSource> Finder<'a, O, N> {
         let phases = vec![in alloc; Phase::Old; routers as usize]?;
         let later = vec![in alloc; Phase::Old; routers as usize]?;
         let parts = parts_of(alloc, mixed)?;
+        let pieces = pieces_of(alloc, parts.as_slice(), routers)?;
         let watch = watch_of(alloc, parts.as_slice(), routers)?;
         let once = ChangeWaves {
             first: 1,
@@ -137,7 +142,7 @@ impl<'a, O: RouteSource, N: RouteSource> Finder<'a, O, N> {
         let times = vec![in alloc; once; routers as usize]?;
         let asked = vec![in alloc; once; routers as usize]?;
         let order = vec![in alloc; 0; routers as usize]?;
-        let calm = none_known(alloc, parts.as_slice())?;
+        let calm = none_known(alloc, pieces.all.as_slice())?;
         let mut room = Room::new(alloc, routers)?;
         let from_old = is_all_old(start.as_slice());
         let begun = is_sound(mixed, parts.as_slice(), start.as_slice(), &mut room);
@@ -145,6 +150,7 @@ impl<'a, O: RouteSource, N: RouteSource> Finder<'a, O, N> {
         Ok(Finder {
             mixed,
             parts,
+            pieces,
             watch,
             times,
             calm,
@@ -246,7 +252,7 @@ impl<'a, O: RouteSource, N: RouteSource> Finder<'a, O, N> {
         times_fault(
             self.mixed,
             self.parts.as_slice(),
-            self.watch.as_slice(),
+            &self.pieces,
             begun,
             self.asked.as_slice(),
             &mut self.times,
@@ -274,7 +280,7 @@ impl<'a, O: RouteSource, N: RouteSource> Finder<'a, O, N> {
         let found = times_fault(
             self.mixed,
             self.parts.as_slice(),
-            self.watch.as_slice(),
+            &self.pieces,
             self.begun,
             times,
             &mut self.times,

@@ -12,9 +12,10 @@
 //! | `ends`, `end_lists`, `class_hops` | the hops of a class in both networks, and where they changed |
 //! | `layers`, `chains`, `level_marks` | where a walk may return, by one search for strongly connected components, chains at once |
 //! | `parts`, `part` | the parts |
+//! | `pieces`, `cutting`, `cut_check` | their pieces: a walk that returns stays in one of them, and parts share them |
 //! | `watch`, `known` | which parts a change of a router concerns, and what is known of the latest order |
 //! | `order_fault`, `change`, `follow`, `returns` | orders: after a change only walks through the router changed |
-//! | `times`, `waves_fault`, `calm` | timetables: before which wave each part is calm |
+//! | `times`, `waves_fault`, `calm` | timetables: before which wave each piece is calm |
 //! | `class_fault`, `classes_fault`, `class_steps` | the exact fault: a router without a step, or a ring |
 //! | `graph`, `live`, `ring`, `tags` | steps of any kind and walks over them, and a ring with its tags |
 //! | `retag` | the tags by another start |
@@ -42,6 +43,11 @@ mod level_marks;
 mod part;
 mod parts;
 mod watch;
+
+// the pieces of parts
+mod cut_check;
+mod cutting;
+mod pieces;
 
 // orders and wave lists
 mod calm;

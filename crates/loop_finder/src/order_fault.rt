@@ -2,10 +2,10 @@ ghost use Rattle.std.specs.Prelude.{◌≡◌, ◌+◌, ◌*◌, ◌≤◌, ◌<
 ghost use Rattle.std.specs.Bool.{OnTrue};
 ghost use Rattle.order_core.specs.Orders.{IsOrder};
 ghost use Rattle.loop_finder.specs.Mixes.{mix_of};
-ghost use Rattle.loop_finder.specs.Faults.{KeepsRing, state_in, told, told_fault};
+ghost use Rattle.loop_finder.specs.Faults.{KeepsRing, told, told_fault};
+ghost use Rattle.igp_theory.specs.Phases.{all_old, state_in};
 ghost use Rattle.loop_finder.specs.Orders.{AreFirstStates};
 ghost use Rattle.loop_finder.specs.steps.Orders.{IsAdvanced, IsOrderState, next_phase};
-ghost use Rattle.igp_theory.specs.Phases.{all_old};
 ghost use Rattle.loop_finder.specs.Parts.{AreParts};
 ghost use Rattle.loop_finder.specs.Rooms.{HasRoom};
 ghost use Rattle.loop_finder.specs.Soundness.{Sound};

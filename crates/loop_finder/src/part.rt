@@ -3,14 +3,17 @@ ghost use Rattle.std.specs.Bool.{OnTrue};
 ghost use Rattle.order_core.specs.Marks.{IsMarked};
 ghost use Rattle.loop_finder.specs.steps.Targets.{IsTargetIn};
 ghost use Rattle.igp_theory.specs.declared.phase.Phase.{Phase};
+ghost use Rattle.loop_finder.specs.steps.Cuts.{AreRowsIn};
 ghost use Rattle.loop_finder.specs.steps.PartRows.{AreKept, AreRowsOf, HasHops, HasMarked, HaveHops, IsRowOf};
 ghost use Rattle.loop_finder.specs.Parts.{AllMove, IsPart, StepsEver, hops_of, no_hops, part_hops};
 ghost use Rattle.loop_finder.specs.steps.Parts.{AddsUnless, AreSteppers, IsBareIn};
-ghost use Rattle.loop_finder.specs.steps.Returns.{MarksReturns};
+ghost use Rattle.loop_finder.specs.steps.Returns.{MarksReturns, layer_in};
 ghost use Rattle.loop_finder.specs.Mixes.{mix_of, sample_of, class_in};
 ghost use Rattle.loop_finder.specs.Watches.{IsIdle};
 
+use crate::chains::number_of;
 use crate::class_hops::next_hops;
+use crate::ends::Ends;
 use crate::live::is_marked;
 use net_addr::Prefix;
 use rib_mix::{Mixed, OutOfMemory, Phase};
@@ -59,6 +62,17 @@ impl<'m> Row<'m> {
             Phase::Old => self.old,
             Phase::Middle => self.middle,
             Phase::New => self.new,
+        }
+    }
+
+    /// The same hops.
+    fn copied(&self) -> Row<'m>
+        ensures { result ≡ self.now }
+    {
+        Row {
+            old: self.old,
+            middle: self.middle,
+            new: self.new,
         }
     }
 
@@ -164,6 +178,81 @@ impl<'m> Part<'m> {
         self.rows[router as usize].hops_in(phase)
     }
 
+    /// Its steps from those of its routers, so many, that are in a layer, as a part of which all routers move.
+    pub fn piece(
+        &self,
+        alloc: Global,
+        routers: u32,
+        layers: &[u32],
+        layer: u32,
+    ) -> Result<Part<'m>, OutOfMemory>
+        requires { length self.now.rows ≡ routers }
+        ensures { IfOk result (λ piece. AreRowsIn layers.now layer self.now.rows (length self.now.rows) piece.rows) }
+    {
+        let rows = rows_in(alloc, self.rows.as_slice(), layers, layer)?;
+        let steppers = steppers_of(alloc, rows.as_slice(), routers)?;
+        Ok(Part {
+            atom: self.atom,
+            moves: true,
+            digest: self.digest,
+            rows,
+            steppers,
+        })
+    }
+
+    /// The hops of a router in both networks.
+    pub fn ends_of(&self, router: u32) -> Ends<'m> {
+        if router as usize >= self.rows.len() {
+            return Ends::new(&[], &[]);
+        }
+        let row = &self.rows[router as usize];
+        Ends::new(row.old, row.new)
+    }
+
+    /// Whether a step from a router stays in its layer.
+    pub fn stays(&self, router: u32, layers: &[u32]) -> bool {
+        stays_in(self.hops_at(router, Phase::Old), layers, router)
+            || stays_in(self.hops_at(router, Phase::Middle), layers, router)
+            || stays_in(self.hops_at(router, Phase::New), layers, router)
+    }
+
+    /// Whether it has the steps of a part that stay in the layer of a router, the first one that is in the layer.
+    pub fn is_piece_of(&self, part: &Part<'_>, router: u32, layers: &[u32]) -> bool {
+        let Some(first) = self.steppers.first().copied() else {
+            return false;
+        };
+        if first != router {
+            return false;
+        }
+        let layer = number_of(layers, router);
+        let mut same = 0usize;
+        for other in part.steppers() {
+            if number_of(layers, *other) != layer {
+                continue;
+            }
+            if !self.has_same(part, *other, layers) {
+                return false;
+            }
+            same = same.saturating_add(1);
+        }
+        self.steppers.len() == same
+    }
+
+    /// Whether a router has the same steps in another part, of those that stay in its layer.
+    fn has_same(&self, part: &Part<'_>, router: u32, layers: &[u32]) -> bool {
+        are_same(self, part, router, Phase::Old, layers)
+            && are_same(self, part, router, Phase::Middle, layers)
+            && are_same(self, part, router, Phase::New, layers)
+    }
+
+    /// The hops of a router in a phase, none where it isn't there.
+    fn hops_at(&self, router: u32, phase: Phase) -> &[u32] {
+        if router as usize >= self.rows.len() {
+            return &[];
+        }
+        self.rows[router as usize].hops_in(phase)
+    }
+
     /// Whether every router moves, and a router has no hops.
     pub fn is_idle(&self, router: u32) -> bool
         requires { router < length self.now.rows }
@@ -187,6 +276,69 @@ impl<'m> Part<'m> {
     {
         self.digest == digest && have_hops(mixed, atom, marks, self.rows.as_slice())
     }
+}
+
+/// The rows of the routers of a layer; the others have none.
+fn rows_in<'m>(
+    alloc: Global,
+    rows: &[Row<'m>],
+    layers: &[u32],
+    layer: u32,
+) -> Result<Vec<Row<'m>>, OutOfMemory>
+    ensures { IfOk result (λ own. AreRowsIn layers.now layer rows.now (length rows.now) own.items) }
+{
+    let mut own = Vec::with_capacity(alloc, rows.len())?;
+    for router in 0..rows.len() {
+        let row = row_in(&rows[router], layer_at(layers, router), layer);
+        own.push(row)?;
+    }
+    Ok(own)
+}
+
+/// A row, where its router's layer is another, else none.
+fn row_in<'m>(row: &Row<'m>, own: u32, layer: u32) -> Row<'m>
+    ensures { own ≡ layer → result ≡ row.now }
+{
+    if own == layer {
+        return row.copied();
+    }
+    Row::empty()
+}
+
+/// The layer of the router at a place.
+fn layer_at(layers: &[u32], router: usize) -> u32
+    ensures { result ≡ layer_in layers.now router }
+{
+    layers.get(router).copied().unwrap_or(0)
+}
+
+/// Whether one of a router's hops is in its layer.
+fn stays_in(hops: &[u32], layers: &[u32], router: u32) -> bool {
+    let layer = number_of(layers, router);
+    for hop in hops {
+        if number_of(layers, *hop) == layer {
+            return true;
+        }
+    }
+    false
+}
+
+/// Whether a router has the same hops in a phase in two parts, of those in its layer.
+fn are_same(one: &Part<'_>, other: &Part<'_>, router: u32, phase: Phase, layers: &[u32]) -> bool {
+    let hops = one.hops_at(router, phase);
+    let others = other.hops_at(router, phase);
+    let layer = number_of(layers, router);
+    has_layer_of(hops, others, layers, layer) && has_layer_of(others, hops, layers, layer)
+}
+
+/// Whether those of some routers that are in a layer are among others.
+fn has_layer_of(others: &[u32], routers: &[u32], layers: &[u32], layer: u32) -> bool {
+    for router in routers {
+        if number_of(layers, *router) == layer && !others.contains(router) {
+            return false;
+        }
+    }
+    true
 }
 
 /// Whether some rows have all hops of a class between marked routers.

@@ -2,13 +2,13 @@ ghost use Rattle.std.specs.Prelude.{◌≡◌, ◌<◌, ◌&&◌, ◌⊎◌, ◌
 ghost use Rattle.igp_theory.specs.Forwarding.{MustForward, Steps};
 ghost use Rattle.igp_theory.specs.Loops.{AroundRing, IsTag, IsTagOf};
 ghost use Rattle.igp_theory.specs.Migrations.{started};
-ghost use Rattle.igp_theory.specs.Phases.{all_old};
+ghost use Rattle.igp_theory.specs.Phases.{all_old, state_in};
 ghost use Rattle.std.specs.Bool.{OnTrue};
 ghost use Rattle.order_core.specs.Turns.{routers_of};
 ghost use Rattle.order_core.specs.declared.turn.Turn.{Turn};
 ghost use Rattle.prefix_atoms.specs.Classes.{IsInClass};
 ghost use Rattle.rib_mix.specs.Mixture.{migration_of};
-ghost use Rattle.loop_finder.specs.Faults.{KeepsRing, state_in};
+ghost use Rattle.loop_finder.specs.Faults.{KeepsRing};
 ghost use Rattle.loop_finder.specs.steps.Rings.{next_in};
 ghost use Rattle.loop_finder.specs.steps.Starts.{StepsFrom, TurnsAreTagged, TurnsStep};
 

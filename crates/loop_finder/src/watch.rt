@@ -1,4 +1,4 @@
-ghost use Rattle.std.specs.Prelude.{◌≡◌, ◌<◌, All, IfOk, OnOk, length};
+ghost use Rattle.std.specs.Prelude.{◌≡◌, ◌∷◌, [], ◌<◌, All, IfOk, OnOk, length};
 ghost use Rattle.loop_finder.specs.steps.Parts.{AddsUnless};
 ghost use Rattle.loop_finder.specs.Watches.{ArePlacesOf, IsIdle, IsWatch};
 
@@ -32,6 +32,22 @@ impl Places {
             add_place(&parts[place], router, place, &mut all)?;
         }
         Ok(Places { all })
+    }
+
+    /// One place.
+    pub fn of_one(alloc: Global, place: usize) -> Result<Places, OutOfMemory>
+        ensures { IfOk result (λ places. places ≡ place ∷ []) }
+    {
+        let mut all = Vec::new(alloc);
+        all.push(place)?;
+        Ok(Places { all })
+    }
+
+    /// These places.
+    pub fn from_vec(all: Vec<usize>) -> Places
+        ensures { result ≡ all.items }
+    {
+        Places { all }
     }
 
     /// The places.

@@ -26,22 +26,25 @@ use Rattle.migrate_cli.specs.Answers.MayAsk.{asks_none, asks_some}
 use Rattle.migrate_cli.specs.Answers.MayFail.{last_failed, none_failed}
 use Rattle.migrate_cli.specs.Calls.{Call}
 use Rattle.migrate_cli.specs.CallWords.AreRefused.{not_taken, value_off}
-use Rattle.migrate_cli.specs.CommandFiles.{GivenTexts, NeedsStart, config_texts, files_of, given_texts, groups_of, own_texts, text_names}
+use Rattle.migrate_cli.specs.CommandFiles.{AsksNetworks, GivenTexts, NeedsStart, config_texts, files_of, given_texts, groups_of, own_texts, text_names}
 use Rattle.migrate_cli.specs.Configurations.{GiveNetworks, IsAtStart, RefusesFirst}
 use Rattle.migrate_cli.specs.Decisions.{IsDecision, input_of}
 use Rattle.migrate_cli.specs.Outcomes.{IsOutcome}
-use Rattle.migrate_cli.specs.Outcomes.IsOutcome.{faulty_configuration, no_network, off_start, decided}
+use Rattle.migrate_cli.specs.Outcomes.IsOutcome.{faulty_configuration, no_network, off_start, decided, surveyed, observed}
 use Rattle.migrate_cli.specs.Reading.{AreRead, AreWithin, NoneFailed, file_names, to_read}
 use Rattle.migrate_cli.specs.declared.configurations.Unread.{Unread}
 use Rattle.migrate_cli.specs.declared.configurations.Unread.TheVariants.{Bad, OutOfMemory as NoMemoryToRead}
 use Rattle.migrate_cli.specs.declared.reading.Stop.{Stop}
 use Rattle.migrate_cli.specs.declared.reading.Stop.TheVariants.{Fault, Long, Total, OutOfMemory}
 use Rattle.migrate_cli.specs.steps.Answering.{HasAnswer, ReadsEnd, RefusesSo, StopsSo}
+use Rattle.migrate_cli.specs.ObserveDecision.{ConfigTexts, IsNightOutcome, NightTexts, RefusesTexts}
+use Rattle.migrate_cli.specs.ObserveDecision.IsNightOutcome.{refused_before, off_before, refused_now, night_decided}
+use Rattle.migrate_cli.specs.ObserveDecision.RefusesTexts.{faulty_line, no_net}
 use Rattle.migrate_cli.specs.steps.Stops.{MayRead, HasRead, StopReads}
 use Rattle.migrate_cli.specs.steps.Stops.MayRead.{none_yet, so_far}
 use Rattle.migrate_cli.specs.steps.Unread.{IsUnread, RefusesUnread}
 use Rattle.migrate_cli.proofs.OutcomeLaws.{outcome_has_text}
-use Rattle.migrate_cli.proofs.StatusFacts.{NoFault, decision_no_fault, limit_no_fault, refused_no_fault}
+use Rattle.migrate_cli.proofs.StatusFacts.{NoFault, decision_no_fault, limit_no_fault, refused_no_fault, survey_no_fault}
 use Rattle.migrate_cli.proofs.StopFacts.{read_so_far}
 
 -- what holds of a value holds of a result that has it
@@ -135,11 +138,23 @@ network_no_fault : (refusal : NetRefusal) → NoFault (network_status refusal)
 network_no_fault (NetLimit _ _) = limit_no_fault
 network_no_fault _ = refused_no_fault
 
+refusal_no_fault : {files : ConfigTexts} {outcome : Outcome} → RefusesTexts files outcome → NoFault (status_of outcome)
+refusal_no_fault (faulty_line _ _ _ _) = refused_no_fault
+refusal_no_fault (no_net _ refusal _ _ _) = network_no_fault refusal
+
+night_no_fault : {texts : NightTexts} {outcome : Outcome} → IsNightOutcome texts outcome → NoFault (status_of outcome)
+night_no_fault (refused_before _ is) = refusal_no_fault is
+night_no_fault (off_before _ _ _ _ _ _) = refused_no_fault
+night_no_fault (refused_now _ _ _ _ is) = refusal_no_fault is
+night_no_fault (night_decided _ _ decision _ _ _ _) = decision_no_fault decision
+
 pub outcome_no_fault : {command : Command} {texts : GivenTexts} {outcome : Outcome} → IsOutcome command texts outcome → NoFault (status_of outcome)
-outcome_no_fault (faulty_configuration _ _ _ _) = refused_no_fault
+outcome_no_fault (faulty_configuration _ _ _ _ _) = refused_no_fault
 outcome_no_fault (no_network _ refusal _ _ _) = network_no_fault refusal
 outcome_no_fault (off_start _ _ _ _ _ _ _ _) = refused_no_fault
 outcome_no_fault (decided _ _ decision _ _ _) = decision_no_fault decision
+outcome_no_fault (surveyed survey _ _) = survey_no_fault survey.stands_out
+outcome_no_fault (observed _ _ _ _ _ is) = night_no_fault is
 
 -- that a write failed is no answer
 pub answer_writes : {call : Call} {asked : List (List ℕ)} {outcome : Outcome} → IsAnswer call asked outcome → status_of outcome ≢ WriteFault
@@ -214,11 +229,11 @@ agree_may_fail is agree = elim (reads_or_not is) [ inl fault ↦ last_failed (ag
 
 -- why configurations aren't read is the outcome
 pub unread_outcome : (command : Command) (texts : GivenTexts) (unread : Unread) (r : Result Outcome AllocError) →
-    IsUnread (text_names command) texts.configs unread → IfOk r (RefusesUnread unread) → IfOk r (IsOutcome command texts)
-unread_outcome command texts (Bad file line kind) (Ok outcome) is so =
-    subst (IsOutcome command texts) (sym so) (faulty_configuration file.now line kind is)
-unread_outcome command texts NoMemoryToRead (Ok outcome) is so = absurd so
-unread_outcome command texts unread (Err e) is so = tt
+    AsksNetworks command.kind → IsUnread (text_names command) texts.configs unread → IfOk r (RefusesUnread unread) → IfOk r (IsOutcome command texts)
+unread_outcome command texts (Bad file line kind) (Ok outcome) asks is so =
+    subst (IsOutcome command texts) (sym so) (faulty_configuration file.now line kind asks is)
+unread_outcome command texts NoMemoryToRead (Ok outcome) asks is so = absurd so
+unread_outcome command texts unread (Err e) asks is so = tt
 
 -- that a group of configurations makes no network is the outcome
 pub refused_network : (command : Command) (texts : GivenTexts) (all : List Configuration) (refusal : NetRefusal) (r : Result Outcome AllocError) →

@@ -21,8 +21,8 @@ use Rattle.plan_theory.specs.declared.planned.Planned.{Planned}
 use Rattle.plan_theory.specs.declared.planned.Planned.TheVariants.{UnsoundOld, UnsoundNew, Searched}
 use Rattle.plan_theory.proofs.Meaning.{night_plan_means}
 use Rattle.plan_theory.proofs.ChangesServe.{changes_serve}
-use Rattle.planned_texts.proofs.ChangeRankings.{sound_is_good, two_waves_keep}
-use Rattle.planned_texts.proofs.ReadBack.{change_chain_tagged, plan_reads_back}
+use Rattle.wave_oracle.proofs.ChangeRankings.{sound_is_good, two_waves_keep}
+use Rattle.wave_oracle.proofs.ReadBack.{change_chain_tagged, plan_reads_back}
 use Rattle.refutation_check.specs.Verdicts.{leaf_count, open_count}
 use Rattle.refutation_check.specs.declared.verdict.Verdict.TheVariants.{Closed, Unfinished}
 use Rattle.migration_report.specs.Outcomes.{plan_status, plan_text}

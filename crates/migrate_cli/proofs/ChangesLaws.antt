@@ -10,7 +10,7 @@ use Rattle.igp_theory.specs.Timetables.{IsStateOfWave, change_times}
 use Rattle.igp_theory.proofs.WaveFaultLaws.{times_fault_unique}
 use Rattle.plan_theory.specs.declared.items.Items.TheVariants.{Changes}
 use Rattle.plan_theory.proofs.OnePlan.{told_once}
-use Rattle.refutation_check.specs.TreeLines.{tree_header, two_tree_header}
+use Rattle.refutation_check.specs.TreeLines.{rest_tree_header, tree_header, two_tree_header}
 use Rattle.refutation_check.specs.declared.verdict.Verdict.{Verdict}
 use Rattle.refutation_check.proofs.OneVerdict.{one_headed}
 use Rattle.step_scripts.specs.WaveFiles.{NamesWaves}
@@ -18,12 +18,12 @@ use Rattle.step_scripts.specs.WaveLines.{header_of}
 use Rattle.step_scripts.specs.declared.version.Version.{Version}
 use Rattle.step_scripts.specs.declared.version.Version.TheVariants.{One, Two}
 use Rattle.step_scripts.proofs.LeastFaults.{first_header}
-use Rattle.two_pass.specs.TwoFaults.{two_header}
-use Rattle.two_pass.specs.TwoFiles.{NamesTwo}
-use Rattle.two_pass.specs.TwoTexts.{two_refusal_text}
-use Rattle.two_pass.specs.declared.kind.TwoRefusal.{TwoRefusal}
-use Rattle.two_pass.specs.declared.kind.TwoRefusal.TheVariants.{Bad, OutOfMemory}
-use Rattle.two_pass.proofs.TwoFileLaws.{one_list, one_refusal}
+use Rattle.change_orders.specs.TwoFaults.{two_header}
+use Rattle.change_orders.specs.TwoFiles.{NamesTwo}
+use Rattle.change_orders.specs.TwoTexts.{two_refusal_text}
+use Rattle.change_orders.specs.declared.kind.TwoRefusal.{TwoRefusal}
+use Rattle.change_orders.specs.declared.kind.TwoRefusal.TheVariants.{Bad, OutOfMemory}
+use Rattle.change_orders.proofs.TwoFileLaws.{one_list, one_refusal}
 use Rattle.migration_report.specs.Outcomes.{IsTellable}
 use Rattle.migration_report.specs.declared.decision.Decision.{Decision}
 use Rattle.migration_report.specs.declared.decision.Decision.TheVariants.{UnsafeWave, BadChanges, Tree}
@@ -35,11 +35,12 @@ use Rattle.migrate_cli.specs.CheckDecision.{IsCheckDecision}
 use Rattle.migrate_cli.specs.CheckDecision.IsCheckDecision.{by_routers, by_changes}
 use Rattle.migrate_cli.specs.FirstLines.{BeginsWith}
 use Rattle.migrate_cli.specs.Reading.{NamedText}
-use Rattle.migrate_cli.specs.RefuteDecision.{IsRefuteDecision}
-use Rattle.migrate_cli.specs.RefuteDecision.IsRefuteDecision.{by_routers as tree_of_routers, by_changes as tree_of_changes}
+use Rattle.migrate_cli.specs.RefuteDecision.{HasOtherHeader, IsRefuteDecision}
+use Rattle.migrate_cli.specs.RefuteDecision.IsRefuteDecision.{by_routers as tree_of_routers, by_changes as tree_of_changes, by_rest as tree_of_rest}
 use Rattle.migrate_cli.proofs.CheckLaws.{check_tellable, one_check_decision}
 use Rattle.migrate_cli.proofs.FaultFacts.{fault_over_below}
 use Rattle.migrate_cli.proofs.RefuteLaws.{one_tree_decision, tree_tellable}
+use Rattle.migrate_cli.proofs.RestTreeLaws.{one_rest_tree, rest_tree_tellable}
 
 -- ---- first lines ----
 
@@ -64,11 +65,21 @@ names_no_changes net text version ranks names begins =
 pub names_changes : (net : Network) (text ranks : List ℕ) → NamesTwo net text ranks → BeginsWith two_header text
 names_changes net text ranks names = begins_with_first text two_header names.entries names.lines
 
-other_trees : tree_header ≡ two_tree_header → ⊥
-other_trees same = let last : 49 ≡ 50 = ap (λ (bytes : List ℕ). get_or bytes 5 0) same in omega (arith, last)
+-- the headers of trees are others
+tree_not_two : tree_header ≡ two_tree_header → ⊥
+tree_not_two same = let last : 49 ≡ 50 = ap (λ (bytes : List ℕ). get_or bytes 5 0) same in omega (arith, last)
 
-pub tree_no_changes : (text : List ℕ) (rest : List (List ℕ)) → line_texts text ≡ tree_header ∷ rest → ¬ BeginsWith two_tree_header text
-tree_no_changes text rest lines begins = other_trees (begins_with_one text tree_header two_tree_header (begins_with_first text tree_header rest lines) begins)
+tree_not_rest : tree_header ≡ rest_tree_header → ⊥
+tree_not_rest same = let last : 49 ≡ 51 = ap (λ (bytes : List ℕ). get_or bytes 5 0) same in omega (arith, last)
+
+two_not_rest : two_tree_header ≡ rest_tree_header → ⊥
+two_not_rest same = let last : 50 ≡ 51 = ap (λ (bytes : List ℕ). get_or bytes 5 0) same in omega (arith, last)
+
+pub tree_of_no_other : (text : List ℕ) (rest : List (List ℕ)) → line_texts text ≡ tree_header ∷ rest → HasOtherHeader text
+tree_of_no_other text rest lines = record {
+  no_changes = λ begins. tree_not_two (begins_with_one text tree_header two_tree_header (begins_with_first text tree_header rest lines) begins);
+  no_start = λ begins. tree_not_rest (begins_with_one text tree_header rest_tree_header (begins_with_first text tree_header rest lines) begins);
+}
 
 -- ---- order files ----
 
@@ -129,9 +140,16 @@ one_changes_tree {move} {tree} begins (judged_changes one network is _) (judged_
 -- `refute` decides one thing of a tree file
 pub one_judged_tree : {tree : List ℕ} {net : Network} {d e : Decision} → IsRefuteDecision tree net d → IsRefuteDecision tree net e → d ≡ e
 one_judged_tree (tree_of_routers _ _ is) (tree_of_routers _ _ its) = one_tree_decision is its
-one_judged_tree (tree_of_routers _ not _) (tree_of_changes _ begins _) = absurd (not begins)
-one_judged_tree (tree_of_changes _ begins _) (tree_of_routers _ not _) = absurd (not begins)
+one_judged_tree (tree_of_routers _ other _) (tree_of_changes _ begins _) = absurd (other.no_changes begins)
+one_judged_tree (tree_of_routers _ other _) (tree_of_rest _ begins _) = absurd (other.no_start begins)
+one_judged_tree (tree_of_changes _ begins _) (tree_of_routers _ other _) = absurd (other.no_changes begins)
 one_judged_tree (tree_of_changes _ _ is) (tree_of_changes _ _ its) = one_changes_tree (λ u. refl) is its
+one_judged_tree {tree} (tree_of_changes _ one _) (tree_of_rest _ other _) =
+    absurd (two_not_rest (begins_with_one tree two_tree_header rest_tree_header one other))
+one_judged_tree (tree_of_rest _ begins _) (tree_of_routers _ other _) = absurd (other.no_start begins)
+one_judged_tree {tree} (tree_of_rest _ one _) (tree_of_changes _ other _) =
+    absurd (two_not_rest (begins_with_one tree two_tree_header rest_tree_header other one))
+one_judged_tree (tree_of_rest _ _ is) (tree_of_rest _ _ its) = one_rest_tree is its
 
 changes_tree_tellable : {move : Migration} {tree : List ℕ} {d : Decision} → IsChangesTree move tree d → IsTellable move.net d
 changes_tree_tellable (judged_changes _ _ _ _) = tt
@@ -139,3 +157,4 @@ changes_tree_tellable (judged_changes _ _ _ _) = tt
 pub judged_tree_tellable : {tree : List ℕ} {net : Network} {d : Decision} → IsRefuteDecision tree net d → IsTellable net d
 judged_tree_tellable (tree_of_routers _ _ is) = tree_tellable is
 judged_tree_tellable (tree_of_changes _ _ is) = changes_tree_tellable is
+judged_tree_tellable (tree_of_rest _ _ is) = rest_tree_tellable is

@@ -1,23 +1,20 @@
 -- What calls of `check` and `refute` promise of files of single changes, and what they say of the text of a plan.
-use Rattle.std.proofs.Common.{◌≡◌, ◌≢◌, ℕ, List, [], ◌∷◌, ◌++◌, ap, refl, sym, ◌∙◌, subst}
+use Rattle.std.proofs.Common.{◌≡◌, ◌≢◌, ℕ, List, [], ◌∷◌, ap, length, refl, sym, ◌∙◌, subst}
 use Rattle.net_model.specs.Network.{Network}
 use Rattle.net_model.specs.Refusals.{NamesAscend}
 use Rattle.igp_theory.specs.LoopLaws.{BeginsOld}
 use Rattle.igp_theory.specs.Migrations.{Migration, ospf_to_isis}
-use Rattle.igp_theory.specs.Timetables.{IsSoundThroughout, change_times}
 use Rattle.order_core.specs.Rankings.{wave_count}
 use Rattle.plan_theory.specs.declared.items.Items.TheVariants.{Changes}
 use Rattle.refutation_check.specs.TreeLines.{two_tree_header}
 use Rattle.refutation_check.specs.Verdicts.{IsTextVerdict}
-use Rattle.refutation_check.specs.declared.verdict.Verdict.{Verdict}
 use Rattle.refutation_check.specs.declared.verdict.Verdict.TheVariants.{Closed, Unfinished, Wrong}
-use Rattle.refutation_check.specs.declared.verdict.WrongKind.{WrongKind}
 use Rattle.refutation_check.proofs.OneVerdict.{one_headed}
 use Rattle.step_scripts.specs.WaveFiles.{NamesWaves}
 use Rattle.step_scripts.specs.declared.version.Version.{Version}
 use Rattle.step_scripts.specs.declared.version.Version.TheVariants.{Two}
-use Rattle.two_pass.specs.TwoFiles.{NamesTwo}
-use Rattle.two_pass.proofs.TwoFileLaws.{one_list}
+use Rattle.change_orders.specs.TwoFiles.{AreTwoWaves, NamesTwo}
+use Rattle.change_orders.proofs.TwoFileLaws.{one_list}
 use Rattle.migrate_words.specs.declared.command.CommandKind.TheVariants.{Check, Refute}
 use Rattle.migration_report.specs.Outcomes.{decision_status, status_of}
 use Rattle.migration_report.specs.declared.decision.Decision.{Decision}
@@ -27,14 +24,14 @@ use Rattle.migration_report.specs.declared.status.Status.{Status}
 use Rattle.migration_report.specs.declared.status.Status.TheVariants.{ReadFault}
 use Rattle.migrate_cli.specs.Answers.{IsAnswer}
 use Rattle.migrate_cli.specs.Calls.{Call}
-use Rattle.migrate_cli.specs.ChangesDecision.{IsChangesCheck, IsChangesDecision, IsChangesTree}
+use Rattle.migrate_cli.specs.ChangesDecision.{IsChangesDecision, IsChangesTree}
 use Rattle.migrate_cli.specs.ChangesDecision.IsChangesCheck.{faulty_changes, named_changes}
 use Rattle.migrate_cli.specs.ChangesDecision.IsChangesDecision.{safe_changes, unsafe_changes}
 use Rattle.migrate_cli.specs.ChangesDecision.IsChangesTree.{judged_changes}
 use Rattle.migrate_cli.specs.ChangesPromise.{AcceptsChanges, DecidesChanges, DecidesChangesTree, DecidesRefutation}
 use Rattle.migrate_cli.specs.ChangesPromise.DecidesChanges.{all_sound, some_unsound}
 use Rattle.migrate_cli.specs.ChangesPromise.DecidesChangesTree.{closed_changes, no_closed_changes}
-use Rattle.migrate_cli.specs.ChangesPromise.DecidesRefutation.{of_routers, of_changes}
+use Rattle.migrate_cli.specs.ChangesPromise.DecidesRefutation.{of_routers, of_changes, of_rest}
 use Rattle.migrate_cli.specs.CheckDecision.{IsCheckDecision}
 use Rattle.migrate_cli.specs.CheckDecision.IsCheckDecision.{by_routers, by_changes}
 use Rattle.migrate_cli.specs.CommandFiles.{command_of}
@@ -43,11 +40,12 @@ use Rattle.migrate_cli.specs.Headline.{Headline}
 use Rattle.migrate_cli.specs.JudgedTexts.{IsJudgedSo}
 use Rattle.migrate_cli.specs.Reading.{NamedText, named_text, named_texts}
 use Rattle.migrate_cli.specs.RefuteDecision.{IsRefuteDecision, IsTreeDecision}
-use Rattle.migrate_cli.specs.RefuteDecision.IsRefuteDecision.{by_routers as tree_of_routers, by_changes as tree_of_changes}
+use Rattle.migrate_cli.specs.RefuteDecision.IsRefuteDecision.{by_routers as tree_of_routers, by_changes as tree_of_changes, by_rest as tree_of_rest}
 use Rattle.migrate_cli.specs.RefuteDecision.IsTreeDecision.{judged_tree}
-use Rattle.migrate_cli.proofs.ChangesLaws.{names_changes, names_no_changes, tree_no_changes}
+use Rattle.migrate_cli.proofs.ChangesLaws.{names_changes, names_no_changes, tree_of_no_other}
 use Rattle.migrate_cli.proofs.CompletenessLaws.{check_of_waves, ends_decided, said_of}
 use Rattle.migrate_cli.proofs.RefuteLaws.{closed_or_unfinished, closed_or_wrong, tree_decides}
+use Rattle.migrate_cli.proofs.RestTreeLaws.{rest_tree_decides}
 
 -- ---- `check` ----
 
@@ -65,18 +63,19 @@ check_decides call it =
     (λ decision is. check_of_routers it.accepted.gives.0.make.network.ascending
     (said_of it.file (λ t. NamesWaves it.net t it.version it.ranks) it.text_is is.1 it.names) is.2)
 
-changes_decide : {move : Migration} {ranks : List ℕ} {d : Decision} → IsChangesDecision move ranks d → DecidesChanges move ranks (decision_status d)
-changes_decide (safe_changes sound) = all_sound sound
-changes_decide (unsafe_changes _ _ not _) = some_unsound not
+changes_decide : {move : Migration} {ranks : List ℕ} {d : Decision} → AreTwoWaves (length move.net) ranks → IsChangesDecision move ranks d →
+    DecidesChanges move ranks (decision_status d)
+changes_decide turns (safe_changes sound) = all_sound sound
+changes_decide turns (unsafe_changes _ _ not _) = some_unsound turns not
 
 -- and one that names a wave list of single changes
 check_of_changes : {order : NamedText} {net : Network} {ranks : List ℕ} {d : Decision} → NamesAscend net →
     NamesTwo net order.text ranks → IsCheckDecision order net d → DecidesChanges (ospf_to_isis net) ranks (decision_status d)
 check_of_changes {order} {net} {ranks} ascending names (by_routers _ not _) = absurd (not (names_changes net order.text ranks names))
 check_of_changes ascending names (by_changes _ _ (faulty_changes n k least)) = absurd (names.faultless n k least.faulty)
-check_of_changes {order} {net} {ranks} {d} ascending names (by_changes _ _ (named_changes other _ again _ is)) =
+check_of_changes {order} {net} {ranks} {d} ascending names (by_changes _ _ (named_changes other _ again turns is)) =
     subst (λ (some : List ℕ). DecidesChanges (ospf_to_isis net) some (decision_status d)) (one_list net order.text other ranks ascending again names)
-    (changes_decide is)
+    (changes_decide {move = ospf_to_isis net} turns is)
 
 pub change_check_decides : (call : Call) → (it : AcceptsChanges call) → (asked : List (List ℕ)) (outcome : Outcome) →
     status_of outcome ≢ ReadFault → IsAnswer call asked outcome → DecidesChanges (ospf_to_isis it.net) it.ranks (status_of outcome)
@@ -98,8 +97,9 @@ changes_tree_decides tree move begins (judged_changes (Wrong n k) network is _) 
     (one_headed Changes move begins network two_tree_header tree (Closed b l) (Wrong n k) other is))
 
 refutation_decides : (tree : List ℕ) (net : Network) {d : Decision} → IsRefuteDecision tree net d → DecidesRefutation net tree (decision_status d)
-refutation_decides tree net (tree_of_routers _ not is) = of_routers not (tree_decides tree (ospf_to_isis net) is)
+refutation_decides tree net (tree_of_routers _ other is) = of_routers other (tree_decides tree (ospf_to_isis net) is)
 refutation_decides tree net (tree_of_changes _ begins is) = of_changes begins (changes_tree_decides tree (ospf_to_isis net) (λ u. refl) is)
+refutation_decides tree net (tree_of_rest _ begins is) = of_rest begins (rest_tree_decides tree (ospf_to_isis net) is)
 
 pub refute_decides : (call : Call) → (it : AcceptsRefute call) → (asked : List (List ℕ)) (outcome : Outcome) → status_of outcome ≢ ReadFault
     → IsAnswer call asked outcome → DecidesRefutation it.net it.tree (status_of outcome)
@@ -127,9 +127,9 @@ judged_so {net} {text = text} means = record {
   closed = λ negative.
       let it = means.no_waves negative in
       let is = closed_verdict it.refutes in
-      (it.branches, it.leaves, tree_of_routers _ (tree_no_changes text is.lines is.text_is) it.refutes);
+      (it.branches, it.leaves, tree_of_routers _ (tree_of_no_other text is.lines is.text_is) it.refutes);
   stopped = λ spent.
       let it = means.no_more spent in
       let is = open_verdict it.refutes in
-      (it.unvisited, tree_of_routers _ (tree_no_changes text is.lines is.text_is) it.refutes);
+      (it.unvisited, tree_of_routers _ (tree_of_no_other text is.lines is.text_is) it.refutes);
 }

@@ -21,7 +21,7 @@ use Rattle.migrate_cli.specs.Reading.{NamedText}
 use Rattle.migrate_cli.proofs.FaultFacts.{fault_below, fault_over_below}
 
 -- one thing is decided of an order
-one_order_decision : {move : Migration} {order : List ℕ} {d e : Decision} → IsOrderDecision move order d → IsOrderDecision move order e → d ≡ e
+pub one_order_decision : {move : Migration} {order : List ℕ} {d e : Decision} → IsOrderDecision move order d → IsOrderDecision move order e → d ≡ e
 one_order_decision (safe _) (safe _) = refl
 one_order_decision (safe seamless) (unsafe _ _ none _) = absurd (none seamless)
 one_order_decision (unsafe _ _ none _) (safe seamless) = absurd (none seamless)
@@ -31,7 +31,7 @@ one_order_decision (unsafe _ fault _ first) (unsafe _ other _ again) =
     λ i. Unsafe (same.0 i) (told i)
 
 -- and of a wave list
-one_waves_decision : {move : Migration} {ranks : List ℕ} {d e : Decision} → IsWavesDecision move ranks d → IsWavesDecision move ranks e → d ≡ e
+pub one_waves_decision : {move : Migration} {ranks : List ℕ} {d e : Decision} → IsWavesDecision move ranks d → IsWavesDecision move ranks e → d ≡ e
 one_waves_decision (safe_waves _) (safe_waves _) = refl
 one_waves_decision (safe_waves seamless) (unsafe_wave _ _ none _) = absurd (none seamless)
 one_waves_decision (unsafe_wave _ _ none _) (safe_waves seamless) = absurd (none seamless)

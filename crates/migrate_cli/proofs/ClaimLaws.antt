@@ -17,20 +17,28 @@ use Rattle.migrate_cli.specs.ChangesPromise.{DecidesChanges, DecidesRefutation}
 use Rattle.migrate_cli.specs.ChangesPromise.DecidesChanges.{no_memory as none_for_changes}
 use Rattle.migrate_cli.specs.ChangesPromise.DecidesRefutation.{unjudged}
 use Rattle.migrate_cli.specs.Claim.{Claim}
-use Rattle.migrate_cli.specs.Completeness.{Decides, DecidesTree, NoFaultRose, Writes}
+use Rattle.migrate_cli.specs.Completeness.{Decides, DecidesTree, IsYesOrNo, NoFaultRose, Writes}
 use Rattle.migrate_cli.specs.Completeness.Decides.{memory}
 use Rattle.migrate_cli.specs.Completeness.DecidesTree.{no_memory as none_for_tree}
 use Rattle.migrate_cli.specs.Completeness.Writes.{unwritten}
 use Rattle.migrate_cli.specs.DeltaPromise.{HasDelta}
 use Rattle.migrate_cli.specs.DesignPromise.{HasDesigned}
+use Rattle.migrate_cli.specs.ExplainedPromise.{HasExplained}
+use Rattle.migrate_cli.specs.ObservePromise.{HasObserved}
+use Rattle.migrate_cli.specs.PicturePromise.{HasDrawn}
 use Rattle.migrate_cli.specs.PairPromise.{HasPaired}
 use Rattle.migrate_cli.specs.PlanPromise.{HasPlanned, IsOfPlan, PlansOrNot}
 use Rattle.migrate_cli.specs.PlanPromise.PlansOrNot.{no_memory as none_planned}
 use Rattle.migrate_cli.specs.PreparePromise.{HasPrepared}
 use Rattle.migrate_cli.specs.Reading.{LastFailed}
+use Rattle.migrate_cli.specs.ReplanPromise.{HasReplanned, Replans, replan_of}
+use Rattle.migrate_cli.specs.ReplanPromise.Replans.{no_memory as none_replanned}
+use Rattle.migrate_cli.specs.RollbackPromise.{HasRolledBack, rollback_of}
 use Rattle.migrate_cli.specs.SamplePromise.{AcceptsSample}
 use Rattle.migrate_cli.specs.SplitPromise.{DecidesSplit, HasSplit}
 use Rattle.migrate_cli.specs.SplitPromise.DecidesSplit.{no_memory as none_for_split}
+use Rattle.migrate_cli.specs.SurveyPromise.{DecidesSurvey, HasSurvey}
+use Rattle.migrate_cli.specs.SurveyPromise.DecidesSurvey.{no_memory as none_for_survey}
 use Rattle.migrate_cli.specs.TablesPromise.{HasTables}
 use Rattle.migrate_cli.specs.TwoPassPromise.{HasPlannedChanges}
 use Rattle.migrate_cli.proofs.AnswerFacts.{reads_or_not}
@@ -39,12 +47,18 @@ use Rattle.migrate_cli.proofs.ChangesPromiseLaws.{change_check_decides, check_de
 use Rattle.migrate_cli.proofs.CompletenessLaws.{prepare_writes, replay_decides, scripts_write}
 use Rattle.migrate_cli.proofs.DeltaPromiseLaws.{delta_writes, new_lines_alone}
 use Rattle.migrate_cli.proofs.DesignPromiseLaws.{design_writes, has_designed}
+use Rattle.migrate_cli.proofs.ExplainedPromiseLaws.{has_explained, why_decides}
+use Rattle.migrate_cli.proofs.ObservePromiseLaws.{has_observed, observe_decides, observe_finds}
+use Rattle.migrate_cli.proofs.PicturePromiseLaws.{has_drawn, picture_decides}
 use Rattle.migrate_cli.proofs.PairPromiseLaws.{has_paired, pair_check_decides, pair_decides, pair_refute_decides, pair_scripts_write}
 use Rattle.migrate_cli.proofs.PlanPromiseLaws.{answer_means, plan_decides}
 use Rattle.migrate_cli.proofs.PreparePromiseLaws.{reads_back}
+use Rattle.migrate_cli.proofs.ReplanPromiseLaws.{has_replanned, replan_decides}
+use Rattle.migrate_cli.proofs.RollbackPromiseLaws.{has_rolled_back, rollback_decides}
 use Rattle.migrate_cli.proofs.SamplePromiseLaws.{sample_decides, sample_means}
 use Rattle.migrate_cli.proofs.ScriptsPromiseLaws.{typed_forward}
 use Rattle.migrate_cli.proofs.SplitPromiseLaws.{has_split, split_is_decided}
+use Rattle.migrate_cli.proofs.SurveyPromiseLaws.{has_survey, survey_decides}
 use Rattle.migrate_cli.proofs.TablesPromiseLaws.{has_tables, tables_are_written}
 use Rattle.migrate_cli.proofs.TwoPassPromiseLaws.{has_planned_changes, two_pass_decides}
 
@@ -161,6 +175,41 @@ module _ (call : Call) (before after : Outside) where
           exact = λ configs asks. wrote_so (λ s. s ≡ Done) (λ _. HasTables call configs (course before after)) (λ e. Prim.cc e) (λ e. Prim.cc e)
               (λ outcome is adds done. has_tables call configs (course before after) asks is adds done) ends;
           writes = λ it calm. calm_so Writes unwritten (tables_are_written call it asked) ends fails calm;
+        };
+        surveys = record {
+          exact = λ configs asks. wrote_so IsYesOrNo (HasSurvey call configs (course before after)) (λ q. q) (λ q. q)
+              (λ outcome is adds of. has_survey call configs (course before after) asks is adds of) ends;
+          decides = λ it calm. calm_so (DecidesSurvey it.configs it.texts) none_for_survey (survey_decides call it asked) ends fails calm;
+        };
+        explains = record {
+          means = λ file configs asks. wrote_so IsYesOrNo (HasExplained call file configs (course before after)) (λ q. q) (λ q. q)
+              (λ outcome is adds of. has_explained call file configs (course before after) asks is adds of) ends;
+          decides = λ it calm. calm_so Decides memory (why_decides call it asked) ends fails calm;
+        };
+        rolls_back = record {
+          means = λ file journal_file configs asks.
+              wrote_so IsYesOrNo (HasRolledBack call (rollback_of file journal_file configs) (course before after)) (λ q. q) (λ q. q)
+              (λ outcome is adds of. has_rolled_back call file journal_file configs (course before after) asks is adds of) ends;
+          decides = λ file journal_file configs it calm.
+              calm_so Decides memory (rollback_decides call file journal_file configs it asked) ends fails calm;
+        };
+        replans = record {
+          means = λ budget file journal_file configs asks.
+              wrote_so IsOfPlan (HasReplanned call (replan_of budget file journal_file configs) (course before after)) (λ q. q) (λ q. q)
+              (λ outcome is adds of. has_replanned call budget file journal_file configs (course before after) asks is adds of) ends;
+          decides = λ budget file journal_file configs it calm.
+              calm_so Replans none_replanned (replan_decides call budget file journal_file configs it asked) ends fails calm;
+        };
+        observes = record {
+          observes = λ file old configs asks. wrote_so (λ s. s ≡ Done) (λ _. HasObserved call file old configs (course before after)) (λ e. Prim.cc e)
+              (λ e. Prim.cc e) (λ outcome is adds done. has_observed call file old configs (course before after) asks is adds done) ends;
+          decides = λ it calm. calm_so Decides memory (observe_decides call it asked) ends fails calm;
+          finds = λ it after calm. calm_so Writes unwritten (observe_finds call it after asked) ends fails calm;
+        };
+        pictures = record {
+          means = λ file configs asks. wrote_so IsYesOrNo (HasDrawn call file configs (course before after)) (λ q. q) (λ q. q)
+              (λ outcome is adds of. has_drawn call file configs (course before after) asks is adds of) ends;
+          decides = λ it calm. calm_so Decides memory (picture_decides call it asked) ends fails calm;
         };
       }
 

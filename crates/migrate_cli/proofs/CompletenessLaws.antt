@@ -6,6 +6,7 @@ use Rattle.design_file.specs.Answers.{SaysDesign}
 use Rattle.igp_theory.specs.Migrations.{Migration}
 use Rattle.migrate_words.proofs.OneCommand.{one_command}
 use Rattle.migrate_words.specs.declared.command.Command.{Command}
+use Rattle.migrate_words.specs.declared.command.CommandKind.{CommandKind}
 use Rattle.migrate_words.specs.declared.command.CommandKind.TheVariants.{Prepare, Scripts, Replay}
 use Rattle.step_scripts.specs.WaveFiles.{NamesWaves}
 use Rattle.step_scripts.specs.declared.version.Version.{Version}
@@ -29,7 +30,7 @@ use Rattle.migrate_cli.specs.Completeness.Writes.{written}
 use Rattle.migrate_cli.specs.Configurations.{GiveNetwork, GiveNetworks, IsAtStart}
 use Rattle.migrate_cli.specs.Decisions.{Input, IsDecision, input_of}
 use Rattle.migrate_cli.specs.Outcomes.{IsOutcome}
-use Rattle.migrate_cli.specs.Outcomes.IsOutcome.{faulty_configuration, no_network, off_start, decided}
+use Rattle.migrate_cli.specs.Outcomes.IsOutcome.{faulty_configuration, no_network, off_start, decided, surveyed, observed}
 use Rattle.migrate_cli.specs.PrepareDecision.{configured, with_settled_lines}
 use Rattle.migrate_cli.specs.PreparePromise.{AcceptsPrepare}
 use Rattle.migrate_cli.specs.Reading.{NamedText, named_text, named_texts}
@@ -57,8 +58,12 @@ pub record IsDecided (command : Command) (input : Input) (outcome : Outcome) : T
 pub judged_alone : (command : Command) (own texts : List (List ℕ)) (net : Network) (others : List Network) {outcome : Outcome} →
     GiveNetworks (groups_of command.kind texts) (net ∷ others) → (NeedsStart command.kind → IsAtStart net) →
     IsOutcome command (given_texts own texts) outcome → IsDecided command (input_of command (given_texts own texts) net others) outcome
-judged_alone command own texts net others gives start (faulty_configuration _ _ _ first) =
-    absurd (given_unrefused command.kind texts (net ∷ others) gives first)
+judged_alone command own texts net others gives start (faulty_configuration _ _ _ networks first) =
+    absurd (given_unrefused command.kind texts (net ∷ others) networks gives first)
+judged_alone command own texts net others gives start (surveyed _ kind _) =
+    absurd (subst (λ (k : CommandKind). GiveNetworks (groups_of k texts) (net ∷ others)) kind gives)
+judged_alone command own texts net others gives start (observed _ _ _ kind _ _) =
+    absurd (subst (λ (k : CommandKind). GiveNetworks (groups_of k texts) (net ∷ others)) kind gives)
 judged_alone command own texts net others gives start (no_network _ _ _ refuses told) = absurd (none_refuses (net ∷ others) gives told refuses)
 judged_alone command own texts net others gives start (off_start other more router _ given needs lowest _) =
     let same = same_networks (groups_of command.kind texts) (net ∷ others) (other ∷ more) gives given in

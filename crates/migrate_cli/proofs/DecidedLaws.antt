@@ -15,11 +15,11 @@ use Rattle.migration_report.specs.declared.status.Status.TheVariants as status
 use Rattle.migrate_cli.specs.Answers.{IsAnswer}
 use Rattle.migrate_cli.specs.Answers.IsAnswer.{refused_words, many_files, read_fault, long_file, long_files, judged}
 use Rattle.migrate_cli.specs.Calls.{Call}
-use Rattle.migrate_cli.specs.CommandFiles.{NeedsStart, config_texts, files_of, given_texts, groups_of, own_texts}
+use Rattle.migrate_cli.specs.CommandFiles.{AsksNetworks, NeedsStart, config_texts, files_of, given_texts, groups_of, own_texts}
 use Rattle.migrate_cli.specs.Configurations.{GiveNetworks, IsAtStart}
 use Rattle.migrate_cli.specs.Decisions.{IsDecision, input_of}
 use Rattle.migrate_cli.specs.Outcomes.{IsOutcome}
-use Rattle.migrate_cli.specs.Outcomes.IsOutcome.{faulty_configuration, no_network, off_start, decided}
+use Rattle.migrate_cli.specs.Outcomes.IsOutcome.{faulty_configuration, no_network, off_start, decided, surveyed, observed}
 use Rattle.migrate_cli.specs.Reading.{AreRead, AreWithin}
 
 -- the command has decided on files that were read within the limits
@@ -46,7 +46,8 @@ pub record IsNoRefusal (Q : Status → Type 0) : Type 0 where
 pub done_no_refusal : IsNoRefusal (λ s. s ≡ status.Done)
 done_no_refusal = record { words = λ e. Prim.cc e; read = λ e. Prim.cc e; limit = λ e. Prim.cc e; refused = λ e. Prim.cc e }
 
-module _ (Q : Status → Type 0) (none : IsNoRefusal Q) (call : Call) (command : Command) (asks : Asks call.words command) where
+module _ (Q : Status → Type 0) (none : IsNoRefusal Q) (call : Call) (command : Command) (networks : AsksNetworks command.kind)
+    (asks : Asks call.words command) where
   network_refused : (refusal : NetRefusal) → Q (network_status refusal) → ⊥
   network_refused (TooMany _ _) is = none.limit is
   network_refused _ is = none.refused is
@@ -54,7 +55,7 @@ module _ (Q : Status → Type 0) (none : IsNoRefusal Q) (call : Call) (command :
   outcome_decided : (texts : List (List ℕ)) {outcome : Outcome} → AreRead call.content (files_of command) texts → AreWithin (files_of command) texts →
       IsOutcome command (given_texts (own_texts command texts) (config_texts command texts)) outcome → Q (status_of outcome) →
       HasDecided call command outcome
-  outcome_decided texts read within (faulty_configuration _ _ _ _) q = absurd (none.refused q)
+  outcome_decided texts read within (faulty_configuration _ _ _ _ _) q = absurd (none.refused q)
   outcome_decided texts read within (no_network _ refusal _ _ _) q = absurd (network_refused refusal q)
   outcome_decided texts read within (off_start _ _ _ _ _ _ _ _) q = absurd (none.refused q)
   outcome_decided texts read within (decided net others decision gives start is) q = record {
@@ -69,6 +70,8 @@ module _ (Q : Status → Type 0) (none : IsNoRefusal Q) (call : Call) (command :
     outcome_is = refl;
     is = is;
   }
+  outcome_decided texts read within (surveyed _ kind _) q = absurd (subst AsksNetworks kind networks)
+  outcome_decided texts read within (observed _ _ _ kind _ _) q = absurd (subst AsksNetworks kind networks)
 
   pub answer_decided : {asked : List (List ℕ)} {outcome : Outcome} → IsAnswer call asked outcome → Q (status_of outcome) →
       HasDecided call command outcome

@@ -35,7 +35,7 @@ module _ (call : Call) (scheme : AskedScheme) (configs : List (List ℕ)) (outsi
   pub has_designed : {asked : List (List ℕ)} {outcome : Outcome} → IsAnswer call asked outcome →
       AddsBytes outside.before.written outside.after.written (outcome_text outcome) → status_of outcome ≡ Done → HasDesigned call scheme configs outside
   has_designed is adds done =
-      let it = answer_decided (λ status. status ≡ Done) done_no_refusal call (design_of scheme configs) asks is done in
+      let it = answer_decided (λ status. status ≡ Done) done_no_refusal call (design_of scheme configs) tt asks is done in
       by_decision it it.decision it.is
       (subst (λ (o : Outcome). AddsBytes outside.before.written outside.after.written (outcome_text o)) it.outcome_is adds)
 

@@ -9,7 +9,7 @@ use Rattle.migrate_words.specs.Usages.{usage_of}
 use Rattle.migrate_words.specs.declared.command.TheConstants.{LEAST_SAMPLE, MOST_SAMPLE}
 use Rattle.migrate_words.specs.declared.command.Command.{Command}
 use Rattle.migrate_words.specs.declared.command.CommandKind.{CommandKind}
-use Rattle.migrate_words.specs.declared.command.CommandKind.TheVariants.{Prepare, Delta, Sample}
+use Rattle.migrate_words.specs.declared.command.CommandKind.TheVariants.{Prepare, Delta, Sample, Survey}
 use Rattle.migrate_cli.specs.Reading.{File, AreShort}
 use Rattle.migrate_cli.specs.CommandFiles.{config_file, config_texts, files_of, given_texts, made_texts, names_for, own_file, own_files, own_most, own_texts, text_names}
 use Rattle.migrate_cli.specs.steps.FilesRead.{ReadsFiles}
@@ -163,3 +163,24 @@ module _ (command : Command) (is : command.kind ≡ Sample) (range : IsInRange c
       let made : sample_text command.number ∷ [] ≡ config_texts command texts =
       ap (λ (kind : CommandKind). made_texts kind command.number (drop (length command.own) texts)) (sym is) in
       λ i. given_texts (own i) (made i)
+
+-- ---- the texts of `survey` are those of its configurations ----
+
+module _ (command : Command) (is : command.kind ≡ Survey) (range : IsInRange command) where
+  survey_own : command.own ≡ []
+  survey_own = none_of command.own (subst (λ (kind : CommandKind). length command.own ≡ length (usage_of kind).own) is range.own)
+
+  pub survey_texts : (texts : List (List ℕ)) → config_texts command texts ≡ texts
+  survey_texts texts =
+      ap (λ (kind : CommandKind). made_texts kind command.number (drop (length command.own) texts)) is
+      ∙ ap (λ (names : List (List ℕ)). drop (length names) texts) survey_own
+
+  pub survey_short : (texts : List (List ℕ)) → AreShort (files_of command) texts → AreShort (map config_file command.configs) texts
+  survey_short texts short =
+      subst (λ (names : List (List ℕ)). AreShort (map (own_file command.kind) names ++ map config_file command.configs) texts) survey_own short
+
+  pub survey_each : (texts : List (List ℕ)) → AreShort (files_of command) texts → length command.configs ≡ length texts
+  survey_each texts short =
+      let all = short_length (map config_file command.configs) texts (survey_short texts short) in
+      let mapped = length-map command.configs config_file in
+      omega (arith, all, mapped)

@@ -10,8 +10,8 @@ use Rattle.net_model.specs.declared.refusal.NetRefusal.{NetRefusal}
 use Rattle.net_model.specs.declared.refusal.NetRefusal.TheVariants.{OutOfMemory}
 use Rattle.net_model.proofs.RefusalLaws.{IsNetworkOf-unique, MakeNetwork-refused, Refuses-unique}
 use Rattle.migrate_words.specs.declared.command.CommandKind.{CommandKind}
-use Rattle.migrate_words.specs.declared.command.CommandKind.TheVariants.{Pair, PairScripts, PairCheck, PairRefute}
-use Rattle.migrate_cli.specs.CommandFiles.{OverNetworks, alone, groups_of}
+use Rattle.migrate_words.specs.declared.command.CommandKind.TheVariants.{Pair, PairScripts, PairCheck, PairRefute, Survey, Observe}
+use Rattle.migrate_cli.specs.CommandFiles.{AsksNetworks, OverNetworks, alone, groups_of}
 use Rattle.migrate_cli.specs.Configurations.{GiveNetwork, GiveNetworks, IsFirstRefused, RefusesFirst, line_fault}
 use Rattle.migrate_cli.specs.Configurations.RefusesFirst.{here, later}
 use Rattle.migrate_cli.specs.steps.Unread.{ReadsBoth}
@@ -20,14 +20,14 @@ use Rattle.migrate_cli.proofs.TextLaws.{none_refused, one_reading}
 -- ---- one group ----
 
 -- texts give one network
-one_network : (texts : List (List ℕ)) (net other : Network) → GiveNetwork texts net → GiveNetwork texts other → net ≡ other
+pub one_network : (texts : List (List ℕ)) (net other : Network) → GiveNetwork texts net → GiveNetwork texts other → net ≡ other
 one_network texts net other a b =
     let same = one_reading texts a.configs b.configs a.read b.read in
     let make : MakeNetwork b.configs net = subst (λ some. MakeNetwork some net) same a.make in
     IsNetworkOf-unique b.configs net other make.network b.make.network
 
 -- or they give none
-refused_or_given : (texts : List (List ℕ)) (net : Network) (all : List Configuration) (refusal : NetRefusal) → GiveNetwork texts net →
+pub refused_or_given : (texts : List (List ℕ)) (net : Network) (all : List Configuration) (refusal : NetRefusal) → GiveNetwork texts net →
     ReadsTexts texts all → Refuses refusal all → refusal ≢ OutOfMemory → ⊥
 refused_or_given texts net all refusal gives read refuses told =
     let same = one_reading texts gives.configs all gives.read read in
@@ -44,26 +44,30 @@ joined_alone : (texts : List (List ℕ)) → joined (map alone texts) ≡ texts
 joined_alone [] = refl
 joined_alone (text ∷ texts) = ap (λ (rest : List (List ℕ)). text ∷ rest) (joined_alone texts)
 
-groups_join : (kind : CommandKind) (texts : List (List ℕ)) → joined (groups_of kind texts) ≡ texts
-groups_join Pair texts = joined_alone texts
-groups_join PairScripts texts = joined_alone texts
-groups_join PairCheck texts = joined_alone texts
-groups_join PairRefute texts = joined_alone texts
-groups_join _ texts = append-nil texts
+groups_join : (kind : CommandKind) (texts : List (List ℕ)) → AsksNetworks kind → joined (groups_of kind texts) ≡ texts
+groups_join Survey texts asks = absurd asks
+groups_join Observe texts asks = absurd asks
+groups_join Pair texts asks = joined_alone texts
+groups_join PairScripts texts asks = joined_alone texts
+groups_join PairCheck texts asks = joined_alone texts
+groups_join PairRefute texts asks = joined_alone texts
+groups_join _ texts asks = append-nil texts
 
 -- a command over one network has one group
-pub one_group : (kind : CommandKind) (texts : List (List ℕ)) → (OverNetworks kind → ⊥) → groups_of kind texts ≡ texts ∷ []
-one_group Pair texts not = absurd (not tt)
-one_group PairScripts texts not = absurd (not tt)
-one_group PairCheck texts not = absurd (not tt)
-one_group PairRefute texts not = absurd (not tt)
-one_group _ texts not = refl
+pub one_group : (kind : CommandKind) (texts : List (List ℕ)) → AsksNetworks kind → (OverNetworks kind → ⊥) → groups_of kind texts ≡ texts ∷ []
+one_group Survey texts asks not = absurd asks
+one_group Observe texts asks not = absurd asks
+one_group Pair texts asks not = absurd (not tt)
+one_group PairScripts texts asks not = absurd (not tt)
+one_group PairCheck texts asks not = absurd (not tt)
+one_group PairRefute texts asks not = absurd (not tt)
+one_group _ texts asks not = refl
 
 -- so its network is the one of its texts
-pub gives_one : (kind : CommandKind) (texts : List (List ℕ)) (net : Network) → (OverNetworks kind → ⊥) → GiveNetwork texts net →
+pub gives_one : (kind : CommandKind) (texts : List (List ℕ)) (net : Network) → AsksNetworks kind → (OverNetworks kind → ⊥) → GiveNetwork texts net →
     GiveNetworks (groups_of kind texts) (net ∷ [])
-gives_one kind texts net not gives =
-    subst (λ (groups : List (List (List ℕ))). GiveNetworks groups (net ∷ [])) (sym (one_group kind texts not)) (gives, tt)
+gives_one kind texts net asks not gives =
+    subst (λ (groups : List (List (List ℕ))). GiveNetworks groups (net ∷ [])) (sym (one_group kind texts asks not)) (gives, tt)
 
 -- and one over two networks a group for each text
 pub two_groups : (kind : CommandKind) (old new : List ℕ) → OverNetworks kind → groups_of kind (old ∷ new ∷ []) ≡ alone old ∷ alone new ∷ []
@@ -72,6 +76,12 @@ two_groups PairScripts old new over = refl
 two_groups PairCheck old new over = refl
 two_groups PairRefute old new over = refl
 two_groups _ old new over = absurd over
+
+-- it asks for networks
+pub over_asks : (kind : CommandKind) → OverNetworks kind → AsksNetworks kind
+over_asks Survey over = absurd over
+over_asks Observe over = absurd over
+over_asks _ over = tt
 
 -- texts and more texts are read
 pub reads_append : (texts more : List (List ℕ)) (one other : List Configuration) → ReadsTexts texts one → ReadsTexts more other →
@@ -96,10 +106,10 @@ all_read (texts ∷ groups) (net ∷ nets) gives =
 
 -- so none is refused
 pub given_unrefused : (kind : CommandKind) (texts : List (List ℕ)) (nets : List Network) {names : List (List ℕ)} {file : List ℕ} {line : ℕ}
-    {fault : ReadKind} → GiveNetworks (groups_of kind texts) nets → IsFirstRefused (line_fault line fault) names texts file → ⊥
-given_unrefused kind texts nets gives first =
+    {fault : ReadKind} → AsksNetworks kind → GiveNetworks (groups_of kind texts) nets → IsFirstRefused (line_fault line fault) names texts file → ⊥
+given_unrefused kind texts nets asks gives first =
     let all = all_read (groups_of kind texts) nets gives in
-    none_refused first all.0 (subst (λ (some : List (List ℕ)). ReadsTexts some all.0) (groups_join kind texts) all.1)
+    none_refused first all.0 (subst (λ (some : List (List ℕ)). ReadsTexts some all.0) (groups_join kind texts asks) all.1)
 
 -- groups give networks in one way
 pub same_networks : (groups : List (List (List ℕ))) (nets others : List Network) → GiveNetworks groups nets → GiveNetworks groups others →
@@ -140,7 +150,7 @@ one_first_refusal told tell (later _ _ rest) (later _ _ more) = one_first_refusa
 
 -- ---- two texts, each a group ----
 
-one_read : (text : List ℕ) (configs : List Configuration) → ReadsText text configs → ReadsTexts (alone text) configs
+pub one_read : (text : List ℕ) (configs : List Configuration) → ReadsText text configs → ReadsTexts (alone text) configs
 one_read text configs reads = record { one = configs; others = []; reads = reads; rest = refl; all = sym (append-nil configs) }
 
 module _ (texts : List (List ℕ)) (olds news : List Configuration) (both : ReadsBoth texts olds news) where

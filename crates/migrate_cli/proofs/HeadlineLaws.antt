@@ -21,7 +21,7 @@ use Rattle.plan_theory.specs.declared.items.Items.TheVariants.{Routers}
 use Rattle.plan_theory.specs.declared.planned.Planned.{Planned}
 use Rattle.plan_theory.specs.declared.planned.Planned.TheVariants.{UnsoundOld, UnsoundNew, Searched}
 use Rattle.plan_theory.proofs.Meaning.{plan_means}
-use Rattle.planned_texts.proofs.ReadBack.{chain_tagged, plan_reads_back}
+use Rattle.wave_oracle.proofs.ReadBack.{chain_tagged, plan_reads_back}
 use Rattle.refutation_check.specs.Verdicts.{leaf_count, open_count}
 use Rattle.refutation_check.specs.declared.verdict.Verdict.TheVariants.{Closed, Unfinished}
 use Rattle.migration_report.specs.Outcomes.{plan_status, plan_text}
@@ -59,7 +59,8 @@ module _ (move : Migration) where
     delivers : (state : State) → IsSound move state → DeliversAll move state
     delivers state sound a p address target = sound_delivers move state a p old_hops new_hops sound address target
 
-    pub headline : (planned : Planned) → IsPlanned move budget planned → Headline move budget (plan_status planned) (plan_text Routers (names_of move.net) planned)
+    pub headline : (planned : Planned) → IsPlanned move budget planned →
+        Headline move budget (plan_status planned) (plan_text Routers (names_of move.net) planned)
     headline (UnsoundOld fault) is = record {
       ends = unsound_end (λ ends. faulty_not_sound is ends.first);
       safe_waves = λ e. absurd (Prim.cc e);

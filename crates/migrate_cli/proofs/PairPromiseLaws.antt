@@ -68,7 +68,7 @@ pub has_paired : (call : Call) (budget : ℕ) (old_file new_file : List ℕ) (ou
     AddsBytes outside.before.written outside.after.written (outcome_text outcome) → IsOfPlan (status_of outcome) →
     HasPaired call budget old_file new_file outside (status_of outcome)
 has_paired call budget old_file new_file outside {outcome = outcome} asks is adds of =
-    let it = answer_decided IsOfPlan plan_no_refusal call (pair_of budget old_file new_file) asks is of in
+    let it = answer_decided IsOfPlan plan_no_refusal call (pair_of budget old_file new_file) tt asks is of in
     let made = made_pair it.is.2 (λ e. subst IsOfPlan e (subst (λ (o : Outcome). IsOfPlan (status_of o)) it.outcome_is of)) in
     record {
       texts = it.texts;

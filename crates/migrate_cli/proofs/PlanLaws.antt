@@ -11,7 +11,7 @@ use Rattle.plan_theory.specs.declared.items.Items.TheVariants.{Routers}
 use Rattle.plan_theory.specs.declared.planned.Planned.{Planned}
 use Rattle.plan_theory.specs.declared.planned.Planned.TheVariants.{UnsoundOld, UnsoundNew, Searched}
 use Rattle.plan_theory.proofs.OnePlan.{one_plan}
-use Rattle.planned_texts.proofs.ReadBack.{plan_printable}
+use Rattle.wave_oracle.proofs.ReadBack.{plan_printable}
 use Rattle.migrate_words.specs.declared.command.TheConstants.{USUAL_BUDGET}
 use Rattle.migration_report.specs.Outcomes.{IsPlanTellable, IsTellable, plan_status}
 use Rattle.migration_report.specs.declared.decision.Decision.{Decision}

@@ -42,7 +42,7 @@ pub answer_means : (call : Call) (budget : ℕ) (configs : List (List ℕ)) (out
     AddsBytes outside.before.written outside.after.written (outcome_text outcome) → IsOfPlan (status_of outcome) →
     HasPlanned call budget configs outside (status_of outcome)
 answer_means call budget configs outside {outcome = outcome} asks is adds of =
-    let it = answer_decided IsOfPlan plan_no_refusal call (command_of Plan [] configs budget) asks is of in
+    let it = answer_decided IsOfPlan plan_no_refusal call (command_of Plan [] configs budget) tt asks is of in
     record {
       texts = it.texts;
       read = it.read;

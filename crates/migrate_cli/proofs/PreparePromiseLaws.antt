@@ -97,7 +97,7 @@ module _ (call : Call) (file : List ℕ) (configs : List (List ℕ)) (outside : 
   pub reads_back : {asked : List (List ℕ)} {outcome : Outcome} → IsAnswer call asked outcome →
       AddsBytes outside.before.written outside.after.written (outcome_text outcome) → status_of outcome ≡ Done → HasPrepared call file configs outside
   reads_back is adds done =
-      let it = answer_decided (λ status. status ≡ Done) done_no_refusal call command asks is done in
+      let it = answer_decided (λ status. status ≡ Done) done_no_refusal call command tt asks is done in
       by_decision it it.decision it.is.2
       (subst (λ (o : Outcome). AddsBytes outside.before.written outside.after.written (outcome_text o)) it.outcome_is adds)
       (subst (λ (o : Outcome). status_of o ≡ Done) it.outcome_is done)

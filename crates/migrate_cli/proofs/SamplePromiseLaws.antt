@@ -24,7 +24,7 @@ use Rattle.migrate_cli.specs.Answers.MayAsk.{asks_none, asks_some}
 use Rattle.migrate_cli.specs.Calls.{Call, Outside, course}
 use Rattle.migrate_cli.specs.CommandFiles.{command_of, config_texts, files_of, own_texts, given_texts}
 use Rattle.migrate_cli.specs.Outcomes.{IsOutcome}
-use Rattle.migrate_cli.specs.Outcomes.IsOutcome.{faulty_configuration, no_network, off_start, decided}
+use Rattle.migrate_cli.specs.Outcomes.IsOutcome.{faulty_configuration, no_network, off_start, decided, surveyed, observed}
 use Rattle.migrate_cli.specs.PlanDecision.{IsPlanDecision}
 use Rattle.migrate_cli.specs.PlanDecision.IsPlanOver.{plans}
 use Rattle.migrate_cli.specs.PlanPromise.{PlansOrNot}
@@ -86,8 +86,10 @@ module _ (call : Call) (routers : ℕ) (asks : Asks call.words (command_of Sampl
 -- ---- which is that of `plan` ----
 
 is_as_planned : (routers : ℕ) {outcome : Outcome} → IsOutcomeOfSample routers outcome → IsAsPlanned routers outcome
-is_as_planned routers (faulty_configuration file number kind first) =
-    record { planned = _; plans = faulty_configuration file number kind first; same_status = refl; same = λ _. refl }
+is_as_planned routers (faulty_configuration file number kind asks first) =
+    record { planned = _; plans = faulty_configuration file number kind tt first; same_status = refl; same = λ _. refl }
+is_as_planned routers (surveyed _ kind _) = absurd (Prim.cc kind)
+is_as_planned routers (observed _ _ _ kind _ _) = absurd (Prim.cc kind)
 is_as_planned routers (no_network all refusal reads refuses told) =
     record { planned = _; plans = no_network all refusal reads refuses told; same_status = refl; same = λ _. refl }
 is_as_planned routers (off_start net others router config gives needs lowest has) =

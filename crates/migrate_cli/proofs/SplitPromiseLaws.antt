@@ -65,7 +65,7 @@ module _ (call : Call) (most : ℕ) (file : List ℕ) (configs : List (List ℕ)
       AddsBytes outside.before.written outside.after.written (outcome_text outcome) → status_of outcome ≡ Done →
       HasSplit call most file configs outside
   has_split is adds done =
-      let it = answer_decided (λ status. status ≡ Done) done_no_refusal call (split_of most file configs) asks is done in
+      let it = answer_decided (λ status. status ≡ Done) done_no_refusal call (split_of most file configs) tt asks is done in
       by_decision it it.decision it.is.2
       (subst (λ (o : Outcome). AddsBytes outside.before.written outside.after.written (outcome_text o)) it.outcome_is adds)
       (subst (λ (o : Outcome). status_of o ≡ Done) it.outcome_is done)

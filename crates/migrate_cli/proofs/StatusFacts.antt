@@ -1,15 +1,16 @@
 -- Statuses that are no fault.
-use Rattle.std.specs.Prelude.{◌≢◌}
+use Rattle.std.specs.Prelude.{◌≢◌, Bool, true, false}
 use Rattle.order_search.specs.declared.found.Found.{Found}
 use Rattle.order_search.specs.declared.found.Found.TheVariants.{Waves, Refuted, Spent}
 use Rattle.plan_theory.specs.declared.planned.Planned.{Planned}
 use Rattle.plan_theory.specs.declared.planned.Planned.TheVariants.{UnsoundOld, UnsoundNew, Searched}
 use Rattle.refutation_check.specs.declared.verdict.Verdict.{Verdict}
 use Rattle.refutation_check.specs.declared.verdict.Verdict.TheVariants.{Closed, Unfinished, Wrong}
-use Rattle.migration_report.specs.Outcomes.{decision_status, found_status, plan_status, verdict_status}
+use Rattle.migration_report.specs.Outcomes.{decision_status, found_status, plan_status, survey_status, verdict_status}
 use Rattle.migration_report.specs.declared.decision.Decision.{Decision}
 use Rattle.migration_report.specs.declared.decision.Decision.TheVariants.{Safe, SafeWaves, Unsafe, UnsafeWave, Plan, TwoPass, Summary, Tree, Script}
-use Rattle.migration_report.specs.declared.decision.Decision.TheVariants.{Reached, Departs, Prepared, PairScript, Designed, BadPair, BadOrder, BadChanges, BadDesign, Split, Delta, Tables}
+use Rattle.migration_report.specs.declared.decision.Decision.TheVariants.{Reached, Departs, Prepared, PairScript, Designed, BadPair, BadOrder, BadChanges, BadDesign, Split, Delta, Tables, Rest, WayBack}
+use Rattle.migration_report.specs.declared.decision.Decision.TheVariants.{ExplainedSafe, ExplainedUnsafe, Observed, NotObserved}
 use Rattle.migration_report.specs.declared.status.Status.{Status}
 use Rattle.migration_report.specs.declared.status.Status.TheVariants as status
 
@@ -69,3 +70,13 @@ decision_no_fault (BadDesign file path kind) = refused_no_fault
 decision_no_fault (Split text) = done_no_fault
 decision_no_fault (Delta text) = done_no_fault
 decision_no_fault (Tables text) = done_no_fault
+decision_no_fault (Rest start planned) = plan_no_fault planned
+decision_no_fault (WayBack text) = done_no_fault
+decision_no_fault (ExplainedSafe text) = done_no_fault
+decision_no_fault (ExplainedUnsafe text) = negative_no_fault
+decision_no_fault (Observed text) = done_no_fault
+decision_no_fault (NotObserved text) = negative_no_fault
+
+pub survey_no_fault : (stands_out : Bool) → NoFault (survey_status stands_out)
+survey_no_fault true = negative_no_fault
+survey_no_fault false = done_no_fault

@@ -33,7 +33,7 @@ module _ (call : Call) (configs : List (List ℕ)) (outside : Course) (asks : As
   pub has_tables : {asked : List (List ℕ)} {outcome : Outcome} → IsAnswer call asked outcome →
       AddsBytes outside.before.written outside.after.written (outcome_text outcome) → status_of outcome ≡ Done → HasTables call configs outside
   has_tables is adds done =
-      let it = answer_decided (λ status. status ≡ Done) done_no_refusal call (tables_of configs) asks is done in
+      let it = answer_decided (λ status. status ≡ Done) done_no_refusal call (tables_of configs) tt asks is done in
       by_decision it it.decision it.is
       (subst (λ (o : Outcome). AddsBytes outside.before.written outside.after.written (outcome_text o)) it.outcome_is adds)
 

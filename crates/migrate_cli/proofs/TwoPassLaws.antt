@@ -8,7 +8,7 @@ use Rattle.plan_theory.specs.declared.items.Items.TheVariants.{Changes}
 use Rattle.plan_theory.specs.declared.planned.Planned.{Planned}
 use Rattle.plan_theory.specs.declared.planned.Planned.TheVariants.{UnsoundOld, UnsoundNew, Searched}
 use Rattle.plan_theory.proofs.OnePlan.{one_night_plan}
-use Rattle.planned_texts.proofs.ReadBack.{plan_printable}
+use Rattle.wave_oracle.proofs.ReadBack.{plan_printable}
 use Rattle.migration_report.specs.Outcomes.{IsPlanTellable, IsTellable}
 use Rattle.migration_report.specs.declared.decision.Decision.{Decision}
 use Rattle.migration_report.specs.declared.decision.Decision.TheVariants.{TwoPass}

@@ -77,7 +77,7 @@ pub has_planned_changes : (call : Call) (budget : ℕ) (configs : List (List ℕ
     AddsBytes outside.before.written outside.after.written (outcome_text outcome) → IsOfPlan (status_of outcome) →
     HasPlannedChanges call budget configs outside (status_of outcome)
 has_planned_changes call budget configs outside {outcome = outcome} asks is adds of =
-    let it = answer_decided IsOfPlan plan_no_refusal call (two_pass_of budget configs) asks is of in
+    let it = answer_decided IsOfPlan plan_no_refusal call (two_pass_of budget configs) tt asks is of in
     let means = two_pass_means it.is in
     record {
       texts = it.texts;

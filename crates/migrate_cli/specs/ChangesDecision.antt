@@ -10,10 +10,10 @@ use Rattle.plan_theory.specs.declared.items.Items.TheVariants.{Changes}
 use Rattle.plan_theory.specs.declared.planned.EndFault.{EndFault}
 use Rattle.refutation_check.specs.Verdicts.{IsTwoVerdict, LeavesNoneWhereClosed}
 use Rattle.refutation_check.specs.declared.verdict.Verdict.{Verdict}
-use Rattle.two_pass.specs.TwoFaults.{IsLeastTwoFault}
-use Rattle.two_pass.specs.TwoFiles.{AreTwoWaves, NamesTwo}
-use Rattle.two_pass.specs.TwoTexts.{two_refusal_text}
-use Rattle.two_pass.specs.declared.kind.TwoKind.{TwoKind}
+use Rattle.change_orders.specs.TwoFaults.{IsLeastTwoFault}
+use Rattle.change_orders.specs.TwoFiles.{AreTwoWaves, NamesTwo}
+use Rattle.change_orders.specs.TwoTexts.{two_refusal_text}
+use Rattle.change_orders.specs.declared.kind.TwoKind.{TwoKind}
 use Rattle.migration_report.specs.declared.decision.Decision.{Decision}
 use Rattle.migration_report.specs.declared.decision.Decision.TheVariants.{SafeWaves, UnsafeWave, Tree, BadChanges}
 use Rattle.migrate_cli.specs.Reading.{NamedText}

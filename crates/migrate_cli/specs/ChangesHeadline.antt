@@ -11,11 +11,11 @@ use Rattle.order_search.specs.Trees.{branch_count}
 use Rattle.order_search.specs.declared.tree.Node.{Node}
 use Rattle.plan_theory.specs.Laws.{IsSoundAlong}
 use Rattle.plan_theory.specs.Ranked.{ListsAllChanges}
-use Rattle.planned_texts.specs.Chains.{IsChangeChain}
+use Rattle.wave_oracle.specs.Chains.{IsChangeChain}
 use Rattle.refutation_check.specs.TreeTexts.{two_tree_text}
 use Rattle.refutation_check.specs.declared.verdict.Verdict.TheVariants.{Closed, Unfinished}
-use Rattle.two_pass.specs.TwoFiles.{AreTwoWaves, NamesTwo}
-use Rattle.two_pass.specs.TwoTexts.{two_text}
+use Rattle.change_orders.specs.TwoFiles.{AreTwoWaves, NamesTwo}
+use Rattle.change_orders.specs.TwoTexts.{two_text}
 use Rattle.migration_report.specs.declared.decision.Decision.TheVariants.{SafeWaves, Tree}
 use Rattle.migration_report.specs.declared.status.Status.{Status}
 use Rattle.migration_report.specs.declared.status.Status.TheVariants.{Done, Negative, Unsound, Spent}

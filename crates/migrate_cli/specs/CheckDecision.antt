@@ -16,7 +16,7 @@ use Rattle.step_scripts.specs.declared.version.Version.TheVariants.{One, Two}
 use Rattle.step_scripts.specs.declared.kind.OrderKind.{OrderKind}
 use Rattle.migration_report.specs.declared.decision.Decision.{Decision}
 use Rattle.migration_report.specs.declared.decision.Decision.TheVariants.{Safe, SafeWaves, Unsafe, UnsafeWave, BadOrder}
-use Rattle.two_pass.specs.TwoFaults.{two_header}
+use Rattle.change_orders.specs.TwoFaults.{two_header}
 use Rattle.migrate_cli.specs.ChangesDecision.{IsChangesCheck}
 use Rattle.migrate_cli.specs.FirstLines.{BeginsWith}
 use Rattle.migrate_cli.specs.Reading.{NamedText}

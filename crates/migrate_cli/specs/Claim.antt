@@ -11,13 +11,19 @@ use Rattle.migrate_cli.specs.ChangesPromise.{ChangesCheckDecides, RefuteDecides}
 use Rattle.migrate_cli.specs.Completeness.{CheckDecides, ReplayDecides}
 use Rattle.migrate_cli.specs.DeltaPromise.{DeltaPromise}
 use Rattle.migrate_cli.specs.DesignPromise.{DesignPromise}
+use Rattle.migrate_cli.specs.ExplainedPromise.{ExplainedPromise}
+use Rattle.migrate_cli.specs.ObservePromise.{ObservePromise}
 use Rattle.migrate_cli.specs.PairPromise.{PairCheckDecides, PairPromise, PairRefuteDecides, PairScriptsWrites}
+use Rattle.migrate_cli.specs.PicturePromise.{PicturePromise}
 use Rattle.migrate_cli.specs.PlanPromise.{PlanPromise}
 use Rattle.migrate_cli.specs.PreparePromise.{PreparePromise}
 use Rattle.migrate_cli.specs.Reading.{LastFailed}
+use Rattle.migrate_cli.specs.ReplanPromise.{ReplanPromise}
+use Rattle.migrate_cli.specs.RollbackPromise.{RollbackPromise}
 use Rattle.migrate_cli.specs.SamplePromise.{SamplePromise}
 use Rattle.migrate_cli.specs.ScriptsPromise.{ScriptsPromise}
 use Rattle.migrate_cli.specs.SplitPromise.{SplitPromise}
+use Rattle.migrate_cli.specs.SurveyPromise.{SurveyPromise}
 use Rattle.migrate_cli.specs.TablesPromise.{TablesPromise}
 use Rattle.migrate_cli.specs.TwoPassPromise.{TwoPassPromise}
 
@@ -40,7 +46,7 @@ pub record Claim (call : Call) (before after : Outside) (status : Status) : Type
   pub checks : CheckDecides call before after status
   -- and so it does of single changes
   pub change_checks : ChangesCheckDecides call before after status
-  -- `refute` says yes exactly where the text is a closed tree, and then nothing is safe; of single changes too
+  -- `refute` says yes exactly where the text is a closed tree, and then nothing is safe; of single changes too, and from a start
   pub refutes : RefuteDecides call before after status
   -- `replay` says where a journal stands
   pub replays : ReplayDecides call before after status
@@ -64,3 +70,15 @@ pub record Claim (call : Call) (before after : Outside) (status : Status) : Type
   pub deltas : DeltaPromise call before after status
   -- `tables` writes all entries of the tables of both protocols
   pub tables : TablesPromise call before after status
+  -- `survey` writes the one survey of its files: all faulty lines, else all refusals, else the network and what is odd about it
+  pub surveys : SurveyPromise call before after status
+  -- `why` says what `check` says, and why
+  pub explains : ExplainedPromise call before after status
+  -- `rollback` writes the lines that undo the changes of a journal, and each state on the way back is one of its wave list
+  pub rolls_back : RollbackPromise call before after status
+  -- `replan` plans what a journal has left: its statuses mean the same of lists of the changes that are left
+  pub replans : ReplanPromise call before after status
+  -- `observe` writes a journal that `replay` follows, to a state that the configurations of now show
+  pub observes : ObservePromise call before after status
+  -- `picture` says what `check` says, and writes the one picture of the network, the list and its fault
+  pub pictures : PicturePromise call before after status

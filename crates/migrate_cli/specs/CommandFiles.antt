@@ -3,7 +3,7 @@ use Rattle.std.specs.Prelude.{ℕ, List, [], ◌∷◌, ◌++◌, codes, length,
 use Rattle.migrate_words.specs.Schemes.{AskedScheme, usual_scheme}
 use Rattle.migrate_words.specs.declared.command.Command.{Command}
 use Rattle.migrate_words.specs.declared.command.CommandKind.{CommandKind}
-use Rattle.migrate_words.specs.declared.command.CommandKind.TheVariants.{Prepare, Sample, Delta, Tables}
+use Rattle.migrate_words.specs.declared.command.CommandKind.TheVariants.{Prepare, Sample, Delta, Tables, Survey, Observe}
 use Rattle.migrate_words.specs.declared.command.CommandKind.TheVariants.{Pair, PairScripts, PairCheck, PairRefute, Design}
 use Rattle.sample_network.specs.SampleTexts.{sample_text}
 use Rattle.migrate_cli.specs.Reading.{File}
@@ -65,8 +65,11 @@ abbrev pub alone : List ℕ → List (List ℕ)
 alone text = text ∷ []
 
 -- the groups of texts of configurations of a command of this kind, each of which makes a network: a command over two networks
--- has a group for each text, all others have one
+-- has a group for each text, `survey`, which tells why texts make none, and `observe`, which reads two networks in an order of its own,
+-- have no group, and all others have one
 abbrev pub groups_of : CommandKind → List (List ℕ) → List (List (List ℕ))
+groups_of Survey texts = []
+groups_of Observe texts = []
 groups_of Pair texts = map alone texts
 groups_of PairScripts texts = map alone texts
 groups_of PairCheck texts = map alone texts
@@ -81,6 +84,12 @@ OverNetworks PairCheck = Unit {0}
 OverNetworks PairRefute = Unit {0}
 OverNetworks _ = ⊥
 
+-- the commands over networks of all their configurations: all but `survey` and `observe`
+abbrev pub AsksNetworks : CommandKind → Type 0
+AsksNetworks Survey = ⊥
+AsksNetworks Observe = ⊥
+AsksNetworks _ = Unit {0}
+
 -- the names of the texts of configurations, by the kind of the command: those of the files, or `sample`
 abbrev pub names_for : CommandKind → List (List ℕ) → List (List ℕ)
 names_for Sample configs = codes "sample" ∷ []
@@ -89,10 +98,12 @@ names_for _ configs = configs
 abbrev pub text_names : Command → List (List ℕ)
 text_names command = names_for command.kind command.configs
 
--- the commands that ask that every router is where a migration starts
+-- the commands that ask that every router is where a migration starts; `observe` asks it of the configurations of before
 abbrev pub NeedsStart : CommandKind → Type 0
 NeedsStart Prepare = ⊥
 NeedsStart Delta = ⊥
 NeedsStart Tables = ⊥
 NeedsStart Design = ⊥
+NeedsStart Survey = ⊥
+NeedsStart Observe = ⊥
 NeedsStart _ = Unit {0}

@@ -18,6 +18,12 @@ use Rattle.migrate_cli.specs.CommandFiles.{NeedsStart, command_of, config_texts,
 use Rattle.migrate_cli.specs.Configurations.{GiveNetworks, IsAtStart}
 use Rattle.migrate_cli.specs.Reading.{AreRead, AreWithin, file_names}
 
+-- the statuses with which a call has answered yes or no
+abbrev pub IsYesOrNo : Status → Type 0
+IsYesOrNo Done = Unit {0}
+IsYesOrNo Negative = Unit {0}
+IsYesOrNo _ = ⊥
+
 -- the words ask for this, what the files hold is told and within the limits, and the configurations make this network, which
 -- is at its start where that is needed, and these others
 pub record IsAccepted (call : Call) (command : Command) (texts : List (List ℕ)) (net : Network) (others : List Network) : Type 0 where

@@ -5,19 +5,23 @@ use Rattle.migrate_words.specs.Schemes.{AskedScheme}
 use Rattle.migrate_words.specs.declared.command.Command.{Command}
 use Rattle.migrate_words.specs.declared.command.CommandKind.{CommandKind}
 use Rattle.migrate_words.specs.declared.command.CommandKind.TheVariants.{Check, Prepare, Plan, TwoPass, Refute, Scripts, Replay, Sample}
-use Rattle.migrate_words.specs.declared.command.CommandKind.TheVariants.{Pair, PairScripts, PairCheck, PairRefute, Split, Delta, Tables, Design}
+use Rattle.migrate_words.specs.declared.command.CommandKind.TheVariants.{Pair, PairScripts, PairCheck, PairRefute, Split, Delta, Tables, Why, Rollback, Replan, Design, Observe, Picture, Survey}
 use Rattle.migration_report.specs.declared.decision.Decision.{Decision}
 use Rattle.migrate_cli.specs.CommandFiles.{GivenTexts}
 use Rattle.migrate_cli.specs.CheckDecision.{IsCheckDecision}
 use Rattle.migrate_cli.specs.DeltaDecision.{IsDeltaDecision}
 use Rattle.migrate_cli.specs.DesignDecision.{IsDesignDecision}
+use Rattle.migrate_cli.specs.ExplainedDecision.{IsExplainedDecision}
 use Rattle.migrate_cli.specs.PrepareDecision.{IsPrepareDecision, configured}
 use Rattle.ospf_pair.specs.NetworkPairs.{network_pair}
 use Rattle.migrate_cli.specs.PairDecision.{IsPairCheck, IsPairPlan, IsPairScripts, IsPairTree}
+use Rattle.migrate_cli.specs.PictureDecision.{IsPictureDecision}
 use Rattle.migrate_cli.specs.PlanDecision.{IsPlanDecision}
 use Rattle.migrate_cli.specs.Reading.{NamedText, named_texts}
 use Rattle.migrate_cli.specs.RefuteDecision.{IsRefuteDecision}
+use Rattle.migrate_cli.specs.ReplanDecision.{IsReplanDecision}
 use Rattle.migrate_cli.specs.ReplayDecision.{IsReplayDecision, journal_of}
+use Rattle.migrate_cli.specs.RollbackDecision.{IsRollbackDecision}
 use Rattle.migrate_cli.specs.SampleDecision.{IsSampleDecision}
 use Rattle.migrate_cli.specs.ScriptsDecision.{IsScriptsDecision}
 use Rattle.migrate_cli.specs.SplitDecision.{IsSplitDecision}
@@ -44,7 +48,7 @@ input_of command texts net others = record {
   others = others;
 }
 
--- what a command decides
+-- what a command decides of networks; `survey` decides nothing of one, and what `observe` comes to is told of its texts
 abbrev pub IsDecision : CommandKind → Input → Decision → Type 0
 IsDecision Check input decision = (order : NamedText) × (input.own ≡ order ∷ []) × IsCheckDecision order input.net decision
 IsDecision Prepare input decision =
@@ -74,4 +78,14 @@ IsDecision Split input decision =
 IsDecision Delta input decision =
     (design : NamedText) × (input.own ≡ design ∷ []) × IsDeltaDecision design (configured input.configs input.net) decision
 IsDecision Tables input decision = IsTablesDecision input.net decision
+IsDecision Why input decision = (order : NamedText) × (input.own ≡ order ∷ []) × IsExplainedDecision order input.net decision
+IsDecision Rollback input decision =
+    (order : NamedText) × (journal : NamedText) × (input.own ≡ order ∷ journal ∷ []) ×
+    IsRollbackDecision order (journal_of journal.text input.net) decision
+IsDecision Replan input decision =
+    (order : NamedText) × (journal : NamedText) × (input.own ≡ order ∷ journal ∷ []) ×
+    IsReplanDecision order (journal_of journal.text input.net) input.number decision
+IsDecision Picture input decision = (order : NamedText) × (input.own ≡ order ∷ []) × IsPictureDecision order input.net decision
 IsDecision Design input decision = IsDesignDecision input.scheme input.net decision
+IsDecision Observe input decision = ⊥
+IsDecision Survey input decision = ⊥

@@ -17,7 +17,7 @@ use Rattle.order_core.specs.Orders.{IsOrder}
 use Rattle.order_core.specs.Rankings.{IsRanking, flat_of, wave_count}
 use Rattle.order_search.specs.Trees.{branch_count}
 use Rattle.order_search.specs.declared.tree.Node.{Node}
-use Rattle.planned_texts.specs.Chains.{IsTaggedChain}
+use Rattle.wave_oracle.specs.Chains.{IsTaggedChain}
 use Rattle.refutation_check.specs.TreeTexts.{tree_text}
 use Rattle.refutation_check.specs.declared.verdict.Verdict.TheVariants.{Closed, Unfinished}
 use Rattle.step_scripts.specs.WaveFiles.{NamesWaves}

@@ -25,20 +25,20 @@ pub data IsPairDecision (nets : NetworkPair) (P : Decision → Type 0) : Decisio
   of_pair : (decision : Decision) → MakePair nets → P decision → IsPairDecision nets P decision
 
 -- the move from the OSPF of the old network to that of the new one
-abbrev pub between : NetworkPair → Migration
-between nets = ospf_to_ospf nets.old nets.new
+abbrev pub pair_move : NetworkPair → Migration
+pair_move nets = ospf_to_ospf nets.old nets.new
 
 -- `pair`: what is planned
 abbrev pub IsPairPlan : NetworkPair → ℕ → Decision → Type 0
-IsPairPlan nets budget decision = IsPairDecision nets (IsPlanOver (between nets) budget) decision
+IsPairPlan nets budget decision = IsPairDecision nets (IsPlanOver (pair_move nets) budget) decision
 
 -- `paircheck`: what is decided of an order file
 abbrev pub IsPairCheck : NetworkPair → NamedText → Decision → Type 0
-IsPairCheck nets order decision = IsPairDecision nets (IsCheckOver (between nets) order) decision
+IsPairCheck nets order decision = IsPairDecision nets (IsCheckOver (pair_move nets) order) decision
 
 -- `pairrefute`: what is decided of a tree file
 abbrev pub IsPairTree : NetworkPair → List ℕ → Decision → Type 0
-IsPairTree nets tree decision = IsPairDecision nets (IsTreeDecision (between nets) tree) decision
+IsPairTree nets tree decision = IsPairDecision nets (IsTreeDecision (pair_move nets) tree) decision
 
 -- the order file has a faulty line, or names a wave list of the routers: then the script of the pair, in the version of the file
 pub data IsScriptOfPair (nets : NetworkPair) (order : NamedText) : Decision → Type 0 where

@@ -1,5 +1,7 @@
 pub mod FilesRead
+pub mod NightFiles
 pub mod Stops
 pub mod Unread
 pub mod Tables
+pub mod FirstUnsound
 pub mod Answering

@@ -1,9 +1,6 @@
-ghost use Rattle.std.specs.Prelude.{◌≡◌, ◌+◌, ◌*◌, ◌%◌, ◌^◌, ◌<◌, ◌≤◌, ℕ, IfOk, length};
-ghost use Rattle.igp_theory.specs.Timetables.{change_times};
-ghost use Rattle.loop_finder.specs.Times.{times_in};
-ghost use Rattle.order_core.specs.Rankings.{rank_of};
-ghost use Rattle.two_pass.specs.TwoFiles.{AreTwoWaves};
-ghost use Rattle.two_pass.specs.TwoTexts.{two_refusal_text};
+ghost use Rattle.std.specs.Prelude.{◌≡◌, ◌*◌, ◌<◌, ◌≤◌, IfOk, length};
+ghost use Rattle.change_orders.specs.TwoFiles.{AreTwoWaves};
+ghost use Rattle.change_orders.specs.TwoTexts.{two_refusal_text};
 ghost use Rattle.migrate_cli.specs.ChangesDecision.{IsChangesCheck, IsChangesDecision, IsChangesTree};
 ghost use Rattle.migrate_cli.specs.Reading.{named_text};
 ghost use Rattle.migrate_cli.specs.steps.Tables.{MixesTables, NetworkMove, move_of};
@@ -12,15 +9,13 @@ use crate::OutOfMemory;
 use crate::files::FILE_MOST;
 use crate::moves::Move;
 use crate::tables::{NewRoutes, Tables};
-use loop_finder::{ChangeWaves, Finder};
 use migration_report::Decision;
 use net_addr::Bytes;
 use order_core::Waves;
 use ospf_routes::OspfRoutes;
-use refutation_check::verify_two;
 use rib_mix::Mixed;
 use std::alloc::{AllocError, Global};
-use two_pass::{TwoKind, TwoRefusal, read_two, two_refusal_text};
+use two_pass::{TwoFinder, TwoKind, TwoRefusal, read_two, two_refusal_text, verify_two};
 use wave_oracle::whole_fault;
 
 /// What is decided of the text of an order file of single changes and a migration of a network with a router.
@@ -51,9 +46,12 @@ fn bad_changes(alloc: Global, file: &str, line: u32, kind: TwoKind) -> Result<De
 
 /// What is decided of a wave list of single changes, by the tables before and after.
 fn judge_changes(alloc: Global, of: &Move<'_>, waves: &Waves) -> Result<Decision, OutOfMemory>
-    requires { AreTwoWaves (length of.now.net) waves.now }
+    requires some { 0 < length of.now.net }
+    requires waves { AreTwoWaves (length of.now.net) waves.now }
     ensures { IfOk result (IsChangesDecision (move_of of.now) waves.now) }
 {
+    let routers = of.net().routers();
+    prove!(routers > 0);
     let tables = Tables::of(alloc, of)?;
     let mixed = tables.mix(alloc)?;
     let decision = judge_mixed_changes(alloc, &mixed, waves)?;
@@ -66,12 +64,12 @@ fn judge_mixed_changes(
     mixed: &Mixed<'_, OspfRoutes, NewRoutes>,
     waves: &Waves,
 ) -> Result<Decision, OutOfMemory>
-    requires { AreTwoWaves (length mixed.now.net) waves.now }
+    requires few { 2 * length mixed.now.net ≤ 1000 }
+    requires waves { AreTwoWaves (length mixed.now.net) waves.now }
     ensures { (of : NetworkMove) → MixesTables of mixed.now → IfOk result (IsChangesDecision (move_of of) waves.now) }
 {
-    let mut finder = Finder::new(alloc, mixed)?;
-    let times = change_waves(alloc, waves.ranks())?;
-    match finder.times_fault(times.as_slice()) {
+    let mut finder = TwoFinder::new(alloc, mixed)?;
+    match finder.fault(waves.ranks()) {
         None => Ok(Decision::SafeWaves {
             waves: waves.count(),
         }),
@@ -80,23 +78,6 @@ fn judge_mixed_changes(
             Ok(Decision::UnsafeWave { wave, fault })
         }
     }
-}
-
-/// The waves of each router's two changes, where these are the ranks of all changes.
-fn change_waves(alloc: Global, ranks: &[u32]) -> Result<Vec<ChangeWaves>, OutOfMemory>
-    requires even { length ranks.now % 2 ≡ 0 }
-    requires few { (i : ℕ) → rank_of ranks.now i + 1 < 2 ^ 32 }
-    ensures many { IfOk result (λ times. 2 * length times.items ≡ length ranks.now) }
-    ensures times { IfOk result (λ times. times_in times.items ≡ change_times ranks.now) }
-{
-    let mut times = Vec::new(alloc);
-    for router in 0..ranks.len() / 2 {
-        times.push(ChangeWaves {
-            first: ranks[router + router] + 1,
-            second: ranks[router + router + 1] + 1,
-        })?;
-    }
-    Ok(times)
 }
 
 /// What is decided of the text of a tree file of single changes and a migration, by the tables before and after.

@@ -1,9 +1,12 @@
 ghost use Rattle.std.specs.Prelude.{◌≡◌, ◌<◌, ◌≤◌, IfOk, length};
 ghost use Rattle.order_core.specs.Orders.{IsOrder};
 ghost use Rattle.migrate_cli.specs.CheckDecision.{IsCheckDecision, IsCheckOver, IsOrderDecision, IsWavesDecision};
+ghost use Rattle.ospf_routes.specs.RouteTables.{table_at};
+ghost use Rattle.rib_mix.specs.Mixture.{migration_of};
 ghost use Rattle.step_scripts.specs.WaveFiles.{NamesWaves};
 ghost use Rattle.migrate_cli.specs.Reading.{NamedText, named_text};
-ghost use Rattle.migrate_cli.specs.steps.Tables.{MixesTables, NetworkMove, move_of};
+ghost use Rattle.migrate_cli.specs.steps.FirstUnsound.{IsFirstUnsoundState, IsFirstUnsoundWave};
+ghost use Rattle.migrate_cli.specs.steps.Tables.{MixesTables, NetworkMove, move_of, new_table};
 
 use crate::OutOfMemory;
 use crate::changes::check_changes;
@@ -17,6 +20,7 @@ use net_addr::Bytes;
 use net_model::Net;
 use order_core::Waves;
 use ospf_routes::OspfRoutes;
+use plan_theory::EndFault;
 use rib_mix::Mixed;
 use std::alloc::{AllocError, Global};
 use step_scripts::{OrderRefusal, Version, WaveFile, read_waves};
@@ -96,12 +100,28 @@ fn judge_mixed_order(
     requires { IsOrder (length mixed.now.net) order.now }
     ensures { (of : NetworkMove) → MixesTables of mixed.now → IfOk result (IsOrderDecision (move_of of) order.now) }
 {
+    let found = first_unsound_state(alloc, mixed, order)?;
+    match found {
+        None => Ok(Decision::Safe),
+        Some((state, fault)) => Ok(Decision::Unsafe { state, fault }),
+    }
+}
+
+/// The first state of an order that isn't sound, with what is wrong there, by mixed forwarding; none where the order is seamless.
+pub(crate) fn first_unsound_state(
+    alloc: Global,
+    mixed: &Mixed<'_, OspfRoutes, NewRoutes>,
+    order: &[u32],
+) -> Result<Option<(u32, EndFault)>, OutOfMemory>
+    requires { IsOrder (length mixed.now.net) order.now }
+    ensures { IfOk result (IsFirstUnsoundState (migration_of table_at new_table mixed.now) order.now) }
+{
     let mut finder = Finder::new(alloc, mixed)?;
     match finder.order_fault(order) {
-        None => Ok(Decision::Safe),
+        None => Ok(None),
         Some((state, fault)) => {
             let fault = whole_fault(alloc, fault, finder.ring())?;
-            Ok(Decision::Unsafe { state, fault })
+            Ok(Some((state, fault)))
         }
     }
 }
@@ -125,14 +145,30 @@ fn judge_mixed_waves(
     requires { length waves.now ≡ length mixed.now.net }
     ensures { (of : NetworkMove) → MixesTables of mixed.now → IfOk result (IsWavesDecision (move_of of) waves.now) }
 {
-    let mut finder = Finder::new(alloc, mixed)?;
-    match finder.waves_fault(waves.ranks()) {
+    let found = first_unsound_wave(alloc, mixed, waves)?;
+    match found {
         None => Ok(Decision::SafeWaves {
             waves: waves.count(),
         }),
+        Some((wave, fault)) => Ok(Decision::UnsafeWave { wave, fault }),
+    }
+}
+
+/// The first wave with a state that isn't sound, with what is wrong in it, by mixed forwarding; none where the list is seamless.
+pub(crate) fn first_unsound_wave(
+    alloc: Global,
+    mixed: &Mixed<'_, OspfRoutes, NewRoutes>,
+    waves: &Waves,
+) -> Result<Option<(u32, EndFault)>, OutOfMemory>
+    requires { length waves.now ≡ length mixed.now.net }
+    ensures { IfOk result (IsFirstUnsoundWave (migration_of table_at new_table mixed.now) waves.now) }
+{
+    let mut finder = Finder::new(alloc, mixed)?;
+    match finder.waves_fault(waves.ranks()) {
+        None => Ok(None),
         Some((wave, fault)) => {
             let fault = whole_fault(alloc, fault, finder.ring())?;
-            Ok(Decision::UnsafeWave { wave, fault })
+            Ok(Some((wave, fault)))
         }
     }
 }

@@ -2,7 +2,7 @@ ghost use Rattle.std.specs.Prelude.{◌≡◌, ◌≤◌, ◌<◌, ◌↔◌, �
 ghost use Rattle.design_writer.specs.CostDesigns.{HaveTextNames};
 ghost use Rattle.migrate_words.specs.Asked.{IsInRange};
 ghost use Rattle.ospf_pair.specs.PairRefusals.{MakePair};
-ghost use Rattle.migrate_cli.specs.CommandFiles.{NeedsStart, OverNetworks, given_texts, own_files};
+ghost use Rattle.migrate_cli.specs.CommandFiles.{AsksNetworks, NeedsStart, OverNetworks, given_texts, own_files};
 ghost use Rattle.migrate_cli.specs.Decisions.{IsDecision, input_of};
 ghost use Rattle.migrate_cli.specs.Reading.{AreShort};
 
@@ -13,15 +13,19 @@ use crate::design::judge_design;
 use crate::files::FILE_MOST;
 use crate::moves::Move;
 use crate::pair::judge_pair_scripts;
+use crate::picture::judge_picture;
 use crate::plan::{judge_plan, plan_over};
 use crate::prepare::judge_prepare;
 use crate::refute::{judge_refute, refute_over};
+use crate::replan::judge_replan;
 use crate::replay::judge_replay;
+use crate::rollback::judge_rollback;
 use crate::sample::judge_sample;
 use crate::scripts::judge_scripts;
 use crate::shown::judge_tables;
 use crate::split::judge_split;
 use crate::twopass::judge_two_pass;
+use crate::why::judge_why;
 use migrate_words::{Command, CommandKind};
 use migration_report::Decision;
 use net_addr::Bytes;
@@ -35,7 +39,12 @@ pub(crate) fn needs_start(kind: CommandKind) -> bool
 {
     !matches!(
         kind,
-        CommandKind::Prepare | CommandKind::Delta | CommandKind::Tables | CommandKind::Design
+        CommandKind::Prepare
+            | CommandKind::Delta
+            | CommandKind::Tables
+            | CommandKind::Design
+            | CommandKind::Observe
+            | CommandKind::Survey
     )
 }
 
@@ -48,6 +57,7 @@ pub(crate) fn judge_command(
     net: &Net,
 ) -> Result<Decision, OutOfMemory>
     requires range { IsInRange command.now }
+    requires networks { AsksNetworks command.now.kind }
     requires one { OverNetworks command.now.kind → ⊥ }
     requires some { 0 < length net.now }
     requires own { AreShort (own_files command.now) own.now }
@@ -86,6 +96,23 @@ pub(crate) fn judge_command(
             judge_delta(alloc, file, design, configs, net)
         }
         CommandKind::Tables => judge_tables(alloc, net),
+        CommandKind::Why => {
+            let (file, order) = first_own(command, own);
+            judge_why(alloc, file, order, net)
+        }
+        CommandKind::Rollback => {
+            let journal = &own[1];
+            let (file, order) = first_own(command, own);
+            judge_rollback(alloc, file, order, journal, net)
+        }
+        CommandKind::Replan => {
+            let journal = &own[1];
+            judge_replan(alloc, command.number, first_own(command, own), journal, net)
+        }
+        CommandKind::Picture => {
+            let (file, order) = first_own(command, own);
+            judge_picture(alloc, file, order, net)
+        }
         CommandKind::Design => judge_design(alloc, &command.scheme, net),
         _ => unreachable!(),
     }
@@ -136,7 +163,7 @@ pub(crate) fn judge_pair(
 }
 
 /// The first file of a command's own: its name and its text.
-fn first_own<'a, 'b>(command: &Command<'a>, own: &'b [Bytes]) -> (&'a str, &'b Bytes)
+pub(crate) fn first_own<'a, 'b>(command: &Command<'a>, own: &'b [Bytes]) -> (&'a str, &'b Bytes)
     requires some { 0 < length command.now.own }
     requires texts { 0 < length own.now }
     ensures name { result.0.now ≡ slice_index_or command.now.own 0 [] }

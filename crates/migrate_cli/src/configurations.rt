@@ -72,7 +72,11 @@ pub(crate) fn read_two<'a>(
 }
 
 /// The configurations of the text of one file.
-fn read_one<'a>(alloc: Global, file: &'a str, text: &Bytes) -> Result<Vec<Config>, Unread<'a>>
+pub(crate) fn read_one<'a>(
+    alloc: Global,
+    file: &'a str,
+    text: &Bytes,
+) -> Result<Vec<Config>, Unread<'a>>
     requires { length text.now ≤ FILE_MOST }
     ensures ok { IfOk result (λ configs. ReadsText text.now configs.items) }
     ensures err { IfErr result (IsUnreadText file.now text.now) }

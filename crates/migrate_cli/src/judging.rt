@@ -5,7 +5,7 @@ ghost use Rattle.net_model.specs.OffStarts.{IsLowestOffStart};
 ghost use Rattle.sample_network.specs.SampleTexts.{sample_text};
 ghost use Rattle.design_writer.specs.CostDesigns.{HaveTextNames};
 ghost use Rattle.migrate_words.specs.Asked.{IsInRange};
-ghost use Rattle.migrate_cli.specs.CommandFiles.{NeedsStart, OverNetworks, config_texts, files_of, given_texts, groups_of};
+ghost use Rattle.migrate_cli.specs.CommandFiles.{AsksNetworks, NeedsStart, OverNetworks, config_texts, files_of, given_texts, groups_of};
 ghost use Rattle.migrate_cli.specs.CommandFiles.{own_files, own_texts, text_names};
 ghost use Rattle.migrate_cli.specs.steps.FilesRead.{ReadsFiles};
 ghost use Rattle.migrate_cli.specs.Configurations.{GiveNetwork, GiveNetworks, IsAtStart};
@@ -17,6 +17,8 @@ use crate::OutOfMemory;
 use crate::commands::{judge_command, judge_pair, needs_start, over_networks};
 use crate::configurations::{Unread, read_all, read_two};
 use crate::files::{FILE_MOST, name_bytes, text_names};
+use crate::observing::judge_observe;
+use crate::surveying::judge_survey;
 use migrate_words::{Command, CommandKind};
 use migration_report::{Decision, Outcome, Refusal};
 use net_addr::{Bytes, Name};
@@ -37,6 +39,8 @@ pub(crate) fn judge(
 {
     match command.kind {
         CommandKind::Sample => judge_made(alloc, command),
+        CommandKind::Survey => judge_survey(alloc, command, texts),
+        CommandKind::Observe => judge_observe(alloc, command, texts),
         _ => judge_read(alloc, command, texts),
     }
 }
@@ -54,6 +58,7 @@ fn judge_made(alloc: Global, command: &Command<'_>) -> Result<Outcome, OutOfMemo
 /// What a command that reads files comes to on their texts.
 fn judge_read(alloc: Global, command: &Command<'_>, texts: &[Bytes]) -> Result<Outcome, OutOfMemory>
     requires reads { ReadsFiles command.now.kind }
+    requires networks { AsksNetworks command.now.kind }
     requires range { IsInRange command.now }
     requires short { AreShort (files_of command.now) texts.now }
     ensures { IfOk result (IsOutcome command.now (given_texts (own_texts command.now texts.now) (config_texts command.now texts.now))) }
@@ -74,6 +79,7 @@ fn judge_texts(
     own: &[Bytes],
     texts: &[Bytes],
 ) -> Result<Outcome, OutOfMemory>
+    requires networks { AsksNetworks command.now.kind }
     requires one { OverNetworks command.now.kind → ⊥ }
     requires range { IsInRange command.now }
     requires own { AreShort (own_files command.now) own.now }
@@ -164,7 +170,7 @@ fn refuse_pair(net: Net, refusal: PairRefusal) -> Result<Outcome, OutOfMemory>
 }
 
 /// What a call comes to of which a router isn't where a migration starts.
-fn refuse_start(alloc: Global, net: &Net, router: u32) -> Result<Outcome, OutOfMemory>
+pub(crate) fn refuse_start(alloc: Global, net: &Net, router: u32) -> Result<Outcome, OutOfMemory>
     requires { router < length net.now }
     ensures { IfOk result (λ outcome. (config : Configuration) → HasConfiguration net.now router config →
         outcome ≡ Outcome.Refused (Refusal.OffStart config.name)) }
@@ -175,7 +181,7 @@ fn refuse_start(alloc: Global, net: &Net, router: u32) -> Result<Outcome, OutOfM
 }
 
 /// What a call comes to whose configurations make no network.
-fn refuse_network(refusal: NetRefusal) -> Result<Outcome, OutOfMemory>
+pub(crate) fn refuse_network(refusal: NetRefusal) -> Result<Outcome, OutOfMemory>
     ensures told { OnOk result (refusal ≢ NetRefusal.OutOfMemory) }
     ensures outcome { IfOk result (λ outcome. outcome ≡ Outcome.Refused (Refusal.Network refusal)) }
 {
@@ -189,7 +195,7 @@ fn refuse_network(refusal: NetRefusal) -> Result<Outcome, OutOfMemory>
 }
 
 /// What a call comes to where the configurations of some files aren't read.
-fn refuse_unread(alloc: Global, unread: Unread<'_>) -> Result<Outcome, OutOfMemory>
+pub(crate) fn refuse_unread(alloc: Global, unread: Unread<'_>) -> Result<Outcome, OutOfMemory>
     ensures { IfOk result (RefusesUnread unread.entry) }
 {
     match unread {
@@ -213,6 +219,7 @@ fn judge_network(
     requires range { IsInRange command.now }
     requires some { 0 < length net }
     requires own { AreShort (own_files command.now) own.now }
+    requires networks { AsksNetworks command.now.kind }
     requires one { OverNetworks command.now.kind → ⊥ }
     requires configs { All (λ text. length text ≤ FILE_MOST) configs.now }
     requires names { HaveTextNames net }

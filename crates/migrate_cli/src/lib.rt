@@ -12,8 +12,11 @@
 //! | `commands` | the commands, and whether one asks for the start of a migration |
 //! | `tables` | the tables of both protocols of a network, and mixed forwarding over them |
 //! | `settling` | what a design settles for a network |
-//! | `design`, `prepare`, `delta`, `shown`, `plan`, `check`, `refute` | what each command decides, `tables` in `shown` |
+//! | `surveying` | what `survey` tells of texts that need not make a network |
+//! | `observing` | what `observe` comes to, which reads two networks one after the other |
+//! | `design`, `prepare`, `delta`, `shown`, `plan`, `check`, `why`, `picture`, `refute` | what each command decides, `tables` in `shown` |
 //! | `twopass`, `changes` | of single changes: what `twopass` decides, and what `check` and `refute` decide of their files |
+//! | `rest`, `replan`, `rollback` | of a night that was stopped: what `refute` decides of its trees, and what these decide |
 //! | `split`, `scripts`, `replay`, `pair`, `sample` | the same of those for the night, and of the others |
 //! | `sending` | writing in pieces of 4,096 bytes |
 //! | `originated` | how many prefixes a network originates |
@@ -44,16 +47,23 @@ mod changes;
 mod check;
 mod delta;
 mod design;
+mod observing;
 mod pair;
+mod picture;
 mod plan;
 mod prepare;
 mod refute;
+mod replan;
 mod replay;
+mod rest;
+mod rollback;
 mod sample;
 mod scripts;
 mod shown;
 mod split;
+mod surveying;
 mod twopass;
+mod why;
 
 // what is counted, and laws
 mod laws;

@@ -7,6 +7,7 @@ use crate::changes::refute_changes;
 use crate::files::FILE_MOST;
 use crate::first_lines::begins_with;
 use crate::moves::Move;
+use crate::rest::refute_rest;
 use crate::tables::Tables;
 use migration_report::Decision;
 use net_addr::Bytes;
@@ -14,7 +15,8 @@ use net_model::Net;
 use refutation_check::verify;
 use std::alloc::Global;
 
-/// What is decided of the text of a tree file, of routers or of single changes, and a network, by the tables of OSPF and of IS-IS.
+/// What is decided of the text of a tree file, of routers, of single changes or from a start, and a network, by the tables of OSPF and
+/// of IS-IS.
 pub(crate) fn judge_refute(alloc: Global, tree: &Bytes, net: &Net) -> Result<Decision, OutOfMemory>
     requires { length tree.now ≤ FILE_MOST }
     ensures { IfOk result (IsRefuteDecision tree.now net.now) }
@@ -22,6 +24,8 @@ pub(crate) fn judge_refute(alloc: Global, tree: &Bytes, net: &Net) -> Result<Dec
     let of = Move::to_isis(net);
     if begins_with(b"tree 2", tree.as_slice()) {
         refute_changes(alloc, tree, &of)
+    } else if begins_with(b"tree 3", tree.as_slice()) {
+        refute_rest(alloc, tree, &of)
     } else {
         refute_over(alloc, tree, &of)
     }

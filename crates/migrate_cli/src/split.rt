@@ -62,7 +62,7 @@ fn cut_read(alloc: Global, read: &WaveFile, most: u32, net: &Net) -> Result<Deci
 }
 
 /// Whether a decision of `check` is a yes.
-fn is_yes(decision: &Decision) -> bool
+pub(crate) fn is_yes(decision: &Decision) -> bool
     ensures { IsTrue result ↔ IsYes decision.now }
 {
     matches!(decision, Decision::Safe | Decision::SafeWaves { .. })

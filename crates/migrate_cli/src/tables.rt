@@ -1,5 +1,5 @@
 ghost use Rattle.std.specs.Prelude.{◌≡◌, IfOk};
-ghost use Rattle.migrate_cli.specs.steps.Tables.{AreNewRoutes, MixesTables};
+ghost use Rattle.migrate_cli.specs.steps.Tables.{AreBothTables, AreNewRoutes, MixesTables};
 
 use crate::OutOfMemory;
 use crate::moves::Move;
@@ -10,6 +10,7 @@ use rib_mix::Mixed;
 use route_core::{RouteSource, Table};
 use std::alloc::Global;
 use std::marker::Model;
+use used_routes::Sources;
 
 /// The tables that take over: those of IS-IS, or of a second OSPF process.
 #[derive(Drop)]
@@ -99,5 +100,17 @@ impl<'a> Tables<'a> {
         ensures { IfOk result (MixesTables self.now) }
     {
         Mixed::build(alloc, self.of.net(), &self.old, &self.new)
+    }
+
+    /// The network with them.
+    pub fn sources(&self) -> Sources<'_, OspfRoutes, NewRoutes>
+        ensures net { result.net.now ≡ self.now.net }
+        ensures tables { AreBothTables self.now result.old.now result.new.now }
+    {
+        Sources {
+            net: self.of.net(),
+            old: &self.old,
+            new: &self.new,
+        }
     }
 }

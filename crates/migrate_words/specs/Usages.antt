@@ -3,7 +3,7 @@ use Rattle.std.specs.Prelude.{List, [], ◌∷◌, codes}
 use Rattle.clap.specs.Words.{Text}
 use Rattle.migrate_words.specs.declared.command.CommandKind.{CommandKind}
 use Rattle.migrate_words.specs.declared.command.CommandKind.TheVariants.{Check, Prepare, Plan, TwoPass, Refute, Scripts, Replay, Sample}
-use Rattle.migrate_words.specs.declared.command.CommandKind.TheVariants.{Pair, PairScripts, PairCheck, PairRefute, Design, Split, Delta, Tables}
+use Rattle.migrate_words.specs.declared.command.CommandKind.TheVariants.{Pair, PairScripts, PairCheck, PairRefute, Design, Split, Delta, Tables, Why, Picture, Rollback, Replan, Observe, Survey}
 use Rattle.migrate_words.specs.declared.subcommands.ConfigFiles.{ConfigFiles}
 use Rattle.migrate_words.specs.declared.subcommands.ConfigFiles.TheVariants.{NoConfigs, Several, Networks}
 use Rattle.migrate_words.specs.declared.subcommands.NumberTaken.{NumberTaken}
@@ -26,6 +26,7 @@ network_names = codes "OLD" ∷ codes "NEW" ∷ []
 
 -- the usage line of each command
 abbrev pub usage_of : CommandKind → Usage
+usage_of Survey = usage (codes "survey") NoNumber [] Several
 usage_of Check = usage (codes "check") NoNumber (codes "ORDER" ∷ []) Several
 usage_of Prepare = usage (codes "prepare") NoNumber (codes "DESIGN" ∷ []) Several
 usage_of Plan = usage (codes "plan") Budget [] Several
@@ -41,10 +42,15 @@ usage_of PairRefute = usage (codes "pairrefute") NoNumber (codes "TREE" ∷ []) 
 usage_of Split = usage (codes "split") WaveSize (codes "ORDER" ∷ []) Several
 usage_of Delta = usage (codes "delta") NoNumber (codes "DESIGN" ∷ []) Several
 usage_of Tables = usage (codes "tables") NoNumber [] Several
+usage_of Why = usage (codes "why") NoNumber (codes "ORDER" ∷ []) Several
+usage_of Picture = usage (codes "picture") NoNumber (codes "ORDER" ∷ []) Several
+usage_of Rollback = usage (codes "rollback") NoNumber (codes "ORDER" ∷ codes "JOURNAL" ∷ []) Several
+usage_of Replan = usage (codes "replan") Budget (codes "ORDER" ∷ codes "JOURNAL" ∷ []) Several
+usage_of Observe = usage (codes "observe") NoNumber (codes "ORDER" ∷ codes "BEFORE" ∷ []) Several
 usage_of Design = usage (codes "design") DesignOptions [] Several
 
 -- the commands, in the order in which help tells them
 abbrev pub kinds : List CommandKind
 kinds =
-    Check ∷ Prepare ∷ Plan ∷ TwoPass ∷ Refute ∷ Scripts ∷ Replay ∷ Sample ∷ Pair ∷ PairScripts ∷ PairCheck ∷ PairRefute ∷ Split ∷ Delta ∷ Tables
-    ∷ Design ∷ []
+    Survey ∷ Check ∷ Prepare ∷ Plan ∷ TwoPass ∷ Refute ∷ Scripts ∷ Replay ∷ Sample ∷ Pair ∷ PairScripts ∷ PairCheck ∷ PairRefute ∷ Split ∷ Delta
+    ∷ Tables ∷ Why ∷ Picture ∷ Rollback ∷ Replan ∷ Observe ∷ Design ∷ []

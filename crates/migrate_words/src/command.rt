@@ -54,6 +54,18 @@ pub enum CommandKind {
     Delta,
     /// `tables CONFIG...`: the entries of the route tables of both protocols.
     Tables,
+    /// `why ORDER CONFIG...`: the verdict on an order or on a list of waves, and why it is so.
+    Why,
+    /// `picture ORDER CONFIG...`: the verdict on an order or on a list of waves, and the network as a picture with its waves.
+    Picture,
+    /// `rollback ORDER JOURNAL CONFIG...`: the lines that take the changes of a journal back, from the last to the first.
+    Rollback,
+    /// `replan [--budget N] ORDER JOURNAL CONFIG...`: waves of what a journal has left that are safe throughout.
+    Replan,
+    /// `observe ORDER BEFORE CONFIG...`: the journal of what was done, by the configurations of before and of now.
+    Observe,
+    /// `survey CONFIG...`: all that stands between the configurations and a plan.
+    Survey,
     /// `design [--area AREA] [--level L] CONFIG...`: a design in which the IS-IS metrics are the OSPF costs.
     Design,
 }

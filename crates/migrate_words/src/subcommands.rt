@@ -52,6 +52,16 @@ const ORDER: OwnFile = OwnFile {
     help: "The order file: routers in the order of their changes, or waves of routers",
 };
 
+const JOURNAL: OwnFile = OwnFile {
+    name: "JOURNAL",
+    help: "The journal file: the changes that are done, one a line",
+};
+
+const BEFORE: OwnFile = OwnFile {
+    name: "BEFORE",
+    help: "The configurations as they were before the first change, all in one file",
+};
+
 const DESIGN: OwnFile = OwnFile {
     name: "DESIGN",
     help: "The design file, in TOML",
@@ -80,7 +90,16 @@ pub(crate) fn networks() -> &'static [OwnFile]
     &NETWORKS
 }
 
-static SUBCOMMANDS: [Subcommand; 16] = [
+static SUBCOMMANDS: [Subcommand; 22] = [
+    Subcommand {
+        kind: CommandKind::Survey,
+        word: "survey",
+        about: "Tells all that stands between the configurations and a plan: faulty lines, refusals, what is odd",
+        usage: "migrate survey CONFIG...",
+        number: NumberTaken::NoNumber,
+        own: &[],
+        configs: ConfigFiles::Several,
+    },
     Subcommand {
         kind: CommandKind::Check,
         word: "check",
@@ -141,13 +160,7 @@ static SUBCOMMANDS: [Subcommand; 16] = [
         about: "Tells how far a journal of changes has come, and which changes may come next",
         usage: "migrate replay ORDER JOURNAL CONFIG...",
         number: NumberTaken::NoNumber,
-        own: &[
-            ORDER,
-            OwnFile {
-                name: "JOURNAL",
-                help: "The journal file: the changes that are done, one a line",
-            },
-        ],
+        own: &[ORDER, JOURNAL],
         configs: ConfigFiles::Several,
     },
     Subcommand {
@@ -220,6 +233,51 @@ static SUBCOMMANDS: [Subcommand; 16] = [
         usage: "migrate tables CONFIG...",
         number: NumberTaken::NoNumber,
         own: &[],
+        configs: ConfigFiles::Several,
+    },
+    Subcommand {
+        kind: CommandKind::Why,
+        word: "why",
+        about: "Judges an order or a list of waves as check does, and tells why",
+        usage: "migrate why ORDER CONFIG...",
+        number: NumberTaken::NoNumber,
+        own: &[ORDER],
+        configs: ConfigFiles::Several,
+    },
+    Subcommand {
+        kind: CommandKind::Picture,
+        word: "picture",
+        about: "Judges an order or a list of waves as check does, and draws the network",
+        usage: "migrate picture ORDER CONFIG...",
+        number: NumberTaken::NoNumber,
+        own: &[ORDER],
+        configs: ConfigFiles::Several,
+    },
+    Subcommand {
+        kind: CommandKind::Rollback,
+        word: "rollback",
+        about: "Writes the lines that take the changes of a journal back, from the last to the first",
+        usage: "migrate rollback ORDER JOURNAL CONFIG...",
+        number: NumberTaken::NoNumber,
+        own: &[ORDER, JOURNAL],
+        configs: ConfigFiles::Several,
+    },
+    Subcommand {
+        kind: CommandKind::Replan,
+        word: "replan",
+        about: "Finds waves of what a journal has left that are safe in each state on the way, or a tree",
+        usage: "migrate replan [--budget N] ORDER JOURNAL CONFIG...",
+        number: NumberTaken::Budget,
+        own: &[ORDER, JOURNAL],
+        configs: ConfigFiles::Several,
+    },
+    Subcommand {
+        kind: CommandKind::Observe,
+        word: "observe",
+        about: "Writes the journal of what was done, by the configurations of before and of now",
+        usage: "migrate observe ORDER BEFORE CONFIG...",
+        number: NumberTaken::NoNumber,
+        own: &[ORDER, BEFORE],
         configs: ConfigFiles::Several,
     },
     Subcommand {

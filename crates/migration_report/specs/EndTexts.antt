@@ -7,12 +7,13 @@ use Rattle.plan_theory.specs.declared.planned.EndFault.TheVariants.{Loop, Missin
 use Rattle.printed_lines.specs.Texts.{line}
 use Rattle.migration_report.specs.Texts.{fault_words}
 use Rattle.migration_report.specs.declared.ends.End.{End}
-use Rattle.migration_report.specs.declared.ends.End.TheVariants.{Old, New}
+use Rattle.migration_report.specs.declared.ends.End.TheVariants.{Old, New, Start}
 
--- the word for an end: every router is in its old phase there, or in its new one
+-- the word for an end: every router is in its old phase there, or in its new one, or it is the state in which a migration was stopped
 abbrev pub end_word : End → List ℕ
 end_word Old = codes "old"
 end_word New = codes "new"
+end_word Start = codes "start"
 
 -- an end isn't sound: what is wrong there, by the names of the routers
 abbrev pub unsound_text : End → List (List ℕ) → Fault → List ℕ

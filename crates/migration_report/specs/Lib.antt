@@ -4,6 +4,7 @@ pub mod JournalTexts
 pub mod TreeVerdictTexts
 pub mod DesignTexts
 pub mod EndTexts
+pub mod RestPlanTexts
 pub mod SummaryTexts
 pub mod Codes
 pub mod Outcomes

@@ -1,5 +1,5 @@
 -- What a call may come to, and the status and the text that tell it.
-use Rattle.std.specs.Prelude.{◌≡◌, ◌≢◌, ℕ, ◌*◌, List, ◌++◌, length}
+use Rattle.std.specs.Prelude.{◌≡◌, ◌≢◌, ℕ, ◌*◌, Bool, true, false, List, ◌++◌, length}
 use Rattle.net_model.specs.Network.{Network}
 use Rattle.net_model.specs.RouterNames.{names_of}
 use Rattle.net_model.specs.declared.refusal.NetRefusal.{NetRefusal}
@@ -13,24 +13,28 @@ use Rattle.plan_theory.specs.declared.planned.Planned.{Planned}
 use Rattle.plan_theory.specs.declared.planned.Planned.TheVariants.{UnsoundOld, UnsoundNew, Searched}
 use Rattle.plan_theory.specs.declared.items.Items.{Items}
 use Rattle.plan_theory.specs.declared.items.Items.TheVariants.{Routers, Changes}
-use Rattle.planned_texts.specs.PlannedTexts.{IsPrintable, planned_text}
+use Rattle.refused_texts.specs.Kinds.{read_kind_name}
+use Rattle.refused_texts.specs.Texts.{network_text}
+use Rattle.wave_oracle.specs.PlannedTexts.{IsPrintable, planned_text}
 use Rattle.refutation_check.specs.declared.verdict.Verdict.{Verdict}
 use Rattle.refutation_check.specs.declared.verdict.Verdict.TheVariants.{Closed, Unfinished, Wrong}
 use Rattle.step_scripts.specs.Scripts.{script_text}
 use Rattle.migration_report.specs.DesignTexts.{refused_design_text}
 use Rattle.migration_report.specs.EndTexts.{EndFaultBelow, unsound_text}
 use Rattle.migration_report.specs.JournalTexts.{departs_text, reached_text}
-use Rattle.migration_report.specs.Kinds.{order_kind_name, read_kind_name}
+use Rattle.migration_report.specs.Kinds.{order_kind_name}
+use Rattle.migration_report.specs.RestPlanTexts.{rest_plan_text}
 use Rattle.migration_report.specs.SummaryTexts.{summary_text}
-use Rattle.migration_report.specs.Texts.{IsPrinted, faulty_text, long_file_text, long_files_text, many_files_text, network_text, off_start_text}
+use Rattle.migration_report.specs.Texts.{IsPrinted, faulty_text, long_file_text, long_files_text, many_files_text, off_start_text}
 use Rattle.migration_report.specs.Texts.{read_fault_text, safe_text, unsafe_text, waves_safe_text, waves_unsafe_text, words_refused_text}
 use Rattle.migration_report.specs.TreeVerdictTexts.{verdict_text}
 use Rattle.migration_report.specs.declared.decision.Decision.{Decision}
 use Rattle.migration_report.specs.declared.decision.Decision.TheVariants.{Safe, SafeWaves, Unsafe, UnsafeWave, Plan, TwoPass, Summary, Tree, Script}
-use Rattle.migration_report.specs.declared.decision.Decision.TheVariants.{Reached, Departs, Prepared, PairScript, Designed, BadPair, BadOrder, BadChanges, BadDesign, Split, Delta, Tables}
+use Rattle.migration_report.specs.declared.decision.Decision.TheVariants.{Reached, Departs, Prepared, PairScript, Designed, BadPair, BadOrder, BadChanges, BadDesign, Split, Delta, Tables, Rest, WayBack}
+use Rattle.migration_report.specs.declared.decision.Decision.TheVariants.{ExplainedSafe, ExplainedUnsafe, Observed, NotObserved}
 use Rattle.migration_report.specs.declared.ends.End.TheVariants.{Old, New}
 use Rattle.migration_report.specs.declared.outcome.Outcome.{Outcome}
-use Rattle.migration_report.specs.declared.outcome.Outcome.TheVariants.{Refused, Decided}
+use Rattle.migration_report.specs.declared.outcome.Outcome.TheVariants.{Refused, Decided, Survey}
 use Rattle.migration_report.specs.declared.refusal.Refusal.{Refusal}
 use Rattle.migration_report.specs.declared.refusal.Refusal.TheVariants.{Words, Read, Config, Network as NoNetwork, OffStart, Files, Length, Total}
 use Rattle.migration_report.specs.declared.status.Status.{Status}
@@ -110,6 +114,12 @@ decision_status (BadDesign file path kind) = status.Refused
 decision_status (Split text) = status.Done
 decision_status (Delta text) = status.Done
 decision_status (Tables text) = status.Done
+decision_status (Rest start planned) = plan_status planned
+decision_status (WayBack text) = status.Done
+decision_status (Observed text) = status.Done
+decision_status (NotObserved text) = status.Negative
+decision_status (ExplainedSafe text) = status.Done
+decision_status (ExplainedUnsafe text) = status.Negative
 
 -- and what it writes of the network; each router has two changes
 abbrev pub decision_text : Network → Decision → List ℕ
@@ -134,6 +144,12 @@ decision_text net (BadDesign file path kind) = refused_design_text file path kin
 decision_text net (Split text) = text
 decision_text net (Delta text) = text
 decision_text net (Tables text) = text
+decision_text net (Rest start planned) = rest_plan_text (names_of net) start planned
+decision_text net (WayBack text) = text
+decision_text net (Observed text) = text
+decision_text net (NotObserved text) = text
+decision_text net (ExplainedSafe text) = text
+decision_text net (ExplainedUnsafe text) = text
 
 -- a plan has a text: it is of the routers of the network
 abbrev pub IsPlanTellable : Items → Network → Planned → Type 0
@@ -150,20 +166,29 @@ IsTellable net (TwoPass planned) = IsPlanTellable Changes net planned
 IsTellable net (Summary counts waves) = length waves ≡ length net
 IsTellable net (Script version waves) = length waves ≡ length net
 IsTellable net (Reached made nexts) = length nexts ≡ length net
+IsTellable net (Rest start planned) = (length start ≡ length net) × IsPlanTellable Routers net planned
 IsTellable net (BadPair refusal) = refusal ≢ NoPairMemory
 IsTellable net _ = Unit {0}
+
+-- how a survey ends: with no where something stands out
+abbrev pub survey_status : Bool → Status
+survey_status true = status.Negative
+survey_status false = status.Done
 
 -- how a call ends that comes to this and writes its text whole
 abbrev pub status_of : Outcome → Status
 status_of (Refused refusal) = refusal_status refusal
 status_of (Decided net decision) = decision_status decision
+status_of (Survey stands_out text) = survey_status stands_out
 
 -- the text that tells it
 abbrev pub outcome_text : Outcome → List ℕ
 outcome_text (Refused refusal) = refusal_text refusal
 outcome_text (Decided net decision) = decision_text net decision
+outcome_text (Survey stands_out text) = text
 
 -- it has a text: no want of memory is told as a refusal, and a decision is of the routers of its network
 abbrev pub HasOutcomeText : Outcome → Type 0
 HasOutcomeText (Refused refusal) = IsPrinted refusal
 HasOutcomeText (Decided net decision) = IsTellable net decision
+HasOutcomeText (Survey stands_out text) = Unit {0}

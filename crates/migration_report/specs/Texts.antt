@@ -1,14 +1,11 @@
 -- The texts that are printed, each one line.
 use Rattle.std.specs.Prelude.{◌≢◌, ℕ, List, [], ◌∷◌, map, codes, decimal}
-use Rattle.net_model.specs.declared.refusal.NetRefusal.{NetRefusal}
-use Rattle.net_model.specs.declared.refusal.NetRefusal.TheVariants.{Limit, TwoNames, AddressTwice, PrefixInTwoAreas, BorderWithoutBackbone}
-use Rattle.net_model.specs.declared.refusal.NetRefusal.TheVariants.{OspfCostSum, IsisMetricSum, SystemIdTwice, StubMismatch, OutOfMemory}
+use Rattle.net_model.specs.declared.refusal.NetRefusal.TheVariants.{OutOfMemory}
 use Rattle.igp_theory.specs.Loops.{Fault, missing, loop}
 use Rattle.order_core.specs.Turns.{routers_of}
 use Rattle.order_core.specs.declared.turn.Turn.{Turn}
-use Rattle.printed_lines.specs.Words.{dotted, prefix_word, router_word}
+use Rattle.printed_lines.specs.Words.{dotted, router_word}
 use Rattle.printed_lines.specs.Texts.{line}
-use Rattle.migration_report.specs.Kinds.{limit_name}
 use Rattle.migration_report.specs.declared.refusal.Refusal.{Refusal}
 use Rattle.migration_report.specs.declared.refusal.Refusal.TheVariants.{Network as NoNetwork}
 
@@ -44,19 +41,6 @@ faulty_text file number kind = line (codes "refused") (file ∷ decimal number �
 -- a router isn't where a migration starts
 abbrev pub off_start_text : List ℕ → List ℕ
 off_start_text name = line (codes "refused") (codes "network" ∷ codes "NotAtStart" ∷ name ∷ [])
-
--- why configurations make no network; want of memory is never printed
-abbrev pub network_text : NetRefusal → List ℕ
-network_text (Limit what number) = line (codes "limit") (limit_name what ∷ decimal number ∷ [])
-network_text (TwoNames name) = line (codes "refused") (codes "network" ∷ codes "TwoNames" ∷ name ∷ [])
-network_text (AddressTwice one two a) = line (codes "refused") (codes "network" ∷ codes "AddressTwice" ∷ one ∷ two ∷ dotted a ∷ [])
-network_text (PrefixInTwoAreas one two p) = line (codes "refused") (codes "network" ∷ codes "PrefixInTwoAreas" ∷ one ∷ two ∷ prefix_word p ∷ [])
-network_text (BorderWithoutBackbone router) = line (codes "refused") (codes "network" ∷ codes "BorderWithoutBackbone" ∷ router ∷ [])
-network_text (OspfCostSum sum) = line (codes "refused") (codes "network" ∷ codes "OspfCostSum" ∷ decimal sum ∷ [])
-network_text (IsisMetricSum sum) = line (codes "refused") (codes "network" ∷ codes "IsisMetricSum" ∷ decimal sum ∷ [])
-network_text (SystemIdTwice one two) = line (codes "refused") (codes "network" ∷ codes "SystemIdTwice" ∷ one ∷ two ∷ [])
-network_text (StubMismatch one two area) = line (codes "refused") (codes "network" ∷ codes "StubMismatch" ∷ one ∷ two ∷ decimal area ∷ [])
-network_text OutOfMemory = []
 
 -- the words of the command are other words
 abbrev pub words_refused_text : List ℕ

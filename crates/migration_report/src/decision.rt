@@ -10,6 +10,7 @@ use crate::journal::{Nexts, departs_text, reached_text};
 use crate::kinds::order_kind_name;
 use crate::refusal::faulty_line;
 use crate::report::{safe_text, unsafe_text, waves_safe_text, waves_unsafe_text};
+use crate::rest::{RestStart, rest_plan_text};
 use crate::summary::{PlanCounts, summary_text};
 use crate::tree::verdict_text;
 use design_file::DesignKind;
@@ -19,10 +20,10 @@ use order_core::Waves;
 use order_search::Found;
 use ospf_pair::{PairRefusal, pair_refusal_text};
 use plan_theory::{EndFault, Items, Planned};
-use planned_texts::planned_text;
 use refutation_check::Verdict;
 use std::alloc::{AllocError, Global};
 use step_scripts::{OrderKind, Version, script_text};
+use wave_oracle::planned_text;
 
 /// What a command decided of a network.
 #[derive(Debug, Drop)]
@@ -147,6 +148,38 @@ pub enum Decision {
         /// A line each.
         text: Bytes,
     },
+    /// What is planned of the rest of a migration that was stopped.
+    Rest {
+        /// The phase from which each router goes on.
+        start: RestStart,
+        /// An end that isn't sound, or what was found between sound ends.
+        planned: Planned,
+    },
+    /// The changes of a journal begin a run, and are taken back.
+    WayBack {
+        /// The lines that undo them, from the last to the first.
+        text: Bytes,
+    },
+    /// A run leads to what the configurations of now show.
+    Observed {
+        /// The journal of its changes up to there.
+        text: Bytes,
+    },
+    /// The configurations of now differ in more than distances, or no run leads to what they show.
+    NotObserved {
+        /// The line that tells the router.
+        text: Bytes,
+    },
+    /// All states of an order or of a wave list are sound, and why its routers aren't in earlier waves.
+    ExplainedSafe {
+        /// The line that it is safe, and behind it the reasons.
+        text: Bytes,
+    },
+    /// A state of an order or of a wave list isn't sound, and what packets do there.
+    ExplainedUnsafe {
+        /// The line that it is unsafe, and behind it the way of a packet.
+        text: Bytes,
+    },
 }
 
 /// How a call ends that decided so.
@@ -175,6 +208,12 @@ pub(crate) fn decision_status(decision: &Decision) -> Status
         Decision::Split { .. } => Status::Done,
         Decision::Delta { .. } => Status::Done,
         Decision::Tables { .. } => Status::Done,
+        Decision::Rest { planned, .. } => plan_status(planned),
+        Decision::WayBack { .. } => Status::Done,
+        Decision::Observed { .. } => Status::Done,
+        Decision::NotObserved { .. } => Status::Negative,
+        Decision::ExplainedSafe { .. } => Status::Done,
+        Decision::ExplainedUnsafe { .. } => Status::Negative,
     }
 }
 
@@ -246,6 +285,12 @@ pub(crate) fn decision_text(
         Decision::Split { text } => Ok(text),
         Decision::Delta { text } => Ok(text),
         Decision::Tables { text } => Ok(text),
+        Decision::Rest { start, planned } => rest_plan_text(alloc, net, start.as_slice(), &planned),
+        Decision::WayBack { text } => Ok(text),
+        Decision::Observed { text } => Ok(text),
+        Decision::NotObserved { text } => Ok(text),
+        Decision::ExplainedSafe { text } => Ok(text),
+        Decision::ExplainedUnsafe { text } => Ok(text),
     }
 }
 

@@ -20,11 +20,18 @@ pub enum Outcome {
         /// What it decided of it.
         decision: Decision,
     },
+    /// The texts of configurations are surveyed.
+    Survey {
+        /// Whether something stands out.
+        stands_out: bool,
+        /// What is told of them.
+        text: Bytes,
+    },
 }
 
 impl Outcome {
     ghost use Rattle.std.specs.Prelude.{◌≡◌, IfOk};
-    ghost use Rattle.migration_report.specs.Outcomes.{HasOutcomeText, status_of, outcome_text};
+    ghost use Rattle.migration_report.specs.Outcomes.{HasOutcomeText, status_of, survey_status, outcome_text};
 
     /// How a call ends that comes to this and writes its text whole.
     pub fn status(&self) -> Status
@@ -33,6 +40,18 @@ impl Outcome {
         match self {
             Outcome::Refused { refusal } => refusal_status(refusal),
             Outcome::Decided { decision, .. } => decision_status(decision),
+            Outcome::Survey { stands_out, .. } => Outcome::survey_status(*stands_out),
+        }
+    }
+
+    /// How a survey ends.
+    fn survey_status(stands_out: bool) -> Status
+        ensures { result ≡ survey_status stands_out }
+    {
+        if stands_out {
+            Status::Negative
+        } else {
+            Status::Done
         }
     }
 
@@ -44,6 +63,7 @@ impl Outcome {
         match self {
             Outcome::Refused { refusal } => refusal_text(alloc, &refusal),
             Outcome::Decided { net, decision } => decision_text(alloc, &net, decision),
+            Outcome::Survey { text, .. } => Ok(text),
         }
     }
 }

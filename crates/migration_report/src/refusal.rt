@@ -3,12 +3,11 @@ ghost use Rattle.migration_report.specs.Outcomes.{refusal_status, refusal_text};
 ghost use Rattle.migration_report.specs.Texts.{IsPrinted, faulty_text, words_refused_text};
 
 use crate::Status;
-use crate::kinds::read_kind_name;
-use crate::network::{limit_text, network_text, refused};
 use ios_lines::ReadKind;
 use net_addr::{Bytes, Name};
 use net_model::NetRefusal;
 use printed_lines::LineBuilder;
+use refused_texts::{limit_text, network_text, read_kind_name, refused};
 use std::alloc::{AllocError, Global};
 
 /// Why nothing is decided of a network: the words, the files or the configurations are refused.

@@ -13,7 +13,7 @@ use printed_lines::LineBuilder;
 use std::alloc::{AllocError, Global};
 
 /// The line that an order is safe, with the count of its changes.
-pub(crate) fn safe_text(alloc: Global, changes: u32) -> Result<Bytes, AllocError>
+pub fn safe_text(alloc: Global, changes: u32) -> Result<Bytes, AllocError>
     ensures { IfOk result (λ text. text ≡ safe_text changes) }
 {
     LineBuilder::start(alloc, b"safe")?
@@ -22,7 +22,7 @@ pub(crate) fn safe_text(alloc: Global, changes: u32) -> Result<Bytes, AllocError
 }
 
 /// The line that a wave list is safe, with the count of its changes and that of its waves.
-pub(crate) fn waves_safe_text(alloc: Global, changes: u32, waves: u32) -> Result<Bytes, AllocError>
+pub fn waves_safe_text(alloc: Global, changes: u32, waves: u32) -> Result<Bytes, AllocError>
     ensures { IfOk result (λ text. text ≡ waves_safe_text changes waves) }
 {
     let line = LineBuilder::start(alloc, b"safe")?.number(u64::from(changes))?;
@@ -30,7 +30,7 @@ pub(crate) fn waves_safe_text(alloc: Global, changes: u32, waves: u32) -> Result
 }
 
 /// The line that a state of an order isn't sound: its number, and what is wrong in it.
-pub(crate) fn unsafe_text(
+pub fn unsafe_text(
     alloc: Global,
     net: &Net,
     state: u32,
@@ -44,7 +44,7 @@ pub(crate) fn unsafe_text(
 }
 
 /// The line that a wave has a state that isn't sound: its number, from 1, and what is wrong in its states.
-pub(crate) fn waves_unsafe_text(
+pub fn waves_unsafe_text(
     alloc: Global,
     net: &Net,
     wave: u32,

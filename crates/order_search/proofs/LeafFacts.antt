@@ -9,7 +9,7 @@ use Rattle.precedence_set.specs.LeastCycle.{GoesBack, IsLeastCycle}
 use Rattle.order_core.proofs.DistinctLists.{AllPairs-cons}
 use Rattle.order_core.proofs.Paths.{IsPath-more, distinct_path}
 use Rattle.order_search.specs.Trees.{Place, IsCycle}
-use Rattle.order_search.specs.steps.Waiting.{place_of, places_of, AreChildren}
+use Rattle.order_search.specs.steps.Waiting.{place_at, places_of, AreChildren}
 use Rattle.order_search.specs.steps.Leaves.{IsLeaf, GrowsLeaves}
 use Rattle.order_search.specs.declared.tree.Node.{Node}
 use Rattle.order_search.specs.declared.tree.Node.TheVariants.{Leaf}
@@ -50,7 +50,7 @@ IsCycle-from_least pairs u v cycle acyclic least =
 
 -- a leaf under the pairs above it
 pub GrowsLeaves-leaf : (old new : List Node) (pairs : List Pair) (c : Child) (cycle : List ℕ) → new ≡ old ++ Leaf cycle ∷ [] →
-    HasNoCycle (take c.above pairs) → IsLeastCycle (take c.above pairs) c.before c.after cycle → GrowsLeaves old new (place_of pairs c ∷ []) []
+    HasNoCycle (take c.above pairs) → IsLeastCycle (take c.above pairs) c.before c.after cycle → GrowsLeaves old new (place_at pairs c ∷ []) []
 GrowsLeaves-leaf old new pairs c cycle grown acyclic least = record {
   leaves = Leaf cycle ∷ [];
   grown = grown;
@@ -108,7 +108,7 @@ places_of-more n base pairs more (c ∷ children) all =
 
 -- when the first child has become the place, the others wait under its pairs
 pub AreChildren-left : (n : ℕ) (base pairs after : List Pair) (all rest : List Child) (c : Child) → AreChildren n base pairs all → all ≡ c ∷ rest →
-    after ≡ place_of pairs c →
+    after ≡ place_at pairs c →
     AreChildren n base after rest
 AreChildren-left n base pairs after all rest c are top is =
     let each : AreChildren n base pairs (c ∷ rest) = subst (λ (xs : List Child). AreChildren n base pairs xs) top are in
@@ -116,17 +116,17 @@ AreChildren-left n base pairs after all rest c are top is =
 
 pub GrowsLeaves-place : (n : ℕ) (base : List Pair) (old mid new : List Node) (a : List Place) (pairs after : List Pair)
     (all rest : List Child) (c : Child) →
-    AreChildren n base pairs all → all ≡ c ∷ rest → GrowsLeaves old mid a (places_of pairs all) → after ≡ place_of pairs c → new ≡ mid →
+    AreChildren n base pairs all → all ≡ c ∷ rest → GrowsLeaves old mid a (places_of pairs all) → after ≡ place_at pairs c → new ≡ mid →
     GrowsLeaves old new a (after ∷ places_of after rest)
 GrowsLeaves-place n base old mid new a pairs after all rest c are top grown is same =
     let each : AreChildren n base pairs (c ∷ rest) = subst (λ (xs : List Child). AreChildren n base pairs xs) top are in
     let rest_is : places_of after rest ≡ places_of (take c.above pairs) rest =
     ap (λ (xs : List Pair). places_of xs rest) is ∙ places_of-more n base (take c.above pairs) ((c.before, c.after) ∷ []) rest each.1 in
-    let before : GrowsLeaves old mid a (place_of pairs c ∷ places_of (take c.above pairs) rest) = subst
+    let before : GrowsLeaves old mid a (place_at pairs c ∷ places_of (take c.above pairs) rest) = subst
     (λ (xs : List Child). GrowsLeaves old mid a (places_of pairs xs)) top grown in
     subst (λ (xs : List Node). GrowsLeaves old xs a (after ∷ places_of after rest)) (sym same)
     (subst (λ (p : Place). GrowsLeaves old mid a (p ∷ places_of after rest)) (sym is)
-    (subst (λ (ps : List Place). GrowsLeaves old mid a (place_of pairs c ∷ ps)) (sym rest_is) before))
+    (subst (λ (ps : List Place). GrowsLeaves old mid a (place_at pairs c ∷ ps)) (sym rest_is) before))
 
 -- when it has become a leaf, they wait under the pairs above it
 pub AreChildren-back : (n : ℕ) (base pairs after : List Pair) (all rest : List Child) (c : Child) → AreChildren n base pairs all → all ≡ c ∷ rest →
@@ -137,10 +137,10 @@ AreChildren-back n base pairs after all rest c are top is =
     subst (λ (xs : List Pair). AreChildren n base xs rest) (sym is) each.1
 
 pub GrowsLeaves-back : (old mid new : List Node) (a : List Place) (pairs after : List Pair) (all rest : List Child) (c : Child) → all ≡ c ∷ rest →
-    GrowsLeaves old mid a (places_of pairs all) → after ≡ take c.above pairs → GrowsLeaves mid new (place_of pairs c ∷ []) [] →
+    GrowsLeaves old mid a (places_of pairs all) → after ≡ take c.above pairs → GrowsLeaves mid new (place_at pairs c ∷ []) [] →
     GrowsLeaves old new a (places_of after rest)
 GrowsLeaves-back old mid new a pairs after all rest c top grown is leaf =
-    let before : GrowsLeaves old mid a (place_of pairs c ∷ places_of (take c.above pairs) rest) = subst
+    let before : GrowsLeaves old mid a (place_at pairs c ∷ places_of (take c.above pairs) rest) = subst
     (λ (xs : List Child). GrowsLeaves old mid a (places_of pairs xs)) top grown in
     subst (λ (xs : List Pair). GrowsLeaves old new a (places_of xs rest)) (sym is)
-    (GrowsLeaves-more old mid new a (place_of pairs c) (places_of (take c.above pairs) rest) before leaf)
+    (GrowsLeaves-more old mid new a (place_at pairs c) (places_of (take c.above pairs) rest) before leaf)

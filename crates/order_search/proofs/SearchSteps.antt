@@ -16,7 +16,7 @@ use Rattle.order_search.specs.Trees.{Place, Fill, IsVisited, HasOneChild, branch
 use Rattle.order_search.specs.Meanings.{Meaning, Break, IsBase}
 use Rattle.order_search.specs.Places.{IsFoundNode, IsLayered}
 use Rattle.order_search.specs.Answers.{found_waves, AreFoundWaves, IsRefutation, IsSpent, IsFound}
-use Rattle.order_search.specs.steps.Waiting.{Standing, child_of, place_of, places_of, children_below, AreChildren, AreFresh, IsUnder}
+use Rattle.order_search.specs.steps.Waiting.{Standing, child_of, place_at, places_of, children_below, AreChildren, AreFresh, IsUnder}
 use Rattle.order_search.specs.steps.Leaves.{IsLeaf, GrowsLeaves}
 use Rattle.order_search.specs.steps.Steps.{IsSearching, IsAsked, EndsBy, EndsOrGoesOn, IsEndOf}
 use Rattle.order_search.specs.declared.child.Child.{Child}
@@ -297,11 +297,11 @@ place_is_next m budget b s branched grown under same routers room =
       line = λ one.
           let child = branched.line (All-front HasOneChild b.tree grown.leaves (subst (λ (xs : List Node). All HasOneChild xs) grown.grown one)) in
           let c = child.0 in
-          let fill : Fill IsLeaf (place_of b.held.pairs c ∷ []) grown.leaves after = subst
+          let fill : Fill IsLeaf (place_at b.held.pairs c ∷ []) grown.leaves after = subst
           (λ (cs : List Child). Fill IsLeaf (places_of b.held.pairs cs) grown.leaves after) child.1 grown.fills in
           let are : AreChildren m.size m.base b.held.pairs (c ∷ []) = subst
           (λ (cs : List Child). AreChildren m.size m.base b.held.pairs cs) child.1 branched.under.waiting in
-          let there = one_place (place_of b.held.pairs c) s.held.pairs (places_of s.held.pairs s.waiting) grown.leaves fill in
+          let there = one_place (place_at b.held.pairs c) s.held.pairs (places_of s.held.pairs s.waiting) grown.leaves fill in
           let long = length_push (take c.above b.held.pairs) (c.before, c.after) in
           let above = length-take-le c.above b.held.pairs are.0.within in
           (no_children s.held.pairs s.waiting there.1, omega (arith, ap (λ (xs : List Pair). length xs) there.0, long, above, child.2, same));

@@ -4,7 +4,7 @@ ghost use Rattle.precedence_set.specs.Layers.{IsLayeredChain};
 ghost use Rattle.precedence_set.specs.LeastCycle.{IsLeastCycle};
 ghost use Rattle.order_search.specs.Meanings.{IsBase};
 ghost use Rattle.order_search.specs.Places.{IsLayered};
-ghost use Rattle.order_search.specs.steps.Waiting.{place_of};
+ghost use Rattle.order_search.specs.steps.Waiting.{place_at};
 
 use crate::child::Child;
 use crate::found::Pairs;
@@ -81,7 +81,7 @@ impl Assumptions {
         requires after_in { child.after < self.old.routers }
         requires differ { child.before ≢ child.after }
         ensures routers { self.new.routers ≡ self.old.routers }
-        ensures place { IfOk result (λ closed. IfNone closed (self.new.pairs ≡ place_of self.old.pairs child)) }
+        ensures place { IfOk result (λ closed. IfNone closed (self.new.pairs ≡ place_at self.old.pairs child)) }
         ensures apart { IfOk result (λ closed. IfNone closed (¬ Leads (take child.above self.old.pairs) child.after child.before)) }
         ensures back { IfOk result (λ closed. IfSome closed (λ _. self.new.pairs ≡ take child.above self.old.pairs)) }
         ensures cycle { IfOk result (λ closed. IfSome closed (IsLeastCycle (take child.above self.old.pairs) child.before child.after)) }

@@ -1,7 +1,7 @@
 ghost use Rattle.std.specs.Prelude.{◌≡◌, List, ◌≤◌, ◌∷◌, [], IfOk, OnOk, take};
 ghost use Rattle.std.specs.Bool.{OnTrue, OnFalse};
 ghost use Rattle.order_core.specs.Pairs.{Pair};
-ghost use Rattle.order_search.specs.steps.Waiting.{place_of, places_of, AreFresh, IsUnder};
+ghost use Rattle.order_search.specs.steps.Waiting.{place_at, places_of, AreFresh, IsUnder};
 ghost use Rattle.order_search.specs.steps.Leaves.{GrowsLeaves};
 
 use crate::assumptions::Assumptions;
@@ -49,11 +49,11 @@ fn enter(
     ensures routers { held.new.routers ≡ held.old.routers }
     ensures fresh { OnOk result ((base : List Pair) → IsUnder held.old.routers base held.old.pairs (child ∷ [])
         → AreFresh held.new.routers base held.new.pairs) }
-    ensures place { IfOk result (λ found. OnTrue found (held.new.pairs ≡ place_of held.old.pairs child)) }
+    ensures place { IfOk result (λ found. OnTrue found (held.new.pairs ≡ place_at held.old.pairs child)) }
     ensures same { IfOk result (λ found. OnTrue found (tree.new ≡ tree.old)) }
     ensures back { IfOk result (λ found. OnFalse found (held.new.pairs ≡ take child.above held.old.pairs)) }
     ensures leaf { IfOk result (λ found. OnFalse found
-        (GrowsLeaves tree.old tree.new (place_of held.old.pairs child ∷ []) [])) }
+        (GrowsLeaves tree.old tree.new (place_at held.old.pairs child ∷ []) [])) }
 {
     match held.assume(alloc, child)? {
         None => Ok(true),

@@ -14,7 +14,7 @@ use Rattle.order_search.specs.Laws.{IsDecisive, PicksOne}
 use Rattle.plan_theory.specs.Ranked.{Ranked, routers_ranked}
 use Rattle.order_search.specs.Meanings.{Meaning}
 use Rattle.plan_theory.specs.WavesMeaning.{IsGoodRanking, LoopFor, waves_meaning}
-use Rattle.plan_theory.proofs.Numbers.{at, both_in_map, old_number, new_number, ring_switched, turns_by_ring, wave_at}
+use Rattle.plan_theory.proofs.ItemNumbers.{at, both_in_map, old_number, new_number, ring_switched, turns_by_ring, wave_at}
 use Rattle.plan_theory.proofs.RoutersServe.{routers_ask, routers_serve}
 use Rattle.plan_theory.proofs.Serving.{Asks, Serves}
 
@@ -71,8 +71,3 @@ module _ (move : Migration) (r : Ranked) (serves : Serves move r) where
 
 pub waves_are_decisive : (move : Migration) → IsDecisive (AreSeamlessWaves move) (IsLoop move) []
 waves_are_decisive move = rankings_decided move (routers_ranked move) (routers_serve move) (waves_meaning move) (routers_ask move)
-
--- a seamless wave list ranks some Old turn's router of each loop with both tags before some New turn's router
-pub seamless_ranks_old_first : (move : Migration) (address : ℕ) (turns : List Turn) (ranks : List ℕ) →
-    IsLoop move address turns → HasBothTags turns → AreSeamlessWaves move ranks → RanksSomeOldFirst ranks turns
-seamless_ranks_old_first move = (waves_are_decisive move).decides

@@ -1,5 +1,5 @@
 pub mod Serving
-pub mod Numbers
+pub mod ItemNumbers
 pub mod Decided
 pub mod WaveBreaks
 pub mod Ends
@@ -10,3 +10,8 @@ pub mod OnePlan
 pub mod Meaning
 pub mod AlikeFaults
 pub mod PlanTables
+pub mod NumberWords
+pub mod StartedSteps
+pub mod MiddleSteps
+pub mod NumberLaws
+pub mod NumberedTurns

@@ -16,7 +16,7 @@ use Rattle.igp_theory.proofs.WaveLoops.{goes_round}
 use Rattle.order_search.specs.Meanings.{Break, Meaning}
 use Rattle.plan_theory.specs.Ranked.{Ranked, routers_ranked}
 use Rattle.plan_theory.specs.WavesMeaning.{waves_meaning}
-use Rattle.plan_theory.proofs.Numbers.{at, both_of_map, numbers_below, numbers_distinct, old_in_ring, new_in_ring, ring_switched, wave_at, wave_of_number}
+use Rattle.plan_theory.proofs.ItemNumbers.{at, both_of_map, numbers_below, numbers_distinct, old_in_ring, new_in_ring, ring_switched, wave_at, wave_of_number}
 use Rattle.plan_theory.proofs.RoutersServe.{routers_ask, routers_serve}
 use Rattle.plan_theory.proofs.Serving.{Asks, Serves}
 

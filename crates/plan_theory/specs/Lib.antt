@@ -8,3 +8,4 @@ pub mod Ranked
 pub mod WavesMeaning
 pub mod Plans
 pub mod Laws
+pub mod Numbers

@@ -1,11 +1,11 @@
 -- The lines behind the header of a text.
-use Rattle.std.proofs.Common.{◌≡◌, ℕ, zero, suc, ◌+◌, ◌-◌, ◌^◌, ◌<◌, ◌≤◌, Bool, true, false, cond, eqb, List, [], ◌∷◌}
-use Rattle.std.proofs.Common.{length, get_or, arith, sym, ap, ◌∙◌, subst}
+use Rattle.std.proofs.Common.{◌≡◌, ℕ, ◌+◌, ◌-◌, ◌^◌, ◌<◌, ◌≤◌, Bool, true, false, cond, eqb, List, [], ◌∷◌}
+use Rattle.std.proofs.Common.{length, arith, refl, sym, ap, ◌∙◌, subst}
 use Rattle.std.specs.List.{All, slice_split}
 use Rattle.std.proofs.lemmas.List.Elements.{All-tail}
 use Rattle.std.proofs.lemmas.List.Splits.{length-slice_split}
 use Rattle.std.proofs.lemmas.List.Sums.{count_by-le-length}
-use Rattle.net_addr.specs.Lines.{is_line_feed, line_pieces, line_texts, lines_of, text_lines, without_empty_last}
+use Rattle.net_addr.specs.Lines.{is_line_feed, line_pieces, line_texts, text_lines, without_empty_last}
 use Rattle.net_addr.specs.Spans.{bytes_of, LiesIn}
 use Rattle.net_addr.specs.declared.line.Line.{Line}
 use Rattle.net_addr.proofs.JoinedFacts.{lines_of-length}
@@ -46,3 +46,8 @@ pub entries_few : (text : List ℕ) (lines entries : List Line) (first : Line) �
     lines ≡ first ∷ entries →
     length entries + 2 < 2 ^ 32 - 2
 entries_few text lines entries first short exact parts = omega (arith, lines_few text, ap length (sym exact ∙ parts), short)
+
+-- where no line is counted there is none
+pub none_left : (lines : List Line) → length lines ≡ 0 → lines ≡ []
+none_left [] none = refl
+none_left (line ∷ lines) none = absurd (omega (arith, none))

@@ -1,12 +1,10 @@
 -- From the verdict on the lines of nodes to that on the text.
-use Rattle.std.proofs.Common.{◌≡◌, ℕ, ◌+◌, ◌*◌, ◌<◌, ◌≤◌, List, [], ◌∷◌, ◌++◌, inl, inr, get_or, length, map, replicate, take, All, arith, sym, ap, ◌∙◌}
-use Rattle.std.proofs.lemmas.Bool.{cases_lt}
-use Rattle.std.proofs.lemmas.List.{get_or-replicate, get_or_past, length-replicate, take_more}
-use Rattle.std.proofs.lemmas.List.Elements.{All-cons, All-map, All-nil, Contains-get_or}
+use Rattle.std.proofs.Common.{◌≡◌, ℕ, ◌+◌, ◌*◌, ◌<◌, List, [], ◌∷◌, ◌++◌, get_or, length, map, replicate, take, arith, sym, ap}
+use Rattle.std.proofs.lemmas.List.{take_more}
+use Rattle.std.proofs.lemmas.List.Elements.{All-map, All-nil, Contains-get_or}
 use Rattle.order_core.specs.Pairs.{Pair, AreBelow}
 use Rattle.order_core.specs.Rankings.{numbers_below}
-use Rattle.order_core.specs.Turns.{HasBothTags, child_pairs}
-use Rattle.order_core.specs.declared.turn.Turn.{Turn}
+use Rattle.order_core.specs.Turns.{child_pairs}
 use Rattle.order_core.specs.declared.turn.Tag.TheVariants as tag
 use Rattle.order_core.proofs.WaveLists.{numbers_are_below}
 use Rattle.igp_theory.specs.Changes.{first, second}
@@ -16,14 +14,15 @@ use Rattle.net_addr.specs.Lines.{line_texts}
 use Rattle.route_core.specs.declared.entry.Entry.{Entry}
 use Rattle.rib_mix.specs.Mixture.{Mixture, migration_of}
 use Rattle.igp_theory.specs.Migrations.{Migration, started}
-use Rattle.igp_theory.specs.Phases.{State, all_old}
+use Rattle.igp_theory.specs.Phases.{State}
+use Rattle.igp_theory.proofs.ListedStates.{replicated_old}
 use Rattle.igp_theory.specs.declared.phase.Phase.{Phase}
 use Rattle.igp_theory.specs.declared.phase.Phase.TheVariants.{Old}
 use Rattle.plan_theory.specs.Ranked.{base_of, size_of}
 use Rattle.plan_theory.specs.declared.items.Items.{Items}
 use Rattle.plan_theory.specs.declared.items.Items.TheVariants.{Routers, Changes}
-use Rattle.ranked_items.specs.Numbers.{turn_of}
-use Rattle.refutation_check.specs.steps.Judged.{start_of, started_of}
+use Rattle.plan_theory.specs.Numbers.{turn_of}
+use Rattle.refutation_check.specs.steps.Judged.{started_of}
 use Rattle.refutation_check.specs.Verdicts.{IsHeadedVerdict, IsLinesVerdict, behind_header}
 use Rattle.refutation_check.specs.declared.verdict.Verdict.{Verdict}
 use Rattle.refutation_check.specs.declared.verdict.Verdict.TheVariants.{Closed, Unfinished, Wrong}
@@ -34,16 +33,6 @@ headed_verdict items header move text lines (Closed branches leaves) is holds = 
 headed_verdict items header move text lines (Unfinished unvisited) is holds = record { lines = lines; text_is = is; holds = holds }
 headed_verdict items header move text lines (Wrong line kind) is holds =
     behind_header line kind (record { lines = lines; text_is = is; holds = holds })
-
--- where each phase is Old, so is the start
-pub old_start : (n : ℕ) → start_of (replicate n Old) ≡ all_old
-old_start n = λ i u. at n u i
-  where
-    at : (m u : ℕ) → get_or (replicate m Old) u Old ≡ Old
-    at m u = elim (cases_lt u m) [
-      | inl below ↦ get_or-replicate m u Old Old below
-      | inr past ↦ get_or_past (replicate m Old) u Old (omega (arith, past, length-replicate m Old))
-    ]
 
 -- the pairs of a base are of numbers
 pub base_below : (items : Items) (n : ℕ) → AreBelow (size_of items n) (base_of items n)
@@ -64,4 +53,4 @@ pair_more base i d within = ap (λ (place : List Pair). place ∷ []) (sym (take
 pub old_started : {O N : Type 0} (old : O → ℕ → List (Block × Entry)) (new : N → ℕ → List (Block × Entry)) (m : Mixture O N) (phases : List Phase) (n : ℕ) →
     phases ≡ replicate n Old → started_of old new m phases ≡ migration_of old new m
 old_started old new m phases n is =
-    ap (λ (start : State). started start (migration_of old new m)) (ap start_of is ∙ old_start n)
+    ap (λ (start : State). started start (migration_of old new m)) (replicated_old phases n is)

@@ -7,7 +7,9 @@ use Rattle.std.proofs.lemmas.List.Concat.{flat_map-append}
 use Rattle.std.proofs.lemmas.List.Elements.{All-head, All-tail}
 use Rattle.order_core.specs.Turns.{routers_of}
 use Rattle.order_core.specs.declared.turn.Turn.{Turn}
+use Rattle.printed_lines.specs.Texts.{text_of}
 use Rattle.printed_lines.specs.Words.{spaced}
+use Rattle.printed_lines.proofs.TextSteps.{last_line, text_of-append}
 
 kept : {A : Type 0} (p : A → Bool) (x : A) (xs : List A) (b : Bool) → p x ≡ b → length (filter p (x ∷ xs)) ≡ cond b 1 0 + length (filter p xs)
 kept p x xs true e = let one : suc (length (filter p xs)) ≡ 1 + length (filter p xs) = omega arith in ap
@@ -52,4 +54,20 @@ spaced_more {A} word xs i d start line within so_far =
     ∙ ap (λ (l : List ℕ). spaced (map word front) ++ 32 ∷ l) (append-nil (word x)) in
     ap (λ (l : List ℕ). l ++ 32 ∷ word x) so_far
     ∙ append_assoc start (spaced (map word front)) (32 ∷ word x)
+    ∙ ap (λ (l : List ℕ). start ++ l) (sym more)
+
+-- one line more
+pub text_more : {A : Type 0} (line : A → List ℕ) (xs : List A) (i : ℕ) (d : A) (start text : List ℕ) → i < length xs →
+    text ≡ start ++ text_of (map line (take i xs))
+    → (text ++ line (get_or xs i d)) ++ 10 ∷ [] ≡ start ++ text_of (map line (take (i + 1) xs))
+text_more {A} line xs i d start text within so_far =
+    let front : List (List ℕ) = map line (take i xs) in
+    let last : List ℕ = line (get_or xs i d) in
+    let more : text_of (map line (take (i + 1) xs)) ≡ text_of front ++ text_of (last ∷ []) =
+    ap (λ (l : List A). text_of (map line l)) (take_more xs i d within)
+    ∙ ap text_of (map-append line (take i xs) (get_or xs i d ∷ []))
+    ∙ text_of-append front (last ∷ []) in
+    last_line text last last refl
+    ∙ ap (λ (l : List ℕ). l ++ text_of (last ∷ [])) so_far
+    ∙ append_assoc start (text_of front) (text_of (last ∷ []))
     ∙ ap (λ (l : List ℕ). start ++ l) (sym more)

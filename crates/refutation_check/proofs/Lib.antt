@@ -19,3 +19,6 @@ pub mod EntryFacts
 pub mod Heads
 pub mod OneVerdict
 pub mod SameVerdicts
+pub mod DoneWords
+pub mod StartReading
+pub mod RestFacts

@@ -13,8 +13,8 @@ use Rattle.order_core.specs.declared.turn.Tag.{Tag}
 use Rattle.order_core.specs.declared.turn.Tag.TheVariants.{Old}
 use Rattle.order_core.specs.declared.turn.Turn.{Turn}
 use Rattle.plan_theory.specs.declared.items.Items.{Items}
-use Rattle.ranked_items.specs.Numbers.{NamesNumber}
-use Rattle.ranked_items.proofs.NumberWords.{NamesNumber-unique}
+use Rattle.plan_theory.specs.Numbers.{NamesNumber}
+use Rattle.plan_theory.proofs.NumberWords.{NamesNumber-unique}
 use Rattle.refutation_check.specs.TreeLines.{IsEntry, IsSomeEntry, SaysTurn, letter_of}
 use Rattle.refutation_check.specs.steps.Names.{SayTurns, NameNumbers, IsFurtherTurn, IsFurtherNumber, SaysNoFurtherTurn, NamesNoFurtherNumber}
 

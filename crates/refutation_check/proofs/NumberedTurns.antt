@@ -4,7 +4,7 @@ use Rattle.igp_theory.specs.Forwarding.{MustForward}
 use Rattle.igp_theory.specs.Loops.{AroundRing, IsTag}
 use Rattle.igp_theory.specs.Migrations.{Migration}
 use Rattle.order_core.specs.declared.turn.Turn.{Turn}
-use Rattle.ranked_items.proofs.NumberedTurns.{turns_must}
+use Rattle.plan_theory.proofs.NumberedTurns.{turns_must}
 
 pub round_must : (move : Migration) (a : ℕ) (turns : List Turn) (k : ℕ) (turn : Turn) →
     AroundRing (λ (r s : Turn). IsTag move a r s.router) turns → k < length turns →

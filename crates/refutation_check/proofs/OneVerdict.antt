@@ -20,9 +20,9 @@ use Rattle.plan_theory.specs.Ranked.{CanRank, base_of, by_router, ranked}
 use Rattle.plan_theory.specs.declared.items.Items.{Items}
 use Rattle.plan_theory.specs.declared.items.Items.TheVariants.{Routers, Changes}
 use Rattle.plan_theory.proofs.ItemsServe.{items_serve}
-use Rattle.plan_theory.proofs.Numbers.{both_in_map, turns_by_ring}
+use Rattle.plan_theory.proofs.ItemNumbers.{both_in_map, turns_by_ring}
 use Rattle.refutation_check.specs.TreeLines.{as_said, tree_header, pieces_of, SaysNode}
-use Rattle.refutation_check.specs.Verdicts.{AreRightLines, IsBehind, IsHeadedVerdict, IsLinesVerdict, IsRightNode, IsTextVerdict, IsWrongAt, leaf_count, open_count, header_missing, wrong_there}
+use Rattle.refutation_check.specs.Verdicts.{AreRightLines, StandsBehind, IsHeadedVerdict, IsLinesVerdict, IsRightNode, IsTextVerdict, IsWrongAt, leaf_count, open_count, header_missing, wrong_there}
 use Rattle.refutation_check.specs.Verdicts.{after_tree, behind_header, ends_early}
 use Rattle.refutation_check.specs.WrongLines.{WrongWords, WrongNode, IsLowestKind, kind_number}
 use Rattle.refutation_check.specs.declared.verdict.Verdict.{Verdict}
@@ -146,7 +146,7 @@ one_kind : (k l : WrongKind) → kind_number k ≡ kind_number l → k ≡ l
 one_kind k l e = sym (is_numbered k) ∙ ap (λ (n : ℕ). get_or by_number n Form) e ∙ is_numbered l
 
 -- the lowest kind is one
-one_lowest : (P : WrongKind → Type 0) (k l : WrongKind) → IsLowestKind P k → IsLowestKind P l → k ≡ l
+pub one_lowest : (P : WrongKind → Type 0) (k l : WrongKind) → IsLowestKind P k → IsLowestKind P l → k ≡ l
 one_lowest P k l low least = one_kind k l (omega (arith, low.lowest l least.wrong, least.lowest k low.wrong))
 
 -- How far the lines are right
@@ -326,7 +326,7 @@ module _ (items : Items) (move : Migration) (can : CanRank items move) (network 
   -- the first line is no header, or the lines behind it have a verdict
   data Judged (text : List ℕ) (verdict : Verdict) : Type 0 where
     no_header : ((lines : List (List ℕ)) → ¬ (line_texts text ≡ header ∷ lines)) → verdict ≡ Wrong 1 Form → Judged text verdict
-    behind : IsBehind (header ∷ []) text (λ lines. IsLinesVerdict items move 2 lines verdict) → Judged text verdict
+    behind : StandsBehind (header ∷ []) text (λ lines. IsLinesVerdict items move 2 lines verdict) → Judged text verdict
 
   judged : (text : List ℕ) (verdict : Verdict) → IsHeadedVerdict items header move text verdict → Judged text verdict
   judged text (Closed b l) is = behind is

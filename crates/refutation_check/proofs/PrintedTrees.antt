@@ -24,12 +24,12 @@ use Rattle.printed_lines.specs.Words.{IsWordByte, IsPrintedWord, spaced, joined,
 use Rattle.printed_lines.proofs.LineFacts.{lines_read_back}
 use Rattle.printed_lines.proofs.NumberFacts.{dotted-IsAddressWord, dotted-IsPrintedWord, marked-IsPrintedWord, IsWordByte-above_blank}
 use Rattle.printed_lines.proofs.WordFacts.{words_make_lines}
-use Rattle.ranked_items.specs.Numbers.{IsNumberWord, NamesNumber}
+use Rattle.plan_theory.specs.Numbers.{IsNumberWord, NamesNumber}
 use Rattle.plan_theory.specs.Ranked.{by_router, size_of}
 use Rattle.plan_theory.specs.declared.items.Items.{Items}
 use Rattle.plan_theory.specs.declared.items.Items.TheVariants.{Routers, Changes}
 use Rattle.refutation_check.specs.TreeLines.{as_said, letter_of, pieces_of, IsEntry, SaysNode, SaysTurn}
-use Rattle.refutation_check.specs.TreeTexts.{turn_word, number_word, node_words, node_line, ranked_tree_text, router_of, AreDistinctRouters}
+use Rattle.refutation_check.specs.TreeTexts.{turn_word, number_word, node_words, node_line, ranked_tree_text, ranked_router, AreDistinctRouters}
 use Rattle.refutation_check.specs.TreeTexts.{NodeBelow, IsPrintedNode, ReadsAsNodes}
 use Rattle.refutation_check.specs.Verdicts.{tree_header_of}
 
@@ -55,7 +55,7 @@ pieces-joined word (next ∷ more) fine rest =
     slice_split_at is_blank word 32 (next ++ spaced more) (no_blanks word fine) refl
     ∙ ap (λ (l : List (List ℕ)). word ∷ l) (pieces-joined next more (All-head IsPrintedWord next more rest) (All-tail IsPrintedWord next more rest))
 
-pieces_of-joined : (word : List ℕ) (more : List (List ℕ)) → All IsPrintedWord (word ∷ more) → pieces_of (joined (word ∷ more)) ≡ word ∷ more
+pub pieces_of-joined : (word : List ℕ) (more : List (List ℕ)) → All IsPrintedWord (word ∷ more) → pieces_of (joined (word ∷ more)) ≡ word ∷ more
 pieces_of-joined word more fine = pieces-joined word more (All-head IsPrintedWord word more fine) (All-tail IsPrintedWord word more fine)
 
 -- Names, letters and words
@@ -73,11 +73,11 @@ letter_byte New = record { some = omega arith; bytes = All-cons IsWordByte 78 []
 letter_byte Both = record { some = omega arith; bytes = All-cons IsWordByte 66 [] (IsWordByte-above_blank 66 (omega arith)) (All-nil IsWordByte) }
 
 -- words of bytes above the blank
-above_blank : (word : List ℕ) → 0 < length word → All (λ b. 32 < b) word → IsPrintedWord word
+pub above_blank : (word : List ℕ) → 0 < length word → All (λ b. 32 < b) word → IsPrintedWord word
 above_blank word some above = record { some = some; bytes = All-weaker (λ b. 32 < b) IsWordByte IsWordByte-above_blank word above }
 
 -- a router below the count has this name
-named : (net : Network) (u : ℕ) → u < length net → IsNamed net (router_word (names_of net) u) u
+pub named : (net : Network) (u : ℕ) → u < length net → IsNamed net (router_word (names_of net) u) u
 named net u within =
     let d : Configuration = get_or net u (any net u within) in
     record {
@@ -91,7 +91,7 @@ named net u within =
     any (c ∷ xs) i l = c
 
 -- which is a word
-name_word : (net : Network) → IsNetwork net → (u : ℕ) → u < length net → IsPrintedWord (router_word (names_of net) u)
+pub name_word : (net : Network) → IsNetwork net → (u : ℕ) → u < length net → IsPrintedWord (router_word (names_of net) u)
 name_word net network u within =
     let is = named net u within in
     let kept : IsConfiguration is.config = HasConfiguration-keeps net u is.config network is.router in
@@ -100,12 +100,12 @@ name_word net network u within =
 -- ---- numbers ----
 
 -- the router of a number below their count is one of the network
-router_below : (items : Items) (n number : ℕ) → number < size_of items n → router_of items number < n
+router_below : (items : Items) (n number : ℕ) → number < size_of items n → ranked_router items number < n
 router_below Routers n number below = below
 router_below Changes n number below = omega (arith, below)
 
 -- the digit of a change is a word
-digit_word : (c : ℕ) → IsPrintedWord ((48 + c) ∷ [])
+pub digit_word : (c : ℕ) → IsPrintedWord ((48 + c) ∷ [])
 digit_word c = record {
   some = omega arith;
   bytes = All-cons IsWordByte (48 + c) [] (IsWordByte-above_blank (48 + c) (omega arith)) (All-nil IsWordByte);
@@ -129,7 +129,7 @@ module _ (net : Network) (network : IsNetwork net) where
     word_is = refl;
   }
 
-  number_named : (items : Items) (number : ℕ) → number < size_of items (length net) → NamesNumber items net (number_word items (names_of net) number) number
+  pub number_named : (items : Items) (number : ℕ) → number < size_of items (length net) → NamesNumber items net (number_word items (names_of net) number) number
   number_named Routers number below = named net number below
   number_named Changes number below = record {
     router = number / 2;
@@ -146,14 +146,14 @@ module _ (net : Network) (network : IsNetwork net) where
   -- an entry is a word, and says its turn by the router of its number
   entry_is_word : (items : Items) (turn : Turn) → turn.router < size_of items (length net) → IsPrintedWord (turn_word items (names_of net) turn)
   entry_is_word items turn below =
-      let router = router_of items turn.router in
+      let router = ranked_router items turn.router in
       marked-IsPrintedWord (router_word (names_of net) router) (letter_of turn.tag ∷ []) 58 (IsWordByte-above_blank 58 (omega arith))
       (name_word net network router (router_below items (length net) turn.router below)) (letter_byte turn.tag)
 
   entry_of : (items : Items) (turn : Turn) → turn.router < size_of items (length net) →
-      IsEntry (turn_word items (names_of net) turn) (router_word (names_of net) (router_of items turn.router)) turn.tag
+      IsEntry (turn_word items (names_of net) turn) (router_word (names_of net) (ranked_router items turn.router)) turn.tag
   entry_of items turn below =
-      record { some = (name_word net network (router_of items turn.router) (router_below items (length net) turn.router below)).some; written = refl }
+      record { some = (name_word net network (ranked_router items turn.router) (router_below items (length net) turn.router below)).some; written = refl }
 
   entry_says : (turn : Turn) → turn.router < length net → SaysTurn net (turn_word Routers (names_of net) turn) turn
   entry_says turn below = record {
@@ -177,7 +177,7 @@ map_said : {A B : Type 0} (R : List ℕ → B → Type 0) (word : A → List ℕ
 map_said R word view P says [] all = tt
 map_said {A} R word view P says (x ∷ xs) all = (says x (All-head P x xs all), map_said R word view P says xs (All-tail P x xs all))
 
-map_says : {A : Type 0} (R : List ℕ → A → Type 0) (word : A → List ℕ) (P : A → Type 0) → ((x : A) → P x → R (word x) x) →
+pub map_says : {A : Type 0} (R : List ℕ → A → Type 0) (word : A → List ℕ) (P : A → Type 0) → ((x : A) → P x → R (word x) x) →
     (xs : List A) → All P xs → AllZip R (map word xs) xs
 map_says R word P says [] all = tt
 map_says {A} R word P says (x ∷ xs) all = (says x (All-head P x xs all), map_says R word P says xs (All-tail P x xs all))
@@ -269,7 +269,7 @@ words_say net network Routers Unvisited below made = refl
 words_say net network Changes Unvisited below made = refl
 
 -- a node has a line that reads back
-abbrev IsFine : Items → Network → Node → Type 0
+abbrev pub IsFine : Items → Network → Node → Type 0
 IsFine items net node = NodeBelow (size_of items (length net)) node × IsPrintedNode (as_said items node)
 
 -- the line of a node reads as its words
@@ -281,18 +281,18 @@ pieces-line net network items (Leaf cycle) fine =
     pieces_of-joined (codes "leaf") (map (number_word items (names_of net)) cycle) (words_are net network items (Leaf cycle) fine.0 fine.1)
 pieces-line net network items Unvisited fine = pieces_of-joined (codes "open") [] (words_are net network items Unvisited fine.0 fine.1)
 
-line_says : (net : Network) → IsNetwork net → (items : Items) (node : Node) → IsFine items net node →
+pub line_says : (net : Network) → IsNetwork net → (items : Items) (node : Node) → IsFine items net node →
     SaysNode items net (pieces_of (node_line items (names_of net) node)) (as_said items node)
 line_says net network items node fine =
     subst (λ (words : List (List ℕ)). SaysNode items net words (as_said items node)) (sym (pieces-line net network items node fine))
     (words_say net network items node fine.0 fine.1)
 
-line_is : (net : Network) → IsNetwork net → (items : Items) (node : Node) → IsFine items net node → IsPrintedLine (node_line items (names_of net) node)
+pub line_is : (net : Network) → IsNetwork net → (items : Items) (node : Node) → IsFine items net node → IsPrintedLine (node_line items (names_of net) node)
 line_is net network items node fine = (words_make_lines (node_words items (names_of net) node) (words_are net network items node fine.0 fine.1)).0
 
 -- ---- texts ----
 
-tree_is_word : IsPrintedWord (codes "tree")
+pub tree_is_word : IsPrintedWord (codes "tree")
 tree_is_word = above_blank (codes "tree") (omega arith) (grind arith)
 
 one_is_word : IsPrintedWord (codes "1")

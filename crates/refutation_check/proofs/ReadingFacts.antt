@@ -20,7 +20,7 @@ use Rattle.plan_theory.specs.Ranked.{base_of, by_router, ranked}
 use Rattle.plan_theory.specs.declared.items.Items.{Items}
 use Rattle.plan_theory.specs.declared.items.Items.TheVariants.{Routers, Changes}
 use Rattle.plan_theory.proofs.ItemsServe.{items_ask}
-use Rattle.plan_theory.proofs.Numbers.{both_of_map}
+use Rattle.plan_theory.proofs.ItemNumbers.{both_of_map}
 use Rattle.refutation_check.specs.TreeLines.{as_said, pieces_of, SaysNode}
 use Rattle.refutation_check.specs.Verdicts.{AreRightLines, IsRightNode, IsLinesVerdict, IsWrongAt, wrong_there, after_tree, ends_early, leaf_count}
 use Rattle.refutation_check.specs.Verdicts.{open_count}
@@ -33,7 +33,7 @@ use Rattle.refutation_check.specs.declared.verdict.Verdict.TheVariants.{Closed, 
 use Rattle.refutation_check.specs.declared.verdict.WrongKind.{WrongKind}
 use Rattle.refutation_check.specs.declared.verdict.WrongKind.TheVariants.{Form, Router}
 use Rattle.refutation_check.specs.steps.Counted.{CountsNode}
-use Rattle.ranked_items.specs.Numbers.{AreNumbered}
+use Rattle.plan_theory.specs.Numbers.{AreNumbered}
 use Rattle.refutation_check.specs.steps.Reading.{HasReadLines, IsFirstWrongOf, IsNotTaken, TakesLine, IsEndVerdict, IsWholeVerdict}
 use Rattle.refutation_check.specs.steps.Shapes.{SaysNoNode}
 use Rattle.refutation_check.specs.steps.Right.{IsRightBranch}

@@ -18,8 +18,8 @@ use Rattle.order_search.specs.declared.tree.Node.{Node}
 use Rattle.order_search.specs.declared.tree.Node.TheVariants.{Branch, Leaf, Unvisited}
 use Rattle.plan_theory.specs.Ranked.{size_of}
 use Rattle.plan_theory.specs.declared.items.Items.{Items}
-use Rattle.ranked_items.specs.Numbers.{NamesNumber}
-use Rattle.ranked_items.proofs.NumberWords.{NamesNumber-unique, NamesNumber-below}
+use Rattle.plan_theory.specs.Numbers.{NamesNumber}
+use Rattle.plan_theory.proofs.NumberWords.{NamesNumber-unique, NamesNumber-below}
 use Rattle.refutation_check.specs.TreeLines.{letter_of, IsEntry, IsLeafLine, IsSomeEntry, HasForm, branch_form, leaf_form, open_form, SaysTurn, SaysNode}
 use Rattle.refutation_check.specs.steps.Names.{NameNumbers}
 use Rattle.refutation_check.specs.steps.Walks.{IsRinged}
@@ -138,7 +138,8 @@ one_node items net network words (Leaf cycle) (Leaf other) one two =
     (one_zip (NamesNumber items net) (NamesNumber-unique items net network.ascending) two.names cycle other
     (subst (λ (l : List (List ℕ)). AllZip (NamesNumber items net) l cycle) names one.named) two.named)
 one_node items net network words (Leaf cycle) Unvisited one two = absurd (leaf_no_open one.names [] (sym one.line.words_are ∙ two))
-one_node items net network words Unvisited (Branch b others) one two = absurd (branch_no_open (two.line.address ∷ two.entries) [] (sym two.line.words_are ∙ one))
+one_node items net network words Unvisited (Branch b others) one two = absurd (branch_no_open (two.line.address ∷ two.entries) []
+    (sym two.line.words_are ∙ one))
 one_node items net network words Unvisited (Leaf cycle) one two = absurd (leaf_no_open two.names [] (sym two.line.words_are ∙ one))
 one_node items net network words Unvisited Unvisited one two = refl
 

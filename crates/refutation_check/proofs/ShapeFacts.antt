@@ -1,5 +1,5 @@
 -- The shapes of words, and words that have none.
-use Rattle.std.proofs.Common.{Bor, ◌≡◌, ℕ, ◌<◌, ◌≤◌, List, [], ◌∷◌, length, codes, Option, Some, None, arith, sym, ap, ◌∙◌, subst}
+use Rattle.std.proofs.Common.{Bor, ◌≡◌, ℕ, ◌≤◌, List, [], ◌∷◌, length, codes, Option, Some, None, arith, sym, ap, ◌∙◌, subst}
 use Rattle.std.specs.List.{All}
 use Rattle.std.specs.Option.{IfNone, IfSome, MatchOption}
 use Rattle.std.proofs.lemmas.List.{length-map}
@@ -7,7 +7,7 @@ use Rattle.net_addr.specs.AddressWords.{IsAddressWord}
 use Rattle.net_addr.specs.Spans.{bytes_of, LiesIn}
 use Rattle.net_addr.specs.declared.span.Span.{Span}
 use Rattle.plan_theory.specs.declared.items.Items.{Items}
-use Rattle.ranked_items.specs.Numbers.{IsNumberWord}
+use Rattle.plan_theory.specs.Numbers.{IsNumberWord}
 use Rattle.refutation_check.specs.TreeLines.{HasForm, branch_form, leaf_form, open_form, IsBranchLine, IsSomeEntry}
 use Rattle.refutation_check.specs.declared.shape.Shape.{Shape}
 use Rattle.refutation_check.specs.declared.shape.Shape.TheVariants.{Branch, Leaf, Open}
@@ -32,7 +32,8 @@ no_address words rest es first a is none line =
 
 pub branch_answer : (items : Items) (text : List ℕ) (words rest : List (List ℕ)) (found : Option Shape) → words ≡ codes "branch" ∷ rest
     → IfNone found ((a : ℕ) (es : List (List ℕ)) → IsBranchLine (codes "branch" ∷ rest) a es → All IsSomeEntry es → ⊥) →
-    IfSome found (λ shape. (its : Items) → IsShape its text (codes "branch" ∷ rest) shape) → MatchOption found (HasForm items words → ⊥) (IsShape items text words)
+    IfSome found (λ shape. (its : Items) → IsShape its text (codes "branch" ∷ rest) shape) →
+    MatchOption found (HasForm items words → ⊥) (IsShape items text words)
 branch_answer items text words rest (Some shape) is none some = subst (λ (ws : List (List ℕ)). IsShape items text ws shape) (sym is) (some items)
 branch_answer items text words rest None is none some = λ form. no (subst (HasForm items) is form)
   where

@@ -13,7 +13,7 @@ use Rattle.order_core.specs.declared.turn.Turn.{Turn}
 use Rattle.rib_mix.specs.Answers.{IsNext, NextLeadsTo}
 use Rattle.rib_mix.specs.declared.next.Next.{Next}
 use Rattle.rib_mix.proofs.NextLaws.{steps_to_hops}
-use Rattle.ranked_items.proofs.StartedSteps.{steps_started}
+use Rattle.plan_theory.proofs.StartedSteps.{steps_started}
 use Rattle.refutation_check.specs.steps.Right.{tells}
 
 told : (t : Tag) (old new : Bool) (P Q : Type 0) → (IsTrue old ↔ P) → (IsTrue new ↔ Q) → IsTrue (tells t old new) ↔ IsTagOf t P Q

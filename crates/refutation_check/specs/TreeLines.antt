@@ -10,7 +10,7 @@ use Rattle.order_core.specs.Orders.{AreDistinct}
 use Rattle.order_core.specs.declared.turn.Tag.{Tag}
 use Rattle.order_core.specs.declared.turn.Tag.TheVariants.{Old, New, Both}
 use Rattle.order_core.specs.declared.turn.Turn.{Turn}
-use Rattle.ranked_items.specs.Numbers.{IsNumberWord, NamesNumber}
+use Rattle.plan_theory.specs.Numbers.{IsNumberWord, NamesNumber}
 use Rattle.plan_theory.specs.Ranked.{by_router}
 use Rattle.plan_theory.specs.declared.items.Items.{Items}
 use Rattle.plan_theory.specs.declared.items.Items.TheVariants.{Routers, Changes}

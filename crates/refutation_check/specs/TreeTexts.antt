@@ -5,27 +5,29 @@ use Rattle.net_addr.specs.Lines.{line_texts}
 use Rattle.net_model.specs.Network.{Network}
 use Rattle.net_model.specs.Refusals.{IsNetwork}
 use Rattle.net_model.specs.RouterNames.{names_of}
+use Rattle.igp_theory.specs.declared.phase.Phase.{Phase}
 use Rattle.order_core.specs.Orders.{AreDistinct}
 use Rattle.order_core.specs.declared.turn.Turn.{Turn}
 use Rattle.order_search.specs.declared.tree.Node.{Node}
 use Rattle.order_search.specs.declared.tree.Node.TheVariants.{Branch, Leaf, Unvisited}
 use Rattle.printed_lines.specs.Texts.{text_of}
 use Rattle.printed_lines.specs.Words.{joined, dotted, router_word}
-use Rattle.two_pass.specs.TwoTexts.{item_word}
+use Rattle.change_orders.specs.TwoTexts.{item_word}
 use Rattle.plan_theory.specs.declared.items.Items.{Items}
 use Rattle.plan_theory.specs.declared.items.Items.TheVariants.{Routers, Changes}
 use Rattle.plan_theory.specs.Ranked.{size_of}
-use Rattle.refutation_check.specs.TreeLines.{as_said, tree_header, two_tree_header, letter_of, pieces_of, SaysNode}
+use Rattle.refutation_check.specs.StartLines.{start_words}
+use Rattle.refutation_check.specs.TreeLines.{as_said, tree_header, two_tree_header, rest_tree_header, letter_of, pieces_of, SaysNode}
 use Rattle.refutation_check.specs.Verdicts.{tree_header_of}
 
 -- the router of a number
-abbrev pub router_of : Items → ℕ → ℕ
-router_of Routers number = number
-router_of Changes number = number / 2
+abbrev pub ranked_router : Items → ℕ → ℕ
+ranked_router Routers number = number
+ranked_router Changes number = number / 2
 
 -- a turn by the router of its number
 abbrev pub turn_word : Items → List (List ℕ) → Turn → List ℕ
-turn_word items names turn = router_word names (router_of items turn.router) ++ 58 ∷ letter_of turn.tag ∷ []
+turn_word items names turn = router_word names (ranked_router items turn.router) ++ 58 ∷ letter_of turn.tag ∷ []
 
 -- a number: the name of its router, or the word of its change
 abbrev pub number_word : Items → List (List ℕ) → ℕ → List ℕ
@@ -52,6 +54,13 @@ tree_text names nodes = text_of (tree_header ∷ map (node_line Routers names) n
 
 abbrev pub two_tree_text : List (List ℕ) → List Node → List ℕ
 two_tree_text names nodes = text_of (two_tree_header ∷ map (node_line Changes names) nodes)
+
+-- the line of a start, and the text of a tree of routers from it
+abbrev pub start_line : List (List ℕ) → List Phase → List ℕ
+start_line names start = joined (start_words names start)
+
+abbrev pub rest_tree_text : List (List ℕ) → List Phase → List Node → List ℕ
+rest_tree_text names start nodes = text_of (rest_tree_header ∷ start_line names start ∷ map (node_line Routers names) nodes)
 
 -- the numbers of a node are below the count
 abbrev pub NodeBelow : ℕ → Node → Type 0

@@ -96,7 +96,7 @@ IsLinesVerdict items move first lines (Wrong line kind) = IsWrongFrom items move
 -- Texts
 
 -- the lines of a text are these first ones and others, of which P holds
-pub record IsBehind (head : List (List ℕ)) (text : List ℕ) (P : List (List ℕ) → Type 0) : Type 0 where
+pub record StandsBehind (head : List (List ℕ)) (text : List ℕ) (P : List (List ℕ) → Type 0) : Type 0 where
   pub lines : List (List ℕ)
   pub text_is : line_texts text ≡ head ++ lines
   pub holds : P lines
@@ -105,13 +105,13 @@ pub record IsBehind (head : List (List ℕ)) (text : List ℕ) (P : List (List �
 -- lines of nodes
 pub data IsFirstWrong (items : Items) (move : Migration) (header text : List ℕ) : ℕ → WrongKind → Type 0 where
   header_missing : ((lines : List (List ℕ)) → ¬ (line_texts text ≡ header ∷ lines)) → IsFirstWrong items move header text 1 Form
-  behind_header : (line : ℕ) (kind : WrongKind) → IsBehind (header ∷ []) text (λ lines. IsWrongFrom items move 2 lines line kind) →
+  behind_header : (line : ℕ) (kind : WrongKind) → StandsBehind (header ∷ []) text (λ lines. IsWrongFrom items move 2 lines line kind) →
       IsFirstWrong items move header text line kind
 
 -- the verdict on such a text
 abbrev pub IsHeadedVerdict : Items → List ℕ → Migration → List ℕ → Verdict → Type 0
-IsHeadedVerdict items header move text (Closed branches leaves) = IsBehind (header ∷ []) text (λ lines. IsClosedTreeOf items move lines branches leaves)
-IsHeadedVerdict items header move text (Unfinished unvisited) = IsBehind (header ∷ []) text (λ lines. IsUnfinishedTreeOf items move lines unvisited)
+IsHeadedVerdict items header move text (Closed branches leaves) = StandsBehind (header ∷ []) text (λ lines. IsClosedTreeOf items move lines branches leaves)
+IsHeadedVerdict items header move text (Unfinished unvisited) = StandsBehind (header ∷ []) text (λ lines. IsUnfinishedTreeOf items move lines unvisited)
 IsHeadedVerdict items header move text (Wrong line kind) = IsFirstWrong items move header text line kind
 
 -- the first line of a tree file, of routers and of single changes

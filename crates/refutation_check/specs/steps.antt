@@ -9,3 +9,4 @@ pub mod Walks
 pub mod Counted
 pub mod Reading
 pub mod Judged
+pub mod Starts

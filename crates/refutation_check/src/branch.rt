@@ -8,7 +8,8 @@ ghost use Rattle.order_core.specs.declared.turn.Turn.{Turn};
 ghost use Rattle.prefix_atoms.specs.Classes.{IsInClass};
 ghost use Rattle.rib_mix.specs.Answers.{NextLeadsTo};
 ghost use Rattle.refutation_check.specs.WrongLines.{IsLowestKind, WrongBranch};
-ghost use Rattle.refutation_check.specs.steps.Judged.{start_of, started_of};
+ghost use Rattle.refutation_check.specs.steps.Judged.{started_of};
+ghost use Rattle.igp_theory.specs.Phases.{state_in};
 ghost use Rattle.refutation_check.specs.steps.Rings.{next_at};
 ghost use Rattle.refutation_check.specs.steps.Right.{IsRightBranch, tells};
 
@@ -116,7 +117,7 @@ fn is_tagged<O: RouteSource, N: RouteSource>(
 /// The phase in which a router begins.
 fn begin_of(start: &[Phase], router: u32) -> Phase
     requires { router < length start.now }
-    ensures { start_of start.now router ≡ result }
+    ensures { state_in start.now router ≡ result }
 {
     start[router as usize]
 }

@@ -6,6 +6,7 @@ ghost use Rattle.net_model.specs.Refusals.{IsNetwork};
 ghost use Rattle.order_core.specs.Pairs.{Pair};
 ghost use Rattle.rib_mix.specs.Mixture.{migration_of};
 ghost use Rattle.plan_theory.specs.Ranked.{base_of, size_of};
+ghost use Rattle.refutation_check.specs.RestVerdicts.{IsRestVerdict, IsStartedVerdict, LeavesNoRestWhereClosed};
 ghost use Rattle.refutation_check.specs.Verdicts.{IsHeadedVerdict, IsLinesVerdict, IsTextVerdict, IsTwoVerdict};
 ghost use Rattle.refutation_check.specs.Verdicts.{LeavesNoneWhereClosed, RefutesWhereClosed, tree_header_of};
 ghost use Rattle.refutation_check.specs.steps.Judged.{started_of};
@@ -15,12 +16,13 @@ use crate::asked::Asked;
 use crate::reading::{Reading, WrongLine};
 use crate::shape::is_text;
 use crate::spans::bytes_at;
+use crate::start::read_start;
 use crate::tally::Tally;
 use crate::verdict::{Verdict, WrongKind};
 use crate::walk::Walk;
 use net_addr::{Line, OutOfMemory, lines};
 use order_core::{Tag, Turn};
-use ranked_items::{Items, base_pairs, number_count};
+use plan_theory::{Items, base_pairs, number_count};
 use rib_mix::{Mixed, Phase};
 use route_core::RouteSource;
 use std::alloc::Global;
@@ -59,6 +61,75 @@ pub fn verify_two<O: RouteSource, N: RouteSource>(
     ensures refutes { IfOk result (LeavesNoneWhereClosed Items.Changes (migration_of O.table N.table mixed.now)) }
 {
     verify_headed(alloc, mixed, Items::Changes, text)
+}
+
+/// The verdict on a tree file whose first line is `tree 3`: its second line says the phase in which each router begins, and
+/// the nodes behind it are judged from there. A closed one leaves no list of the changes that are left at that start, each
+/// router's next to each other, with only sound states.
+///
+/// Whether the start is sound, or a journal leads there, isn't asked. Time and memory as for `verify`.
+pub fn verify_rest<O: RouteSource, N: RouteSource>(
+    alloc: Global,
+    mixed: &Mixed<'_, O, N>,
+    text: &[u8],
+) -> Result<Verdict, OutOfMemory>
+    requires { length text.now < 2 ^ 26 }
+    ensures verdict { IfOk result (IsRestVerdict (migration_of O.table N.table mixed.now) text.now) }
+    ensures network { IsNetwork mixed.now.net }
+    ensures refutes { IfOk result (LeavesNoRestWhereClosed (migration_of O.table N.table mixed.now) text.now) }
+{
+    let _routers = mixed.net().routers();
+    let all = lines(alloc, text)?;
+    match entries_of(text, all.as_slice(), b"tree 3") {
+        Some(entries) => judge_started(alloc, mixed, text, entries),
+        None => Ok(wrong(1, WrongKind::Form)),
+    }
+}
+
+/// The verdict on the lines behind a header, of which the first is that of a start.
+fn judge_started<O: RouteSource, N: RouteSource>(
+    alloc: Global,
+    mixed: &Mixed<'_, O, N>,
+    text: &[u8],
+    entries: &[Line],
+) -> Result<Verdict, OutOfMemory>
+    requires short { length text.now < 2 ^ 26 }
+    requires network { IsNetwork mixed.now.net }
+    requires inside { All (λ line. LiesIn text.now line.span) entries.now }
+    requires few { length entries.now + 2 < 2 ^ 32 - 2 }
+    ensures { IfOk result (IsStartedVerdict (migration_of O.table N.table mixed.now) (line_bytes text.now entries.now)) }
+{
+    let Some((line, nodes)) = entries.split_first() else {
+        return Ok(wrong(2, WrongKind::Form));
+    };
+    match read_start(alloc, mixed.net(), text, line.span)? {
+        Ok(start) => judge_from(alloc, mixed, start.as_slice(), text, nodes),
+        Err(kind) => Ok(wrong(2, kind)),
+    }
+}
+
+/// The verdict on the lines of nodes behind that of a start.
+fn judge_from<O: RouteSource, N: RouteSource>(
+    alloc: Global,
+    mixed: &Mixed<'_, O, N>,
+    start: &[Phase],
+    text: &[u8],
+    nodes: &[Line],
+) -> Result<Verdict, OutOfMemory>
+    requires short { length text.now < 2 ^ 26 }
+    requires network { IsNetwork mixed.now.net }
+    requires inside { All (λ line. LiesIn text.now line.span) nodes.now }
+    requires few { length nodes.now + 3 < 2 ^ 32 - 2 }
+    requires each { length start.now ≡ length mixed.now.net }
+    ensures { IfOk result (IsLinesVerdict Items.Routers (started_of O.table N.table mixed.now start.now)
+        3 (line_bytes text.now nodes.now)) }
+{
+    let asked = Asked {
+        mixed,
+        start,
+        items: Items::Routers,
+    };
+    judge_lines(alloc, &asked, text, nodes, 3)
 }
 
 /// The verdict on a tree file with one line before its nodes, where every router begins in `Old`.

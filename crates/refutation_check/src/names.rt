@@ -13,7 +13,7 @@ use net_addr::{OutOfMemory, Span};
 use net_model::Net;
 use order_core::{Turn, Turns};
 use order_search::Cycle;
-use ranked_items::{Items, number_named};
+use plan_theory::{Items, number_named};
 use std::alloc::Global;
 
 /// The turns that some entries say, none where a name is no router's or is there twice.

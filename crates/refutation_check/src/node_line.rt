@@ -13,7 +13,7 @@ use crate::verdict::WrongKind;
 use net_addr::{OutOfMemory, Span};
 use net_model::Net;
 use order_search::Node;
-use ranked_items::Items;
+use plan_theory::Items;
 use std::alloc::Global;
 
 /// The node that a line of a text says, or why it says none.

@@ -1,14 +1,14 @@
 ghost use Rattle.std.specs.Prelude.{◌<◌, All, IfOk, length};
 ghost use Rattle.net_model.specs.Refusals.{IsNetwork};
 ghost use Rattle.plan_theory.specs.Ranked.{size_of};
-ghost use Rattle.ranked_items.specs.Numbers.{AreNumbered};
+ghost use Rattle.plan_theory.specs.Numbers.{AreNumbered};
 ghost use Rattle.refutation_check.specs.steps.Judged.{started_of};
 ghost use Rattle.refutation_check.specs.steps.Right.{IsRightBranch};
 
 use crate::asked::Asked;
 use net_addr::OutOfMemory;
 use order_core::{Turn, Turns};
-use ranked_items::number_turns;
+use plan_theory::number_turns;
 use route_core::RouteSource;
 use std::alloc::Global;
 

@@ -2,7 +2,7 @@ ghost use Rattle.std.specs.Prelude.{◌≡◌, ◌≢◌, ◌<◌, ◌≤◌, �
 ghost use Rattle.net_addr.specs.Spans.{LiesIn};
 ghost use Rattle.order_core.specs.declared.turn.Tag.{Tag};
 ghost use Rattle.plan_theory.specs.declared.items.Items.{Items};
-ghost use Rattle.ranked_items.specs.Numbers.{IsNumberWord};
+ghost use Rattle.plan_theory.specs.Numbers.{IsNumberWord};
 ghost use Rattle.refutation_check.specs.TreeLines.{HasForm, IsBranchLine, IsEntry, IsSomeEntry, letter_of};
 ghost use Rattle.refutation_check.specs.steps.Shapes.{IsShape};
 ghost use Rattle.refutation_check.specs.steps.Spans.{AreFilled, span_texts};
@@ -10,7 +10,7 @@ ghost use Rattle.refutation_check.specs.steps.Spans.{AreFilled, span_texts};
 use crate::spans::bytes_at;
 use net_addr::{Span, read_addr};
 use order_core::Tag;
-use ranked_items::{Items, is_number_word};
+use plan_theory::{Items, is_number_word};
 
 /// What a line is by its words, before its names are looked up.
 #[derive(Clone, Copy, Debug)]
@@ -100,7 +100,7 @@ fn leaf_shape<'a>(items: Items, text: &[u8], others: &'a [Span]) -> Option<Shape
 }
 
 /// Whether each word has the form of a number's.
-fn are_number_words(items: Items, text: &[u8], words: &[Span]) -> bool
+pub(crate) fn are_number_words(items: Items, text: &[u8], words: &[Span]) -> bool
     requires { All (LiesIn text.now) words.now }
     ensures { IsTrue result ↔ All (IsNumberWord items) (span_texts text.now words.now) }
 {

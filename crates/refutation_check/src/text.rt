@@ -2,18 +2,22 @@ ghost use Rattle.std.specs.Prelude.{◌≡◌, ◌<◌, ◌*◌, ◌++◌, ◌�
 ghost use Rattle.order_core.specs.declared.turn.Turn.{Turn};
 ghost use Rattle.net_model.specs.RouterNames.{names_of};
 ghost use Rattle.plan_theory.specs.Ranked.{size_of};
+ghost use Rattle.printed_lines.specs.Texts.{text_of};
 ghost use Rattle.printed_lines.specs.Words.{spaced, router_word};
+ghost use Rattle.refutation_check.specs.StartLines.{made_words};
 ghost use Rattle.refutation_check.specs.TreeLines.{letter_of};
-ghost use Rattle.refutation_check.specs.TreeTexts.{NodeBelow, node_line, number_word, router_of, tree_text, turn_word, two_tree_text};
+ghost use Rattle.refutation_check.specs.TreeTexts.{NodeBelow, node_line, number_word, ranked_router, rest_tree_text, start_line};
+ghost use Rattle.refutation_check.specs.TreeTexts.{tree_text, turn_word, two_tree_text};
 
+use change_orders::with_item;
 use net_addr::{Bytes, OutOfMemory};
 use net_model::Net;
 use order_core::{Tag, Turn};
 use order_search::{Node, Tree};
+use plan_theory::Items;
 use printed_lines::{LineBuilder, TextBuilder};
-use ranked_items::Items;
+use rib_mix::Phase;
 use std::alloc::Global;
-use two_pass::with_item;
 
 /// The text of a tree of the network's routers: the line `tree 1`, then a line for each node in order. The only error is
 /// want of memory.
@@ -23,10 +27,8 @@ pub fn tree_text(alloc: Global, net: &Net, tree: &Tree) -> Result<Bytes, OutOfMe
     requires { All (NodeBelow (length net.now)) tree.now }
     ensures { IfOk result (λ text. text ≡ tree_text (names_of net.now) tree.now) }
 {
-    let mut text = TextBuilder::new(alloc).line(LineBuilder::start(alloc, b"tree 1")?)?;
-    for node in tree.as_slice() {
-        text = text.line(node_line_of(alloc, Items::Routers, net, node)?)?;
-    }
+    let text = TextBuilder::new(alloc).line(LineBuilder::start(alloc, b"tree 1")?)?;
+    let text = with_nodes(alloc, text, Items::Routers, net, tree.as_slice())?;
     Ok(text.finish())
 }
 
@@ -36,12 +38,77 @@ pub fn two_tree_text(alloc: Global, net: &Net, tree: &Tree) -> Result<Bytes, Out
     requires { All (NodeBelow (2 * length net.now)) tree.now }
     ensures { IfOk result (λ text. text ≡ two_tree_text (names_of net.now) tree.now) }
 {
-    let mut text = TextBuilder::new(alloc).line(LineBuilder::start(alloc, b"tree 2")?)?;
-    for node in tree.as_slice() {
-        text = text.line(node_line_of(alloc, Items::Changes, net, node)?)?;
-    }
+    let text = TextBuilder::new(alloc).line(LineBuilder::start(alloc, b"tree 2")?)?;
+    let text = with_nodes(alloc, text, Items::Changes, net, tree.as_slice())?;
     Ok(text.finish())
 }
+
+/// The text of a tree of the network's routers from a start: the line `tree 3`, the line of the start, then a line for each node in
+/// order. The only error is want of memory.
+///
+/// Where R3 is New and no other router has begun the second line is `start R3:2`; where none has it is `start`.
+pub fn rest_tree_text(
+    alloc: Global,
+    net: &Net,
+    start: &[Phase],
+    tree: &Tree,
+) -> Result<Bytes, OutOfMemory>
+    requires start { length start.now ≡ length net.now }
+    requires below { All (NodeBelow (length net.now)) tree.now }
+    ensures { IfOk result (λ text. text ≡ rest_tree_text (names_of net.now) start.now tree.now) }
+{
+    let text = TextBuilder::new(alloc).line(LineBuilder::start(alloc, b"tree 3")?)?;
+    let text = text.line(start_line_of(alloc, net, start)?)?;
+    let text = with_nodes(alloc, text, Items::Routers, net, tree.as_slice())?;
+    Ok(text.finish())
+}
+
+/// The line of a start.
+fn start_line_of(alloc: Global, net: &Net, start: &[Phase]) -> Result<LineBuilder, OutOfMemory>
+    requires { length start.now ≡ length net.now }
+    ensures { IfOk result (λ line. line ≡ start_line (names_of net.now) start.now) }
+{
+    let mut line = LineBuilder::start(alloc, b"start")?;
+    for router in 0..net.routers() {
+        line = with_made(line, net, router, start[router as usize])?;
+    }
+    Ok(line)
+}
+
+/// The line with the word of the last change that a router has made more, where it has made one.
+fn with_made(
+    line: LineBuilder,
+    net: &Net,
+    router: u32,
+    phase: Phase,
+) -> Result<LineBuilder, OutOfMemory>
+    requires { router < length net.now }
+    ensures { IfOk result (λ longer. longer ≡ line ++ spaced (made_words (router_word (names_of net.now) router) phase)) }
+{
+    match phase {
+        Phase::Old => Ok(line),
+        Phase::Middle => line.word(name_of(net, router))?.attach(b':', b"1"),
+        Phase::New => line.word(name_of(net, router))?.attach(b':', b"2"),
+    }
+}
+
+/// The text with the lines of some nodes more.
+fn with_nodes(
+    alloc: Global,
+    mut text: TextBuilder,
+    items: Items,
+    net: &Net,
+    nodes: &[Node],
+) -> Result<TextBuilder, OutOfMemory>
+    requires { All (NodeBelow (size_of items (length net.now))) nodes.now }
+    ensures { IfOk result (λ longer. longer ≡ text ++ text_of (map (node_line items (names_of net.now)) nodes.now)) }
+{
+    for node in nodes {
+        text = text.line(node_line_of(alloc, items, net, node)?)?;
+    }
+    Ok(text)
+}
+
 /// The line of a node.
 fn node_line_of(
     alloc: Global,
@@ -97,7 +164,7 @@ fn with_turn(
 
 /// The router of a number.
 fn router_at(items: Items, number: u32) -> u32
-    ensures { result ≡ router_of items number }
+    ensures { result ≡ ranked_router items number }
 {
     match items {
         Items::Routers => number,

@@ -3,12 +3,12 @@ use Rattle.std.proofs.Common.{◌≡◌, ℕ, ◌<◌, ◌≤◌, ◌⊎◌, inl
 use Rattle.std.proofs.lemmas.Bool.{cases_lt}
 use Rattle.net_addr.specs.Addresses.{Block, ContainsAddress}
 use Rattle.net_model.specs.Network.{Connected}
-use Rattle.igp_theory.specs.Forwarding.{Usable, connected, connected_counts, old_counts, new_counts}
+use Rattle.igp_theory.specs.Forwarding.{Usable, connected, connected_counts, old_counts, new_counts, Kind}
 use Rattle.igp_theory.specs.declared.phase.Phase.{Phase}
 use Rattle.igp_theory.specs.declared.phase.Phase.TheVariants.{Old, Middle, New}
 use Rattle.rib_mix.specs.Cells.{IsUsable, use_in}
 use Rattle.rib_mix.specs.Sites.{Site}
-use Rattle.rib_mix.specs.steps.Sites.{CountsAt, Kind}
+use Rattle.rib_mix.specs.steps.Sites.{CountsAt}
 use Rattle.rib_mix.specs.steps.Uses.{cell_between, cell_over}
 use Rattle.rib_mix.specs.steps.WayUp.{IsBestUse, IsCellUpTo, UpTo}
 use Rattle.rib_mix.specs.declared.cell.Cell.{Cell}

@@ -6,7 +6,7 @@ use Rattle.net_model.specs.Network.{Network}
 use Rattle.route_core.specs.Tables.{IsListed}
 use Rattle.route_core.specs.declared.entry.Entry.{Entry}
 use Rattle.route_core.specs.declared.entry.Entry.TheVariants.{Discard}
-use Rattle.igp_theory.specs.Forwarding.{Usable, connected, of_old, of_new, Counts, connected_counts, old_counts, new_counts, Uses}
+use Rattle.igp_theory.specs.Forwarding.{Usable, connected, of_old, of_new, Counts, connected_counts, old_counts, new_counts, Uses, Kind}
 use Rattle.igp_theory.specs.Migrations.{Migration, migration, listed_migration}
 use Rattle.igp_theory.specs.declared.phase.Phase.{Phase}
 use Rattle.igp_theory.specs.declared.phase.Phase.TheVariants.{Old, Middle, New}
@@ -15,7 +15,7 @@ use Rattle.rib_mix.specs.Answers.{IsAlikeAt, IsNextAtAnEnd, IsNextOf, Says}
 use Rattle.rib_mix.specs.Cells.{IsCell, IsUsable, IsUse, first_if_new, first_unless_new, use_in}
 use Rattle.rib_mix.specs.steps.Uses.{ShowsUse}
 use Rattle.rib_mix.specs.Sites.{Site, UsesAt, table_of}
-use Rattle.rib_mix.specs.steps.Sites.{CountsAt, Kind}
+use Rattle.rib_mix.specs.steps.Sites.{CountsAt}
 use Rattle.rib_mix.specs.declared.both_tables.BothTables.{BothTables}
 use Rattle.rib_mix.specs.declared.cell.Cell.{Cell}
 use Rattle.rib_mix.specs.declared.next.Next.{Next}

@@ -16,7 +16,8 @@ use Rattle.igp_theory.proofs.OrderedLists.{pairs_append, pairs_first, pairs_none
 use Rattle.printed_lines.specs.Texts.{text_of}
 use Rattle.printed_lines.proofs.TextSteps.{last_line, text_of-append}
 use Rattle.shown_tables.specs.EntryLines.{shown_line}
-use Rattle.shown_tables.specs.ShownEntries.{IsBlockBefore, ShownEntry, IsShownBefore, by_router, by_igp, by_dest, igp_place}
+use Rattle.shown_tables.specs.ShownEntries.{ShownEntry, IsShownBefore, by_router, by_igp, by_dest, igp_place}
+use Rattle.prefix_atoms.specs.Nested.{StandsBefore}
 use Rattle.shown_tables.specs.ShownEntries.{tables_by}
 use Rattle.shown_tables.specs.TablesTexts.{HasOneTablesText, IsTablesText, SameTablesText, shown_text}
 use Rattle.shown_tables.specs.declared.igp.Igp.{Igp}
@@ -26,7 +27,7 @@ use Rattle.shown_tables.specs.steps.Shown.{IsOfRouterBelow, IsOfRouter, IsOfShow
 -- ---- one list ----
 
 -- the number of an entry's protocol, and of what stands before it
-not_before_itself : (p : Block) → IsBlockBefore p p → ⊥
+not_before_itself : (p : Block) → StandsBefore p p → ⊥
 not_before_itself p (inl b) = omega arith
 not_before_itself p (inr b) = let l = b.1 in omega (arith, l)
 
@@ -35,7 +36,7 @@ irreflexive x (by_router l) = omega arith
 irreflexive x (by_igp _ l) = omega arith
 irreflexive x (by_dest _ _ l) = not_before_itself x.dest l
 
-blocks_transitive : (p q r : Block) → IsBlockBefore p q → IsBlockBefore q r → IsBlockBefore p r
+blocks_transitive : (p q r : Block) → StandsBefore p q → StandsBefore q r → StandsBefore p r
 blocks_transitive p q r (inl a) (inl b) = inl (omega arith)
 blocks_transitive p q r (inl a) (inr b) = let e = b.0 in inl (omega (arith, e))
 blocks_transitive p q r (inr a) (inl b) = let e = a.0 in inl (omega (arith, e))

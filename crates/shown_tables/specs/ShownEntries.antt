@@ -1,5 +1,6 @@
 -- The entries of both tables of all routers, and the order in which they are shown.
-use Rattle.std.specs.Prelude.{◌≡◌, ℕ, ◌<◌, ◌↔◌, ◌⊎◌, List, length, AllPairs, Contains}
+use Rattle.prefix_atoms.specs.Nested.{StandsBefore}
+use Rattle.std.specs.Prelude.{◌≡◌, ℕ, ◌<◌, ◌↔◌, List, length, AllPairs, Contains}
 use Rattle.net_addr.specs.Addresses.{Block}
 use Rattle.route_core.specs.declared.entry.Entry.{Entry}
 use Rattle.igp_theory.specs.Migrations.{Migration}
@@ -19,16 +20,12 @@ abbrev pub igp_place : Igp → ℕ
 igp_place Ospf = 0
 igp_place Isis = 1
 
--- a prefix stands before those that begin at a higher address, and before longer ones that begin at the same one
-abbrev pub IsBlockBefore : Block → Block → Type 0
-IsBlockBefore p q = (p.base < q.base) ⊎ ((p.base ≡ q.base) × (p.len < q.len))
-
 -- an entry stands before another one: by its router, which are numbered in byte order of their names, then by its protocol, then
 -- by its prefix
 pub data IsShownBefore (one other : ShownEntry) : Type 0 where
   by_router : one.router < other.router → IsShownBefore one other
   by_igp : one.router ≡ other.router → igp_place one.igp < igp_place other.igp → IsShownBefore one other
-  by_dest : one.router ≡ other.router → one.igp ≡ other.igp → IsBlockBefore one.dest other.dest → IsShownBefore one other
+  by_dest : one.router ≡ other.router → one.igp ≡ other.igp → StandsBefore one.dest other.dest → IsShownBefore one other
 
 -- the tables of a protocol: OSPF's are the old ones of the migration, IS-IS' the new ones
 abbrev pub tables_by : Migration → Igp → Tables

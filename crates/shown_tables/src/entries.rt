@@ -1,17 +1,16 @@
-ghost use Rattle.std.specs.Prelude.{◌≡◌, ◌<◌, ◌++◌, All, IfOk, length};
+ghost use Rattle.std.specs.Prelude.{◌≡◌, ◌<◌, ◌++◌, ◌∷◌, [], All, IfOk, length};
 ghost use Rattle.net_model.specs.RouterNames.{names_of};
 ghost use Rattle.printed_lines.specs.Words.{router_word, spaced};
 ghost use Rattle.route_core.specs.Rows.{listed};
-ghost use Rattle.shown_tables.specs.EntryLines.{hop_words, shown_line};
-ghost use Rattle.shown_tables.specs.steps.Shown.{AreHopsBelow, HaveHopsBelow, IsOfShownTable, Shows};
+ghost use Rattle.shown_tables.specs.EntryLines.{entry_words, hop_words, shown_line};
+ghost use Rattle.shown_tables.specs.steps.Places.{AreInPrefixOrder, front_words};
+ghost use Rattle.shown_tables.specs.steps.Shown.{HaveHopsBelow, IsOfShownTable, Shows};
+ghost use Rattle.igp_theory.specs.Routes.{HasHopsBelow};
 
-use crate::ascending::ascending;
 use crate::igp::Igp;
-use net_addr::Prefix;
+use crate::places::Placed;
 use net_model::Net;
-use printed_lines::{LineBuilder, TextBuilder};
 use route_core::{Entry, Hops, OutOfMemory, Table};
-use std::alloc::Global;
 
 /// Whose table it is, and of which protocol.
 #[derive(Clone, Copy)]
@@ -21,58 +20,72 @@ pub(crate) struct Owner<'a> {
     pub igp: Igp,
 }
 
-/// The text with the entries of a table more, prefixes ascending.
-pub(crate) fn with_table(
-    alloc: Global,
-    text: TextBuilder,
+/// Adds the entries of a table to a text, in the order of the prefixes of all tables of its source.
+pub(crate) fn add_table(
+    text: &mut Vec<u8>,
     owner: Owner<'_>,
+    places: &[Placed],
     table: &Table,
-) -> Result<TextBuilder, OutOfMemory>
+) -> Result<(), OutOfMemory>
     requires router { owner.router < length owner.net.now }
+    requires places { AreInPrefixOrder owner.igp table.now.prefixes places.now }
     requires hops { HaveHopsBelow (length owner.net.now) (listed table.now) }
-    ensures { IfOk result (λ longer. Shows (names_of owner.entry.net.now)
-        (IsOfShownTable owner.entry.router owner.entry.igp (listed table.now)) text longer) }
+    ensures { IfOk result (λ _. Shows (names_of owner.entry.net.now)
+        (IsOfShownTable owner.entry.router owner.entry.igp (listed table.now)) text.old.items text.new.items) }
 {
     let parts = table.parts();
-    let all = ascending(alloc, parts)?;
-    let mut text = text;
-    for numbered in all.as_slice() {
-        let entry = &parts.entries[numbered.number as usize];
-        text = text.line(entry_line(alloc, owner, numbered.dest, entry)?)?;
+    for placed in places {
+        if let Some(number) = parts.number(placed.place) {
+            add_entry(text, owner, placed, &parts.entries[number as usize])?;
+        }
     }
-    Ok(text)
+    Ok(())
 }
 
-/// The line of an entry.
-fn entry_line(
-    alloc: Global,
+/// Adds the line of the entry for a prefix.
+fn add_entry(
+    text: &mut Vec<u8>,
     owner: Owner<'_>,
-    dest: Prefix,
+    placed: &Placed,
     entry: &Entry,
-) -> Result<LineBuilder, OutOfMemory>
+) -> Result<(), OutOfMemory>
     requires router { owner.router < length owner.net.now }
-    requires hops { AreHopsBelow (length owner.net.now) entry.now }
-    ensures { IfOk result (λ line. line ≡ shown_line (names_of owner.entry.net.now)
-        (record { router = owner.entry.router; igp = owner.entry.igp; dest = dest; entry = entry.now })) }
+    requires front { placed.now.front ≡ front_words owner.igp placed.now.dest }
+    requires hops { HasHopsBelow (length owner.net.now) entry.now }
+    ensures { IfOk result (λ _. text.new.items ≡ text.old.items ++ shown_line (names_of owner.entry.net.now)
+        (record { router = owner.entry.router; igp = owner.entry.igp; dest = placed.now.dest; entry = entry.now }) ++ 10 ∷ []) }
 {
-    let line = LineBuilder::start(alloc, name_of(owner.net, owner.router))?;
-    let line = line.word(owner.igp.word())?.prefix(dest)?;
+    text.extend_from_slice(name_of(owner.net, owner.router))?;
+    text.extend_from_slice(placed.front.as_slice())?;
+    add_said(text, owner.net, entry)?;
+    text.push(b'\n')?;
+    Ok(())
+}
+
+/// Adds what an entry says of its prefix, each word after a blank.
+fn add_said(text: &mut Vec<u8>, net: &Net, entry: &Entry) -> Result<(), OutOfMemory>
+    requires { HasHopsBelow (length net.now) entry.now }
+    ensures { IfOk result (λ _. text.new.items ≡ text.old.items ++ spaced (entry_words (names_of net.now) entry.now)) }
+{
     match entry {
-        Entry::Via(hops) => Ok(with_hops(line.word(b"via")?, owner.net, hops)?),
-        Entry::Discard => Ok(line.word(b"discard")?),
+        Entry::Via(hops) => {
+            text.extend_from_slice(b" via")?;
+            add_hops(text, net, hops)
+        }
+        Entry::Discard => text.extend_from_slice(b" discard"),
     }
 }
 
-/// The line with the names of hops more.
-fn with_hops(line: LineBuilder, net: &Net, hops: &Hops) -> Result<LineBuilder, OutOfMemory>
+/// Adds the names of hops, each after a blank.
+fn add_hops(text: &mut Vec<u8>, net: &Net, hops: &Hops) -> Result<(), OutOfMemory>
     requires { All (λ h. h < length net.now) hops.now }
-    ensures { IfOk result (λ longer. longer ≡ line ++ spaced (hop_words (names_of net.now) hops.now)) }
+    ensures { IfOk result (λ _. text.new.items ≡ text.old.items ++ spaced (hop_words (names_of net.now) hops.now)) }
 {
-    let mut line = line;
     for hop in hops.as_slice() {
-        line = line.word(name_of(net, *hop))?;
+        text.push(b' ')?;
+        text.extend_from_slice(name_of(net, *hop))?;
     }
-    Ok(line)
+    Ok(())
 }
 
 /// The name of a router.

@@ -8,21 +8,21 @@
 //! |---|---|
 //! | `text` | the text of the tables of two sources, router by router |
 //! | `entries` | the lines of one table |
-//! | `ascending` | the entries of a table in the order of their prefixes |
+//! | `places` | the prefixes of a source's tables in their order, each once with the words of its lines |
 //! | `igp` | the two protocols |
 //! | `laws` | that there is one such text, which the entries alone decide |
 //!
-//! `tables_text` takes time of the prefixes of both sources times routers, of sorting each table's entries, and of the bytes of
-//! the text.
+//! `tables_text` takes time of sorting the prefixes of both sources, of these times routers, and of the bytes of the text. What is
+//! the same in the lines of all routers, protocol and prefix, is printed once.
 #![tactic(auto)]
 
 // The text.
 mod text;
 
 // One table.
-mod ascending;
 mod entries;
 mod igp;
+mod places;
 
 // Laws.
 mod laws;

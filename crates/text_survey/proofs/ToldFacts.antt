@@ -11,7 +11,7 @@ use Rattle.ios_lines.specs.declared.head.Head.{Head}
 use Rattle.ios_lines.specs.declared.head.Head.TheVariants.{Hostname, Interface as InterfaceHead, Ospf, Isis, Faulty, Other}
 use Rattle.std.specs.Prelude.{Ok, Err, flat_map}
 use Rattle.ios_sections.specs.TextLines.{TextLine, TextSection, Part, is_end, opens_section, parts_after, rest_after, section_lines, sections_of}
-use Rattle.text_survey.specs.ToldLines.{ToldLine, from_line, place_below, told_part, told_section, told_below, top_line}
+use Rattle.text_survey.specs.ToldLines.{ToldLine, from_line, place_below, told_section, told_below, top_line}
 use Rattle.text_survey.specs.declared.told_line.LinePlace.{LinePlace}
 use Rattle.text_survey.specs.declared.told_line.LinePlace.TheVariants.{Elsewhere, Interface}
 use Rattle.text_survey.specs.steps.Inside.{HaveSameNames}
@@ -66,39 +66,46 @@ same_told one other same (s ∷ ss) =
 
 -- ---- section by section ----
 
-module _ (lines : List TextLine) (i : ℕ) (x : TextLine) (within : i < length lines) (read : x ≡ get_or lines i x) (names : List Word) where
-  abbrev rest : List ToldLine
-  rest = flat_map (told_section names) (sections_of (drop (i + 1) lines))
-
+module _ (lines : List TextLine) (i : ℕ) (x : TextLine) (within : i < length lines) (read : x ≡ get_or lines i x)
+    (tell : TextSection → List ToldLine) where
   -- one more section is told
+  pub section_more : (old new all : List ToldLine) → opens_section x ≡ true →
+      new ≡ old ++ tell (record { head = x; body = section_lines (drop (i + 1) lines) }) →
+      old ++ flat_map tell (sections_of (drop i lines)) ≡ all → new ++ flat_map tell (sections_of (drop (i + 1) lines)) ≡ all
+  section_more old new all opens is before =
+      let section : TextSection = record { head = x; body = section_lines (drop (i + 1) lines) } in
+      let rest : List ToldLine = flat_map tell (sections_of (drop (i + 1) lines)) in
+      ap (λ (t : List ToldLine). t ++ rest) is
+      ∙ append_assoc old (tell section) rest
+      ∙ ap (λ (ss : List TextSection). old ++ flat_map tell ss) (sym (sections_at lines i x within read opens))
+      ∙ before
+
+  pub section_passed : (old all : List ToldLine) → opens_section x ≡ false →
+      old ++ flat_map tell (sections_of (drop i lines)) ≡ all → old ++ flat_map tell (sections_of (drop (i + 1) lines)) ≡ all
+  section_passed old all other before =
+      ap (λ (ss : List TextSection). old ++ flat_map tell ss) (sym (sections_on lines i x within read other)) ∙ before
+
+module _ (lines : List TextLine) (i : ℕ) (x : TextLine) (within : i < length lines) (read : x ≡ get_or lines i x) (names : List Word) where
+  -- the same with what it stands below
   pub section_told : (place : LinePlace) (old new all : List ToldLine) → opens_section x ≡ true → place ≡ place_below names (head_of x.words) →
       new ≡ old ++ top_line x.number x.bytes ∷ told_below place x.bytes (section_lines (drop (i + 1) lines)) →
       old ++ flat_map (told_section names) (sections_of (drop i lines)) ≡ all →
       new ++ flat_map (told_section names) (sections_of (drop (i + 1) lines)) ≡ all
   section_told place old new all opens at is before =
-      let body : List TextLine = section_lines (drop (i + 1) lines) in
-      ap (λ (t : List ToldLine). t ++ rest) is
-      ∙ ap (λ (p : LinePlace). (old ++ top_line x.number x.bytes ∷ told_below p x.bytes body) ++ rest) at
-      ∙ append_assoc old (told_section names (record { head = x; body = body })) rest
-      ∙ ap (λ (ss : List TextSection). old ++ flat_map (told_section names) ss) (sym (sections_at lines i x within read opens))
-      ∙ before
-
-  pub section_passed : (old all : List ToldLine) → opens_section x ≡ false →
-      old ++ flat_map (told_section names) (sections_of (drop i lines)) ≡ all →
-      old ++ flat_map (told_section names) (sections_of (drop (i + 1) lines)) ≡ all
-  section_passed old all other before =
-      ap (λ (ss : List TextSection). old ++ flat_map (told_section names) ss) (sym (sections_on lines i x within read other)) ∙ before
+      section_more lines i x within read (told_section names) old new all opens
+      (is ∙ ap (λ (p : LinePlace). old ++ top_line x.number x.bytes ∷ told_below p x.bytes (section_lines (drop (i + 1) lines))) at) before
 
 -- ---- configuration by configuration ----
 
-module _ (lines : List TextLine) (i : ℕ) (x : TextLine) (within : i < length lines) (read : x ≡ get_or lines i x) where
+module _ (lines : List TextLine) (i : ℕ) (x : TextLine) (within : i < length lines) (read : x ≡ get_or lines i x)
+    (tell : Part → List ToldLine) where
   abbrev part_here : List TextLine → ℕ → Part
   part_here before number = record { lines = before; ends = number }
 
   -- at an `end` line one more is told
   pub part_told : (slice : List TextLine) (number : ℕ) (old new : List ToldLine) → is_end x ≡ true → slice ≡ rest_after [] (take i lines) →
-      number ≡ x.number → old ≡ flat_map told_part (parts_after [] (take i lines)) →
-      new ≡ old ++ told_part (record { lines = slice; ends = number }) → new ≡ flat_map told_part (parts_after [] (take (i + 1) lines))
+      number ≡ x.number → old ≡ flat_map tell (parts_after [] (take i lines)) →
+      new ≡ old ++ tell (record { lines = slice; ends = number }) → new ≡ flat_map tell (parts_after [] (take (i + 1) lines))
   part_told slice number old new ends before same was is =
       let parts : parts_after [] (take i lines) ++ part_here slice number ∷ [] ≡ parts_after [] (take (i + 1) lines) =
       ap (λ (w : List TextLine). parts_after [] (take i lines) ++ part_here w number ∷ []) before
@@ -106,17 +113,17 @@ module _ (lines : List TextLine) (i : ℕ) (x : TextLine) (within : i < length l
       ∙ sym (parts_more lines i x within read ∙ ap (λ (b : Bool). parts_after [] (take i lines)
       ++ cond b (part_here (rest_after [] (take i lines)) x.number ∷ []) []) ends) in
       is
-      ∙ ap (λ (t : List ToldLine). t ++ told_part (part_here slice number)) was
-      ∙ ap (λ (t : List ToldLine). flat_map told_part (parts_after [] (take i lines)) ++ t) (sym (append-nil (told_part (part_here slice number))))
-      ∙ sym (flat_map-append told_part (parts_after [] (take i lines)) (part_here slice number ∷ []))
-      ∙ ap (flat_map told_part) parts
+      ∙ ap (λ (t : List ToldLine). t ++ tell (part_here slice number)) was
+      ∙ ap (λ (t : List ToldLine). flat_map tell (parts_after [] (take i lines)) ++ t) (sym (append-nil (tell (part_here slice number))))
+      ∙ sym (flat_map-append tell (parts_after [] (take i lines)) (part_here slice number ∷ []))
+      ∙ ap (flat_map tell) parts
 
   -- at another line nothing more is told
-  pub part_on : (old : List ToldLine) → is_end x ≡ false → old ≡ flat_map told_part (parts_after [] (take i lines)) →
-      old ≡ flat_map told_part (parts_after [] (take (i + 1) lines))
+  pub part_on : (old : List ToldLine) → is_end x ≡ false → old ≡ flat_map tell (parts_after [] (take i lines)) →
+      old ≡ flat_map tell (parts_after [] (take (i + 1) lines))
   part_on old on was =
       let parts : parts_after [] (take i lines) ≡ parts_after [] (take (i + 1) lines) =
       sym (append-nil (parts_after [] (take i lines)))
       ∙ sym (parts_more lines i x within read ∙ ap (λ (b : Bool). parts_after [] (take i lines)
       ++ cond b (part_here (rest_after [] (take i lines)) x.number ∷ []) []) on) in
-      was ∙ ap (flat_map told_part) parts
+      was ∙ ap (flat_map tell) parts

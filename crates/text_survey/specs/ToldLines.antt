@@ -80,6 +80,14 @@ told_among counted = flat_map told_part (parts_after [] counted)
 abbrev pub told_lines : List TextLine → List ToldLine
 told_lines lines = told_among (counted_lines lines)
 
+-- a line without what it stands below: at indent 0, or below another line
+abbrev pub shown_place : LinePlace → LinePlace
+shown_place Top = Top
+shown_place _ = Elsewhere
+
+abbrev pub without_place : ToldLine → ToldLine
+without_place line = record { number = line.number; place = shown_place line.place; head = line.head; own = line.own }
+
 -- those from the first one on whose number isn't below this one
 abbrev pub from_line : ℕ → List ToldLine → List ToldLine
 from_line number [] = []

@@ -12,25 +12,39 @@ pub fn counted_lines<'a>(alloc: Global, text: &'a [u8]) -> Result<Vec<SurveyLine
     requires { length text.now < 2 ^ 26 }
     ensures { IfOk result (λ c. c.items ≡ counted_lines (lines_in text.entry.now)) }
 {
-    let lines = lines(alloc, text)?;
-    counted_among(alloc, text, lines.as_slice())
+    let mut counted = Vec::new(alloc);
+    put_counted(alloc, &mut counted, text)?;
+    Ok(counted)
 }
 
-/// Those of these lines that count.
-fn counted_among<'a>(
+/// Puts the lines of a text that count in place of those that are there, whose memory they take.
+pub fn put_counted<'a>(
     alloc: Global,
+    counted: &mut Vec<SurveyLine<'a>>,
+    text: &'a [u8],
+) -> Result<(), OutOfMemory>
+    requires { length text.now < 2 ^ 26 }
+    ensures { OnOk result (counted.new.items ≡ counted_lines (lines_in text.entry.now)) }
+{
+    let lines = lines(alloc, text)?;
+    counted.clear();
+    add_counted(counted, text, lines.as_slice())
+}
+
+/// Takes in those of these lines that count.
+fn add_counted<'a>(
+    counted: &mut Vec<SurveyLine<'a>>,
     text: &'a [u8],
     lines: &[Line],
-) -> Result<Vec<SurveyLine<'a>>, OutOfMemory>
+) -> Result<(), OutOfMemory>
     requires { All (λ line. LiesIn text.now line.span) lines.now }
-    ensures { IfOk result (λ c. c.items ≡ counted_lines (map (text_line text.entry.now) lines.entry.now)) }
+    ensures { OnOk result (counted.new.items ≡ counted.old.items ++ counted_lines (map (text_line text.entry.now) lines.entry.now)) }
 {
-    let mut counted = Vec::new(alloc);
     let mut inside = false;
     for line in lines {
-        inside = add_line(&mut counted, inside, survey_line(text, *line))?;
+        inside = add_line(counted, inside, survey_line(text, *line))?;
     }
-    Ok(counted)
+    Ok(())
 }
 
 /// Takes in a line where it counts, and says whether a banner is open after it.

@@ -65,7 +65,7 @@ pub(crate) fn is_control(byte: u8) -> bool
 }
 
 /// The bytes without the blanks that they begin with.
-fn behind_blanks(bytes: &[u8]) -> &[u8]
+pub(crate) fn behind_blanks(bytes: &[u8]) -> &[u8]
     ensures { result.now ≡ behind_blanks bytes.now }
 {
     &bytes[blank_count(bytes)..]

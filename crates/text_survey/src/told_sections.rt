@@ -64,7 +64,7 @@ fn add_sections<'a>(
 }
 
 /// Takes in the lines of a section, before these lines.
-fn add_section<'a>(
+pub(crate) fn add_section<'a>(
     told: &mut Vec<ToldLine<'a>>,
     place: LinePlace,
     head: &SurveyLine<'a>,

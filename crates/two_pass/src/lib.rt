@@ -1,35 +1,29 @@
-//! Two passes as texts: order files whose waves are of single changes, with the least faulty line of a text that is none.
+//! The two changes of a router, ordered apart: the faults of rankings of single changes, and the oracle of the search over them.
 //!
-//! Change c of router u is the item 2u + c - 1; a wave list of changes is a ranking of the items. An order file of changes is the line
-//! `order 3`, a line for each wave and maybe a last line with a chain. The format is this project's own.
+//! Some networks have no seamless wave list and yet can be migrated when IS-IS comes in first, everywhere where it is safe, and
+//! OSPF goes later. An address switches at the first change of a router where the answer for `Middle` is that for `New`, else at
+//! the second. Every router starts in `Old`. Change c of router r is the item 2r + c - 1.
 //!
 //! | Notion | Definition | Call |
 //! |---|---|---|
-//! | the word of a change, and its item | `specs/ChangeWords.antt` | `item_of` (`items.rt`) |
-//! | the wave list that a text names | `specs/TwoFiles.antt` | `read_two` (`reading.rt`, with what was read in `seating.rt`) |
-//! | the faulty lines of a text, the least of which is told | `specs/TwoFaults.antt` | `read_two`, with the kinds of `kind.rt` |
-//! | the text of a wave list and a chain, the line of a refusal | `specs/TwoTexts.antt` | `two_text`, `two_refusal_text` (`writing.rt`) |
-//! | there is one answer, and what is written reads back | `specs/TwoLaws.antt` | `two_laws` |
+//! | what contracts see of both types | `specs/ChangeNights.antt` | |
+//! | the fault of a ranking of the items | `IsTimesFault` of `change_times` (`igp_theory`) | `TwoFinder` (`finder.rt`) |
+//! | whom the search asks | `changes_meaning` (`plan_theory`) | `TwoOracle` (`oracle.rt`) |
+//! | what is planned | `IsNightPlanned` of `Changes` (`plan_theory`) | `plan_two` (`plan.rt`) |
+//! | order files of single changes, and their faults | `TwoFiles`, `TwoFaults`, `TwoTexts` (`change_orders`) | `read_two`, `two_text`, `two_refusal_text` |
+//! | trees of single changes, and what a closed one means | `TreeTexts`, `Verdicts` (`refutation_check`) | `two_tree_text`, `verify_two` |
 //!
-//! `read_two` takes time of the text, and for each word of the logarithm of the routers; `two_text` of the bytes that it prints.
+//! Both types are those of any night (`wave_oracle`), with single changes ranked; a question takes the time of one to
+//! `NightFinder`.
 #![tactic(auto)]
 
-// Reading.
-mod items;
-mod kind;
-mod reading;
-mod seating;
-mod words;
+mod finder;
+mod oracle;
+mod plan;
 
-// Writing.
-mod writing;
-
-// Laws.
-mod laws;
-
-pub use items::{is_change_word, item_of};
-pub use kind::{TwoKind, TwoRefusal};
-pub use laws::two_laws;
-pub use reading::read_two;
-pub use std::alloc::AllocError as OutOfMemory;
-pub use writing::{two_refusal_text, two_text, with_item};
+pub use change_orders::{TwoKind, TwoRefusal, read_two, two_refusal_text, two_text};
+pub use finder::TwoFinder;
+pub use oracle::TwoOracle;
+pub use plan::plan_two;
+pub use refutation_check::{Verdict, two_tree_text, verify_two};
+pub use rib_mix::OutOfMemory;

@@ -96,7 +96,7 @@ came_by state net u d (Some c) at gives = record { config = c; router = at; lead
 came_from : (state : State) (net : Network) (u : ℕ) (d : Configuration) → HasConfiguration (network_in state net) u d → CameFrom state net u d
 came_from state net u d at = came_by state net u d (slice_get net u) refl (sym (get_in state net u) ∙ at)
 
-bar_distances : (state : State) (net : Network) → AreSameBarDistances net (network_in state net)
+pub bar_distances : (state : State) (net : Network) → AreSameBarDistances net (network_in state net)
 bar_distances state net = record {
   there = λ u c at. record {
     config = in_phase (state u) c;

@@ -13,7 +13,6 @@ use Rattle.net_model.proofs.Members.{Contains-rest}
 use Rattle.net_model.proofs.Names.{IsBelow-irrefl}
 use Rattle.design_file.proofs.NetworkLookups.{same_text, text_is}
 use Rattle.igp_theory.specs.Phases.{State}
-use Rattle.igp_theory.specs.States.{state_of}
 use Rattle.igp_theory.proofs.OrderedLists.{pairs_first, pairs_rest}
 use Rattle.ios_lines.proofs.Picked.{pairs_map}
 use Rattle.applied_changes.specs.AppliedTexts.{applied_text, in_phase}
@@ -22,7 +21,7 @@ use Rattle.applied_changes.proofs.AppliedFacts.{applied_text_reads}
 use Rattle.isis_writer.specs.ReadTexts.{ReadsTexts}
 use Rattle.typed_distances.specs.TypedDistances.{AreasHaveProcesses, network_from, network_in}
 use Rattle.typed_distances.specs.TypedTexts.{TypedTextsForward}
-use Rattle.typed_distances.proofs.PhasesByDistance.{distances_tell, phase_alike}
+use Rattle.typed_distances.proofs.PhasesByDistance.{bar_distances, distances_tell, phase_alike}
 use Rattle.typed_distances.proofs.ReadProcesses.{read_areas}
 
 -- ---- texts ----
@@ -111,12 +110,12 @@ in_state configs net state is =
         (subst (IsBelow x.name) (sym (name_kept y)) (ascending i j d before within))
 
 pub texts_forward : TypedTextsForward
-texts_forward texts configs net reads is start order k =
-    let state : State = state_of order k in record {
-      configs = map (λ (c : Configuration). in_phase (phase_named net state c.name) c) configs;
-      reads = all_read (phase_named net state) texts configs reads;
-      typed = network_in state net;
-      makes = in_state configs net state is;
-      forwards = λ u p distance used.
-          let same = distances_tell net (have_processes texts configs net reads is.same) start state u p distance used in (same.1, same.0);
-    }
+texts_forward texts configs net reads is start state = record {
+  configs = map (λ (c : Configuration). in_phase (phase_named net state c.name) c) configs;
+  reads = all_read (phase_named net state) texts configs reads;
+  typed = network_in state net;
+  makes = in_state configs net state is;
+  alike = bar_distances state net;
+  forwards = λ u p distance used.
+      let same = distances_tell net (have_processes texts configs net reads is.same) start state u p distance used in (same.1, same.0);
+}

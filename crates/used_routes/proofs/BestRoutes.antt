@@ -2,14 +2,13 @@
 use Rattle.std.proofs.Common.{◌≡◌, ℕ, ◌<◌, ◌≤◌, ◌⊎◌, ⊎_elim, inl, inr, Bool, true, false, Option, None, Some, IfSome, cond}
 use Rattle.std.proofs.Common.{refl, arith}
 use Rattle.std.proofs.lemmas.Bool.Decides.{nat_tests}
-use Rattle.net_addr.specs.Addresses.{Block}
-use Rattle.igp_theory.specs.Forwarding.{Usable}
+use Rattle.igp_theory.specs.Forwarding.{Usable, Kind}
 use Rattle.used_routes.specs.declared.used.Origin.{Origin}
 use Rattle.used_routes.specs.declared.used.UsedRoute.{UsedRoute}
-use Rattle.used_routes.specs.steps.Found.{Counting, HasNone, IsBestUsed, IsFoundUsed, better_route, comes_first}
+use Rattle.used_routes.specs.steps.Found.{HasNone, IsBestUsed, IsFoundUsed, better_route, comes_first}
 
 -- entries of either kind
-abbrev pub Either : Counting → Counting → Counting
+abbrev pub Either : Kind → Kind → Kind
 Either one other p d x = one p d x ⊎ other p d x
 
 -- the first comes before whatever comes after the second
@@ -23,7 +22,7 @@ came_first x y h = record { longer = grind (arith, nat_tests); lower = λ e. gri
 came_second : (x y : UsedRoute) → comes_first x y ≡ false → ComesBefore y x
 came_second x y h = record { longer = grind (arith, nat_tests); lower = λ e. grind (arith, nat_tests) }
 
-module _ (usable : Origin → Usable) (S T : Counting) (a : ℕ) where
+module _ (usable : Origin → Usable) (S T : Kind) (a : ℕ) where
   first_best : (x y : UsedRoute) → IsBestUsed usable S a x → IsBestUsed usable T a y → ComesBefore x y → IsBestUsed usable (Either S T) a x
   first_best x y best other before = record {
     counts = inl best.counts;
@@ -48,7 +47,7 @@ module _ (usable : Origin → Usable) (S T : Counting) (a : ℕ) where
     lowest = λ q d z h c e. ⊎_elim (λ s. best.lowest q d z s c e) (λ t. absurd (none q d z t c)) h;
   }
 
-turned : (usable : Origin → Usable) (S T : Counting) (a : ℕ) (x : UsedRoute) → IsBestUsed usable (Either S T) a x →
+turned : (usable : Origin → Usable) (S T : Kind) (a : ℕ) (x : UsedRoute) → IsBestUsed usable (Either S T) a x →
     IsBestUsed usable (Either T S) a x
 turned usable S T a x best = record {
   counts = ⊎_elim inr inl best.counts;
@@ -57,13 +56,13 @@ turned usable S T a x best = record {
   lowest = λ q d z h c e. best.lowest q d z (⊎_elim inr inl h) c e;
 }
 
-chosen : (usable : Origin → Usable) (S T : Counting) (a : ℕ) (x y : UsedRoute) (b : Bool) → comes_first x y ≡ b →
+chosen : (usable : Origin → Usable) (S T : Kind) (a : ℕ) (x y : UsedRoute) (b : Bool) → comes_first x y ≡ b →
     IsBestUsed usable S a x → IsBestUsed usable T a y →
     IsBestUsed usable (Either S T) a (cond b x y)
 chosen usable S T a x y true is one other = first_best usable S T a x y one other (came_first x y is)
 chosen usable S T a x y false is one other = turned usable T S a y (first_best usable T S a y x other one (came_second x y is))
 
-pub better_found : (usable : Origin → Usable) (S T : Counting) (a : ℕ) (x y : Option UsedRoute) → IsFoundUsed usable S a x →
+pub better_found : (usable : Origin → Usable) (S T : Kind) (a : ℕ) (x y : Option UsedRoute) → IsFoundUsed usable S a x →
     IsFoundUsed usable T a y → IsFoundUsed usable (Either S T) a (better_route x y)
 better_found usable S T a None None one other = λ q d z h c. ⊎_elim (λ s. one q d z s c) (λ t. other q d z t c) h
 better_found usable S T a None (Some y) one other = turned usable T S a y (alone usable T S a y other one)

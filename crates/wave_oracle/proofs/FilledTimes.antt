@@ -4,11 +4,10 @@ use Rattle.std.proofs.lemmas.Bool.{cases_lt}
 use Rattle.std.proofs.lemmas.List.{get_or_past, get_or-set_other, get_or-set_same}
 use Rattle.order_core.specs.Rankings.{rank_of}
 use Rattle.igp_theory.specs.Changes.{Change, first, second}
-use Rattle.igp_theory.specs.Phases.{State}
+use Rattle.igp_theory.specs.Phases.{State, state_in}
 use Rattle.igp_theory.specs.Timetables.{Timetable, is_made}
 use Rattle.igp_theory.specs.declared.phase.Phase.{Phase}
 use Rattle.igp_theory.specs.declared.phase.Phase.TheVariants.{Old}
-use Rattle.loop_finder.specs.Faults.{state_in}
 use Rattle.loop_finder.specs.Times.{times_in, waves_of}
 use Rattle.loop_finder.specs.declared.times.ChangeWaves.{ChangeWaves}
 use Rattle.plan_theory.specs.Ranked.{size_of}

@@ -9,7 +9,7 @@ use Rattle.igp_theory.specs.Forwarding.{MustForward}
 use Rattle.igp_theory.specs.LoopLaws.{AreSoundEnds}
 use Rattle.igp_theory.specs.Loops.{IsLoop, loop}
 use Rattle.igp_theory.specs.Migrations.{Migration, started}
-use Rattle.igp_theory.specs.Phases.{State}
+use Rattle.igp_theory.specs.Phases.{State, state_in}
 use Rattle.igp_theory.specs.TimetableLaws.{IsLoopOfWave}
 use Rattle.igp_theory.specs.Timetables.{IsSoundThroughout, IsTimetable, Timetable, change_number}
 use Rattle.igp_theory.specs.WaveFaults.{IsTimesFault}
@@ -24,7 +24,7 @@ use Rattle.order_core.specs.declared.turn.Turn.{Turn}
 use Rattle.order_core.proofs.DistinctLists.{length-le_from_distinct}
 use Rattle.order_core.proofs.WaveLists.{count_le_length, numbers_are_below, rank_below_count}
 use Rattle.rib_mix.specs.Mixture.{Mixture, migration_of}
-use Rattle.loop_finder.specs.Faults.{searched, state_in, told_fault}
+use Rattle.loop_finder.specs.Faults.{searched, told_fault}
 use Rattle.loop_finder.specs.Mixes.{Listing}
 use Rattle.loop_finder.specs.Times.{times_in}
 use Rattle.loop_finder.specs.declared.fault.Fault.{Fault}
@@ -39,8 +39,8 @@ use Rattle.plan_theory.specs.declared.items.Items.{Items}
 use Rattle.plan_theory.specs.declared.items.Items.TheVariants.{Routers, Changes}
 use Rattle.plan_theory.proofs.ItemsServe.{items_ask, items_serve, ranked_base, ranked_size}
 use Rattle.plan_theory.proofs.WaveBreaks.{fault_breaks, no_missing_step}
-use Rattle.ranked_items.specs.Numbers.{AreNumbered}
-use Rattle.ranked_items.proofs.NumberedTurns.{turns_must}
+use Rattle.plan_theory.specs.Numbers.{AreNumbered}
+use Rattle.plan_theory.proofs.NumberedTurns.{turns_must}
 use Rattle.wave_oracle.specs.Nights.{IsNightFinder, Night, NightParts, can_from, night_move, night_start}
 use Rattle.wave_oracle.specs.steps.ToldLoops.{IsToldLoop}
 use Rattle.wave_oracle.specs.steps.RankedTimes.{times_from}

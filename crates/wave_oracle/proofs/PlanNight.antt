@@ -3,13 +3,12 @@ use Rattle.std.proofs.Common.{◌≡◌, ℕ, ◌≤◌, List, length, Option, S
 use Rattle.igp_theory.specs.LoopLaws.{AreSoundEnds, IsFromStart}
 use Rattle.igp_theory.specs.Loops.{IsFault}
 use Rattle.igp_theory.specs.Migrations.{Migration, started}
-use Rattle.igp_theory.specs.Phases.{State, all_new, all_old, made_in}
+use Rattle.igp_theory.specs.Phases.{State, all_new, all_old, made_in, state_in}
 use Rattle.igp_theory.specs.States.{IsSound}
 use Rattle.igp_theory.specs.declared.phase.Phase.{Phase}
 use Rattle.igp_theory.specs.declared.phase.Phase.TheVariants.{Old, Middle, New}
 use Rattle.igp_theory.proofs.AlikeStates.{AreAlike, sound_alike}
 use Rattle.rib_mix.specs.Mixture.{Mixture, migration_of}
-use Rattle.loop_finder.specs.Faults.{state_in}
 use Rattle.loop_finder.specs.Mixes.{Listing}
 use Rattle.order_search.specs.Answers.{IsFound}
 use Rattle.order_search.specs.declared.found.Found.{Found}

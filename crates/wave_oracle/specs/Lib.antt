@@ -1,3 +1,6 @@
 pub mod Oracles
 pub mod Nights
 pub mod steps
+pub mod PlannedTexts
+pub mod Chains
+pub mod ReadingBack

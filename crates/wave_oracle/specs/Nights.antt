@@ -1,13 +1,13 @@
 -- A night: what is mixed, what is ranked, and the phase from which each router starts.
 use Rattle.std.specs.Prelude.{◌≡◌, ℕ, ◌≤◌, List, length, refl}
 use Rattle.igp_theory.specs.Migrations.{Migration, started}
-use Rattle.igp_theory.specs.Phases.{State, all_old}
+use Rattle.igp_theory.specs.Phases.{State, all_old, state_in}
 use Rattle.igp_theory.specs.Timetables.{Timetable}
 use Rattle.igp_theory.specs.declared.phase.Phase.{Phase}
 use Rattle.order_core.specs.Pairs.{Pair}
 use Rattle.order_core.specs.declared.turn.Turn.{Turn}
 use Rattle.rib_mix.specs.Mixture.{Mixture, migration_of}
-use Rattle.loop_finder.specs.Faults.{Finding, state_in}
+use Rattle.loop_finder.specs.Faults.{Finding}
 use Rattle.loop_finder.specs.Mixes.{Listing}
 use Rattle.plan_theory.specs.Ranked.{CanRank, base_of, ranked, size_of}
 use Rattle.plan_theory.specs.declared.items.Items.{Items}

@@ -2,7 +2,8 @@ ghost use Rattle.std.specs.Prelude.{◌≡◌, ◌<◌, ℕ, IfOk, IfSome, IfNon
 ghost use Rattle.igp_theory.specs.LoopLaws.{IsFromStart};
 ghost use Rattle.igp_theory.specs.Loops.{IsFault};
 ghost use Rattle.igp_theory.specs.States.{IsSound};
-ghost use Rattle.loop_finder.specs.Faults.{state_in, told_fault};
+ghost use Rattle.loop_finder.specs.Faults.{told_fault};
+ghost use Rattle.igp_theory.specs.Phases.{state_in};
 ghost use Rattle.plan_theory.specs.Plans.{fault_told};
 ghost use Rattle.wave_oracle.specs.Nights.{night_move};
 

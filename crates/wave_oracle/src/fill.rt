@@ -1,7 +1,6 @@
 ghost use Rattle.std.specs.Prelude.{◌≡◌, ◌+◌, ◌<◌, ◌≤◌, ◌^◌, ℕ, length, vec_len};
-ghost use Rattle.igp_theory.specs.Phases.{State};
+ghost use Rattle.igp_theory.specs.Phases.{State, state_in};
 ghost use Rattle.order_core.specs.Rankings.{rank_of};
-ghost use Rattle.loop_finder.specs.Faults.{state_in};
 ghost use Rattle.loop_finder.specs.Times.{times_in};
 ghost use Rattle.plan_theory.specs.Ranked.{size_of};
 ghost use Rattle.wave_oracle.specs.steps.RankedTimes.{times_from, waves_by};

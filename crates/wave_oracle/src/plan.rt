@@ -1,7 +1,7 @@
 ghost use Rattle.std.specs.Prelude.{◌≡◌, ◌≤◌, IfOk, length};
 ghost use Rattle.igp_theory.specs.Migrations.{started};
 ghost use Rattle.rib_mix.specs.Mixture.{migration_of};
-ghost use Rattle.loop_finder.specs.Faults.{state_in};
+ghost use Rattle.igp_theory.specs.Phases.{state_in};
 ghost use Rattle.plan_theory.specs.Plans.{IsNightPlanned, IsPlanned};
 ghost use Rattle.plan_theory.specs.Ranked.{CanRank, size_of};
 

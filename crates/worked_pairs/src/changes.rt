@@ -1,7 +1,7 @@
+use change_orders::{TwoKind, TwoRefusal, read_two, two_laws, two_refusal_text};
 use net_model::Net;
 use std::test::Fail;
 use test_networks::bare;
-use two_pass::{TwoKind, TwoRefusal, read_two, two_laws, two_refusal_text};
 
 #[test]
 fn an_order_file_names_the_waves_of_its_changes(rt: HostRuntime) -> Result<(), Fail> {

@@ -10,7 +10,7 @@ from forwarding import NEW, NEW_DISTANCE, OLD, UNUSED_DISTANCE, Missing, Mixed, 
 from networks import build, look_at_pair, look_at_start
 from order_files import Departs, Journal, flat_run, is_of_changes, read_changes, read_order
 from pictures import picture
-from reasons import packet_way, reasons, spans_of
+from reasons import change_reasons, packet_way, reasons, spans_of, times_spans
 from running_night import observe
 from search import Changes, Routers, Search
 from shown import tables_text
@@ -124,8 +124,8 @@ def decide(command, own, files, said):
         if command == "refute":
             return verdict(mixed, own[0][1])
         return plan(mixed, said["--budget"], Changes(mixed) if command == "twopass" else Routers(mixed))
-    if command == "check" and is_of_changes(own[0][1]):
-        return check_changes(network, own[0])
+    if command in ("check", "why") and is_of_changes(own[0][1]):
+        return (check_changes if command == "check" else why_changes)(network, own[0])
     version, ranks = read_order(own[0], network)
     if command == "check":
         return check(mixed_of(network), version, ranks)
@@ -167,7 +167,7 @@ def decide_pair(command, own, files, said):
     mixed = Mixed(old, ospf_tables(old), ospf_tables(new))
     if command == "paircheck":
         return check(mixed, version, ranks)
-    return plan(mixed, said["--budget"], Routers(mixed)) if command == "pair" else verdict(mixed, own[0][1])
+    return plan(mixed, said["--budget"], Routers(mixed)) if command == "pair" else verdict(mixed, own[0][1], versions=(1,))
 
 
 def mixed_of(network):
@@ -205,6 +205,18 @@ def why(mixed, version, ranks):
     found = fault_of_list(mixed, version, ranks)
     text, code = told_of_list(mixed, version, ranks, found)
     lines = reasons(mixed, ranks) if found is None else packet_way(mixed, found[1], spans_of(version, ranks, found[0]))
+    return text + "".join(line + "\n" for line in lines), code
+
+
+def why_changes(network, order):
+    """The same of a list of single changes."""
+    ranks, mixed = read_changes(order, network), mixed_of(network)
+    found = mixed.times_fault(None, change_times(ranks))
+    text, code = told_of_waves(mixed, 2 * network.size, ranks, change_times(ranks))
+    if found is None:
+        lines = change_reasons(mixed, ranks)
+    else:
+        lines = packet_way(mixed, found[1], times_spans(change_times(ranks), found[0]))
     return text + "".join(line + "\n" for line in lines), code
 
 

@@ -1,9 +1,9 @@
 """A picture of a network and of a list of waves, in the DOT of Graphviz.
 
 It is drawn by `dot`, which reads in it that `neato` is to place the routers. These are its lines: the head; the legend; the
-routers wave by wave, behind a comment each; the subnets that are nodes, the links, each by prefix; the arcs of the ring. A link
-is a subnet that up interfaces of two or more routers share, none a loopback; where more interfaces than two have it, it is a
-node.
+routers wave by wave, behind a comment each; the subnets that are nodes, the links, in the order of their first ends; the arcs of
+the ring. A link is a subnet that up interfaces of two or more routers share, none a loopback; where more interfaces than two
+have it, it is a node. Its ends come in the order of the routers, and those of one in the order of its configuration.
 
 Nothing breaks out of its quotes: names of routers have letters, digits, `-`, `_` and `.` alone, and all else that is printed of
 the configurations is numbers and addresses. The node of a subnet has a slash in its name, so that no router has it.
@@ -43,13 +43,14 @@ def picture(mixed, ranks, verdict, fault):
 
 
 def links_of(network):
-    """The subnets that interfaces of two routers share, none a loopback, by prefix, each with its ends (router, interface)."""
+    """The subnets that interfaces of two routers share, none a loopback, in the order of their first ends, each with its ends
+    (router, interface)."""
     found = {}
     for router, configuration in enumerate(network.configurations):
         for each in up(configuration):
             if not each.is_loopback:
                 found.setdefault(each.subnet, []).append((router, each))
-    return [(subnet, ports) for subnet, ports in sorted(found.items()) if len({router for router, _ in ports}) > 1]
+    return [(subnet, ports) for subnet, ports in found.items() if len({router for router, _ in ports}) > 1]
 
 
 def is_node(ports):

@@ -1,8 +1,9 @@
 """Why a list of waves is as it is: of a safe one what keeps routers from an earlier wave, of an unsafe one the packet's way."""
 
-from forwarding import CONNECTED_DISTANCE, MIDDLE, NEW, NEW_DISTANCE, OLD, UNUSED_DISTANCE, Missing, flat_phases
+from forwarding import CONNECTED_DISTANCE, MIDDLE, NEW, NEW_DISTANCE, OLD, UNUSED_DISTANCE, Missing, change_times, flat_phases
 from forwarding import phase_before, router_times
 from order_files import flat_run
+from search import Changes
 from shown import hops_text, prefix_text
 from words import address_text, base_of
 
@@ -32,6 +33,37 @@ def reasons(mixed, ranks):
         assert all(ranks[other] >= rank - 1 for other, tag in loop.turns if tag == "O")
         ring = " ".join(f"{names[other]}:{tag}" for other, tag in loop.turns)
         lines.append(f"{names[router]} wave {rank + 1} after {names[min(before)]} {address_text(loop.address)} {ring}")
+    return lines
+
+
+def change_reasons(mixed, ranks):
+    """The same of each single change behind the first wave, told by the changes at which the routers of the loop switch.
+
+    A second change in the wave behind its router's first comes after that: a wave has one change of a router.
+    """
+    names, items, lines = mixed.network.names, Changes(mixed), []
+    for item in flat_run(ranks):
+        rank = ranks[item]
+        if rank == 0:
+            continue
+        first_words = f"{items.word(item)} wave {rank + 1}"
+        if item % 2 == 1 and ranks[item - 1] == rank - 1:
+            lines.append(f"{first_words} after {items.word(item - 1)}")
+            continue
+        earlier = [*ranks[:item], rank - 1, *ranks[item + 1:]]
+        found = mixed.times_fault(None, change_times(earlier))
+        if found is None:
+            lines.append(f"{first_words} may be earlier")
+            continue
+        wave, loop = found
+        column = mixed.column(loop.address)
+        turns = [(column.switch(router), tag) for router, tag in loop.turns]
+        before = [other for other, tag in turns if tag == "O" and ranks[other] == rank - 1]
+        # The law of reasons, as of routers: the change is the one at which its router switches for the address of the loop.
+        assert wave == rank and (item, "N") in turns and before
+        assert all(ranks[other] >= rank - 1 for other, tag in turns if tag == "O")
+        ring = " ".join(f"{names[router]}:{tag}" for router, tag in loop.turns)
+        lines.append(f"{first_words} after {items.word(min(before))} {address_text(loop.address)} {ring}")
     return lines
 
 
@@ -92,5 +124,9 @@ def spans_of(version, ranks, number):
     """The phases of the routers in a state of an order, or in a wave of a list, each by its number."""
     if version == 1:
         return [(phase,) for phase in flat_phases(flat_run(ranks), number)]
-    times = router_times([OLD] * len(ranks), ranks)
+    return times_spans(router_times([OLD] * len(ranks), ranks), number)
+
+
+def times_spans(times, number):
+    """The phases of the routers in a wave, by the waves of their changes."""
     return [tuple(range(phase_before(number, both), phase_before(number + 1, both) + 1)) for both in times]

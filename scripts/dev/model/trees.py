@@ -32,10 +32,10 @@ class Wrong(Exception):
         self.line, self.kind = line, kind
 
 
-def verdict(mixed, text):
-    """What is said of a tree, and the code."""
+def verdict(mixed, text, versions=(1, 2, 3)):
+    """What is said of a tree of one of some versions, and the code."""
     try:
-        judge = Judge(mixed, lines_of(text))
+        judge = Judge(mixed, lines_of(text), versions)
         judge.judge()
     except Wrong as wrong:
         return f"wrong {wrong.line} {KINDS.index(wrong.kind) + 1} {wrong.kind}\n", 1
@@ -47,8 +47,9 @@ def verdict(mixed, text):
 class Judge:
     """Judges a tree line by line. A place is (pair, place above), None at the top; `places` are those that are left to fill."""
 
-    def __init__(self, mixed, lines):
+    def __init__(self, mixed, lines, versions):
         self.mixed, self.network, self.lines = mixed, mixed.network, lines
+        self.heads = [f"tree {version}" for version in versions]
         self.at = 0
         self.start, self.columns, self.places = [OLD] * mixed.size, {}, [None]
         self.branches = self.leaves = self.opens = 0
@@ -85,7 +86,7 @@ class Judge:
     def hold_head(self):
         """The header, and in version 3 the line of the phases at the start."""
         self.at = 1
-        self.hold(self.lines[:1] in (["tree 1"], ["tree 2"], ["tree 3"]), "Form")
+        self.hold(self.lines[:1] in [[head] for head in self.heads], "Form")
         self.version = int(self.lines[0][-1])
         self.base = {(2 * router, 2 * router + 1) for router in range(self.mixed.size)} if self.version == 2 else set()
         if self.version != 3:

@@ -3,8 +3,8 @@ use Rattle.std.specs.Prelude.{◌≡◌, ℕ, ◌+◌, ◌^◌, ◌<◌, ◌==�
 use Rattle.order_core.specs.Rankings.{rank_of}
 use Rattle.order_core.specs.Turns.{is_old}
 use Rattle.order_core.specs.declared.turn.Turn.{Turn}
-use Rattle.igp_theory.specs.Phases.{all_old}
-use Rattle.loop_finder.specs.Faults.{Finding, state_in}
+use Rattle.igp_theory.specs.Phases.{all_old, state_in}
+use Rattle.loop_finder.specs.Faults.{Finding}
 use Rattle.loop_finder.specs.Mixes.{Listing}
 use Rattle.rib_mix.specs.Mixture.{Mixture, migration_of}
 use Rattle.explained_waves.specs.Reasons.{AreSoundRanks}

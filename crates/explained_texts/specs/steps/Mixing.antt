@@ -1,5 +1,5 @@
 -- What tables keep, and parts of lines: hops that have a name, and the routers at which a prefix is connected.
-use Rattle.std.specs.Prelude.{◌≡◌, ℕ, ◌<◌, ◌↔◌, ◌++◌, List, length, map, All, AllPairs, Contains}
+use Rattle.std.specs.Prelude.{◌≡◌, ℕ, ◌<◌, ◌↔◌, ◌++◌, List, length, map, AllPairs, Contains}
 use Rattle.net_addr.specs.Addresses.{Block, IsBlock}
 use Rattle.net_model.specs.Network.{Connected, Network}
 use Rattle.net_model.specs.Refusals.{IsNetwork}
@@ -7,13 +7,7 @@ use Rattle.net_model.specs.RouterNames.{names_of}
 use Rattle.igp_theory.specs.Migrations.{Migration}
 use Rattle.printed_lines.specs.Words.{router_word, spaced}
 use Rattle.route_core.specs.declared.entry.Entry.{Entry}
-use Rattle.route_core.specs.declared.entry.Entry.TheVariants.{Via, Discard}
 use Rattle.explained_texts.specs.TextLaws.{HasOneEntry}
-
--- the hops of an entry are below n
-abbrev pub HasHopsBelow : ℕ → Entry → Type 0
-HasHopsBelow n (Via hops) = All (λ h. h < n) hops
-HasHopsBelow n Discard = Unit {0}
 
 -- the routers below n at which a prefix is connected, ascending
 pub record AreOriginatorsBelow (net : Network) (p : Block) (n : ℕ) (routers : List ℕ) : Type 0 where

@@ -7,7 +7,7 @@ use Rattle.igp_theory.specs.declared.phase.Phase.{Phase}
 use Rattle.order_core.specs.Marks.{IsMarked}
 use Rattle.order_core.specs.declared.turn.Turn.{Turn}
 use Rattle.rib_mix.specs.Mixture.{Mixture}
-use Rattle.loop_finder.specs.Faults.{state_in}
+use Rattle.igp_theory.specs.Phases.{state_in}
 use Rattle.loop_finder.specs.Mixes.{Listing, Mix, mix_of, migration_in, sample_of}
 
 -- two states and a class: what is mixed, the phase of each router in the first state and in the last, whether

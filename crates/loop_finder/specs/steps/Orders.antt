@@ -3,7 +3,7 @@ use Rattle.std.specs.Prelude.{◌≡◌, ◌≢◌, ℕ, List}
 use Rattle.igp_theory.specs.States.{state_of}
 use Rattle.igp_theory.specs.declared.phase.Phase.{Phase}
 use Rattle.igp_theory.specs.declared.phase.Phase.TheVariants.{Old, Middle, New}
-use Rattle.loop_finder.specs.Faults.{state_in}
+use Rattle.igp_theory.specs.Phases.{state_in}
 
 -- the phase after the next change
 abbrev pub next_phase : Phase → Phase

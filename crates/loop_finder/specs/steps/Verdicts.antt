@@ -1,14 +1,14 @@
 -- What is told of a class, of a state and of an order, over what is mixed.
 use Rattle.std.specs.Prelude.{◌≡◌, ℕ, ◌≤◌, ◌<◌, Bool, List, length, Option, Some, None}
 use Rattle.igp_theory.specs.Loops.{Fault as WholeFault, AroundRing, IsFoundRing, IsFault, IsFirstFault}
-use Rattle.igp_theory.specs.Phases.{State}
+use Rattle.igp_theory.specs.Phases.{State, state_in}
 use Rattle.igp_theory.specs.WaveFaults.{IsFaultOver, IsTimesFault}
 use Rattle.igp_theory.specs.TimetableLaws.{IsStateOfSomeWave}
 use Rattle.igp_theory.specs.Timetables.{Timetable, IsBetweenStates, IsStateOfWave}
 use Rattle.igp_theory.specs.declared.phase.Phase.{Phase}
 use Rattle.order_core.specs.Turns.{routers_of}
 use Rattle.order_core.specs.declared.turn.Turn.{Turn}
-use Rattle.loop_finder.specs.Faults.{state_in, told_fault}
+use Rattle.loop_finder.specs.Faults.{told_fault}
 use Rattle.loop_finder.specs.Mixes.{sample_of, Mix, migration_in}
 use Rattle.loop_finder.specs.steps.ClassSteps.{ClassState, ClassStep, IsTagged, Moves, FirstStuck}
 use Rattle.loop_finder.specs.steps.Walks.{ReturnsNever}

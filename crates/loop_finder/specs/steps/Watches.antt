@@ -1,9 +1,8 @@
 -- Changes of a router, and what becomes of the faults of states.
 use Rattle.std.specs.Prelude.{◌≡◌, ℕ, List, length}
-use Rattle.igp_theory.specs.Phases.{State}
+use Rattle.igp_theory.specs.Phases.{State, state_in}
 use Rattle.igp_theory.specs.declared.phase.Phase.{Phase}
 use Rattle.order_core.specs.declared.turn.Turn.{Turn}
-use Rattle.loop_finder.specs.Faults.{state_in}
 use Rattle.loop_finder.specs.steps.Parts.{DifferAt}
 use Rattle.loop_finder.specs.Mixes.{sample_of, Mix}
 use Rattle.loop_finder.specs.Soundness.{SoundAt, Sound}

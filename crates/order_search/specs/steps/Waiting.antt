@@ -20,13 +20,13 @@ abbrev pub children_below : List Pair → List Turn → List Child → List Chil
 children_below pairs turns children = map (child_of (length pairs)) (child_pairs turns) ++ children
 
 -- the pairs of a child's place: the first ones of those assumed now, and its own
-abbrev pub place_of : List Pair → Child → Place
-place_of pairs c = take c.above pairs ++ (c.before, c.after) ∷ []
+abbrev pub place_at : List Pair → Child → Place
+place_at pairs c = take c.above pairs ++ (c.before, c.after) ∷ []
 
 -- the places of some children, the next one first; each stands no lower than those after it
 abbrev pub places_of : List Pair → List Child → List Place
 places_of pairs [] = []
-places_of pairs (c ∷ children) = place_of pairs c ∷ places_of (take c.above pairs) children
+places_of pairs (c ∷ children) = place_at pairs c ∷ places_of (take c.above pairs) children
 
 -- a child's pair is of two routers below n, and isn't implied by the pairs above it, the base among them
 pub record IsChild (n : ℕ) (base pairs : List Pair) (c : Child) : Type 0 where

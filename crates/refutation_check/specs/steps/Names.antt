@@ -2,7 +2,7 @@
 use Rattle.std.specs.Prelude.{◌≢◌, ℕ, List, AllPairs, Contains}
 use Rattle.std.specs.List.{AllZip}
 use Rattle.plan_theory.specs.declared.items.Items.{Items}
-use Rattle.ranked_items.specs.Numbers.{NamesNumber}
+use Rattle.plan_theory.specs.Numbers.{NamesNumber}
 use Rattle.net_model.specs.Network.{Network}
 use Rattle.order_core.specs.Orders.{AreDistinct}
 use Rattle.order_core.specs.Turns.{routers_of}

@@ -1,5 +1,5 @@
 -- How far a tree file has been read.
-use Rattle.std.specs.Prelude.{◌≡◌, ℕ, ◌+◌, ◌<◌, List, [], ◌∷◌, ◌++◌, length, map}
+use Rattle.std.specs.Prelude.{◌≡◌, ℕ, ◌<◌, List, [], ◌∷◌, ◌++◌, map}
 use Rattle.net_addr.specs.Lines.{line_texts}
 use Rattle.net_addr.specs.Spans.{bytes_of}
 use Rattle.net_addr.specs.declared.line.Line.{Line}

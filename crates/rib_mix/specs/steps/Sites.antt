@@ -1,4 +1,5 @@
 -- What counts at a router, and what its tables keep.
+use Rattle.igp_theory.specs.Forwarding.{Kind, Counts}
 use Rattle.std.specs.Prelude.{◌≡◌, ℕ, List, length, slice_get, All, Some, Contains}
 use Rattle.net_addr.specs.Addresses.{Block, IsBlock}
 use Rattle.net_model.specs.Configuration.{Configuration}
@@ -8,7 +9,6 @@ use Rattle.route_core.specs.Rows.{AreTableRows, IsTable, kept_in, row_prefixes, 
 use Rattle.route_core.specs.Tables.{HasDistinctPrefixes}
 use Rattle.route_core.specs.declared.entry.Entry.{Entry}
 use Rattle.route_core.specs.declared.table.TableParts.{TableParts}
-use Rattle.igp_theory.specs.Forwarding.{Usable, Counts}
 use Rattle.igp_theory.specs.declared.phase.Phase.{Phase}
 use Rattle.rib_mix.specs.declared.both_tables.BothTables.{BothTables}
 use Rattle.rib_mix.specs.Sites.{Site, table_of, own_migration}
@@ -21,10 +21,6 @@ prefixes_in parts = row_prefixes parts.prefixes.now (rows_in (kept_in parts))
 -- the rows of the parts are those of a table
 abbrev pub HasTableRows : TableParts → Type 0
 HasTableRows parts = AreTableRows parts.prefixes.now parts.entries.now (rows_in (kept_in parts))
-
--- a kind of entries: by their prefix, distance and what is used
-abbrev pub Kind : Type 1
-Kind = Block → ℕ → Usable → Type 0
 
 -- the entries that count at a router in a phase
 abbrev pub CountsAt : Site → Phase → Kind

@@ -5,14 +5,14 @@ use Rattle.net_model.specs.Network.{Network}
 use Rattle.net_model.specs.Refusals.{IsNetwork}
 use Rattle.net_model.specs.declared.bounds.TheConstants.{MOST_DISTANCE}
 use Rattle.route_core.specs.Rows.{IsTable, kept_in, rows_in}
-use Rattle.igp_theory.specs.Forwarding.{Usable}
+use Rattle.igp_theory.specs.Forwarding.{Usable, Kind}
 use Rattle.igp_theory.specs.declared.phase.Phase.{Phase}
 use Rattle.prefix_atoms.specs.Longest.{number_at}
 use Rattle.prefix_atoms.specs.Nested.{IsTop}
 use Rattle.rib_mix.specs.Cells.{IsCell, IsUsable, use_in}
 use Rattle.rib_mix.specs.Rows.{AreSubnets}
 use Rattle.rib_mix.specs.Sites.{Site}
-use Rattle.rib_mix.specs.steps.Sites.{CountsAt, HasOspfDistance, IsLawfulSite, Kind, prefixes_in, AreAmong}
+use Rattle.rib_mix.specs.steps.Sites.{CountsAt, HasOspfDistance, IsLawfulSite, prefixes_in, AreAmong}
 use Rattle.rib_mix.specs.steps.Spots.{AreTableSpots, IsPlaced, number_in}
 use Rattle.rib_mix.specs.steps.Uses.{cell_at, no_cell}
 use Rattle.rib_mix.specs.declared.both_tables.BothTables.{BothTables}

@@ -1,21 +1,17 @@
 -- Texts that grow by the lines of entries.
-use Rattle.std.specs.Prelude.{◌≡◌, ℕ, ◌<◌, ◌++◌, List, All}
+use Rattle.igp_theory.specs.Routes.{HasHopsBelow}
+use Rattle.std.specs.Prelude.{◌≡◌, ℕ, ◌<◌, ◌++◌, List}
 use Rattle.net_addr.specs.Addresses.{Block}
 use Rattle.route_core.specs.Tables.{IsListed}
 use Rattle.route_core.specs.declared.entry.Entry.{Entry}
-use Rattle.route_core.specs.declared.entry.Entry.TheVariants.{Via, Discard}
 use Rattle.igp_theory.specs.Migrations.{Migration}
 use Rattle.shown_tables.specs.ShownEntries.{AreInShownOrder, ShownEntry, tables_by}
 use Rattle.shown_tables.specs.TablesTexts.{shown_text}
 use Rattle.shown_tables.specs.declared.igp.Igp.{Igp}
 
--- the hops of an entry, and of all entries of a table, are below n
-abbrev pub AreHopsBelow : ℕ → Entry → Type 0
-AreHopsBelow n (Via hops) = All (λ h. h < n) hops
-AreHopsBelow n Discard = Unit {0}
-
+-- the hops of all entries of a table are below n
 abbrev pub HaveHopsBelow : ℕ → List (Block × Entry) → Type 0
-HaveHopsBelow n table = (dest : Block) (entry : Entry) → IsListed table dest entry → AreHopsBelow n entry
+HaveHopsBelow n table = (dest : Block) (entry : Entry) → IsListed table dest entry → HasHopsBelow n entry
 
 -- an entry of this table, which is the router's by the protocol
 pub record IsOfShownTable (router : ℕ) (igp : Igp) (table : List (Block × Entry)) (one : ShownEntry) : Type 0 where

@@ -1,4 +1,5 @@
 -- The best of what a router has of one kind, and of two kinds.
+use Rattle.igp_theory.specs.Forwarding.{Kind, NewCounts, OldCounts, Usable, connected, of_new, of_old}
 use Rattle.std.specs.Prelude.{◌≡◌, ◌≢◌, ℕ, ◌≤◌, Bool, ◌&&◌, ◌||◌}
 use Rattle.std.specs.Prelude.{◌==◌, nat_lt, nat_le, if◌then◌else◌, List, Option, None, Some}
 use Rattle.std.specs.Prelude.{MatchOption}
@@ -8,14 +9,9 @@ use Rattle.net_model.specs.Network.{Connected, HasConfiguration, Network}
 use Rattle.net_model.specs.declared.bounds.TheConstants.{ISIS_DISTANCE, MOST_DISTANCE}
 use Rattle.route_core.specs.Tables.{IsListed}
 use Rattle.route_core.specs.declared.entry.Entry.{Entry}
-use Rattle.igp_theory.specs.Forwarding.{NewCounts, OldCounts, Usable, connected, of_new, of_old}
 use Rattle.igp_theory.specs.declared.phase.Phase.{Phase}
 use Rattle.used_routes.specs.declared.used.Origin.{Origin}
 use Rattle.used_routes.specs.declared.used.UsedRoute.{UsedRoute}
-
--- entries that count: prefixes with their distances
-abbrev pub Counting : Type 1
-Counting = Block → ℕ → Usable → Type 0
 
 -- connected prefixes, entries of the old table, entries of the new one
 pub data OfConnected (net : Network) (u : ℕ) (p : Block) : ℕ → Usable → Type 0 where
@@ -30,7 +26,7 @@ pub data OfNew (table : List (Block × Entry)) (phase : Phase) (p : Block) : ℕ
   in_new : {e : Entry} → NewCounts phase → IsListed table p e → OfNew table phase p ISIS_DISTANCE (of_new e)
 
 -- the best of entries: the longest that contains the address, and of these the one of lowest distance
-pub record IsBestUsed (usable : Origin → Usable) (counting : Counting) (a : ℕ) (route : UsedRoute) : Type 0 where
+pub record IsBestUsed (usable : Origin → Usable) (counting : Kind) (a : ℕ) (route : UsedRoute) : Type 0 where
   pub counts : counting route.prefix route.distance (usable route.origin)
   pub contains : ContainsAddress route.prefix a
   pub longest : (q : Block) (d : ℕ) (other : Usable) → counting q d other → ContainsAddress q a → q.len ≤ route.prefix.len
@@ -38,11 +34,11 @@ pub record IsBestUsed (usable : Origin → Usable) (counting : Counting) (a : �
       route.distance ≤ d
 
 -- none of them contains the address
-abbrev pub HasNone : Counting → ℕ → Type 0
+abbrev pub HasNone : Kind → ℕ → Type 0
 HasNone counting a = (q : Block) (d : ℕ) (other : Usable) → counting q d other → ContainsAddress q a → ⊥
 
 -- the best, if any contains the address
-abbrev pub IsFoundUsed : (Origin → Usable) → Counting → ℕ → Option UsedRoute → Type 0
+abbrev pub IsFoundUsed : (Origin → Usable) → Kind → ℕ → Option UsedRoute → Type 0
 IsFoundUsed usable counting a found = MatchOption found (HasNone counting a) (IsBestUsed usable counting a)
 
 -- the first of two routes is longer, or as long and of no higher distance

@@ -1,7 +1,6 @@
 use Rattle.std.proofs.Common.{Bool, sym, subst}
 use Rattle.std.specs.Bool.{OnTrue}
-use Rattle.igp_theory.specs.Phases.{State, all_old}
-use Rattle.loop_finder.specs.Faults.{state_in}
+use Rattle.igp_theory.specs.Phases.{State, all_old, state_in}
 use Rattle.loop_finder.specs.Soundness.{Sound}
 use Rattle.loop_finder.proofs.OrderStates.{same_state}
 use Rattle.loop_finder.specs.Mixes.{mix_of}

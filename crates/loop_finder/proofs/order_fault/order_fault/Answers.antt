@@ -1,9 +1,8 @@
 use Rattle.std.proofs.Common.{◌≡◌, ℕ, ◌+◌, length, ap, ◌∙◌, sym, subst, arith, below_more}
 use Rattle.net_model.specs.Network.{Network}
 use Rattle.order_core.proofs.Orders.{order_length}
-use Rattle.igp_theory.specs.Phases.{State}
+use Rattle.igp_theory.specs.Phases.{State, state_in}
 use Rattle.igp_theory.specs.States.{state_of}
-use Rattle.loop_finder.specs.Faults.{state_in}
 use Rattle.loop_finder.specs.Soundness.{Sound}
 use Rattle.loop_finder.specs.steps.Verdicts.{Faulty}
 use Rattle.loop_finder.proofs.OrderStates.{same_state}

@@ -5,7 +5,7 @@ use Rattle.order_core.specs.Turns.{routers_of}
 use Rattle.order_core.specs.declared.turn.Tag.TheVariants as tag
 use Rattle.order_core.specs.declared.turn.Turn.{Turn}
 use Rattle.rib_mix.specs.Mixture.{migration_of}
-use Rattle.loop_finder.specs.Faults.{state_in}
+use Rattle.igp_theory.specs.Phases.{state_in}
 use Rattle.loop_finder.specs.steps.Rings.{next_in}
 use Rattle.loop_finder.specs.steps.Starts.{StepsFrom}
 use Rattle.loop_finder.proofs.Started.{around_places, must_from, same_routers, step_at, tag_from, tags_more}
@@ -41,15 +41,18 @@ loop-place-preserved g c =
       routers = same_routers c.loop-place.ring c.loop-place.place turn first_turn within refl ∙ c.loop-place.invariant.routers;
       tags = tags_more (started (state_in c.args.start.now) (migration_of g.O.RouteSource.table g.N.RouteSource.table c.args.mixed.now)) c.args.address
           c.loop-place.place (routers_of c.args.ring.now) c.loop-place.ring turn within
-          (subst (λ (n : ℕ). IsTag (started (state_in c.args.start.now) (migration_of g.O.RouteSource.table g.N.RouteSource.table c.args.mixed.now)) c.args.address turn n) next
+          (subst (λ (n : ℕ). IsTag (started (state_in c.args.start.now)
+          (migration_of g.O.RouteSource.table g.N.RouteSource.table c.args.mixed.now)) c.args.address turn n) next
           (tag_from (migration_of g.O.RouteSource.table g.N.RouteSource.table c.args.mixed.now) (state_in c.args.start.now) c.args.address
           c.turn_after-next.result turn c.start_tag-tag.ensures)) c.loop-place.invariant.tags;
     }
 
 pub returns-clause-tags : goal.returns-clause-tags
 returns-clause-tags g c =
-    around_places (λ (turn : Turn) (next : ℕ). IsTag (started (state_in c.args.start.now) (migration_of g.O.RouteSource.table g.N.RouteSource.table c.args.mixed.now))
+    around_places (λ (turn : Turn) (next : ℕ). IsTag (started (state_in c.args.start.now)
+    (migration_of g.O.RouteSource.table g.N.RouteSource.table c.args.mixed.now))
     c.args.address turn next) first_turn c.loop-place.ring (λ k within.
-    subst (λ (us : List ℕ). IsTag (started (state_in c.args.start.now) (migration_of g.O.RouteSource.table g.N.RouteSource.table c.args.mixed.now)) c.args.address
+    subst (λ (us : List ℕ). IsTag (started (state_in c.args.start.now)
+    (migration_of g.O.RouteSource.table g.N.RouteSource.table c.args.mixed.now)) c.args.address
     (get_or c.loop-place.ring k first_turn) (next_in us k)) (sym c.loop-place.invariant.routers)
     (c.loop-place.invariant.tags first_turn k (omega (arith, within, c.loop-place-test.false, c.loop-place.auto.ring))))

@@ -4,7 +4,7 @@ use Rattle.igp_theory.specs.Migrations.{started}
 use Rattle.order_core.specs.Turns.{routers_of}
 use Rattle.order_core.specs.declared.turn.Turn.{Turn}
 use Rattle.rib_mix.specs.Mixture.{migration_of}
-use Rattle.loop_finder.specs.Faults.{state_in}
+use Rattle.igp_theory.specs.Phases.{state_in}
 use Rattle.loop_finder.specs.steps.Rings.{next_in}
 use Rattle.loop_finder.proofs.retag.tag_from_start.Given as goal
 

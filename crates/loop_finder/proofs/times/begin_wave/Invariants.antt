@@ -1,6 +1,6 @@
 use Rattle.std.proofs.Common.{◌≡◌, ℕ, ◌<◌}
 use Rattle.igp_theory.specs.Timetables.{state_before}
-use Rattle.loop_finder.specs.Faults.{state_in}
+use Rattle.igp_theory.specs.Phases.{state_in}
 use Rattle.loop_finder.specs.Times.{times_in}
 use Rattle.loop_finder.proofs.times.begin_wave.Given as goal
 

@@ -1,4 +1,5 @@
 use Rattle.std.proofs.Common.{◌+◌, ◌∙◌, refl, arith}
+use Rattle.std.proofs.lemmas.Bool.{OnTrue_at}
 use Rattle.loop_finder.specs.Times.{times_in}
 use Rattle.loop_finder.proofs.CalmLaws.{sound_waves_before}
 use Rattle.loop_finder.proofs.OnFalse.{on_true}
@@ -15,9 +16,12 @@ wave_fault-requires-clause-begun g c = on_true c.begins_sound-known.result c.beg
 pub loop-wave-init : goal.loop-wave-init
 loop-wave-init g c = record {
   some = c.first_stirred-wave.ensures.some;
-  sound = sound_waves_before (mix_of g.O.RouteSource.table g.N.RouteSource.table c.args.mixed.now) c.args.parts.now (times_in c.args.times.now)
-      c.args.calm.now c.args.begun c.first_stirred-wave.result c.requires.order c.requires.parts c.requires.calm c.requires.begun
-      c.first_stirred-wave.ensures.begun c.first_stirred-wave.ensures.calm c.first_stirred-wave.result (omega arith);
+  sound = sound_waves_before (mix_of g.O.RouteSource.table g.N.RouteSource.table c.args.mixed.now) c.args.parts.now c.args.pieces.now.all.items
+      c.args.pieces.now.made.items (times_in c.args.times.now) c.args.calm.now c.args.begun c.first_stirred-wave.result c.requires.order c.requires.parts
+      c.requires.pieces.made c.requires.calm c.requires.begun
+      (λ more. OnTrue_at (c.first_stirred-wave.ensures.told more) c.is_told.ensures.begun)
+      (λ more. OnTrue_at (c.first_stirred-wave.ensures.told more) c.is_told.ensures.moves)
+      c.first_stirred-wave.ensures.calm c.first_stirred-wave.result (omega arith);
   room = c.requires.room;
   ring = refl;
 }

@@ -1,9 +1,9 @@
 use Rattle.std.proofs.Common.{length, subst}
 use Rattle.std.proofs.lemmas.Result.{IfOk-weaker}
 use Rattle.net_model.specs.Network.{Network}
-use Rattle.two_pass.specs.TwoFaults.{IsLeastTwoFault, RefusesTwo}
-use Rattle.two_pass.specs.TwoFiles.{AreTwoWaves, NamesTwo}
-use Rattle.two_pass.specs.TwoTexts.{two_refusal_text}
+use Rattle.change_orders.specs.TwoFaults.{IsLeastTwoFault, RefusesTwo}
+use Rattle.change_orders.specs.TwoFiles.{AreTwoWaves, NamesTwo}
+use Rattle.change_orders.specs.TwoTexts.{two_refusal_text}
 use Rattle.migration_report.specs.declared.decision.Decision.TheVariants.{BadChanges}
 use Rattle.migrate_cli.specs.ChangesDecision.{IsChangesCheck, IsChangesDecision}
 use Rattle.migrate_cli.specs.ChangesDecision.IsChangesCheck.{faulty_changes, named_changes}
@@ -12,8 +12,8 @@ use Rattle.migrate_cli.specs.steps.Tables.{move_of}
 use Rattle.migrate_cli.proofs.AnswerFacts.{from_equal}
 use Rattle.migrate_cli.proofs.changes.check_changes.Goals as goal
 
-pub judge_changes-requires : goal.judge_changes-requires
-judge_changes-requires c = subst (λ (net : Network). AreTwoWaves (length net) c.in-Ok.waves) c.net.ensures c.in-Ok.ensures.in_turn
+pub judge_changes-requires-clause-waves : goal.judge_changes-requires-clause-waves
+judge_changes-requires-clause-waves c = subst (λ (net : Network). AreTwoWaves (length net) c.in-Ok.waves) c.net.ensures c.in-Ok.ensures.in_turn
 
 pub returns-in-Ok : goal.returns-in-Ok
 returns-in-Ok c =

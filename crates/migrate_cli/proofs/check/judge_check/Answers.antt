@@ -1,6 +1,6 @@
-use Rattle.std.proofs.Common.{◌≡◌, ◌∙◌, ◌<◌, length, subst, sym, true≢false}
+use Rattle.std.proofs.Common.{◌∙◌, ◌<◌, length, subst, sym, true≢false}
 use Rattle.std.proofs.lemmas.Result.{IfOk-weaker}
-use Rattle.two_pass.specs.TwoFaults.{two_header}
+use Rattle.change_orders.specs.TwoFaults.{two_header}
 use Rattle.migrate_cli.specs.ChangesDecision.{IsChangesCheck}
 use Rattle.migrate_cli.specs.CheckDecision.{IsCheckDecision, IsCheckOver}
 use Rattle.migrate_cli.specs.CheckDecision.IsCheckDecision.{by_changes, by_routers}

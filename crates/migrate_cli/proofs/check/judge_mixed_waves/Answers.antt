@@ -1,47 +1,28 @@
-use Rattle.std.proofs.Common.{◌∙◌, ◌≡◌, ap, length, refl, subst, sym}
+use Rattle.std.proofs.Common.{subst, sym}
 use Rattle.igp_theory.specs.Phases.{all_old}
 use Rattle.igp_theory.specs.Timetables.{router_times}
-use Rattle.igp_theory.specs.WaveFaults.{IsTimesFault}
-use Rattle.igp_theory.specs.Waves.{AreSeamlessWaves}
 use Rattle.igp_theory.proofs.WaveFaultLaws.{times_fault_unsound}
-use Rattle.loop_finder.specs.Faults.{told_fault}
-use Rattle.order_core.specs.Rankings.{IsRanking}
 use Rattle.ospf_routes.specs.RouteTables.{table_at}
 use Rattle.rib_mix.specs.Mixture.{migration_of}
 use Rattle.migration_report.specs.declared.decision.Decision.TheVariants.{SafeWaves}
 use Rattle.migrate_cli.specs.CheckDecision.{IsWavesDecision}
 use Rattle.migrate_cli.specs.CheckDecision.IsWavesDecision.{safe_waves, unsafe_wave}
+use Rattle.migrate_cli.specs.steps.FirstUnsound.{IsFirstUnsoundWave}
 use Rattle.migrate_cli.specs.steps.Tables.{move_of, new_table}
 use Rattle.migrate_cli.proofs.TableFacts.{seamless_waves, times_fault}
 use Rattle.migrate_cli.proofs.check.judge_mixed_waves.Goals as goal
 
-pub waves_fault-requires : goal.waves_fault-requires
-waves_fault-requires c =
-    let each : length c.args.waves.now ≡ length c.in_ok-finder.finder.mixture.net =
-    c.requires ∙ ap (λ m. length m.net) (sym c.in_ok-finder.ensures.mixture) in
-    subst (λ ranks. IsRanking (length c.in_ok-finder.finder.mixture.net) ranks) (sym c.ranks.ensures.ranks)
-    (subst (λ n. IsRanking n c.args.waves.now) each c.ranks.ensures.ranking)
-
 pub returns-in-None : goal.returns-in-None
 returns-in-None c = λ of mixes.
     let ranks = c.args.waves.now in
-    let seamless = subst (λ m. AreSeamlessWaves (migration_of table_at new_table m) ranks) c.in_ok-finder.ensures.mixture
-    (subst (AreSeamlessWaves (migration_of table_at new_table c.in_ok-finder.finder.mixture)) c.ranks.ensures.ranks (c.in-None.ensures.seamless.0 refl)) in
     subst (λ n. IsWavesDecision (move_of of) ranks (SafeWaves n)) (sym c.count.ensures)
-    (safe_waves (seamless_waves of c.args.mixed.now mixes ranks seamless))
+    (safe_waves (seamless_waves of c.args.mixed.now mixes ranks
+    (subst (IsFirstUnsoundWave (migration_of table_at new_table c.args.mixed.now) ranks) c.in-None.is c.in_ok-found.ensures)))
 
-pub returns : goal.returns
-returns c = λ of mixes.
+pub returns-in-Some : goal.returns-in-Some
+returns-in-Some c = λ of mixes.
     let ranks = c.args.waves.now in
-    let move = move_of of in
-    let told = told_fault c.in-Some.fault c.waves_fault.new.self.ring in
-    let first = subst (λ some. IsTimesFault (migration_of table_at new_table c.args.mixed.now) (router_times all_old some) c.in-Some.wave told)
-    c.ranks.ensures.ranks
-    (subst (λ m. IsTimesFault (migration_of table_at new_table m) (router_times all_old c.ranks.result.now) c.in-Some.wave told)
-    c.in_ok-finder.ensures.mixture c.in-Some.ensures.fault) in
-    let whole = c.in_ok-fault-in-Some.fault in
-    let fault = subst (IsTimesFault move (router_times all_old ranks) c.in-Some.wave)
-    (sym (c.in_ok-fault-in-Some.ensures ∙ ap (told_fault c.in-Some.fault) c.ring.ensures))
-    (times_fault of c.args.mixed.now mixes (router_times all_old ranks) c.in-Some.wave told first) in
-    unsafe_wave c.in-Some.wave whole
-    (λ seamless. times_fault_unsound move (router_times all_old ranks) c.in-Some.wave _ fault seamless.throughout) fault
+    let fault = times_fault of c.args.mixed.now mixes (router_times all_old ranks) c.in-Some.wave _
+    (subst (IsFirstUnsoundWave (migration_of table_at new_table c.args.mixed.now) ranks) c.in-Some.is c.in_ok-found.ensures) in
+    unsafe_wave c.in-Some.wave c.in-Some.fault
+    (λ seamless. times_fault_unsound (move_of of) (router_times all_old ranks) c.in-Some.wave _ fault seamless.throughout) fault

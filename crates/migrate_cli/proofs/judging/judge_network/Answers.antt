@@ -13,8 +13,9 @@ returns-in-Some c =
     let command = c.args.command.now in
     let texts = given_texts c.args.own.now c.args.configs.now in
     under_premise (IsOutcome command texts) c.refuse_start.result (λ gives. start_refused command texts c.args.net [] c.in-Some.router c.refuse_start.result
-    (gives_one command.kind c.args.configs.now c.args.net c.requires.one gives) c.in-Some.ensures.0 c.in-Some.ensures.1 c.refuse_start.ensures)
+    (gives_one command.kind c.args.configs.now c.args.net c.requires.networks c.requires.one gives)
+    c.in-Some.ensures.0 c.in-Some.ensures.1 c.refuse_start.ensures)
 
 pub returns : goal.returns
 returns c = λ gives. decided c.args.net [] c.in_ok-decision.decision
-    (gives_one c.args.command.now.kind c.args.configs.now c.args.net c.requires.one gives) c.in_default.ensures c.in_ok-decision.ensures
+    (gives_one c.args.command.now.kind c.args.configs.now c.args.net c.requires.networks c.requires.one gives) c.in_default.ensures c.in_ok-decision.ensures

@@ -7,7 +7,7 @@ use Rattle.migrate_cli.specs.Configurations.{GiveNetworks, RefusesFirst}
 use Rattle.migrate_cli.specs.Outcomes.{IsOutcome}
 use Rattle.migrate_cli.specs.steps.Unread.{IsUnread}
 use Rattle.migrate_cli.proofs.AnswerFacts.{refused_network, unread_outcome}
-use Rattle.migrate_cli.proofs.GroupLaws.{both_read, first_refuses, gives_two, second_refuses}
+use Rattle.migrate_cli.proofs.GroupLaws.{both_read, first_refuses, gives_two, over_asks, second_refuses}
 use Rattle.migrate_cli.proofs.NetworkFacts.{first_has_router, names_two}
 use Rattle.migrate_cli.proofs.judging.judge_networks.Goals as goal
 
@@ -23,7 +23,7 @@ pub returns-in-Err : goal.returns-in-Err
 returns-in-Err c =
     let command = c.args.command.now in
     let texts = c.args.texts.now in
-    unread_outcome command (given_texts c.args.own.now texts) c.in-Err.unread c.refuse_unread.result
+    unread_outcome command (given_texts c.args.own.now texts) c.in-Err.unread c.refuse_unread.result (over_asks command.kind c.requires.over)
     (subst (λ names. IsUnread names texts c.in-Err.unread) c.text_names.ensures c.in-Err.ensures.err) c.refuse_unread.ensures
 
 pub returns-in-Err-build : goal.returns-in-Err-build
@@ -46,4 +46,5 @@ returns-in-Err-build-2 c =
     c.refuse_network-in-Err-build-2.ensures.told c.refuse_network-in-Err-build-2.ensures.outcome
 
 pub judge_two-requires-clause-some : goal.judge_two-requires-clause-some
-judge_two-requires-clause-some c = first_has_router c.in-Ok.ensures.ok.old c.in-Ok.both.0 c.in-Ok-build.old c.in-Ok.ensures.ok.reads_old c.in-Ok-build.ensures.ok
+judge_two-requires-clause-some c =
+    first_has_router c.in-Ok.ensures.ok.old c.in-Ok.both.0 c.in-Ok-build.old c.in-Ok.ensures.ok.reads_old c.in-Ok-build.ensures.ok

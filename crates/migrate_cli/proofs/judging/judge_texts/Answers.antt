@@ -22,7 +22,7 @@ pub returns-in-Err : goal.returns-in-Err
 returns-in-Err c =
     let command = c.args.command.now in
     let texts = c.args.texts.now in
-    unread_outcome command (given_texts c.args.own.now texts) c.in-Err.unread c.refuse_unread.result
+    unread_outcome command (given_texts c.args.own.now texts) c.in-Err.unread c.refuse_unread.result c.requires.networks
     (subst (λ names. IsUnread names texts c.in-Err.unread) c.text_names.ensures c.in-Err.ensures.err) c.refuse_unread.ensures
 
 pub judge_network-requires-clause-some : goal.judge_network-requires-clause-some
@@ -48,7 +48,8 @@ returns-in-Err-build c =
     let command = c.args.command.now in
     let texts = c.args.texts.now in
     let refusal = c.in-Err-build.refusal in
-    let first : RefusesFirst refusal (groups_of command.kind texts) = subst (RefusesFirst refusal) (sym (one_group command.kind texts c.requires.one))
+    let first : RefusesFirst refusal (groups_of command.kind texts) =
+    subst (RefusesFirst refusal) (sym (one_group command.kind texts c.requires.networks c.requires.one))
     (here c.in-Ok.configs c.in-Ok.ensures.ok c.in-Err-build.ensures.err) in
     refused_network command (given_texts c.args.own.now texts) c.in-Ok.configs refusal c.refuse_network.result
     c.in-Ok.ensures.ok first c.refuse_network.ensures.told c.refuse_network.ensures.outcome

@@ -6,13 +6,13 @@ use Rattle.migrate_cli.specs.steps.Tables.{NetworkMove, move_of}
 use Rattle.migrate_cli.proofs.TableFacts.{changes_planned_of}
 use Rattle.migrate_cli.proofs.twopass.plan_changes.Goals as goal
 
-pub plan_mixed_changes-requires-clause-some : goal.plan_mixed_changes-requires-clause-some
-plan_mixed_changes-requires-clause-some c =
+pub plan_two-requires-clause-some : goal.plan_two-requires-clause-some
+plan_two-requires-clause-some c =
     let same : c.in_ok-mixed.mixed.net ≡ c.args.of.now.net = c.in_ok-mixed.ensures.net_is ∙ ap (λ (m : NetworkMove). m.net) c.in_ok-tables.ensures in
     subst (λ (net : Network). 0 < length net) (sym same) c.requires.some
 
-pub plan_mixed_changes-requires-clause-few : goal.plan_mixed_changes-requires-clause-few
-plan_mixed_changes-requires-clause-few c =
+pub plan_two-requires-clause-few : goal.plan_two-requires-clause-few
+plan_two-requires-clause-few c =
     let same : c.in_ok-mixed.mixed.net ≡ c.args.of.now.net = c.in_ok-mixed.ensures.net_is ∙ ap (λ (m : NetworkMove). m.net) c.in_ok-tables.ensures in
     let many : length c.args.of.now.net ≤ 200 =
     subst (λ (net : Network). length net ≤ 200) c.net.ensures c.routers-routers.ensures.network.limits.routers in

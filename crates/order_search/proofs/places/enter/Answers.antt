@@ -3,7 +3,7 @@ use Rattle.std.proofs.Common.{◌≡◌, List, ℕ, Option, IfNone, IfSome, take
 use Rattle.order_core.specs.Pairs.{Pair, Leads, Reaches}
 use Rattle.order_core.proofs.Paths.{Leads-from_Reaches}
 use Rattle.precedence_set.specs.LeastCycle.{IsLeastCycle}
-use Rattle.order_search.specs.steps.Waiting.{place_of, AreFresh}
+use Rattle.order_search.specs.steps.Waiting.{place_at, AreFresh}
 use Rattle.order_search.proofs.FreshPairs.{few_fresh, AreFresh-take, AreFresh-push}
 use Rattle.order_search.proofs.LeafFacts.{GrowsLeaves-leaf}
 use Rattle.order_search.proofs.places.enter.Goals as goal
@@ -22,8 +22,8 @@ returns-in-None-clause-fresh c = λ base under.
     let open_way : ¬ Leads above child.after child.before =
     subst (λ (o : Option (List ℕ)). IfNone o (¬ Leads above child.after child.before)) c.in-None.is
     c.in_ok-assume.ensures.apart in
-    let place : c.assume.new.self.pairs ≡ place_of a.pairs child = subst
-    (λ (o : Option (List ℕ)). IfNone o (c.assume.new.self.pairs ≡ place_of a.pairs child)) c.in-None.is c.in_ok-assume.ensures.place in
+    let place : c.assume.new.self.pairs ≡ place_at a.pairs child = subst
+    (λ (o : Option (List ℕ)). IfNone o (c.assume.new.self.pairs ≡ place_at a.pairs child)) c.in-None.is c.in_ok-assume.ensures.place in
     let apart : ¬ Reaches above child.after child.before = λ reaches.
     open_way (Leads-from_Reaches above child.after child.before (λ same. is.differ (sym same)) reaches) in
     subst (λ (n : ℕ). AreFresh n base c.assume.new.self.pairs) (sym c.in_ok-assume.ensures.routers)

@@ -2,7 +2,7 @@
 use Rattle.std.specs.Bool.{OnTrue, OnFalse}
 use Rattle.std.proofs.Common.{Bool, ◌≡◌, ◌∷◌, [], List, ℕ, take, sym, subst, ◌∙◌}
 use Rattle.order_core.specs.Pairs.{Pair}
-use Rattle.order_search.specs.steps.Waiting.{place_of, AreChildren, IsUnder}
+use Rattle.order_search.specs.steps.Waiting.{place_at, AreChildren, IsUnder}
 use Rattle.order_search.specs.steps.Leaves.{GrowsLeaves}
 use Rattle.order_search.specs.declared.child.Child.{Child}
 use Rattle.order_search.proofs.LeafFacts.{AreChildren-left, GrowsLeaves-place, AreChildren-back, GrowsLeaves-back}
@@ -27,7 +27,7 @@ pub returns-then-branch-clause-stands : goal.returns-then-branch-clause-stands
 returns-then-branch-clause-stands c = λ base before.
     let top = c.in-Some.ensures.some in
     let under = c.loop-child.invariant.stands base before in
-    let place = subst (λ (b : Bool). OnTrue b (c.enter.new.held.pairs ≡ place_of c.loop-child.held.pairs c.in-Some.child)) c.if-branch.true
+    let place = subst (λ (b : Bool). OnTrue b (c.enter.new.held.pairs ≡ place_at c.loop-child.held.pairs c.in-Some.child)) c.if-branch.true
     c.in_ok-enter.ensures.place in
     record {
       fresh = c.in_ok-enter.ensures.fresh base (first_alone c.loop-child.held.routers base c.loop-child.held.pairs _ _ c.in-Some.child under top);
@@ -40,7 +40,7 @@ returns-then-branch-clause-found c =
     let top = c.in-Some.ensures.some in
     let base = c.requires.stands.0 in
     let under = c.loop-child.invariant.stands base c.requires.stands.1 in
-    let place = subst (λ (b : Bool). OnTrue b (c.enter.new.held.pairs ≡ place_of c.loop-child.held.pairs c.in-Some.child)) c.if-branch.true
+    let place = subst (λ (b : Bool). OnTrue b (c.enter.new.held.pairs ≡ place_at c.loop-child.held.pairs c.in-Some.child)) c.if-branch.true
     c.in_ok-enter.ensures.place in
     let same = subst (λ (b : Bool). OnTrue b (c.enter.new.tree ≡ c.loop-child.tree)) c.if-branch.true c.in_ok-enter.ensures.same in
     GrowsLeaves-place c.loop-child.held.routers base c.args.tree.now c.loop-child.tree c.enter.new.tree _ c.loop-child.held.pairs c.enter.new.held.pairs _ _
@@ -51,7 +51,7 @@ loop-child-preserved c =
     let top = c.in-Some.ensures.some in
     let back = subst (λ (b : Bool). OnFalse b (c.enter.new.held.pairs ≡ take c.in-Some.child.above c.loop-child.held.pairs)) c.if-branch.false
     c.in_ok-enter.ensures.back in
-    let leaf = subst (λ (b : Bool). OnFalse b (GrowsLeaves c.loop-child.tree c.enter.new.tree (place_of c.loop-child.held.pairs c.in-Some.child ∷ []) []))
+    let leaf = subst (λ (b : Bool). OnFalse b (GrowsLeaves c.loop-child.tree c.enter.new.tree (place_at c.loop-child.held.pairs c.in-Some.child ∷ []) []))
     c.if-branch.false c.in_ok-enter.ensures.leaf in
     record {
       routers = c.in_ok-enter.ensures.routers ∙ c.loop-child.invariant.routers;

@@ -1,4 +1,4 @@
-use Rattle.std.proofs.Common.{List, ℕ, refl}
+use Rattle.std.proofs.Common.{refl}
 use Rattle.std.proofs.lemmas.Result.{IfOk-weaker}
 use Rattle.igp_theory.specs.Migrations.{Migration}
 use Rattle.rib_mix.specs.Mixture.{migration_of}

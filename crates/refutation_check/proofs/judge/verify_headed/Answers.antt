@@ -8,7 +8,6 @@ use Rattle.igp_theory.specs.declared.phase.Phase.{Phase}
 use Rattle.igp_theory.specs.declared.phase.Phase.TheVariants.{Old}
 use Rattle.rib_mix.specs.Mixture.{migration_of}
 use Rattle.refutation_check.specs.Verdicts.{IsHeadedVerdict, IsLinesVerdict, header_missing, tree_header_of}
-use Rattle.refutation_check.specs.declared.verdict.Verdict.{Verdict}
 use Rattle.refutation_check.specs.steps.Judged.{started_of}
 use Rattle.refutation_check.specs.steps.Reading.{StandBehind, line_bytes}
 use Rattle.refutation_check.proofs.Heads.{headed_verdict, old_started}

@@ -1,5 +1,5 @@
 use Rattle.std.proofs.Common.{ℕ, Contains, subst}
-use Rattle.ranked_items.proofs.NumberWords.{NamesNumber-unique}
+use Rattle.plan_theory.proofs.NumberWords.{NamesNumber-unique}
 use Rattle.refutation_check.proofs.names.further_number.Goals as goal
 
 pub returns-in_err-number : goal.returns-in_err-number

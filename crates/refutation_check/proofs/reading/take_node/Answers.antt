@@ -2,7 +2,7 @@ use Rattle.std.proofs.Common.{List, sym, subst, ◌∙◌}
 use Rattle.order_core.specs.Turns.{HasBothTags}
 use Rattle.igp_theory.specs.Migrations.{Migration}
 use Rattle.order_core.specs.declared.turn.Turn.{Turn}
-use Rattle.ranked_items.specs.Numbers.{AreNumbered}
+use Rattle.plan_theory.specs.Numbers.{AreNumbered}
 use Rattle.refutation_check.specs.steps.Judged.{started_of}
 use Rattle.refutation_check.proofs.ReadingFacts.{branch_taken, leaf_taken, numbers_have_both}
 use Rattle.refutation_check.proofs.reading.take_node.Goals as goal

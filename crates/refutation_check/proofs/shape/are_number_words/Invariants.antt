@@ -1,5 +1,5 @@
 use Rattle.std.proofs.Common.{take, All}
-use Rattle.ranked_items.specs.Numbers.{IsNumberWord}
+use Rattle.plan_theory.specs.Numbers.{IsNumberWord}
 use Rattle.refutation_check.specs.steps.Spans.{span_texts}
 use Rattle.refutation_check.proofs.shape.are_number_words.Given as goal
 

@@ -1,6 +1,6 @@
-use Rattle.std.proofs.Common.{ℕ, ◌∷◌, ◌<◌, List, length, sym, ap, ◌∙◌}
+use Rattle.std.proofs.Common.{ℕ, ◌∷◌, List, sym, ap, ◌∙◌}
 use Rattle.std.proofs.lemmas.List.Elements.{All-rest}
-use Rattle.net_addr.specs.Spans.{bytes_of, LiesIn}
+use Rattle.net_addr.specs.Spans.{LiesIn}
 use Rattle.refutation_check.specs.steps.Spans.{span_texts}
 use Rattle.refutation_check.proofs.ShapeFacts.{branch_answer, leaf_answer}
 use Rattle.refutation_check.proofs.shape.shape_of.Goals as goal

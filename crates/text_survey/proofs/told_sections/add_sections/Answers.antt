@@ -26,5 +26,5 @@ loop-i-preserved c =
       | else-opens_section w ↦
           let other : opens_section c.index-lines-i.result ≡ false = sym c.opens_section.ensures ∙ w.if-opens_section.false in
           ap (λ t. t.items ++ flat_map (told_section names) (sections_of (drop (i + 1) lines))) w.told-is
-          ∙ section_passed lines i head c.loop-i-test.true c.index-lines-i.is names c.loop-i.told.items all other c.loop-i.invariant
+          ∙ section_passed lines i head c.loop-i-test.true c.index-lines-i.is (told_section names) c.loop-i.told.items all other c.loop-i.invariant
     ]

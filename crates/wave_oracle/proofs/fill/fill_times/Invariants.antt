@@ -1,5 +1,5 @@
 use Rattle.std.proofs.Common.{◌≡◌, ℕ, ◌<◌, length, vec_len}
-use Rattle.loop_finder.specs.Faults.{state_in}
+use Rattle.igp_theory.specs.Phases.{state_in}
 use Rattle.loop_finder.specs.Times.{waves_of}
 use Rattle.wave_oracle.specs.steps.RankedTimes.{times_from, waves_by}
 use Rattle.wave_oracle.proofs.fill.fill_times.Given as goal

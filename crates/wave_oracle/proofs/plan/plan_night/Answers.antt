@@ -1,6 +1,6 @@
 use Rattle.std.proofs.Common.{length, sym, ap, ◌∙◌, subst}
 use Rattle.igp_theory.specs.Loops.{IsFault}
-use Rattle.loop_finder.specs.Faults.{state_in}
+use Rattle.igp_theory.specs.Phases.{state_in}
 use Rattle.plan_theory.specs.Plans.{fault_told}
 use Rattle.wave_oracle.specs.Nights.{night_move}
 use Rattle.wave_oracle.proofs.PlanNight.{IsNightOf, found_is_planned, from_last, from_start, last_is_planned_night, night_again, night_ends, none_told, some_told, start_is_planned}

@@ -1,11 +1,10 @@
 use Rattle.std.proofs.Common.{◌≡◌, IfOk, ap, ◌∙◌, subst}
 use Rattle.igp_theory.specs.Migrations.{started}
-use Rattle.igp_theory.specs.Phases.{State, all_old}
+use Rattle.igp_theory.specs.Phases.{State, all_old, state_in}
 use Rattle.rib_mix.specs.Mixture.{migration_of}
-use Rattle.loop_finder.specs.Faults.{state_in}
 use Rattle.plan_theory.specs.Plans.{IsNightPlanned}
 use Rattle.plan_theory.specs.declared.items.Items.TheVariants.{Routers}
-use Rattle.wave_oracle.proofs.EndStates.{is_all_old}
+use Rattle.igp_theory.proofs.ListedStates.{is_all_old}
 use Rattle.wave_oracle.proofs.plan.plan_waves.Goals as goal
 
 pub returns : goal.returns

@@ -1,6 +1,6 @@
 use Rattle.std.proofs.Common.{◌↔◌, Contains, subst, inl, inr}
 use Rattle.igp_theory.specs.declared.phase.Phase.{Phase}
-use Rattle.loop_finder.specs.Faults.{state_in}
+use Rattle.igp_theory.specs.Phases.{state_in}
 use Rattle.loop_finder.specs.steps.ClassSteps.{StepsBy, state_over}
 use Rattle.loop_finder.proofs.class_steps.ClassStepsStepGraph.hops.Goals as goal
 

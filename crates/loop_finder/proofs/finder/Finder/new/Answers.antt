@@ -1,8 +1,8 @@
 use Rattle.std.proofs.Common.{◌≡◌, ap, ◌∙◌}
 use Rattle.std.proofs.lemmas.Result.{IfOk-weaker}
-use Rattle.igp_theory.specs.Phases.{all_old}
-use Rattle.loop_finder.specs.Faults.{Finding, state_in}
-use Rattle.loop_finder.proofs.Started.{replicated_old}
+use Rattle.igp_theory.specs.Phases.{all_old, state_in}
+use Rattle.loop_finder.specs.Faults.{Finding}
+use Rattle.igp_theory.proofs.ListedStates.{replicated_old}
 use Rattle.loop_finder.proofs.finder.Finder.new.Goals as goal
 
 pub returns-clause-start : goal.returns-clause-start

@@ -7,7 +7,8 @@ use Rattle.igp_theory.specs.Migrations.{started}
 use Rattle.igp_theory.specs.States.{IsSound}
 use Rattle.igp_theory.specs.declared.phase.Phase.{Phase}
 use Rattle.rib_mix.specs.Mixture.{migration_of}
-use Rattle.loop_finder.specs.Faults.{Finding, KeepsRing, searched, state_in, told_fault}
+use Rattle.loop_finder.specs.Faults.{Finding, KeepsRing, searched, told_fault}
+use Rattle.igp_theory.specs.Phases.{state_in}
 use Rattle.loop_finder.specs.steps.Starts.{TurnsAreTagged, TurnsStep}
 use Rattle.loop_finder.proofs.FaultLaws.{none_sound}
 use Rattle.loop_finder.proofs.Started.{keeps_twice, state_from, state_sound, state_steps_from}

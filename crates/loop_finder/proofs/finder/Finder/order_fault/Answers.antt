@@ -2,10 +2,10 @@ use Rattle.std.proofs.Common.{ℕ, ◌↔◌, Bool, List, IsNone, length, subst,
 use Rattle.std.specs.Bool.{OnTrue}
 use Rattle.order_core.specs.Orders.{IsOrder}
 use Rattle.order_core.proofs.Orders.{order_length}
-use Rattle.igp_theory.specs.Phases.{State, all_old}
+use Rattle.igp_theory.specs.Phases.{State, all_old, state_in}
 use Rattle.igp_theory.specs.States.{IsSeamless, state_of}
 use Rattle.rib_mix.specs.Mixture.{migration_of}
-use Rattle.loop_finder.specs.Faults.{Finding, state_in}
+use Rattle.loop_finder.specs.Faults.{Finding}
 use Rattle.loop_finder.specs.Orders.{AreFirstStates}
 use Rattle.loop_finder.specs.Soundness.{Sound}
 use Rattle.loop_finder.proofs.FaultLaws.{none_seamless}
@@ -45,6 +45,7 @@ copy_from_slice-requires g c =
 
 pub order_fault-found-requires-clause-begun : goal.order_fault-found-requires-clause-begun
 order_fault-found-requires-clause-begun g c =
-    subst (λ (b : Bool). OnTrue b (Sound (mix_of g.O.RouteSource.table g.N.RouteSource.table c.self.inside.mixed.now) all_old)) (sym c.is_old_begun-begun.ensures)
+    subst (λ (b : Bool). OnTrue b (Sound (mix_of g.O.RouteSource.table g.N.RouteSource.table c.self.inside.mixed.now) all_old))
+    (sym c.is_old_begun-begun.ensures)
     (begun_old (mix_of g.O.RouteSource.table g.N.RouteSource.table c.self.inside.mixed.now) (state_in c.self.inside.start.items)
     c.self.inside.begun c.self.inside.from_old c.self.invariant.begun_is c.self.invariant.old_is)

@@ -1,7 +1,8 @@
 use Rattle.std.proofs.Common.{◌↔◌, IsNone, subst}
 use Rattle.igp_theory.specs.States.{IsSound}
 use Rattle.rib_mix.specs.Mixture.{migration_of}
-use Rattle.loop_finder.specs.Faults.{Finding, state_in}
+use Rattle.loop_finder.specs.Faults.{Finding}
+use Rattle.igp_theory.specs.Phases.{state_in}
 use Rattle.loop_finder.proofs.FaultLaws.{none_sound}
 use Rattle.loop_finder.proofs.finder.Finder.state_fault.Goals as goal
 

@@ -7,9 +7,11 @@ use Rattle.igp_theory.specs.WaveFaults.{IsTimesFault}
 use Rattle.igp_theory.specs.declared.phase.Phase.{Phase}
 use Rattle.rib_mix.specs.Mixture.{migration_of}
 use Rattle.loop_finder.specs.Calm.{AreCalm}
-use Rattle.loop_finder.specs.Faults.{Finding, KeepsRing, searched, state_in, told, told_fault}
+use Rattle.loop_finder.specs.Faults.{Finding, KeepsRing, searched, told, told_fault}
+use Rattle.igp_theory.specs.Phases.{state_in}
 use Rattle.loop_finder.specs.Mixes.{mix_of}
 use Rattle.loop_finder.specs.Parts.{ClassPart}
+use Rattle.loop_finder.specs.Pieces.{ArePieces}
 use Rattle.loop_finder.specs.Times.{times_in}
 use Rattle.loop_finder.specs.steps.Starts.{TurnsAreTagged, TurnsStep}
 use Rattle.loop_finder.specs.declared.fault.Fault.{Fault}
@@ -29,21 +31,27 @@ times_fault-found-requires-clause-begun g c =
 
 pub times_fault-found-requires-clause-calm : goal.times_fault-found-requires-clause-calm
 times_fault-found-requires-clause-calm g c =
-    subst (λ (ps : List ClassPart). AreCalm ps (times_in c.deref_mut.result.now) c.deref_mut-2.result.now) (sym c.as_slice.ensures.value)
-    (subst (λ (xs : List ChangeWaves). AreCalm c.self.inside.parts.items (times_in xs) c.deref_mut-2.result.now) (sym c.deref_mut.ensures.value)
-    (subst (λ (cs : List ℕ). AreCalm c.self.inside.parts.items (times_in c.self.inside.times.items) cs) (sym c.deref_mut-2.ensures.value)
-    c.self.invariant.calm_is))
+    subst (λ (xs : List ChangeWaves). AreCalm c.self.inside.pieces.all.items (times_in xs) c.deref_mut-2.result.now) (sym c.deref_mut.ensures.value)
+    (subst (λ (cs : List ℕ). AreCalm c.self.inside.pieces.all.items (times_in c.self.inside.times.items) cs) (sym c.deref_mut-2.ensures.value)
+    c.self.invariant.calm_is)
+
+pub times_fault-found-requires-clause-pieces : goal.times_fault-found-requires-clause-pieces
+times_fault-found-requires-clause-pieces g c =
+    subst (λ (ps : List ClassPart). ArePieces ps (length c.self.inside.mixed.now.net) c.self.inside.pieces) (sym c.as_slice.ensures.value)
+    c.self.invariant.pieces_are
 
 pub tag_found-requires-clause-start : goal.tag_found-requires-clause-start
-tag_found-requires-clause-start g c = ap (λ (xs : List Phase). length xs) c.as_slice-3.ensures.value ∙ c.self.invariant.start_many
+tag_found-requires-clause-start g c = ap (λ (xs : List Phase). length xs) c.as_slice-2.ensures.value ∙ c.self.invariant.start_many
 
 pub tag_found-requires-clause-steps : goal.tag_found-requires-clause-steps
 tag_found-requires-clause-steps g c =
     subst (λ (found : Option Fault). IfSome found (λ fault. TurnsStep (migration_of g.O.RouteSource.table g.N.RouteSource.table c.self.inside.mixed.now)
-    (state_in c.as_slice-3.result.now) fault c.deref_mut-5.result.now)) (sym c.fault_alone.ensures)
-    (subst (λ (xs : List Phase). IfSome (told c.times_fault-found.result) (λ fault. TurnsStep (migration_of g.O.RouteSource.table g.N.RouteSource.table c.self.inside.mixed.now)
-    (state_in xs) fault c.deref_mut-5.result.now)) (sym c.as_slice-3.ensures.value)
-    (subst (λ (ts : List Turn). IfSome (told c.times_fault-found.result) (λ fault. TurnsStep (migration_of g.O.RouteSource.table g.N.RouteSource.table c.self.inside.mixed.now)
+    (state_in c.as_slice-2.result.now) fault c.deref_mut-5.result.now)) (sym c.fault_alone.ensures)
+    (subst (λ (xs : List Phase). IfSome (told c.times_fault-found.result) (λ fault. TurnsStep
+    (migration_of g.O.RouteSource.table g.N.RouteSource.table c.self.inside.mixed.now)
+    (state_in xs) fault c.deref_mut-5.result.now)) (sym c.as_slice-2.ensures.value)
+    (subst (λ (ts : List Turn). IfSome (told c.times_fault-found.result) (λ fault. TurnsStep
+    (migration_of g.O.RouteSource.table g.N.RouteSource.table c.self.inside.mixed.now)
     (state_in c.self.inside.start.items) fault ts)) (sym c.deref_mut-5.ensures.value)
     (told_steps_from (migration_of g.O.RouteSource.table g.N.RouteSource.table c.self.inside.mixed.now) (state_in c.self.inside.start.items)
     (times_in c.args.times.now) c.times_fault-found.result c.times_fault-found.new.room.ring.items
@@ -57,14 +65,18 @@ returns-clause-sound g c = subst (λ (x : Finding g.row.O.Denot g.row.N.Denot). 
     (times_in c.args.times.now) c.times_fault-found.result c.tag_found.new.ring
     (subst (λ (x : Finding g.row.O.Denot g.row.N.Denot). IsTimetable (length x.mixture.net) (state_in x.start) (times_in c.args.times.now)) (sym c.self.view_is)
     c.requires.table)
-    (told_sound (migration_of g.O.RouteSource.table g.N.RouteSource.table c.self.inside.mixed.now) (state_in c.self.inside.start.items) (times_in c.args.times.now)
+    (told_sound (migration_of g.O.RouteSource.table g.N.RouteSource.table c.self.inside.mixed.now)
+    (state_in c.self.inside.start.items) (times_in c.args.times.now)
     c.times_fault-found.result c.times_fault-found.ensures.sound)
     (told_from (migration_of g.O.RouteSource.table g.N.RouteSource.table c.self.inside.mixed.now) (state_in c.self.inside.start.items)
     (times_in c.args.times.now) c.times_fault-found.result c.times_fault-found.new.room.ring.items c.tag_found.new.ring
     (c.tag_found.ensures.routers ∙ ap routers_of c.deref_mut-5.ensures.value)
-    (subst (λ (xs : List Phase). IfSome (told c.times_fault-found.result) (λ fault. TurnsAreTagged (started (state_in xs) (migration_of g.O.RouteSource.table g.N.RouteSource.table c.self.inside.mixed.now)) fault c.tag_found.new.ring))
-    c.as_slice-3.ensures.value (subst (λ (found : Option Fault). IfSome found (λ fault. TurnsAreTagged
-    (started (state_in c.as_slice-3.result.now) (migration_of g.O.RouteSource.table g.N.RouteSource.table c.self.inside.mixed.now)) fault c.tag_found.new.ring)) c.fault_alone.ensures c.tag_found.ensures.tags))
+    (subst (λ (xs : List Phase). IfSome (told c.times_fault-found.result) (λ fault. TurnsAreTagged (started (state_in xs)
+    (migration_of g.O.RouteSource.table g.N.RouteSource.table c.self.inside.mixed.now)) fault c.tag_found.new.ring))
+    c.as_slice-2.ensures.value (subst (λ (found : Option Fault). IfSome found (λ fault. TurnsAreTagged
+    (started (state_in c.as_slice-2.result.now)
+    (migration_of g.O.RouteSource.table g.N.RouteSource.table c.self.inside.mixed.now)) fault c.tag_found.new.ring))
+    c.fault_alone.ensures c.tag_found.ensures.tags))
     c.times_fault-found.ensures.fault))
 
 pub returns-clause-fault : goal.returns-clause-fault
@@ -81,9 +93,12 @@ returns-clause-fault g c =
     (told_from (migration_of g.O.RouteSource.table g.N.RouteSource.table c.self.inside.mixed.now) (state_in c.self.inside.start.items)
     (times_in c.args.times.now) c.times_fault-found.result c.times_fault-found.new.room.ring.items c.tag_found.new.ring
     (c.tag_found.ensures.routers ∙ ap routers_of c.deref_mut-5.ensures.value)
-    (subst (λ (xs : List Phase). IfSome (told c.times_fault-found.result) (λ fault. TurnsAreTagged (started (state_in xs) (migration_of g.O.RouteSource.table g.N.RouteSource.table c.self.inside.mixed.now)) fault c.tag_found.new.ring))
-    c.as_slice-3.ensures.value (subst (λ (found : Option Fault). IfSome found (λ fault. TurnsAreTagged
-    (started (state_in c.as_slice-3.result.now) (migration_of g.O.RouteSource.table g.N.RouteSource.table c.self.inside.mixed.now)) fault c.tag_found.new.ring)) c.fault_alone.ensures c.tag_found.ensures.tags))
+    (subst (λ (xs : List Phase). IfSome (told c.times_fault-found.result) (λ fault. TurnsAreTagged (started (state_in xs)
+    (migration_of g.O.RouteSource.table g.N.RouteSource.table c.self.inside.mixed.now)) fault c.tag_found.new.ring))
+    c.as_slice-2.ensures.value (subst (λ (found : Option Fault). IfSome found (λ fault. TurnsAreTagged
+    (started (state_in c.as_slice-2.result.now)
+    (migration_of g.O.RouteSource.table g.N.RouteSource.table c.self.inside.mixed.now)) fault c.tag_found.new.ring))
+    c.fault_alone.ensures c.tag_found.ensures.tags))
     c.times_fault-found.ensures.fault))
 
 pub returns-clause-ring : goal.returns-clause-ring
@@ -110,6 +125,7 @@ invariant_of-self g c =
     record {
       few = c.self.invariant.few;
       parts_are = c.self.invariant.parts_are;
+      pieces_are = c.self.invariant.pieces_are;
       watch_is = c.self.invariant.watch_is;
       order_many = c.self.invariant.order_many;
       order_is = c.self.invariant.order_is;
@@ -121,10 +137,10 @@ invariant_of-self g c =
       later_many = c.self.invariant.later_many;
       times_many = subst (λ (xs : List ChangeWaves). length xs ≡ length c.self.inside.mixed.now.net) (sym times)
           (omega (arith, c.times_fault-found.auto.kept, ap (λ (xs : List ChangeWaves). length xs) c.deref_mut.ensures.value, c.self.invariant.times_many));
-      calm_is = subst (λ (xs : List ChangeWaves). AreCalm c.self.inside.parts.items (times_in xs) (take c.self.inside.calm.len
+      calm_is = subst (λ (xs : List ChangeWaves). AreCalm c.self.inside.pieces.all.items (times_in xs) (take c.self.inside.calm.len
           (new_calm ++ drop (length new_calm) c.self.inside.calm.items))) (sym times)
-          (subst (λ (cs : List ℕ). AreCalm c.self.inside.parts.items (times_in new_times) cs) (sym calm)
-          (subst (λ (ps : List ClassPart). AreCalm ps (times_in new_times) new_calm) c.as_slice.ensures.value c.times_fault-found.ensures.calm));
+          (subst (λ (cs : List ℕ). AreCalm c.self.inside.pieces.all.items (times_in new_times) cs) (sym calm)
+          c.times_fault-found.ensures.calm);
       room_is = record {
         forwards = c.times_fault-found.ensures.room.forwards;
         live = c.times_fault-found.ensures.room.live;

@@ -1,17 +1,18 @@
 use Rattle.std.proofs.Common.{ℕ, List, ◌++◌, take, drop}
 use Rattle.loop_finder.specs.Calm.{AreCalm}
 use Rattle.loop_finder.specs.Parts.{ClassPart}
+use Rattle.loop_finder.specs.Pieces.{ArePieces}
 use Rattle.loop_finder.specs.declared.times.ChangeWaves.{ChangeWaves}
 use Rattle.std.proofs.Common.{◌≡◌, ◌↔◌, Bool, arith, IsNone, IfNone, IfSome, length, subst, sym, ap, ◌∙◌}
 use Rattle.std.specs.Bool.{OnTrue}
 use Rattle.order_core.specs.Rankings.{IsRanking}
-use Rattle.igp_theory.specs.Phases.{all_old}
+use Rattle.igp_theory.specs.Phases.{all_old, state_in}
 use Rattle.igp_theory.specs.Timetables.{Timetable, router_times}
 use Rattle.igp_theory.specs.WaveFaults.{IsTimesFault}
 use Rattle.igp_theory.specs.Waves.{AreSeamlessWaves}
 use Rattle.igp_theory.proofs.Switches.{routers_have_times}
 use Rattle.rib_mix.specs.Mixture.{migration_of}
-use Rattle.loop_finder.specs.Faults.{Finding, state_in, told_fault}
+use Rattle.loop_finder.specs.Faults.{Finding, told_fault}
 use Rattle.loop_finder.specs.Mixes.{mix_of}
 use Rattle.loop_finder.specs.Times.{times_in}
 use Rattle.loop_finder.specs.Soundness.{Sound}
@@ -31,8 +32,9 @@ rank_waves-requires-clause-few g c u = rank_fits (length c.self.inside.mixed.now
 
 pub times_fault-requires-clause-begun : goal.times_fault-requires-clause-begun
 times_fault-requires-clause-begun g c =
-    subst (λ (time : Timetable). OnTrue c.is_old_begun-begun.result (BeginsSound (mix_of g.O.RouteSource.table g.N.RouteSource.table c.self.inside.mixed.now) time 1))
-    (sym (ap times_in (c.as_slice-3.ensures.value ∙ written c.self.inside.asked.len c.rank_waves.new.times c.self.inside.asked.items
+    subst (λ (time : Timetable). OnTrue c.is_old_begun-begun.result (BeginsSound
+    (mix_of g.O.RouteSource.table g.N.RouteSource.table c.self.inside.mixed.now) time 1))
+    (sym (ap times_in (c.as_slice-2.ensures.value ∙ written c.self.inside.asked.len c.rank_waves.new.times c.self.inside.asked.items
     (omega (arith, c.rank_waves.auto.times, c.self.inside.asked.ok.0, c.deref_mut.ensures))) ∙ c.rank_waves.ensures))
     (begun_from (mix_of g.O.RouteSource.table g.N.RouteSource.table c.self.inside.mixed.now) (router_times all_old c.args.ranks.now) all_old
     c.is_old_begun-begun.result (routers_have_times (length c.self.inside.mixed.now.net) all_old c.args.ranks.now)
@@ -43,21 +45,23 @@ times_fault-requires-clause-begun g c =
 
 pub times_fault-requires-clause-order : goal.times_fault-requires-clause-order
 times_fault-requires-clause-order g c =
-    subst IsInOrder (sym (ap times_in (c.as_slice-3.ensures.value ∙ written c.self.inside.asked.len c.rank_waves.new.times c.self.inside.asked.items
+    subst IsInOrder (sym (ap times_in (c.as_slice-2.ensures.value ∙ written c.self.inside.asked.len c.rank_waves.new.times c.self.inside.asked.items
     (omega (arith, c.rank_waves.auto.times, c.self.inside.asked.ok.0, c.deref_mut.ensures))) ∙ c.rank_waves.ensures))
     (routers_have_times (length c.self.inside.mixed.now.net) all_old c.args.ranks.now).in_order
 
 pub returns-clause-seamless : goal.returns-clause-seamless
 returns-clause-seamless g c =
-    let times = (ap times_in (c.as_slice-3.ensures.value ∙ written c.self.inside.asked.len c.rank_waves.new.times c.self.inside.asked.items
+    let times = (ap times_in (c.as_slice-2.ensures.value ∙ written c.self.inside.asked.len c.rank_waves.new.times c.self.inside.asked.items
     (omega (arith, c.rank_waves.auto.times, c.self.inside.asked.ok.0, c.deref_mut.ensures))) ∙ c.rank_waves.ensures) in
     subst (λ (x : Finding g.row.O.Denot g.row.N.Denot). IsNone c.times_fault.result
     ↔ AreSeamlessWaves (migration_of g.O.RouteSource.table g.N.RouteSource.table x.mixture) c.args.ranks.now) c.self.view_is
     (none_seamless (migration_of g.O.RouteSource.table g.N.RouteSource.table c.self.inside.mixed.now)
     c.args.ranks.now c.times_fault.result c.times_fault.new.room.ring.items
     (subst (λ (x : Finding g.row.O.Denot g.row.N.Denot). IsRanking (length x.mixture.net) c.args.ranks.now) (sym c.self.view_is) c.requires)
-    (subst (λ (time : Timetable). IfNone c.times_fault.result (SoundWaves (mix_of g.O.RouteSource.table g.N.RouteSource.table c.self.inside.mixed.now) time)) times c.times_fault.ensures.sound)
-    (subst (λ (time : Timetable). IfSome c.times_fault.result (λ found. FaultyWaves (mix_of g.O.RouteSource.table g.N.RouteSource.table c.self.inside.mixed.now) time found.0
+    (subst (λ (time : Timetable). IfNone c.times_fault.result (SoundWaves
+    (mix_of g.O.RouteSource.table g.N.RouteSource.table c.self.inside.mixed.now) time)) times c.times_fault.ensures.sound)
+    (subst (λ (time : Timetable). IfSome c.times_fault.result (λ found. FaultyWaves
+    (mix_of g.O.RouteSource.table g.N.RouteSource.table c.self.inside.mixed.now) time found.0
     (told_fault found.1 c.times_fault.new.room.ring.items))) times c.times_fault.ensures.fault))
 
 pub returns-clause-fault : goal.returns-clause-fault
@@ -65,16 +69,22 @@ returns-clause-fault g c =
     subst (λ (x : Finding g.row.O.Denot g.row.N.Denot). IfSome c.times_fault.result (λ found.
     IsTimesFault (migration_of g.O.RouteSource.table g.N.RouteSource.table x.mixture) (router_times all_old c.args.ranks.now) found.0
     (told_fault found.1 c.times_fault.new.room.ring.items))) c.self.view_is
-    (subst (λ (time : Timetable). IfSome c.times_fault.result (λ found. FaultyWaves (mix_of g.O.RouteSource.table g.N.RouteSource.table c.self.inside.mixed.now) time found.0
-    (told_fault found.1 c.times_fault.new.room.ring.items))) (ap times_in (c.as_slice-3.ensures.value ∙ written c.self.inside.asked.len c.rank_waves.new.times c.self.inside.asked.items
+    (subst (λ (time : Timetable). IfSome c.times_fault.result (λ found. FaultyWaves
+    (mix_of g.O.RouteSource.table g.N.RouteSource.table c.self.inside.mixed.now) time found.0
+    (told_fault found.1 c.times_fault.new.room.ring.items)))
+    (ap times_in (c.as_slice-2.ensures.value ∙ written c.self.inside.asked.len c.rank_waves.new.times c.self.inside.asked.items
     (omega (arith, c.rank_waves.auto.times, c.self.inside.asked.ok.0, c.deref_mut.ensures))) ∙ c.rank_waves.ensures) c.times_fault.ensures.fault)
 
 pub times_fault-requires-clause-calm : goal.times_fault-requires-clause-calm
 times_fault-requires-clause-calm g c =
-    subst (λ (ps : List ClassPart). AreCalm ps (times_in c.deref_mut-2.result.now) c.deref_mut-3.result.now) (sym c.as_slice.ensures.value)
-    (subst (λ (xs : List ChangeWaves). AreCalm c.self.inside.parts.items (times_in xs) c.deref_mut-3.result.now) (sym c.deref_mut-2.ensures.value)
-    (subst (λ (cs : List ℕ). AreCalm c.self.inside.parts.items (times_in c.self.inside.times.items) cs) (sym c.deref_mut-3.ensures.value)
-    c.self.invariant.calm_is))
+    subst (λ (xs : List ChangeWaves). AreCalm c.self.inside.pieces.all.items (times_in xs) c.deref_mut-3.result.now) (sym c.deref_mut-2.ensures.value)
+    (subst (λ (cs : List ℕ). AreCalm c.self.inside.pieces.all.items (times_in c.self.inside.times.items) cs) (sym c.deref_mut-3.ensures.value)
+    c.self.invariant.calm_is)
+
+pub times_fault-requires-clause-pieces : goal.times_fault-requires-clause-pieces
+times_fault-requires-clause-pieces g c =
+    subst (λ (ps : List ClassPart). ArePieces ps (length c.self.inside.mixed.now.net) c.self.inside.pieces) (sym c.as_slice.ensures.value)
+    c.self.invariant.pieces_are
 
 pub invariant_of-self : goal.invariant_of-self
 invariant_of-self g c =
@@ -87,6 +97,7 @@ invariant_of-self g c =
     record {
       few = c.self.invariant.few;
       parts_are = c.self.invariant.parts_are;
+      pieces_are = c.self.invariant.pieces_are;
       watch_is = c.self.invariant.watch_is;
       order_many = c.self.invariant.order_many;
       order_is = c.self.invariant.order_is;
@@ -98,9 +109,9 @@ invariant_of-self g c =
       later_many = c.self.invariant.later_many;
       times_many = subst (λ (xs : List ChangeWaves). length xs ≡ length c.self.inside.mixed.now.net) (sym times)
           (omega (arith, c.times_fault.auto.kept, ap (λ (xs : List ChangeWaves). length xs) c.deref_mut-2.ensures.value, c.self.invariant.times_many));
-      calm_is = subst (λ (xs : List ChangeWaves). AreCalm c.self.inside.parts.items (times_in xs) (take c.self.inside.calm.len
+      calm_is = subst (λ (xs : List ChangeWaves). AreCalm c.self.inside.pieces.all.items (times_in xs) (take c.self.inside.calm.len
           (new_calm ++ drop (length new_calm) c.self.inside.calm.items))) (sym times)
-          (subst (λ (cs : List ℕ). AreCalm c.self.inside.parts.items (times_in new_times) cs) (sym calm)
-          (subst (λ (ps : List ClassPart). AreCalm ps (times_in new_times) new_calm) c.as_slice.ensures.value c.times_fault.ensures.calm));
+          (subst (λ (cs : List ℕ). AreCalm c.self.inside.pieces.all.items (times_in new_times) cs) (sym calm)
+          c.times_fault.ensures.calm);
       room_is = c.times_fault.ensures.room;
     }

@@ -3,7 +3,8 @@ use Rattle.order_core.specs.Rankings.{IsRanking, KeepsPairs}
 use Rattle.igp_theory.specs.Timetables.{IsSoundThroughout}
 use Rattle.igp_theory.specs.WaveFaults.{IsTimesFault}
 use Rattle.igp_theory.specs.declared.phase.Phase.{Phase}
-use Rattle.loop_finder.specs.Faults.{state_in, told_fault}
+use Rattle.loop_finder.specs.Faults.{told_fault}
+use Rattle.igp_theory.specs.Phases.{state_in}
 use Rattle.loop_finder.specs.Times.{times_in}
 use Rattle.plan_theory.specs.Ranked.{base_of, size_of}
 use Rattle.wave_oracle.specs.Nights.{Night, night_move, night_times}

@@ -1,6 +1,6 @@
 use Rattle.std.proofs.Common.{◌≡◌, length, arith, sym, ap, ◌∙◌}
 use Rattle.rib_mix.specs.Mixture.{migration_of}
-use Rattle.loop_finder.specs.Faults.{state_in}
+use Rattle.igp_theory.specs.Phases.{state_in}
 use Rattle.plan_theory.specs.Ranked.{base_of}
 use Rattle.wave_oracle.specs.Nights.{night_start}
 use Rattle.wave_oracle.proofs.PlanNight.{start_of_night}

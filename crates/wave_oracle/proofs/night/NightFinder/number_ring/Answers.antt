@@ -2,7 +2,7 @@ use Rattle.std.proofs.Common.{List, subst}
 use Rattle.order_core.specs.declared.turn.Turn.{Turn}
 use Rattle.igp_theory.specs.Migrations.{started}
 use Rattle.rib_mix.specs.Mixture.{migration_of}
-use Rattle.ranked_items.specs.Numbers.{AreNumbered}
+use Rattle.plan_theory.specs.Numbers.{AreNumbered}
 use Rattle.wave_oracle.specs.Nights.{Night, night_move, night_start}
 use Rattle.wave_oracle.proofs.night.NightFinder.number_ring.Goals as goal
 

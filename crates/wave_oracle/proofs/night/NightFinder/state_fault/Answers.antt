@@ -2,7 +2,8 @@ use Rattle.std.proofs.Common.{◌↔◌, IfSome, IsNone, sym, subst}
 use Rattle.igp_theory.specs.LoopLaws.{IsFromStart}
 use Rattle.igp_theory.specs.Loops.{IsFault}
 use Rattle.igp_theory.specs.States.{IsSound}
-use Rattle.loop_finder.specs.Faults.{state_in, told_fault}
+use Rattle.loop_finder.specs.Faults.{told_fault}
+use Rattle.igp_theory.specs.Phases.{state_in}
 use Rattle.wave_oracle.specs.Nights.{Night, night_move}
 use Rattle.wave_oracle.proofs.NightLaws.{over_found, over_start}
 use Rattle.wave_oracle.proofs.night.NightFinder.state_fault.Goals as goal

@@ -10,7 +10,7 @@ use Rattle.loop_finder.specs.declared.fault.Fault.{Fault}
 use Rattle.order_search.specs.Meanings.{Break}
 use Rattle.plan_theory.specs.Ranked.{base_of, size_of}
 use Rattle.plan_theory.specs.WavesMeaning.{night_meaning}
-use Rattle.ranked_items.specs.Numbers.{AreNumbered}
+use Rattle.plan_theory.specs.Numbers.{AreNumbered}
 use Rattle.wave_oracle.specs.Nights.{Night, night_can, night_move, night_times}
 use Rattle.wave_oracle.proofs.NightLaws.{night_base, night_good, night_size, night_told, over_same, told_breaks_night, told_few, told_must}
 use Rattle.wave_oracle.proofs.night_oracle.NightOracleOracle.ask.Goals as goal

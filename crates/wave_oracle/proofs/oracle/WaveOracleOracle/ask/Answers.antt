@@ -16,7 +16,8 @@ pub returns-in-Some-clause-breaks : goal.returns-in-Some-clause-breaks
 returns-in-Some-clause-breaks g c address answer =
     let same : c.loop_address-address.result ≡ address = cc in
     let is : c.in-Some.fault ≡ Loop address = c.loop_address-address.ensures ∙ ap (λ (a : ℕ). Loop a) same in
-    subst (λ (x : Finding g.row.O.Denot g.row.N.Denot). Break (waves_meaning (migration_of g.O.RouteSource.table g.N.RouteSource.table x.mixture)) c.args.ranks.now
-    address c.waves_fault.new.self.ring) c.self.view_is
+    subst (λ (x : Finding g.row.O.Denot g.row.N.Denot).
+    Break (waves_meaning (migration_of g.O.RouteSource.table g.N.RouteSource.table x.mixture)) c.args.ranks.now address c.waves_fault.new.self.ring)
+    c.self.view_is
     (told_breaks (migration_of g.O.RouteSource.table g.N.RouteSource.table c.self.inside.finder.mixture) c.args.ranks.now c.in-Some._wave
     c.in-Some.fault address c.waves_fault.new.self.ring c.self.invariant.ends c.in-Some.ensures.fault is)

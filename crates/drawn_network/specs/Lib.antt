@@ -1,0 +1,11 @@
+pub mod Quotes
+pub mod LinkEnds
+pub mod Colors
+pub mod Legends
+pub mod RouterLines
+pub mod LinkLines
+pub mod RingLines
+pub mod Marks
+pub mod Pictures
+pub mod PictureLaws
+pub mod steps

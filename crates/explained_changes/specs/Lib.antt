@@ -1,0 +1,2 @@
+pub mod ChangeReasons
+pub mod ChangeReasonLaws

@@ -1,0 +1,27 @@
+-- What is said of calls that take an order file and a journal.
+use Rattle.std.proofs.Common.{◌≡◌, ◌∷◌, ℕ, List, [], ap₂, take}
+use Rattle.std.proofs.Common.{ap, sym, ◌∙◌}
+use Rattle.igp_theory.specs.Changes.{Change}
+use Rattle.step_scripts.specs.WaveFiles.{NamesWaves}
+use Rattle.step_scripts.specs.declared.version.Version.{Version}
+use Rattle.migrate_words.specs.declared.command.CommandKind.{CommandKind}
+use Rattle.migrate_cli.specs.Reading.{NamedText, named_text, named_texts}
+
+-- the texts of two own files
+pub two_texts : (file journal_file : List ℕ) (texts : List (List ℕ)) (order journal : NamedText) →
+    named_texts (file ∷ journal_file ∷ []) (take 2 texts) ≡ order ∷ journal ∷ [] → take 2 texts ≡ order.text ∷ journal.text ∷ []
+two_texts file journal_file [] order journal same = absurd (Prim.cc same)
+two_texts file journal_file (t ∷ []) order journal same = absurd (let none : [] ≡ journal ∷ [] = cc same in Prim.cc none)
+two_texts file journal_file (t ∷ u ∷ texts) order journal same =
+    let one : named_text file t ≡ order = cc same in
+    let other : named_text journal_file u ≡ journal = cc same in
+    ap₂ (λ (x y : NamedText). x.text ∷ y.text ∷ []) one other
+
+-- what is said of the two own texts is said of the files that are decided on
+pub order_and_journal : (file journal_file : List ℕ) {own : List (List ℕ)} {order journal : List ℕ} {one other : NamedText} →
+    own ≡ order ∷ journal ∷ [] → named_texts (file ∷ journal_file ∷ []) own ≡ one ∷ other ∷ [] → order ≡ one.text
+order_and_journal file journal_file {order = order} {journal = journal} {one = one} {other = other} first second =
+    let lists : named_text file order ∷ named_text journal_file journal ∷ [] ≡ one ∷ other ∷ [] =
+    ap (named_texts (file ∷ journal_file ∷ [])) (sym first) ∙ second in
+    let same : named_text file order ≡ one = cc lists in
+    ap (λ (x : NamedText). x.text) same

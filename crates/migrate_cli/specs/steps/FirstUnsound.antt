@@ -1,0 +1,19 @@
+-- What is found of an order or of a wave list: none where it is seamless, else its first unsound state, or its first wave with one,
+-- and the fault of that.
+use Rattle.std.specs.Prelude.{ℕ, List, Option, None, Some}
+use Rattle.igp_theory.specs.Loops.{IsFirstFault}
+use Rattle.igp_theory.specs.Migrations.{Migration}
+use Rattle.igp_theory.specs.States.{IsSeamless}
+use Rattle.igp_theory.specs.Timetables.{router_times}
+use Rattle.igp_theory.specs.WaveFaults.{IsTimesFault}
+use Rattle.igp_theory.specs.Waves.{AreSeamlessWaves}
+use Rattle.plan_theory.specs.Plans.{fault_told}
+use Rattle.plan_theory.specs.declared.planned.EndFault.{EndFault}
+
+abbrev pub IsFirstUnsoundState : Migration → List ℕ → Option (ℕ × EndFault) → Type 0
+IsFirstUnsoundState move order None = IsSeamless move order
+IsFirstUnsoundState move order (Some found) = IsFirstFault move order found.0 (fault_told found.1)
+
+abbrev pub IsFirstUnsoundWave : Migration → List ℕ → Option (ℕ × EndFault) → Type 0
+IsFirstUnsoundWave move ranks None = AreSeamlessWaves move ranks
+IsFirstUnsoundWave move ranks (Some found) = IsTimesFault move (router_times move.start ranks) found.0 (fault_told found.1)

@@ -1,0 +1,3 @@
+pub mod SameItems
+pub mod Sights
+pub mod ToldJournals

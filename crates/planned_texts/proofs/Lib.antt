@@ -1,5 +1,0 @@
-pub mod ChangeRankings
-pub mod TreeNodes
-pub mod TreesAsTexts
-pub mod WavesAsTexts
-pub mod ReadBack

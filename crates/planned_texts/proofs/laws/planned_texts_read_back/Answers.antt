@@ -1,5 +1,0 @@
-use Rattle.planned_texts.proofs.ReadBack.{plan_reads_back}
-use Rattle.planned_texts.proofs.laws.planned_texts_read_back.Goals as goal
-
-pub returns : goal.returns
-returns g c = λ items budget found can network some. plan_reads_back g.T.AnyMigration.migration budget network some items can found

@@ -1,5 +1,0 @@
-pub mod NumberWords
-pub mod StartedSteps
-pub mod MiddleSteps
-pub mod NumberLaws
-pub mod NumberedTurns

@@ -1,5 +1,0 @@
-use Rattle.std.proofs.Common.{ℕ, take, All, Contains}
-use Rattle.ranked_items.proofs.numbers.has_all.Given as goal
-
-abbrev pub invariant-loop-other : goal.invariant-loop-other
-invariant-loop-other l = All (λ (h : ℕ). Contains l.routers h) (take l.other-index l.others)

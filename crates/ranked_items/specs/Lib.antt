@@ -1,2 +1,0 @@
-pub use Rattle.plan_theory.specs.Ranked
-pub mod Numbers

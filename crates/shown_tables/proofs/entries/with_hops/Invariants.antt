@@ -1,8 +1,0 @@
-use Rattle.std.proofs.Common.{◌≡◌, ◌++◌, take}
-use Rattle.net_model.specs.RouterNames.{names_of}
-use Rattle.printed_lines.specs.Words.{spaced}
-use Rattle.shown_tables.specs.EntryLines.{hop_words}
-use Rattle.shown_tables.proofs.entries.with_hops.Given as goal
-
-abbrev pub invariant-loop-hop : goal.invariant-loop-hop
-invariant-loop-hop l = l.line ≡ l.initial.line ++ spaced (hop_words (names_of l.net) (take l.hop-index l.hop-items))

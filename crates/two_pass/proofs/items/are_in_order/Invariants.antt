@@ -1,5 +1,0 @@
-use Rattle.two_pass.proofs.FoundItems.{IsHighestOf}
-use Rattle.two_pass.proofs.items.are_in_order.Given as goal
-
-abbrev pub invariant-loop-item : goal.invariant-loop-item
-invariant-loop-item l = IsHighestOf l.found l.item-index l.most

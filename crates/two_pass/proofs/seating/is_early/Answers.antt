@@ -1,6 +1,0 @@
-use Rattle.two_pass.proofs.FoundItems.{early_if}
-use Rattle.two_pass.proofs.seating.is_early.Goals as goal
-
-pub returns-then-item-eq1 : goal.returns-then-item-eq1
-returns-then-item-eq1 c =
-    early_if c.args.ranks.now c.args.wave c.args.item c.is_before.result c.if-item-eq1.true c.is_before.ensures.0 c.is_before.ensures.1

@@ -1,0 +1,2 @@
+pub mod UndoneTexts
+pub mod steps
