@@ -60,7 +60,8 @@ made_whole pieces longer piece part places is at same =
       each = λ u h hops follows. record {
         place = length pieces;
         among = Contains-push [] (length pieces);
-        has = λ d x y front back phase into here out. subst (λ (one : ClassPart). Contains (part_hops one x phase) y) (sym (get_or-append_seam pieces piece [] d))
+        has = λ d x y front back phase into here out. subst (λ (one : ClassPart). Contains (part_hops one x phase) y)
+            (sym (get_or-append_seam pieces piece [] d))
             (subst (λ (row : PhaseHops). Contains (hops_of row phase) y) (sym (same x (ever_inside part x y (phase, here)))) here);
       };
     }))

@@ -125,7 +125,8 @@ replan_of_waves : {order : NamedText} {journal : Journal} {budget : ℕ} {d : De
     Replans (decision_status d)
 replan_of_waves {order} {journal} {version = version} {ranks = ranks} ascending names (faulty_waves n k least) =
     absurd (no_fault journal.net order.text version ranks n k ascending names least.faulty)
-replan_of_waves {journal = journal} {budget = budget} ascending names (of_waves _ ranks _ _ is) = rest_ends {journal = journal} {ranks = ranks} {budget = budget} is
+replan_of_waves {journal = journal} {budget = budget} ascending names (of_waves _ ranks _ _ is) =
+    rest_ends {journal = journal} {ranks = ranks} {budget = budget} is
 
 pub replan_decides : (call : Call) (budget : ℕ) (file journal_file : List ℕ) (configs : List (List ℕ)) →
     (it : AcceptsJournal call (replan_of budget file journal_file configs)) → (asked : List (List ℕ)) (outcome : Outcome) →

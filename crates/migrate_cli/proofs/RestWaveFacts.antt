@@ -161,7 +161,8 @@ module _ (move : Migration) (start : List Phase) (each : length start ≡ length
 
   -- each router of a chain of two or more is in a pair
   keeps : KeepsChain start found.chain
-  keeps many k d within = subst (λ (u : ℕ). IsTrue (has_rest start u)) (get_or_default found.chain k 0 d within) (by_place (cases_lt (suc k) (length found.chain)))
+  keeps many k d within = subst (λ (u : ℕ). IsTrue (has_rest start u)) (get_or_default found.chain k 0 d within)
+      (by_place (cases_lt (suc k) (length found.chain)))
     where
       at_last : (j : ℕ) → j < length found.chain → length found.chain ≤ suc j → IsTrue (has_rest start (get_or found.chain j 0))
       at_last zero inside last = absurd (omega (arith, many, last))

@@ -52,7 +52,8 @@ pub data IsObserveDecision (before now : Network) (order : NamedText) : Decision
   faulty_waves : (number : ℕ) (kind : OrderKind) → IsLeastFaultyLine before order.text number kind →
       IsObserveDecision before now order (BadOrder order.file number kind)
   of_waves : (version : Version) (ranks : List ℕ) (observed : Observed) (decision : Decision) → NamesWaves before order.text version ranks →
-      IsNetwork before → IsRanking (length before) ranks → IsObserved before now ranks observed → decision ≡ told_decision observed → IsObserveDecision before now order decision
+      IsNetwork before → IsRanking (length before) ranks → IsObserved before now ranks observed → decision ≡ told_decision observed →
+      IsObserveDecision before now order decision
 
 -- the texts of `observe`: the order file, the configurations of before, those of now
 pub record NightTexts : Type 0 where

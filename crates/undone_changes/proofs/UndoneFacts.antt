@@ -193,7 +193,8 @@ module _ (net : Network) (ranks : List ℕ) (changes : List Change) (kept : ℕ)
       let ours = filter (on known.router) front ++ filter (on known.router) back in
       let theirs = filter (on known.router) back in
       subst (λ (block : List ℕ). Grows ss ends block (moved (configuration_of ss))) (sym (block_is ss known))
-      (subst (λ (g : Configuration). Grows ss ends (text_of (flat_map (setting_lines (configuration_of ss)) (there_and_back (configuration_of ss) ours theirs))) g)
+      (subst (λ (g : Configuration). Grows ss ends (text_of (flat_map (setting_lines (configuration_of ss))
+      (there_and_back (configuration_of ss) ours theirs))) g)
       (leaves_phase ss known)
       (all_grow (there_and_back (configuration_of ss) ours theirs) ss ends (all_allowed (configuration_of ss) are ours theirs) fine
       (number_of_process ss (sections_good part))))

@@ -18,17 +18,21 @@ stirred_fault-requires-clause-calm g c =
     (ends_by c.requires.times c.requires.order c.begin_wave.ensures c.end_wave.ensures) c.requires.wave c.requires.calm begins)
 
 pub returns-then-begun-clause-sound : goal.returns-then-begun-clause-sound
-returns-then-begun-clause-sound g c = (told_of_wave {w = c.args.wave} {time = times_in c.args.times.now} c.stirred_fault.result c.stirred_fault.new.room.ring.items c.requires.parts
+returns-then-begun-clause-sound g c = (told_of_wave {w = c.args.wave} {time = times_in c.args.times.now} c.stirred_fault.result
+    c.stirred_fault.new.room.ring.items c.requires.parts
     (ends_by c.requires.times c.requires.order c.begin_wave.ensures c.end_wave.ensures) c.stirred_fault.ensures.told).0
 
 pub returns-then-begun-clause-fault : goal.returns-then-begun-clause-fault
-returns-then-begun-clause-fault g c = (told_of_wave {w = c.args.wave} {time = times_in c.args.times.now} c.stirred_fault.result c.stirred_fault.new.room.ring.items c.requires.parts
+returns-then-begun-clause-fault g c = (told_of_wave {w = c.args.wave} {time = times_in c.args.times.now} c.stirred_fault.result
+    c.stirred_fault.new.room.ring.items c.requires.parts
     (ends_by c.requires.times c.requires.order c.begin_wave.ensures c.end_wave.ensures) c.stirred_fault.ensures.told).1
 
 pub returns-else-begun-clause-sound : goal.returns-else-begun-clause-sound
-returns-else-begun-clause-sound g c = (told_of_wave {w = c.args.wave} {time = times_in c.args.times.now} c.classes_fault.result c.classes_fault.new.room.ring.items c.requires.parts
+returns-else-begun-clause-sound g c = (told_of_wave {w = c.args.wave} {time = times_in c.args.times.now} c.classes_fault.result
+    c.classes_fault.new.room.ring.items c.requires.parts
     (ends_by c.requires.times c.requires.order c.begin_wave.ensures c.end_wave.ensures) c.classes_fault.ensures.told).0
 
 pub returns-else-begun-clause-fault : goal.returns-else-begun-clause-fault
-returns-else-begun-clause-fault g c = (told_of_wave {w = c.args.wave} {time = times_in c.args.times.now} c.classes_fault.result c.classes_fault.new.room.ring.items c.requires.parts
+returns-else-begun-clause-fault g c = (told_of_wave {w = c.args.wave} {time = times_in c.args.times.now} c.classes_fault.result
+    c.classes_fault.new.room.ring.items c.requires.parts
     (ends_by c.requires.times c.requires.order c.begin_wave.ensures c.end_wave.ensures) c.classes_fault.ensures.told).1

@@ -150,6 +150,7 @@ returns-in-Replan c =
     let journal_is : journal ≡ slice_index_or own 1 [] = c.index-own-1-in-Replan.is ∙ element own 1 journal [] there in
     let both = two_own command own Replan c.in-Replan.is c.requires.range c.requires.own file order journal refl
     c.first_own-in-Replan.ensures.name c.first_own-in-Replan.ensures.text journal_is in
-    IfOk-weaker c.judge_replan.result (IsReplanDecision (named_text file order) (journal_of journal c.args.net.now) command.number) (IsDecision command.kind input)
+    IfOk-weaker c.judge_replan.result (IsReplanDecision (named_text file order) (journal_of journal c.args.net.now) command.number)
+    (IsDecision command.kind input)
     (λ d is. subst (λ (kind : CommandKind). IsDecision kind input d) (sym c.in-Replan.is)
     (named_text file order, named_text (slice_index_or command.own 1 []) journal, both, is)) c.judge_replan.ensures

@@ -59,7 +59,8 @@ returns c =
     IfOk-weaker c.judge_night.result
     (IsNightOutcome (night_texts (named_text c.first_own.result.0.now c.first_own.result.1.now)
     (config_texts_of (c.second_own.result.0.now ∷ []) (c.second_own.result.1.now ∷ []))
-    (config_texts_of (map (λ (name : Bor (List ℕ)). name.now) c.as_slice.result.now) c.split_at.result.1.now))) (IsOutcome command (given_texts (own_texts command texts) (config_texts command texts)))
+    (config_texts_of (map (λ (name : Bor (List ℕ)). name.now) c.as_slice.result.now) c.split_at.result.1.now)))
+    (IsOutcome command (given_texts (own_texts command texts) (config_texts command texts)))
     (λ outcome is. night_outcome command texts c.requires.kind c.requires.range c.requires.short c.split_at.result.0.now c.split_at.result.1.now
     c.split_at.ensures.front c.split_at.ensures.back c.first_own.result.0.now c.first_own.result.1.now c.second_own.result.0.now
     c.second_own.result.1.now _ outcome c.first_own.ensures.name c.first_own.ensures.text c.second_own.ensures.name c.second_own.ensures.text

@@ -33,7 +33,8 @@ returns-else-begins_with-2 c =
     let no_changes : ¬ BeginsWith two_tree_header tree = λ begins. true≢false
     (sym (c.begins_with.ensures.1 (subst (BeginsWith two_tree_header) (sym c.as_slice.ensures) begins)) ∙ c.if-begins_with.false) in
     let no_start : ¬ BeginsWith rest_tree_header tree = λ begins. true≢false
-    (sym (c.begins_with-else-begins_with.ensures.1 (subst (BeginsWith rest_tree_header) (sym c.as_slice-else-begins_with.ensures) begins)) ∙ c.if-begins_with-2.false) in
+    (sym (c.begins_with-else-begins_with.ensures.1 (subst (BeginsWith rest_tree_header) (sym c.as_slice-else-begins_with.ensures) begins))
+    ∙ c.if-begins_with-2.false) in
     let other : HasOtherHeader tree = record { no_changes = no_changes; no_start = no_start } in
     IfOk-weaker c.refute_over.result (IsTreeDecision (move_of c.to_isis-of.result) tree) (IsRefuteDecision tree c.args.net.now)
     (λ decision is. by_routers decision other

@@ -19,7 +19,8 @@ loop-i-preserved c =
           ap (λ t. t.items ++ flat_map shown_section (sections_of (drop (i + 1) lines))) w.shown-is
           ∙ section_more lines i head c.loop-i-test.true c.index-lines-i.is shown_section c.loop-i.shown.items w.add_section.new.told.items all opens
           (w.in_ok-add_section.ensures
-          ∙ ap (λ (after : List TextLine). c.loop-i.shown.items ++ shown_section (record { head = head; body = section_lines after })) (take_rest lines (i + 1)))
+          ∙ ap (λ (after : List TextLine). c.loop-i.shown.items ++ shown_section (record { head = head; body = section_lines after }))
+          (take_rest lines (i + 1)))
           c.loop-i.invariant
       | else-opens_section w ↦
           let other : opens_section c.index-lines-i.result ≡ false = sym c.opens_section.ensures ∙ w.if-opens_section.false in
