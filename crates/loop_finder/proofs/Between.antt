@@ -1,5 +1,5 @@
 -- The states between two: their steps are those of both.
-use Rattle.std.proofs.Common.{◌≡◌, ℕ, ◌⊎◌, List, ◌∷◌, length, Option, None, Some, IfNone, inl, inr, arith, refl, sym, subst}
+use Rattle.std.proofs.Common.{◌≡◌, ℕ, ◌⊎◌, List, ◌∷◌, length, Option, None, Some, IfNone, IfSome, inl, inr, arith, refl, sym, subst}
 use Rattle.igp_theory.specs.Forwarding.{MustForward, HasStep}
 use Rattle.igp_theory.specs.Phases.{State, state_in}
 use Rattle.igp_theory.specs.States.{StepsIn}
@@ -74,10 +74,11 @@ clear_told m first last atom turns told state between = record {
     c : ClassState
     c = record { mixture = m; first = first; last = last; forwards = told.forwards; atom = atom }
 
--- so where it answers none
-pub clear_where_told : (m : Mix) (first last : List Phase) (atom atom' : ℕ)
-    (result : Option Fault) (turns : List Turn) → atom' ≡ atom → IsClassVerdict (two_states m first last) atom' result turns
-    → IfNone result (IsClearAt m first last atom)
-clear_where_told m first last atom atom' None turns same told = λ state between.
-    subst (λ (a : ℕ). SoundAt m state (sample_of m.classes a)) same (clear_told m first last atom' turns told state between)
-clear_where_told m first last atom atom' (Some fault) turns same told = tt
+-- what is told of a class is told of it under another name
+pub told_of_class : (m : Mix) (first last : List Phase) (atom atom' : ℕ) (result : Option Fault) (turns : List Turn) → atom' ≡ atom →
+    IsClassVerdict (two_states m first last) atom' result turns →
+    IfNone result (IsClearAt m first last atom) × IfSome result (λ fault. IsClassVerdict (two_states m first last) atom (Some fault) turns)
+told_of_class m first last atom atom' None turns same told =
+    (λ state between. subst (λ (a : ℕ). SoundAt m state (sample_of m.classes a)) same (clear_told m first last atom' turns told state between), tt)
+told_of_class m first last atom atom' (Some fault) turns same told =
+    (tt, subst (λ (a : ℕ). IsClassVerdict (two_states m first last) a (Some fault) turns) same told)

@@ -1,8 +1,8 @@
 -- The changes of an order, one after another.
 use Rattle.std.proofs.Common.{◌≡◌, ℕ, zero, suc, ◌+◌, ◌-◌, ◌*◌, ◌/◌, ◌<◌, ◌≤◌, ◌==◌, if◌then◌else◌, List, [], ◌∷◌, ◌++◌, length, get_or, take, Contains}
-use Rattle.std.proofs.Common.{Bool, true, false, arith, refl, sym, ap, ◌∙◌, subst, inl, inr}
+use Rattle.std.proofs.Common.{Bool, false, arith, refl, sym, ap, ◌∙◌, subst, inl, inr}
 use Rattle.std.proofs.lemmas.Bool.Decides.{eqb_tells}
-use Rattle.std.proofs.lemmas.List.{get_or_read, take_more, take_all}
+use Rattle.std.proofs.lemmas.List.{take_more}
 use Rattle.std.proofs.lemmas.List.Elements.{Contains-get_or}
 use Rattle.igp_theory.specs.Phases.{State, state_in}
 use Rattle.igp_theory.specs.States.{changes_of, changes_on, phase_after, state_of}
@@ -46,8 +46,8 @@ phase_after-more (suc zero) = refl
 phase_after-more (suc (suc c)) = let e : suc (suc c) + 1 ≡ suc (suc (suc c)) = omega arith in ap phase_after e
 
 -- the router that changes is one of the order's
-pub changed_inside : (order : List ℕ) (n k r : ℕ) → ((u : ℕ) → Contains order u → u < n) → k < length order → r ≡ get_or order k r → r < n
-changed_inside order n k r all within read = all r (subst (λ (u : ℕ). Contains order u) (sym read) (Contains-get_or order k r within))
+pub changed_inside : (order : List ℕ) (n k : ℕ) → ((u : ℕ) → Contains order u → u < n) → k < length order → get_or order k 0 < n
+changed_inside order n k all within = all (get_or order k 0) (Contains-get_or order k 0 within)
 
 -- a change more
 state_more : (order : List ℕ) (k u : ℕ) → k < 2 * length order →
@@ -59,29 +59,19 @@ state_more order k u within =
     ∙ ap (λ (v : ℕ). phase_after (changes_on u (take k (changes_of order)) + counted u v)) (change_at order k)
 
 -- the phases after change k, which the router at place k / 2 makes
-pub state_advanced : (order : List ℕ) (phases next : List Phase) (k r : ℕ) → k / 2 < length order → r ≡ get_or order (k / 2) r → IsAdvanced phases next r →
+pub state_advanced : (order : List ℕ) (phases next : List Phase) (k : ℕ) → k < 2 * length order → IsAdvanced phases next (get_or order (k / 2) 0) →
     IsOrderState phases order k → IsOrderState next order (k + 1)
-state_advanced order phases next k r within at advanced state u =
-    let read : r ≡ get_or order (k / 2) 0 = get_or_read order (k / 2) r within at 0 in
+state_advanced order phases next k within advanced state u =
+    let r = get_or order (k / 2) 0 in
     elim (eqb_tells u r) [
-      | inl same ↦
-          let one : counted u (get_or order (k / 2) 0) ≡ tally true = ap (λ (v : ℕ). counted u v) (sym read) ∙ ap tally same.0 in
-          subst (λ (v : ℕ). state_in next v ≡ next_phase (state_in phases v)) (sym same.1) advanced.here ∙ ap next_phase (state u)
+      | inl same ↦ subst (λ (v : ℕ). state_in next v ≡ next_phase (state_in phases v)) (sym same.1) advanced.here ∙ ap next_phase (state u)
           ∙ sym (phase_after-more (changes_on u (take k (changes_of order))))
-          ∙ ap (λ (n : ℕ). phase_after (changes_on u (take k (changes_of order)) + n)) (sym one) ∙ sym (state_more order k u (omega (arith, within)))
+          ∙ ap (λ (b : Bool). phase_after (changes_on u (take k (changes_of order)) + tally b)) (sym same.0) ∙ sym (state_more order k u within)
       | inr apart ↦
-          let none : counted u (get_or order (k / 2) 0) ≡ tally false = ap (λ (v : ℕ). counted u v) (sym read) ∙ ap tally apart.0 in
-          let same : changes_on u (take k (changes_of order)) ≡ changes_on u (take k (changes_of order)) + counted u (get_or order (k / 2) 0) =
-          omega (arith, none) in
-          advanced.others u apart.1 ∙ state u ∙ ap phase_after same ∙ sym (state_more order k u (omega (arith, within)))
+          let none : counted u r ≡ tally false = ap tally apart.0 in
+          let same : changes_on u (take k (changes_of order)) ≡ changes_on u (take k (changes_of order)) + counted u r = omega (arith, none) in
+          advanced.others u apart.1 ∙ state u ∙ ap phase_after same ∙ sym (state_more order k u within)
     ]
-
--- past its changes an order stays in its last state
-pub state_stays : (order : List ℕ) (phases : List Phase) (k : ℕ) → length order ≤ k / 2 → IsOrderState phases order k → IsOrderState phases order (k + 1)
-state_stays order phases k past state u =
-    let long : length (changes_of order) ≤ k = omega (arith, changes_length order, past) in
-    state u ∙ ap (λ (xs : List ℕ). phase_after (changes_on u xs)) (take_all k (changes_of order) long
-    ∙ sym (take_all (k + 1) (changes_of order) (omega (arith, long))))
 
 -- Orders that begin alike
 

@@ -1,5 +1,5 @@
 -- A migration that goes on from another start: it steps as before, and has other tags.
-use Rattle.std.proofs.Common.{◌≡◌, ℕ, suc, ◌+◌, ◌<◌, ◌≤◌, List, [], ◌∷◌, length, get_or, set, Bool, true, false, ◌&&◌, Option, None, Some, IfSome, IfNone, inl, inr, arith, ap, sym, ◌∙◌, subst, below_more}
+use Rattle.std.proofs.Common.{◌≡◌, ℕ, suc, ◌+◌, ◌<◌, ◌≤◌, List, [], ◌∷◌, length, get_or, set, Bool, true, false, ◌&&◌, Option, None, Some, IfSome, IfNone, IsNone, ◌↔◌, inl, inr, arith, ap, sym, ◌∙◌, subst, below_more}
 use Rattle.std.specs.Bool.{OnTrue}
 use Rattle.std.proofs.lemmas.List.{map-set, length-map, get_or-map, set-get_or, get_or-set_same, get_or-set_other}
 use Rattle.net_addr.specs.Addresses.{Block}
@@ -12,10 +12,10 @@ use Rattle.igp_theory.specs.Migrations.{Migration, started}
 use Rattle.igp_theory.specs.Phases.{State, all_old}
 use Rattle.igp_theory.specs.States.{StepsIn, IsSoundAt, IsSound}
 use Rattle.igp_theory.specs.TimetableLaws.{IsStateOfSomeWave}
-use Rattle.igp_theory.specs.Timetables.{Timetable, IsTimetable, IsStateOfWave}
+use Rattle.igp_theory.specs.Timetables.{Timetable, IsTimetable, IsStateOfWave, IsSoundThroughout}
 use Rattle.igp_theory.specs.WaveFaults.{StepsInSome, IsLeastUnsound, IsFaultOver, missing_in_one, loop_over_all, IsTimesFault}
 use Rattle.igp_theory.specs.declared.phase.Phase.{Phase}
-use Rattle.igp_theory.specs.declared.phase.Phase.TheVariants.{Old, New}
+use Rattle.igp_theory.specs.declared.phase.Phase.TheVariants.{New}
 use Rattle.igp_theory.proofs.LoopLaws.{start_or_new_step}
 use Rattle.igp_theory.proofs.Rings.{found_goes_round}
 use Rattle.igp_theory.proofs.SameTables.{follows_over, found_ring_over, around_ring_over}
@@ -28,7 +28,9 @@ use Rattle.loop_finder.specs.steps.Rings.{next_in}
 use Rattle.loop_finder.specs.steps.Starts.{StepsFrom, TurnsStep, TurnsAreTagged}
 use Rattle.loop_finder.specs.declared.fault.Fault.{Fault as Told}
 use Rattle.loop_finder.specs.declared.fault.Fault.TheVariants.{Loop, Missing}
+use Rattle.loop_finder.proofs.FaultLaws.{none_sound}
 use Rattle.loop_finder.proofs.TagSteps.{ring_step}
+use Rattle.loop_finder.proofs.WaveListFacts.{none_throughout}
 
 -- The same steps. Back again one goes from the other's start to this one's
 
@@ -172,10 +174,15 @@ state_from move start state (Some (Missing a u)) turns other same tags (missing_
     (λ b less. sound_at_from start (below b less)) must (λ has. lacks (has_step_from move.start has))
     (λ v before has_to. has_step_from start (others v before has_to))
 
-pub state_sound : (move : Migration) (start state : State) (found : Option Told) → IfNone found (IsSound move state) →
-    IfNone found (IsSound (started start move) state)
-state_sound move start state None sound = sound_from start sound
-state_sound move start state (Some found) sound = tt
+-- what is told of a state from the start on, with the tags by it
+pub told_at_start : (move : Migration) (start state : State) (found : Option Told) (turns other : List Turn) → routers_of other ≡ routers_of turns →
+    IfSome found (λ fault. TurnsAreTagged (started start move) fault other) → IfNone found (IsSound move state) →
+    IfSome found (λ fault. IsFault move state (told_fault fault turns)) →
+    (IsNone found ↔ IsSound (started start move) state) × IfSome found (λ fault. IsFault (started start move) state (told_fault fault other))
+told_at_start move start state None turns other same tags sound fault = (none_sound (started start move) state None other (sound_from start sound) tt, tt)
+told_at_start move start state (Some told) turns other same tags sound fault =
+    let from = state_from move start state (Some told) turns other same tags fault in
+    (none_sound (started start move) state (Some told) other tt from, from)
 
 -- no other answer changes the ring, in two steps
 pub keeps_twice : (found : Option Told) (one two three : List Turn) → KeepsRing found one two → KeepsRing found two three → KeepsRing found one three
@@ -183,11 +190,19 @@ keeps_twice None one two three first after = after ∙ first
 keeps_twice (Some (Loop a)) one two three first after = tt
 keeps_twice (Some (Missing a u)) one two three first after = after ∙ first
 
-pub told_sound : (move : Migration) (start : State) (time : Timetable) (found : Option (ℕ × Told)) →
+-- and of a timetable
+pub told_from_start : (move : Migration) (start : State) (time : Timetable) (found : Option (ℕ × Told)) (turns other : List Turn) →
+    IsTimetable (length move.net) start time → routers_of other ≡ routers_of turns →
+    IfSome (told found) (λ fault. TurnsAreTagged (started start move) fault other) →
     IfNone found ((state : State) → IsStateOfSomeWave (length move.net) time state → IsSound move state) →
-    IfNone found ((state : State) → IsStateOfSomeWave (length move.net) time state → IsSound (started start move) state)
-told_sound move start time None sound = λ state is. sound_from start (sound state is)
-told_sound move start time (Some found) sound = tt
+    IfSome found (λ f. IsTimesFault move time f.0 (told_fault f.1 turns)) →
+    (IsNone found ↔ IsSoundThroughout (started start move) time)
+    × IfSome found (λ f. IsTimesFault (started start move) time f.0 (told_fault f.1 other))
+told_from_start move start time None turns other table same tags sound fault =
+    (none_throughout (started start move) time None other table (λ state is. sound_from start (sound state is)) tt, tt)
+told_from_start move start time (Some found) turns other table same tags sound fault =
+    let from = told_from move start time (Some found) turns other same tags fault in
+    (none_throughout (started start move) time (Some found) other table tt from, from)
 
 -- The routers of a ring whose turns are written anew
 
@@ -203,6 +218,13 @@ step_at move start a place routers ring d same around within =
     subst (λ (u : ℕ). StepsFrom move start a u (next_in (routers_of ring) place)) (get_or-map (λ (t : Turn). t.router) ring place d 0 within)
     (ring_step (StepsFrom move start a) (routers_of ring) place (subst (AroundRing (StepsFrom move start a)) (sym same) around)
     (omega (arith, within, length-map ring (λ (t : Turn). t.router))))
+
+-- it is one of the network
+pub router_below : (move : Migration) (start : State) (a place : ℕ) (routers : List ℕ) (ring : List Turn) (d : Turn) → routers_of ring ≡ routers →
+    AroundRing (StepsFrom move start a) routers → place < length ring → (get_or ring place d).router < length move.net
+router_below move start a place routers ring d same around within =
+    (must_from move start a (get_or ring place d).router (next_in (routers_of ring) place)
+    (step_at move start a place routers ring d same around within)).router
 
 -- a turn for the router at a place leaves the routers as they are
 pub same_routers : (ring : List Turn) (place : ℕ) (turn d : Turn) → place < length ring → turn.router ≡ (get_or ring place d).router →

@@ -30,12 +30,12 @@ pub record AreEnds (n : ℕ) (time : Timetable) (w : ℕ) (first last : List Pha
   pub begins : BeginWave n time w first
   pub ends : BeginWave n time (w + 1) last
 
-pub ends_by : {n k : ℕ} {time : Timetable} {w : ℕ} {first last : List Phase} → k ≡ n → IsInOrder time → BeginWave k time w first →
-    BeginWave k time (w + 1) last → AreEnds n time w first last
-ends_by many order begins ends = record {
+pub ends_by : {n k : ℕ} {time : Timetable} {w : ℕ} {first last one other : List Phase} → k ≡ n → IsInOrder time → one ≡ first → other ≡ last →
+    BeginWave k time w first → BeginWave k time (w + 1) last → AreEnds n time w one other
+ends_by {k = k} {time = time} {w = w} many order is_first is_last begins ends = record {
   order = order;
-  begins = λ u within. begins u (omega (arith, within, many));
-  ends = λ u within. ends u (omega (arith, within, many));
+  begins = λ u within. subst (BeginWave k time w) (sym is_first) begins u (omega (arith, within, many));
+  ends = λ u within. subst (BeginWave k time (w + 1)) (sym is_last) ends u (omega (arith, within, many));
 }
 
 -- it is a timetable from the state in which its first wave begins

@@ -1,5 +1,5 @@
 -- The places at which a change of a router is looked at, and what it leaves sound.
-use Rattle.std.proofs.Common.{◌≡◌, ℕ, ◌+◌, ◌<◌, ◌≤◌, Bool, true, List, [], ◌∷◌, ◌++◌, length, get_or, Contains, Option, Some, None, IfNone, inl, inr}
+use Rattle.std.proofs.Common.{◌≡◌, ℕ, ◌+◌, ◌<◌, ◌≤◌, Bool, true, List, [], ◌∷◌, ◌++◌, length, get_or, Contains, Option, Some, None, IfNone, IfSome, inl, inr}
 use Rattle.std.proofs.Common.{arith, sym, ◌∙◌, ap, subst}
 use Rattle.std.specs.List.{AllPairs}
 use Rattle.std.proofs.lemmas.List.{get_or_default}
@@ -12,7 +12,7 @@ use Rattle.loop_finder.specs.steps.Parts.{AddsUnless, AreAllBut, PartStep}
 use Rattle.loop_finder.specs.Returns.{NeverReturnsTo}
 use Rattle.loop_finder.specs.Mixes.{sample_of, Mix}
 use Rattle.loop_finder.specs.Soundness.{SoundAt, Sound}
-use Rattle.loop_finder.specs.steps.Verdicts.{IsClassVerdict, two_states}
+use Rattle.loop_finder.specs.steps.Verdicts.{Faulty, IsClassVerdict, two_states}
 use Rattle.loop_finder.specs.Watches.{IsIdle, AreFirstPlaces, ArePlacesOf, IsWatch}
 use Rattle.loop_finder.specs.steps.Watches.{PhaseChange, LeadsFrom, StaysSoundAt, StaysSound, TurnsFaulty}
 use Rattle.loop_finder.specs.declared.fault.Fault.{Fault}
@@ -142,7 +142,9 @@ turns_faulty_at m parts places change i part fault turns are placed within at st
     (subst (λ (a : ℕ). k < a) (ap (λ (x : ClassPart). x.atom) at) below)) told
 
 -- after a change of a sound state
-pub sound_after : (m : Mix) (change : PhaseChange) (before : State) (result : Option Fault) → LeadsFrom (length m.net) change before → Sound m before
-    → IfNone result (StaysSound m change) → IfNone result (Sound m (state_in change.phases))
-sound_after m change before None leads sound stays = stays before leads sound
-sound_after m change before (Some fault) leads sound stays = tt
+pub after_change : (m : Mix) (change : PhaseChange) (before after : State) (result : Option Fault) (turns : List Turn) →
+    LeadsFrom (length m.net) change before → Sound m before → state_in change.phases ≡ after → IfNone result (StaysSound m change) →
+    IfSome result (λ fault. TurnsFaulty m change fault turns) → IfNone result (Sound m after) × IfSome result (λ fault. Faulty m after fault turns)
+after_change m change before after None turns leads sound is stays turned = (subst (Sound m) is (stays before leads sound), tt)
+after_change m change before after (Some fault) turns leads sound is stays turned =
+    (tt, subst (λ (state : State). Faulty m state fault turns) is (turned before leads sound))

@@ -11,6 +11,8 @@ pub mod Orders
 pub mod Returns
 pub mod Parts
 pub mod Findings
+pub mod Subjects
+pub mod Works
 pub mod Watches
 pub mod Calm
 pub mod Pieces

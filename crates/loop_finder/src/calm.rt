@@ -12,6 +12,7 @@ ghost use Rattle.loop_finder.specs.Watches.{ArePlacesOf, IsWatch};
 
 use crate::graph::StepGraph;
 use crate::part::Part;
+use crate::pieces::Pieces;
 use crate::returns::may_return;
 use crate::room::Room;
 use crate::times::{ChangeWaves, least_moved};
@@ -19,6 +20,15 @@ use crate::watch::Places;
 use rib_mix::OutOfMemory;
 use std::alloc::Global;
 use std::marker::Model;
+
+/// A wave of the timetable of so many routers.
+#[derive(Drop)]
+struct Wave<'s> {
+    times: &'s [ChangeWaves],
+    routers: u32,
+    number: u32,
+    ghost each: { length times.now ≡ routers },
+}
 
 /// The steps of a part in the states of a wave.
 #[derive(Drop)]
@@ -40,17 +50,16 @@ impl<'s> Model for WaveSteps<'s> {
 }
 
 impl<'s> WaveSteps<'s> {
-    /// The steps of a part in a wave, over so many routers.
-    fn new(part: &'s Part<'s>, times: &'s [ChangeWaves], wave: u32, routers: u32) -> WaveSteps<'s>
-        requires rows { length part.now.rows ≡ routers }
-        requires times { length times.now ≡ routers }
-        ensures { result ≡ record { part = part.now; times = times.now; wave = wave; routers = routers } }
+    /// The steps of a part in a wave.
+    fn new(part: &'s Part<'s>, wave: &'s Wave<'s>) -> WaveSteps<'s>
+        requires { length part.now.rows ≡ wave.now.routers }
+        ensures { result ≡ record { part = part.now; times = wave.now.times.now; wave = wave.now.number; routers = wave.now.routers } }
     {
         WaveSteps {
             part,
-            times,
-            wave,
-            routers,
+            times: wave.times,
+            wave: wave.number,
+            routers: wave.routers,
         }
     }
 }
@@ -77,98 +86,118 @@ impl<'s> StepGraph for WaveSteps<'s> {
     }
 }
 
-/// Of none of some parts is anything known, for any timetable.
-pub(crate) fn none_known(alloc: Global, parts: &[Part<'_>]) -> Result<Vec<u32>, OutOfMemory>
-    ensures { IfOk result (λ calm. (time : Timetable) → AreCalm parts.now time calm.items) }
-{
-    let calm = vec![in alloc; 1; parts.len()]?;
-    Ok(calm)
+/// What is known of the pieces of parts for the latest timetable.
+#[derive(Drop)]
+pub(crate) struct Calm {
+    /// The timetable.
+    pub times: Vec<ChangeWaves>,
+    /// For each piece a wave of it before which it is calm.
+    pub before: Vec<u32>,
 }
 
-/// Makes what is known of some parts for one timetable hold for another. In the waves before each change that moved of a
-/// part's routers nothing changes for the part; from there on it is looked at.
-pub(crate) fn renew(
-    parts: &[Part<'_>],
-    watch: &[Places],
-    routers: u32,
-    times: &[ChangeWaves],
-    kept: &mut [ChangeWaves],
-    calm: &mut [u32],
-    room: &mut Room,
-)
-    requires rows { All (λ part. length part.rows ≡ routers) parts.now }
-    requires watch { IsWatch parts.now routers watch.now }
-    requires times { length times.now ≡ routers }
-    requires kept { length kept.old ≡ routers }
-    requires calm { AreCalm parts.now (times_in kept.old) calm.old }
-    requires room { HasRoom routers room.old }
-    ensures kept { kept.new ≡ times.now }
-    ensures calm { AreCalm parts.now (times_in kept.new) calm.new }
-    ensures room { HasRoom routers room.new }
-    ensures ring { room.new.ring.items ≡ room.old.ring.items }
-{
-    take_times(watch, times, kept, calm);
-    look(parts, routers, kept, calm, room);
-}
-
-/// Takes the waves of another timetable.
-fn take_times(watch: &[Places], times: &[ChangeWaves], kept: &mut [ChangeWaves], calm: &mut [u32])
-    requires many { length watch.now ≡ length times.now }
-    requires places { (u : ℕ) → u < length times.now → All (λ p. p < length calm.old) (slice_index_or watch.now u []) }
-    requires kept { length kept.old ≡ length times.now }
-    ensures kept { kept.new ≡ times.now }
-    ensures calm { (parts : List ClassPart) → IsWatch parts (length times.now) watch.now → AreCalm parts (times_in kept.old) calm.old →
-        AreCalm parts (times_in kept.new) calm.new }
-{
-    for router in 0..times.len() {
-        take_waves(watch[router].as_slice(), router, times[router], kept, calm);
+impl Calm {
+    /// Nothing is known of some pieces, for a timetable of so many routers.
+    pub fn new(alloc: Global, pieces: &Pieces<'_>, routers: u32) -> Result<Calm, OutOfMemory>
+        ensures times { IfOk result (λ calm. length calm.times.items ≡ routers) }
+        ensures calm { IfOk result (λ calm. AreCalm pieces.now.all.items (times_in calm.times.items) calm.before.items) }
+    {
+        let once = ChangeWaves {
+            first: 1,
+            second: 1,
+        };
+        Ok(Calm {
+            times: vec![in alloc; once; routers as usize]?,
+            before: vec![in alloc; 1; pieces.all.len()]?,
+        })
     }
-}
 
-/// Takes the waves of a router.
-fn take_waves(
-    places: &[usize],
-    router: usize,
-    waves: ChangeWaves,
-    kept: &mut [ChangeWaves],
-    calm: &mut [u32],
-)
-    requires router { router < length kept.old }
-    requires places { All (λ p. p < length calm.old) places.now }
-    ensures kept { kept.new ≡ slice_set kept.old router waves }
-    ensures calm { (parts : List ClassPart) → ArePlacesOf parts router places.now → AreCalm parts (times_in kept.old) calm.old →
-        AreCalm parts (times_in kept.new) calm.new }
-{
-    let known = kept[router];
-    if known == waves {
-        return;
+    /// Makes what is known of some pieces hold for another timetable. In the waves before each change that moved of a
+    /// piece's routers nothing changes for the piece; from there on it is looked at.
+    pub fn renew(
+        &mut self,
+        pieces: &Pieces<'_>,
+        routers: u32,
+        times: &[ChangeWaves],
+        room: &mut Room,
+    )
+        requires rows { All (λ piece. length piece.rows ≡ routers) pieces.now.all.items }
+        requires watch { IsWatch pieces.now.all.items routers pieces.now.watch.items }
+        requires times { length times.now ≡ routers }
+        requires many { length self.old.times.items ≡ routers }
+        requires calm { AreCalm pieces.now.all.items (times_in self.old.times.items) self.old.before.items }
+        requires room { HasRoom routers room.old }
+        ensures times { self.new.times.items ≡ times.now }
+        ensures calm { AreCalm pieces.now.all.items (times_in self.new.times.items) self.new.before.items }
+        ensures room { HasRoom routers room.new }
+        ensures ring { room.new.ring.items ≡ room.old.ring.items }
+    {
+        self.take_times(pieces, times);
+        look(pieces, routers, times, &mut self.before, room);
     }
-    lower(places, least_moved(known, waves), calm);
-    kept[router] = waves;
+
+    /// Takes the waves of another timetable.
+    fn take_times(&mut self, pieces: &Pieces<'_>, times: &[ChangeWaves])
+        requires watch { IsWatch pieces.now.all.items (length times.now) pieces.now.watch.items }
+        requires times { length self.old.times.items ≡ length times.now }
+        requires calm { AreCalm pieces.now.all.items (times_in self.old.times.items) self.old.before.items }
+        ensures times { self.new.times.items ≡ times.now }
+        ensures calm { AreCalm pieces.now.all.items (times_in self.new.times.items) self.new.before.items }
+    {
+        for router in 0..times.len() {
+            self.take_waves(&pieces.watch[router], router, times[router]);
+        }
+    }
+
+    /// Takes the waves of a router, which some places concern.
+    fn take_waves(&mut self, places: &Places, router: usize, waves: ChangeWaves)
+        requires router { router < length self.old.times.items }
+        requires places { All (λ p. p < length self.old.before.items) places.now }
+        ensures times { self.new.times.items ≡ slice_set self.old.times.items router waves }
+        ensures calm { (parts : List ClassPart) → ArePlacesOf parts router places.now →
+            AreCalm parts (times_in self.old.times.items) self.old.before.items →
+            AreCalm parts (times_in self.new.times.items) self.new.before.items }
+    {
+        let known = self.times[router];
+        if known == waves {
+            return;
+        }
+        lower(
+            places.as_slice(),
+            least_moved(known, waves),
+            &mut self.before,
+        );
+        self.times[router] = waves;
+    }
 }
 
 /// Lowers the numbers at some places that are above a number to that.
-fn lower(places: &[usize], most: u32, calm: &mut [u32])
-    requires { All (λ p. p < length calm.old) places.now }
-    ensures { AreLowered places.now most calm.old calm.new }
+fn lower(places: &[usize], most: u32, before: &mut Vec<u32>)
+    requires { All (λ p. p < length before.old.items) places.now }
+    ensures { AreLowered places.now most before.old.items before.new.items }
 {
     for place in places {
-        calm[*place] = calm[*place].min(most);
+        before[*place] = before[*place].min(most);
     }
 }
 
-/// Looks at each part from the first wave on in which it isn't known to be calm.
-fn look(parts: &[Part<'_>], routers: u32, times: &[ChangeWaves], calm: &mut [u32], room: &mut Room)
-    requires rows { All (λ part. length part.rows ≡ routers) parts.now }
+/// Looks at each piece from the first wave on in which it isn't known to be calm.
+fn look(
+    pieces: &Pieces<'_>,
+    routers: u32,
+    times: &[ChangeWaves],
+    before: &mut Vec<u32>,
+    room: &mut Room,
+)
+    requires rows { All (λ piece. length piece.rows ≡ routers) pieces.now.all.items }
     requires times { length times.now ≡ routers }
-    requires calm { AreCalm parts.now (times_in times.now) calm.old }
+    requires calm { AreCalm pieces.now.all.items (times_in times.now) before.old.items }
     requires room { HasRoom routers room.old }
-    ensures calm { AreCalm parts.now (times_in times.now) calm.new }
+    ensures calm { AreCalm pieces.now.all.items (times_in times.now) before.new.items }
     ensures room { HasRoom routers room.new }
     ensures ring { room.new.ring.items ≡ room.old.ring.items }
 {
-    for place in 0..parts.len() {
-        calm[place] = calm_from(&parts[place], routers, times, calm[place], room);
+    for place in 0..pieces.all.len() {
+        before[place] = calm_from(&pieces.all[place], routers, times, before[place], room);
     }
 }
 
@@ -194,20 +223,24 @@ fn calm_from(
         return known;
     }
     let steppers = part.steppers();
-    let mut wave = next_wave(steppers, routers, times, known);
+    let mut wave = next_wave(steppers, times, known);
     while wave < u32::MAX {
-        if stirs_in(part, steppers, routers, times, wave, room) {
+        let at = Wave {
+            times,
+            routers,
+            number: wave,
+        };
+        if stirs_in(part, steppers, &at, room) {
             return wave;
         }
-        wave = next_wave(steppers, routers, times, wave + 1);
+        wave = next_wave(steppers, times, wave + 1);
     }
     wave
 }
 
 /// The first wave from one on in which one of some routers makes a change; the greatest number where there is none.
-fn next_wave(steppers: &[u32], routers: u32, times: &[ChangeWaves], from: u32) -> u32
-    requires times { length times.now ≡ routers }
-    requires steppers { All (λ u. u < routers) steppers.now }
+fn next_wave(steppers: &[u32], times: &[ChangeWaves], from: u32) -> u32
+    requires { All (λ u. u < length times.now) steppers.now }
     ensures no_sooner { from ≤ result }
     ensures first { All (λ u. from ≤ times_in times.now (first u) → result ≤ times_in times.now (first u)) steppers.now }
     ensures second { All (λ u. from ≤ times_in times.now (second u) → result ≤ times_in times.now (second u)) steppers.now }
@@ -230,24 +263,16 @@ fn earlier_of(wave: u32, from: u32, next: u32) -> u32
 }
 
 /// Whether a walk over the steps of a part in a wave returns to one of some routers that makes a change in it.
-fn stirs_in(
-    part: &Part<'_>,
-    steppers: &[u32],
-    routers: u32,
-    times: &[ChangeWaves],
-    wave: u32,
-    room: &mut Room,
-) -> bool
-    requires rows { length part.now.rows ≡ routers }
-    requires times { length times.now ≡ routers }
-    requires steppers { All (λ u. u < routers) steppers.now }
-    requires room { HasRoom routers room.old }
-    ensures calm { OnFalse result (All (IsUnstirred part.now (times_in times.now) wave) steppers.now) }
-    ensures room { HasRoom routers room.new }
+fn stirs_in(part: &Part<'_>, steppers: &[u32], wave: &Wave<'_>, room: &mut Room) -> bool
+    requires rows { length part.now.rows ≡ wave.now.routers }
+    requires steppers { All (λ u. u < wave.now.routers) steppers.now }
+    requires room { HasRoom wave.now.routers room.old }
+    ensures calm { OnFalse result (All (IsUnstirred part.now (times_in wave.now.times.now) wave.now.number) steppers.now) }
+    ensures room { HasRoom wave.now.routers room.new }
     ensures ring { room.new.ring.items ≡ room.old.ring.items }
 {
     for router in steppers {
-        if stirs(part, routers, times, wave, *router, room) {
+        if stirs(part, wave, *router, room) {
             return true;
         }
     }
@@ -255,52 +280,24 @@ fn stirs_in(
 }
 
 /// Whether a router makes a change in a wave, and a walk over the steps of a part in the wave returns to it.
-fn stirs(
-    part: &Part<'_>,
-    routers: u32,
-    times: &[ChangeWaves],
-    wave: u32,
-    router: u32,
-    room: &mut Room,
-) -> bool
-    requires rows { length part.now.rows ≡ routers }
-    requires times { length times.now ≡ routers }
-    requires router { router < routers }
-    requires room { HasRoom routers room.old }
-    ensures never { OnFalse result (IsUnstirred part.now (times_in times.now) wave router) }
-    ensures room { HasRoom routers room.new }
+fn stirs(part: &Part<'_>, wave: &Wave<'_>, router: u32, room: &mut Room) -> bool
+    requires rows { length part.now.rows ≡ wave.now.routers }
+    requires router { router < wave.now.routers }
+    requires room { HasRoom wave.now.routers room.old }
+    ensures never { OnFalse result (IsUnstirred part.now (times_in wave.now.times.now) wave.now.number router) }
+    ensures room { HasRoom wave.now.routers room.new }
     ensures ring { room.new.ring.items ≡ room.old.ring.items }
 {
-    if !times[router as usize].changes_in(wave) {
+    if !wave.times[router as usize].changes_in(wave.number) {
         return false;
     }
-    returns_in(part, routers, times, router, wave, room)
-}
-
-/// Whether a walk over the steps of a part in a wave returns to a router.
-fn returns_in(
-    part: &Part<'_>,
-    routers: u32,
-    times: &[ChangeWaves],
-    router: u32,
-    wave: u32,
-    room: &mut Room,
-) -> bool
-    requires rows { length part.now.rows ≡ routers }
-    requires times { length times.now ≡ routers }
-    requires router { router < routers }
-    requires room { HasRoom routers room.old }
-    ensures never { OnFalse result (NeverReturnsTo (WaveStep part.now (times_in times.now) wave) router) }
-    ensures room { HasRoom routers room.new }
-    ensures ring { room.new.ring.items ≡ room.old.ring.items }
-{
-    let steps = WaveSteps::new(part, times, wave, routers);
+    let steps = WaveSteps::new(part, wave);
     may_return(&steps, router, &mut room.live, &mut room.path)
 }
 
 /// The least of some numbers.
-pub(crate) fn least_of(numbers: &[u32]) -> u32
-    ensures { (k : ℕ) → k < length numbers.now → result ≤ slice_index numbers.now k }
+pub(crate) fn least_of(numbers: &Vec<u32>) -> u32
+    ensures { (k : ℕ) → k < length numbers.now.items → result ≤ slice_index numbers.now.items k }
 {
     let mut least = u32::MAX;
     for number in numbers {

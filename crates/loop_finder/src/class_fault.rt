@@ -14,32 +14,31 @@ use crate::class_steps::ClassSteps;
 use crate::fault::Fault;
 use crate::ring::find_ring;
 use crate::room::Room;
+use crate::span::Span;
 use crate::tags::write_ring;
 use net_addr::Prefix;
 use order_core::Turn;
-use rib_mix::{Mixed, Phase};
+use rib_mix::Mixed;
 use route_core::RouteSource;
 
 /// The fault of the steps of two states for a class, at the class's least address.
 pub(crate) fn class_fault<O: RouteSource, N: RouteSource>(
     mixed: &Mixed<'_, O, N>,
-    first: &[Phase],
-    last: &[Phase],
+    span: &Span<'_>,
     atom: u32,
     room: &mut Room,
 ) -> Option<Fault>
     requires atom { atom < length mixed.now.classes.samples }
-    requires first { length first.now ≡ length mixed.now.net }
-    requires last { length last.now ≡ length mixed.now.net }
+    requires span { length span.now.first.now ≡ length mixed.now.net }
     requires room { HasRoom (length mixed.now.net) room.old }
     ensures room { HasRoom (length mixed.now.net) room.new }
-    ensures told { IsClassVerdict (two_states (mix_of O.table N.table mixed.now) first.now last.now) atom result room.new.ring.items }
+    ensures told { IsClassVerdict (two_states (mix_of O.table N.table mixed.now) span.now.first.now span.now.last.now) atom result room.new.ring.items }
     ensures ring { KeepsRing result room.old.ring.items room.new.ring.items }
 {
     if !mark_class(mixed, atom, &mut room.forwards) {
         return None;
     }
-    let steps = ClassSteps::new(mixed, first, last, room.forwards.as_slice(), atom);
+    let steps = ClassSteps::new(mixed, span, room.forwards.as_slice(), atom);
     steps_fault(
         &steps,
         mixed.atoms().sample(atom),
@@ -47,6 +46,15 @@ pub(crate) fn class_fault<O: RouteSource, N: RouteSource>(
         &mut room.path,
         &mut room.ring,
     )
+}
+
+/// A class with the target of its addresses.
+#[derive(Drop)]
+pub(crate) struct ClassTarget {
+    /// The class.
+    pub atom: u32,
+    /// The target.
+    pub target: Prefix,
 }
 
 /// The target of a class, none where its addresses have none.

@@ -7,6 +7,7 @@ ghost use Rattle.loop_finder.specs.steps.ClassSteps.{AreForwarders, FirstStuck, 
 
 use crate::class_hops::class_hops;
 use crate::graph::StepGraph;
+use crate::span::Span;
 use rib_mix::{Mixed, Phase};
 use route_core::RouteSource;
 use std::marker::Model;
@@ -43,22 +44,20 @@ impl<'s, 'm, O: RouteSource, N: RouteSource> ClassSteps<'s, 'm, O, N> {
     /// The steps of two states for a class, where it's known which routers have to pass its packets on.
     pub fn new(
         mixed: &'s Mixed<'m, O, N>,
-        first: &'s [Phase],
-        last: &'s [Phase],
+        span: &'s Span<'s>,
         forwards: &'s [bool],
         atom: u32,
     ) -> ClassSteps<'s, 'm, O, N>
         requires atom { atom < length mixed.now.classes.samples }
-        requires first { length first.now ≡ length mixed.now.net }
-        requires last { length last.now ≡ length mixed.now.net }
+        requires span { length span.now.first.now ≡ length mixed.now.net }
         requires many { length forwards.now ≡ length mixed.now.net }
         requires forwards { AreForwarders mixed.now.net (sample_of mixed.now.classes atom) forwards.now }
-        ensures { result ≡ record { mixture = mixed.now; first = first.now; last = last.now; forwards = forwards.now; atom = atom } }
+        ensures { result ≡ record { mixture = mixed.now; first = span.now.first.now; last = span.now.last.now; forwards = forwards.now; atom = atom } }
     {
         ClassSteps {
             mixed,
-            first,
-            last,
+            first: span.first,
+            last: span.last,
             forwards,
             atom,
         }

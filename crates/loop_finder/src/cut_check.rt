@@ -9,25 +9,31 @@ ghost use Rattle.loop_finder.specs.steps.Returns.{layer_in};
 use crate::part::Part;
 use rib_mix::Phase;
 
+/// How a part is cut.
+#[derive(Drop)]
+pub(crate) struct Cut<'s, 'm> {
+    /// The layers of its routers.
+    pub layers: &'s [u32],
+    /// For each layer the place of its piece.
+    pub owners: &'s Vec<usize>,
+    /// The places of its pieces.
+    pub places: &'s Vec<usize>,
+    /// All pieces.
+    pub pieces: &'s Vec<Part<'m>>,
+}
+
 /// Whether the pieces at some places have all steps of a part by which walks return, each walk those of one piece: no step leads
 /// to a higher layer, and those that stay in a layer are in the piece of the layer.
-pub(crate) fn is_made_of(
-    part: &Part<'_>,
-    routers: u32,
-    layers: &[u32],
-    owners: &[usize],
-    places: &[usize],
-    all: &[Part<'_>],
-) -> bool
+pub(crate) fn is_made_of(part: &Part<'_>, routers: u32, cut: &Cut<'_, '_>) -> bool
     requires part { length part.now.rows ≡ routers }
-    requires all { All (λ piece. length piece.rows ≡ routers) all.now }
-    ensures { OnTrue result (IsMadeOf all.now part.now places.now) }
+    requires pieces { All (λ piece. length piece.rows ≡ routers) cut.now.pieces.now.items }
+    ensures { OnTrue result (IsMadeOf cut.now.pieces.now.items part.now cut.now.places.now.items) }
 {
-    if !are_below(places, all.len()) {
+    if !are_below(cut.places, cut.pieces.len()) {
         return false;
     }
     for router in 0..routers {
-        if !is_cut_at(part, router, layers, owners, places, all) {
+        if !is_cut_at(part, router, cut) {
             return false;
         }
     }
@@ -35,8 +41,8 @@ pub(crate) fn is_made_of(
 }
 
 /// Whether some places are below another.
-fn are_below(places: &[usize], end: usize) -> bool
-    ensures { OnTrue result (All (λ p. p < end) places.now) }
+fn are_below(places: &Vec<usize>, end: usize) -> bool
+    ensures { OnTrue result (All (λ p. p < end) places.now.items) }
 {
     for place in places {
         if *place >= end {
@@ -47,29 +53,22 @@ fn are_below(places: &[usize], end: usize) -> bool
 }
 
 /// Whether the steps of a router lead to lower layers, or stay in its layer and are in the layer's piece.
-fn is_cut_at(
-    part: &Part<'_>,
-    router: u32,
-    layers: &[u32],
-    owners: &[usize],
-    places: &[usize],
-    all: &[Part<'_>],
-) -> bool
+fn is_cut_at(part: &Part<'_>, router: u32, cut: &Cut<'_, '_>) -> bool
     requires router { router < length part.now.rows }
-    requires all { All (λ piece. router < length piece.rows) all.now }
-    ensures { OnTrue result (IsCutAt layers.now owners.now places.now all.now part.now router) }
+    requires pieces { All (λ piece. router < length piece.rows) cut.now.pieces.now.items }
+    ensures { OnTrue result (IsCutAt cut.now.layers.now cut.now.owners.now.items cut.now.places.now.items cut.now.pieces.now.items part.now router) }
 {
-    let owner = owner_of(owners, layer_in(layers, router));
-    if is_place(places, owner, all.len()) {
-        return is_cut_by(part, &all[owner], router, layers);
+    let owner = owner_of(cut.owners, layer_in(cut.layers, router));
+    if is_place(cut.places, owner, cut.pieces.len()) {
+        return is_cut_by(part, &cut.pieces[owner], router, cut.layers);
     }
-    falls(part, router, layers)
+    falls(part, router, cut.layers)
 }
 
 /// Whether a place is among some, and below another.
-fn is_place(places: &[usize], place: usize, end: usize) -> bool
+fn is_place(places: &Vec<usize>, place: usize, end: usize) -> bool
     ensures below { OnTrue result (place < end) }
-    ensures among { OnTrue result (Contains places.now place) }
+    ensures among { OnTrue result (Contains places.now.items place) }
 {
     place < end && places.contains(&place)
 }
@@ -131,8 +130,8 @@ fn layer_in(layers: &[u32], router: u32) -> u32
 }
 
 /// The place of the piece of a layer.
-fn owner_of(owners: &[usize], layer: u32) -> usize
-    ensures { result ≡ slice_index owners.now layer }
+fn owner_of(owners: &Vec<usize>, layer: u32) -> usize
+    ensures { result ≡ slice_index owners.now.items layer }
 {
     owners.get(layer as usize).copied().unwrap_or(0)
 }

@@ -8,6 +8,8 @@ use std::alloc::Global;
 /// What parts are cut with. What it finds is looked at anew by `cut_check`.
 #[derive(Drop)]
 pub(crate) struct Cutting<'m> {
+    /// Where pieces are allocated.
+    pub alloc: Global,
     /// The steps of a part in both networks.
     lists: EndLists<'m>,
     /// The layers of its routers: one for each strongly connected component.
@@ -25,6 +27,7 @@ impl<'m> Cutting<'m> {
     /// What parts of so many routers are cut with.
     pub fn new(alloc: Global, routers: u32) -> Result<Cutting<'m>, OutOfMemory> {
         Ok(Cutting {
+            alloc,
             lists: EndLists::new(alloc, routers)?,
             layers: Layers::new(alloc, routers)?,
             owners: vec![in alloc; NO_PLACE; routers as usize]?,

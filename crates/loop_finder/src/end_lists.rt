@@ -1,10 +1,10 @@
-ghost use Rattle.std.specs.Prelude.{◌≡◌, ◌<◌, ℕ, IfOk, IfSome, OnOk, length, slice_set};
+ghost use Rattle.std.specs.Prelude.{◌≡◌, ◌++◌, ◌∷◌, [], ◌<◌, ℕ, IfOk, IfSome, OnOk, length, slice_set};
 ghost use Rattle.std.specs.Bool.{OnTrue};
 ghost use Rattle.prefix_atoms.specs.Classes.{IsInClass};
 ghost use Rattle.loop_finder.specs.steps.EndPairs.{new_hops, old_hops};
 ghost use Rattle.loop_finder.specs.steps.Ends.{HasBothSteps, hops_at};
 ghost use Rattle.loop_finder.specs.steps.Making.{AreNoEnds, IsKnownAt, IsRead, IsReadAt, IsSameAt};
-ghost use Rattle.loop_finder.specs.steps.Parts.{AddsUnless, AreAllBut};
+ghost use Rattle.loop_finder.specs.steps.Parts.{AreAllBut};
 ghost use Rattle.loop_finder.specs.Mixes.{mix_of, sample_of, class_in};
 
 use crate::class_hops::next_hops;
@@ -85,13 +85,11 @@ impl<'m> EndLists<'m> {
 /// Reads a class, and tells the routers that are read: those that don't do the same as for the class that is known.
 pub(crate) fn read_class<'m, O: RouteSource, N: RouteSource>(
     mixed: &'m Mixed<'_, O, N>,
-    routers: u32,
     atom: u32,
     known: Option<u32>,
     lists: &mut EndLists<'m>,
     changed: &mut Vec<u32>,
 ) -> Result<(), OutOfMemory>
-    requires routers { routers ≡ length mixed.now.net }
     requires least { IsInClass mixed.now.classes atom (sample_of mixed.now.classes atom) }
     requires olds { length lists.old.olds ≡ length mixed.now.net }
     requires news { length lists.old.news ≡ length mixed.now.net }
@@ -100,17 +98,19 @@ pub(crate) fn read_class<'m, O: RouteSource, N: RouteSource>(
     ensures changed { OnOk result (AreAllBut (IsSameAt lists.old lists.new) (length mixed.now.net) changed.new.items) }
 {
     changed.clear();
-    for router in 0..routers {
-        read_router(mixed, atom, known, router, lists, changed)?;
+    for router in 0..mixed.net().routers() {
+        if is_known_at(mixed, atom, known, router) {
+            continue;
+        }
+        read_router(mixed, atom, router, lists, changed)?;
     }
     Ok(())
 }
 
-/// Reads a router and adds it to those changed, unless it does the same as for the class that is known.
+/// Reads a router and adds it to those changed.
 fn read_router<'m, O: RouteSource, N: RouteSource>(
     mixed: &'m Mixed<'_, O, N>,
     atom: u32,
-    known: Option<u32>,
     router: u32,
     lists: &mut EndLists<'m>,
     changed: &mut Vec<u32>,
@@ -119,17 +119,12 @@ fn read_router<'m, O: RouteSource, N: RouteSource>(
     requires router { router < length mixed.now.net }
     requires olds { length lists.old.olds ≡ length mixed.now.net }
     requires news { length lists.old.news ≡ length mixed.now.net }
-    requires class { IfSome known (λ other. other < length mixed.now.classes.samples) }
-    requires known { IfSome known (λ other. IsReadAt (class_in (mix_of O.table N.table mixed.now) other) lists.old router) }
     ensures read { OnOk result (IsReadAt (class_in (mix_of O.table N.table mixed.now) atom) lists.new router) }
     ensures olds_many { OnOk result (length lists.new.olds ≡ length lists.old.olds) }
     ensures news_many { OnOk result (length lists.new.news ≡ length lists.old.news) }
     ensures others { OnOk result ((u : ℕ) → ¬ (u ≡ router) → IsSameAt lists.old lists.new u) }
-    ensures changed { OnOk result (AddsUnless (IsSameAt lists.old lists.new router) router changed.old.items changed.new.items) }
+    ensures changed { OnOk result (changed.new.items ≡ changed.old.items ++ router ∷ []) }
 {
-    if is_known_at(mixed, atom, known, router) {
-        return Ok(());
-    }
     let olds = next_hops(mixed, atom, Phase::Old, router);
     let news = next_hops(mixed, atom, Phase::New, router);
     lists.put(router, Ends::new(olds, news));

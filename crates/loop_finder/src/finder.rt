@@ -12,18 +12,18 @@ ghost use Rattle.rib_mix.specs.Mixture.{migration_of};
 ghost use Rattle.loop_finder.specs.Faults.{KeepsRing, searched, told, told_fault};
 ghost use Rattle.loop_finder.specs.Times.{times_in};
 
-use crate::calm::none_known;
+use crate::calm::Calm;
 use crate::fault::Fault;
 use crate::known::{shared_states, sound_states};
-use crate::order_fault::{is_sound, order_fault, state_fault};
-use crate::part::Part;
+use crate::order_fault::{order_fault, state_fault};
 use crate::parts::parts_of;
-use crate::pieces::{Pieces, pieces_of};
+use crate::pieces::pieces_of;
 use crate::retag::{is_all_old, is_old_begun, tag_found};
-use crate::room::Room;
+use crate::subject::Subject;
 use crate::times::{ChangeWaves, rank_waves};
-use crate::watch::{Places, watch_of};
+use crate::watch::watch_of;
 use crate::waves_fault::{fault_alone, times_fault};
+use crate::work::Work;
 use order_core::Turn;
 use rib_mix::{Mixed, OutOfMemory, Phase};
 use route_core::RouteSource;
@@ -37,17 +37,10 @@ use std::marker::Model;
 /// pieces of parts in the latest timetable is kept.
 #[derive(Drop)]
 pub struct Finder<'a, O: RouteSource, N: RouteSource> {
-    mixed: &'a Mixed<'a, O, N>,
-    /// The classes that are looked at.
-    parts: Vec<Part<'a>>,
-    /// The pieces of which they are made.
-    pieces: Pieces<'a>,
-    /// For each router the parts that a change of it may make unsound.
-    watch: Vec<Places>,
-    /// The latest timetable.
-    times: Vec<ChangeWaves>,
-    /// For each piece a wave of it before which it is calm.
-    calm: Vec<u32>,
+    /// What it searches.
+    subject: Subject<'a, O, N>,
+    /// What is known of the latest timetable.
+    calm: Calm,
     /// Room for the timetable of a wave list.
     asked: Vec<ChangeWaves>,
     /// The latest order.
@@ -60,37 +53,31 @@ pub struct Finder<'a, O: RouteSource, N: RouteSource> {
     from_old: bool,
     /// Whether the start is sound.
     begun: bool,
-    phases: Vec<Phase>,
-    later: Vec<Phase>,
-    room: Room,
+    work: Work,
 }
 
 impl<'a, O: RouteSource, N: RouteSource> Model for Finder<'a, O, N> {
-    ghost use Rattle.std.specs.Prelude.{vec_len};
     ghost use Rattle.loop_finder.specs.Mixes.{mix_of};
     ghost use Rattle.loop_finder.specs.Faults.{Finding};
     ghost use Rattle.loop_finder.specs.Findings.{IsFinding};
 
     ghost Value = { Finding O N };
 
-    ghost view = { λ x. record { mixture = x.mixed.now; start = x.start.items; ring = x.room.ring.items } };
+    ghost view = { λ x. record { mixture = x.subject.mixed.now; start = x.start.items; ring = x.work.room.ring.items } };
 
-    ghost invariant = { λ x. IsFinding (mix_of O.table N.table x.mixed.now) (record {
-      parts = x.parts.items;
-      pieces = x.pieces;
-      watch = x.watch.items;
-      times = x.times.items;
-      calm =
-          x.calm.items;
+    ghost invariant = { λ x. IsFinding (mix_of O.table N.table x.subject.mixed.now) (record {
+      parts = x.subject.parts.items;
+      pieces = x.subject.pieces;
+      watch = x.subject.watch.items;
+      calm = x.calm;
       order = x.order.items;
       sound = x.sound;
       start = x.start.items;
       from_old = x.from_old;
       begun = x.begun;
-      asked = vec_len x.asked;
-      phases = vec_len x.phases;
-      later = vec_len x.later;
-    }) x.room };
+      asked = x.asked.items;
+      work = x.work;
+    }) };
 }
 
 impl<'a, O: RouteSource, N: RouteSource> Finder<'a, O, N> {
@@ -130,29 +117,28 @@ impl<'a, O: RouteSource, N: RouteSource> Finder<'a, O, N> {
         ensures start { IfOk result (λ finder. finder.start ≡ start.items) }
     {
         let routers = mixed.net().routers();
-        let phases = vec![in alloc; Phase::Old; routers as usize]?;
-        let later = vec![in alloc; Phase::Old; routers as usize]?;
         let parts = parts_of(alloc, mixed)?;
         let pieces = pieces_of(alloc, parts.as_slice(), routers)?;
         let watch = watch_of(alloc, parts.as_slice(), routers)?;
+        let calm = Calm::new(alloc, &pieces, routers)?;
         let once = ChangeWaves {
             first: 1,
             second: 1,
         };
-        let times = vec![in alloc; once; routers as usize]?;
         let asked = vec![in alloc; once; routers as usize]?;
         let order = vec![in alloc; 0; routers as usize]?;
-        let calm = none_known(alloc, pieces.all.as_slice())?;
-        let mut room = Room::new(alloc, routers)?;
-        let from_old = is_all_old(start.as_slice());
-        let begun = is_sound(mixed, parts.as_slice(), start.as_slice(), &mut room);
-        room.ring.clear();
-        Ok(Finder {
+        let mut work = Work::new(alloc, routers)?;
+        let subject = Subject {
             mixed,
             parts,
             pieces,
             watch,
-            times,
+        };
+        let from_old = is_all_old(start.as_slice());
+        let begun = state_fault(&subject, start.as_slice(), &mut work.room).is_none();
+        work.room.ring.clear();
+        Ok(Finder {
+            subject,
             calm,
             asked,
             order,
@@ -160,9 +146,7 @@ impl<'a, O: RouteSource, N: RouteSource> Finder<'a, O, N> {
             start,
             from_old,
             begun,
-            phases,
-            later,
-            room,
+            work,
         })
     }
 
@@ -178,7 +162,7 @@ impl<'a, O: RouteSource, N: RouteSource> Finder<'a, O, N> {
         ensures mixture { self.new.mixture ≡ self.old.mixture }
         ensures start { self.new.start ≡ self.old.start }
     {
-        state_fault(self.mixed, self.parts.as_slice(), phases, &mut self.room)
+        state_fault(&self.subject, phases, &mut self.work.room)
     }
 
     /// The fault of a state that no router is in an earlier phase of than at the start, with the tags of the ring by the start;
@@ -193,12 +177,13 @@ impl<'a, O: RouteSource, N: RouteSource> Finder<'a, O, N> {
         ensures mixture { self.new.mixture ≡ self.old.mixture }
         ensures start { self.new.start ≡ self.old.start }
     {
-        let found = state_fault(self.mixed, self.parts.as_slice(), phases, &mut self.room);
+        let found = state_fault(&self.subject, phases, &mut self.work.room);
+        let mixed = self.subject.mixed;
         tag_found(
-            self.mixed,
+            mixed,
             self.start.as_slice(),
             found,
-            &mut self.room.ring,
+            &mut self.work.room.ring,
         );
         found
     }
@@ -219,16 +204,7 @@ impl<'a, O: RouteSource, N: RouteSource> Finder<'a, O, N> {
     {
         let known = shared_states(self.order.as_slice(), self.sound, order);
         let begun = is_old_begun(self.begun, self.from_old);
-        let found = order_fault(
-            self.mixed,
-            self.parts.as_slice(),
-            self.watch.as_slice(),
-            begun,
-            known,
-            order,
-            &mut self.phases,
-            &mut self.room,
-        );
+        let found = order_fault(&self.subject, begun, known, order, &mut self.work);
         self.sound = sound_states(found, order);
         self.order.copy_from_slice(order);
         found
@@ -249,18 +225,8 @@ impl<'a, O: RouteSource, N: RouteSource> Finder<'a, O, N> {
     {
         let begun = is_old_begun(self.begun, self.from_old);
         rank_waves(ranks, &mut self.asked);
-        times_fault(
-            self.mixed,
-            self.parts.as_slice(),
-            &self.pieces,
-            begun,
-            self.asked.as_slice(),
-            &mut self.times,
-            &mut self.calm,
-            &mut self.phases,
-            &mut self.later,
-            &mut self.room,
-        )
+        let asked = self.asked.as_slice();
+        times_fault(&self.subject, begun, asked, &mut self.calm, &mut self.work)
     }
 
     /// The number of the first wave with an unsound state of the timetable in which each router makes its changes in the
@@ -277,23 +243,15 @@ impl<'a, O: RouteSource, N: RouteSource> Finder<'a, O, N> {
         ensures mixture { self.new.mixture ≡ self.old.mixture }
         ensures start { self.new.start ≡ self.old.start }
     {
-        let found = times_fault(
-            self.mixed,
-            self.parts.as_slice(),
-            &self.pieces,
-            self.begun,
-            times,
-            &mut self.times,
-            &mut self.calm,
-            &mut self.phases,
-            &mut self.later,
-            &mut self.room,
-        );
+        let begun = self.begun;
+        let found = times_fault(&self.subject, begun, times, &mut self.calm, &mut self.work);
+        let mixed = self.subject.mixed;
+        let fault = fault_alone(found);
         tag_found(
-            self.mixed,
+            mixed,
             self.start.as_slice(),
-            fault_alone(found),
-            &mut self.room.ring,
+            fault,
+            &mut self.work.room.ring,
         );
         found
     }
@@ -302,6 +260,6 @@ impl<'a, O: RouteSource, N: RouteSource> Finder<'a, O, N> {
     pub fn ring(&self) -> &[Turn]
         ensures { result.now ≡ self.now.ring }
     {
-        self.room.ring.as_slice()
+        self.work.room.ring.as_slice()
     }
 }

@@ -10,6 +10,7 @@ use crate::part::Part;
 use crate::returns::may_return;
 use crate::ring::find_ring;
 use crate::room::Room;
+use crate::span::Span;
 use rib_mix::Phase;
 use std::marker::Model;
 
@@ -34,16 +35,15 @@ impl<'s> Model for PartSteps<'s> {
 
 impl<'s> PartSteps<'s> {
     /// The steps of a part in two states of so many routers.
-    fn new(part: &'s Part<'s>, first: &'s [Phase], last: &'s [Phase], routers: u32) -> PartSteps<'s>
+    fn new(part: &'s Part<'s>, span: &'s Span<'s>, routers: u32) -> PartSteps<'s>
         requires rows { length part.now.rows ≡ routers }
-        requires first { length first.now ≡ routers }
-        requires last { length last.now ≡ routers }
-        ensures { result ≡ record { part = part.now; first = first.now; last = last.now; routers = routers } }
+        requires span { length span.now.first.now ≡ routers }
+        ensures { result ≡ record { part = part.now; first = span.now.first.now; last = span.now.last.now; routers = routers } }
     {
         PartSteps {
             part,
-            first,
-            last,
+            first: span.first,
+            last: span.last,
             routers,
         }
     }
@@ -74,49 +74,40 @@ impl<'s> StepGraph for PartSteps<'s> {
 /// Whether all routers move, and no walk over the steps of a part in two states returns to a router.
 pub(crate) fn passes_part_never(
     part: &Part<'_>,
-    first: &[Phase],
-    last: &[Phase],
+    span: &Span<'_>,
     router: u32,
     routers: u32,
     room: &mut Room,
 ) -> bool
     requires rows { length part.now.rows ≡ routers }
-    requires first { length first.now ≡ routers }
-    requires last { length last.now ≡ routers }
+    requires span { length span.now.first.now ≡ routers }
     requires router { router < routers }
     requires room { HasRoom routers room.old }
     ensures moves { OnTrue result (part.now.moves ≡ true) }
-    ensures never { OnTrue result (NeverReturnsTo (PartStep part.now first.now last.now) router) }
+    ensures never { OnTrue result (NeverReturnsTo (PartStep part.now span.now.first.now span.now.last.now) router) }
     ensures room { HasRoom routers room.new }
     ensures ring { room.new.ring.items ≡ room.old.ring.items }
 {
     if !part.moves() {
         return false;
     }
-    let steps = PartSteps::new(part, first, last, routers);
+    let steps = PartSteps::new(part, span, routers);
     !may_return(&steps, router, &mut room.live, &mut room.path)
 }
 
 /// Whether all routers move, and no walk over the steps of a part in two states returns.
-pub(crate) fn is_clear(
-    part: &Part<'_>,
-    first: &[Phase],
-    last: &[Phase],
-    routers: u32,
-    room: &mut Room,
-) -> bool
+pub(crate) fn is_clear(part: &Part<'_>, span: &Span<'_>, routers: u32, room: &mut Room) -> bool
     requires rows { length part.now.rows ≡ routers }
-    requires first { length first.now ≡ routers }
-    requires last { length last.now ≡ routers }
+    requires span { length span.now.first.now ≡ routers }
     requires room { HasRoom routers room.old }
     ensures moves { OnTrue result (part.now.moves ≡ true) }
-    ensures never { OnTrue result (ReturnsNever (PartStep part.now first.now last.now)) }
+    ensures never { OnTrue result (ReturnsNever (PartStep part.now span.now.first.now span.now.last.now)) }
     ensures room { HasRoom routers room.new }
     ensures ring { room.new.ring.items ≡ room.old.ring.items }
 {
     if !part.moves() {
         return false;
     }
-    let steps = PartSteps::new(part, first, last, routers);
+    let steps = PartSteps::new(part, span, routers);
     !find_ring(&steps, &mut room.live, &mut room.path)
 }

@@ -8,7 +8,8 @@
 //!
 //! | File | What it holds |
 //! |---|---|
-//! | `finder`, `fault`, `room` | the finder, what it finds, and its room to work in |
+//! | `finder`, `subject`, `fault` | the finder, what it searches, and what it finds |
+//! | `span`, `room`, `work` | two states, and room to work in |
 //! | `ends`, `end_lists`, `class_hops` | the hops of a class in both networks, and where they changed |
 //! | `layers`, `chains`, `level_marks` | where a walk may return, by one search for strongly connected components, chains at once |
 //! | `parts`, `part` | the parts |
@@ -29,6 +30,9 @@
 mod fault;
 mod finder;
 mod room;
+mod span;
+mod subject;
+mod work;
 
 // the hops of a class in both networks
 mod class_hops;

@@ -12,10 +12,10 @@ ghost use Rattle.loop_finder.specs.Mixes.{mix_of, sample_of, class_in};
 ghost use Rattle.loop_finder.specs.Watches.{IsIdle};
 
 use crate::chains::number_of;
+use crate::class_fault::ClassTarget;
 use crate::class_hops::next_hops;
 use crate::ends::Ends;
 use crate::live::is_marked;
-use net_addr::Prefix;
 use rib_mix::{Mixed, OutOfMemory, Phase};
 use route_core::RouteSource;
 use std::alloc::Global;
@@ -125,23 +125,22 @@ impl<'m> Part<'m> {
     pub fn build<O: RouteSource, N: RouteSource>(
         alloc: Global,
         mixed: &'m Mixed<'_, O, N>,
-        atom: u32,
-        target: Prefix,
+        class: &ClassTarget,
         marks: &[bool],
         moves: bool,
     ) -> Result<Part<'m>, OutOfMemory>
-        requires atom { atom < length mixed.now.classes.samples }
-        requires target { IsTargetIn mixed.now.net (sample_of mixed.now.classes atom) target }
+        requires atom { class.now.atom < length mixed.now.classes.samples }
+        requires target { IsTargetIn mixed.now.net (sample_of mixed.now.classes class.now.atom) class.now.target }
         requires marks { length marks.now ≡ length mixed.now.net }
-        requires returns { MarksReturns (StepsEver (class_in (mix_of O.table N.table mixed.now) atom)) marks.now }
-        requires moves { OnTrue moves (AllMove (class_in (mix_of O.table N.table mixed.now) atom)) }
+        requires returns { MarksReturns (StepsEver (class_in (mix_of O.table N.table mixed.now) class.now.atom)) marks.now }
+        requires moves { OnTrue moves (AllMove (class_in (mix_of O.table N.table mixed.now) class.now.atom)) }
         ensures part { IfOk result (IsPart (mix_of O.table N.table mixed.now)) }
-        ensures class { IfOk result (λ part. part.atom ≡ atom) }
+        ensures class { IfOk result (λ part. part.atom ≡ class.now.atom) }
     {
-        let rows = rows_of(alloc, mixed, atom, target, marks)?;
+        let rows = rows_of(alloc, mixed, class, marks)?;
         let steppers = steppers_of(alloc, rows.as_slice(), mixed.net().routers())?;
         Ok(Part {
-            atom,
+            atom: class.atom,
             moves,
             digest: digest_of(marks),
             rows,
@@ -461,18 +460,17 @@ fn add_stepper(rows: &[Row<'_>], router: u32, steppers: &mut Vec<u32>) -> Result
 fn rows_of<'m, O: RouteSource, N: RouteSource>(
     alloc: Global,
     mixed: &'m Mixed<'_, O, N>,
-    atom: u32,
-    target: Prefix,
+    class: &ClassTarget,
     marks: &[bool],
 ) -> Result<Vec<Row<'m>>, OutOfMemory>
-    requires atom { atom < length mixed.now.classes.samples }
-    requires target { IsTargetIn mixed.now.net (sample_of mixed.now.classes atom) target }
+    requires atom { class.now.atom < length mixed.now.classes.samples }
+    requires target { IsTargetIn mixed.now.net (sample_of mixed.now.classes class.now.atom) class.now.target }
     requires marks { length marks.now ≡ length mixed.now.net }
-    ensures { IfOk result (λ rows. AreRowsOf (class_in (mix_of O.table N.table mixed.now) atom) marks.now rows.items) }
+    ensures { IfOk result (λ rows. AreRowsOf (class_in (mix_of O.table N.table mixed.now) class.now.atom) marks.now rows.items) }
 {
     let mut rows = Vec::with_capacity(alloc, marks.len())?;
     for router in 0..mixed.net().routers() {
-        let row = row_of(mixed, atom, target, router, marks);
+        let row = row_of(mixed, class, router, marks);
         rows.push(row)?;
     }
     Ok(rows)
@@ -481,26 +479,25 @@ fn rows_of<'m, O: RouteSource, N: RouteSource>(
 /// The hops from a router to marked routers, none where it isn't marked itself.
 fn row_of<'m, O: RouteSource, N: RouteSource>(
     mixed: &'m Mixed<'_, O, N>,
-    atom: u32,
-    target: Prefix,
+    class: &ClassTarget,
     router: u32,
     marks: &[bool],
 ) -> Row<'m>
-    requires atom { atom < length mixed.now.classes.samples }
-    requires target { IsTargetIn mixed.now.net (sample_of mixed.now.classes atom) target }
+    requires atom { class.now.atom < length mixed.now.classes.samples }
+    requires target { IsTargetIn mixed.now.net (sample_of mixed.now.classes class.now.atom) class.now.target }
     requires router { router < length mixed.now.net }
-    ensures { IsRowOf (class_in (mix_of O.table N.table mixed.now) atom) marks.now router result }
+    ensures { IsRowOf (class_in (mix_of O.table N.table mixed.now) class.now.atom) marks.now router result }
 {
     if !is_marked(marks, router) {
         return Row::empty();
     }
-    if mixed.originates(router, target) {
+    if mixed.originates(router, class.target) {
         return Row::empty();
     }
     Row {
-        old: kept(next_hops(mixed, atom, Phase::Old, router), marks),
-        middle: kept(next_hops(mixed, atom, Phase::Middle, router), marks),
-        new: kept(next_hops(mixed, atom, Phase::New, router), marks),
+        old: kept(next_hops(mixed, class.atom, Phase::Old, router), marks),
+        middle: kept(next_hops(mixed, class.atom, Phase::Middle, router), marks),
+        new: kept(next_hops(mixed, class.atom, Phase::New, router), marks),
     }
 }
 

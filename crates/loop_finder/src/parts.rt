@@ -1,5 +1,6 @@
 ghost use Rattle.std.specs.Prelude.{◌≡◌, ◌+◌, ◌<◌, ℕ, All, None, Some, IfOk, OnOk, length};
 ghost use Rattle.std.specs.Bool.{OnTrue};
+ghost use Rattle.net_model.specs.Refusals.{IsNetwork};
 ghost use Rattle.prefix_atoms.specs.Classes.{IsInClass};
 ghost use Rattle.loop_finder.specs.steps.Targets.{IsTargetIn};
 ghost use Rattle.loop_finder.specs.steps.Making.{IsKnownClass, IsMaking, IsRead};
@@ -7,7 +8,7 @@ ghost use Rattle.loop_finder.specs.steps.PartRows.{HasEarlierHops};
 ghost use Rattle.loop_finder.specs.Parts.{AllMove, AreParts, IsCovered};
 ghost use Rattle.loop_finder.specs.Mixes.{mix_of, sample_of, class_in};
 
-use crate::class_fault::class_target;
+use crate::class_fault::{ClassTarget, class_target};
 use crate::end_lists::{EndLists, read_class};
 use crate::layers::Layers;
 use crate::level_marks::mark_returns;
@@ -53,11 +54,9 @@ impl<'m> Making<'m> {
     fn read<O: RouteSource, N: RouteSource>(
         &mut self,
         mixed: &'m Mixed<'_, O, N>,
-        routers: u32,
         atom: u32,
     ) -> Result<(), OutOfMemory>
         requires making { IsMaking (length mixed.now.net) self.old }
-        requires routers { routers ≡ length mixed.now.net }
         requires least { IsInClass mixed.now.classes atom (sample_of mixed.now.classes atom) }
         requires known { IsKnownClass (mix_of O.table N.table mixed.now) self.old }
         ensures making { OnOk result (IsMaking (length mixed.now.net) self.new) }
@@ -65,14 +64,7 @@ impl<'m> Making<'m> {
         ensures read { OnOk result (IsRead (class_in (mix_of O.table N.table mixed.now) atom) self.new.lists) }
     {
         let known = self.known;
-        read_class(
-            mixed,
-            routers,
-            atom,
-            known,
-            &mut self.lists,
-            &mut self.changed,
-        )?;
+        read_class(mixed, atom, known, &mut self.lists, &mut self.changed)?;
         self.known = Some(atom);
         let changed = self.changed.as_slice();
         if changed.is_empty() {
@@ -110,6 +102,7 @@ fn add_part<'m, O: RouteSource, N: RouteSource>(
     making: &mut Making<'m>,
     parts: &mut Vec<Part<'m>>,
 ) -> Result<(), OutOfMemory>
+    requires network { IsNetwork mixed.now.net }
     requires atom { atom < length mixed.now.classes.samples }
     requires making { IsMaking (length mixed.now.net) making.old }
     requires known { IsKnownClass (mix_of O.table N.table mixed.now) making.old }
@@ -121,31 +114,29 @@ fn add_part<'m, O: RouteSource, N: RouteSource>(
     let Some(target) = class_target(mixed, atom) else {
         return Ok(());
     };
-    making.read(mixed, mixed.net().routers(), atom)?;
-    add_known(alloc, mixed, atom, target, making, parts)
+    making.read(mixed, atom)?;
+    add_known(alloc, mixed, &ClassTarget { atom, target }, making, parts)
 }
 
 /// Adds the part of the class that was read, where some state may be unsound for it and no earlier one has its hops.
 fn add_known<'m, O: RouteSource, N: RouteSource>(
     alloc: Global,
     mixed: &'m Mixed<'_, O, N>,
-    atom: u32,
-    target: Prefix,
+    class: &ClassTarget,
     making: &Making<'m>,
     parts: &mut Vec<Part<'m>>,
 ) -> Result<(), OutOfMemory>
-    requires target { IsTargetIn mixed.now.net (sample_of mixed.now.classes atom) target }
+    requires target { IsTargetIn mixed.now.net (sample_of mixed.now.classes class.now.atom) class.now.target }
     requires making { IsMaking (length mixed.now.net) making.now }
-    requires read { IsRead (class_in (mix_of O.table N.table mixed.now) atom) making.now.lists }
-    requires parts { AreParts (mix_of O.table N.table mixed.now) parts.old.items atom }
-    ensures { OnOk result (AreParts (mix_of O.table N.table mixed.now) parts.new.items (atom + 1)) }
+    requires read { IsRead (class_in (mix_of O.table N.table mixed.now) class.now.atom) making.now.lists }
+    requires parts { AreParts (mix_of O.table N.table mixed.now) parts.old.items class.now.atom }
+    ensures { OnOk result (AreParts (mix_of O.table N.table mixed.now) parts.new.items (class.now.atom + 1)) }
 {
-    let moves = all_move(mixed, target, making);
-    if moves && is_covered(mixed, atom, making, parts.as_slice()) {
+    let moves = all_move(mixed, class.target, making);
+    if moves && is_covered(mixed, class.atom, making, parts) {
         return Ok(());
     }
-    let marks = making.marks.as_slice();
-    let part = Part::build(alloc, mixed, atom, target, marks, moves)?;
+    let part = Part::build(alloc, mixed, class, making.marks.as_slice(), moves)?;
     parts.push(part)?;
     Ok(())
 }
@@ -174,13 +165,13 @@ fn is_covered<O: RouteSource, N: RouteSource>(
     mixed: &Mixed<'_, O, N>,
     atom: u32,
     making: &Making<'_>,
-    parts: &[Part<'_>],
+    parts: &Vec<Part<'_>>,
 ) -> bool
     requires making { IsMaking (length mixed.now.net) making.now }
     requires read { IsRead (class_in (mix_of O.table N.table mixed.now) atom) making.now.lists }
     requires all { AllMove (class_in (mix_of O.table N.table mixed.now) atom) }
-    requires parts { AreParts (mix_of O.table N.table mixed.now) parts.now atom }
-    ensures { OnTrue result (IsCovered (mix_of O.table N.table mixed.now) parts.now atom) }
+    requires parts { AreParts (mix_of O.table N.table mixed.now) parts.now.items atom }
+    ensures { OnTrue result (IsCovered (mix_of O.table N.table mixed.now) parts.now.items atom) }
 {
     let marks = making.marks.as_slice();
     if none_marked(marks) {
@@ -195,12 +186,12 @@ fn has_earlier<O: RouteSource, N: RouteSource>(
     atom: u32,
     marks: &[bool],
     digest: u64,
-    parts: &[Part<'_>],
+    parts: &Vec<Part<'_>>,
 ) -> bool
     requires atom { atom < length mixed.now.classes.samples }
     requires marks { length marks.now ≡ length mixed.now.net }
-    requires parts { All (λ part. length part.rows ≡ length mixed.now.net) parts.now }
-    ensures { OnTrue result (HasEarlierHops (class_in (mix_of O.table N.table mixed.now) atom) marks.now parts.now) }
+    requires parts { All (λ part. length part.rows ≡ length mixed.now.net) parts.now.items }
+    ensures { OnTrue result (HasEarlierHops (class_in (mix_of O.table N.table mixed.now) atom) marks.now parts.now.items) }
 {
     for part in parts {
         if part.has_hops_of(mixed, atom, marks, digest) {

@@ -2,7 +2,7 @@ ghost use Rattle.std.specs.Prelude.{◌≡◌, ℕ, List, All, IfOk, OnOk, lengt
 ghost use Rattle.loop_finder.specs.Parts.{ClassPart};
 ghost use Rattle.loop_finder.specs.Pieces.{ArePieces, IsMadeOf};
 
-use crate::cut_check::is_made_of;
+use crate::cut_check::{Cut, is_made_of};
 use crate::cutting::Cutting;
 use crate::part::Part;
 use crate::watch::{Places, watch_of};
@@ -35,7 +35,7 @@ pub(crate) fn pieces_of<'m>(
     let mut all = Vec::new(alloc);
     let mut made = Vec::with_capacity(alloc, parts.len())?;
     for place in 0..parts.len() {
-        let places = cut(alloc, &parts[place], routers, &mut cutting, &mut all)?;
+        let places = cut(&parts[place], routers, &mut cutting, &mut all)?;
         made.push(places)?;
     }
     let watch = watch_of(alloc, all.as_slice(), routers)?;
@@ -45,7 +45,6 @@ pub(crate) fn pieces_of<'m>(
 /// Cuts a part: the places of its pieces, which are added where no earlier part has them. A part that its layers don't cut is
 /// a piece itself.
 fn cut<'m>(
-    alloc: Global,
     part: &Part<'m>,
     routers: u32,
     cutting: &mut Cutting<'m>,
@@ -59,24 +58,22 @@ fn cut<'m>(
         IsMadeOf all.old.items other others → IsMadeOf all.new.items other others) }
 {
     cutting.choose(part, routers);
-    add_pieces(alloc, part, routers, cutting, all)?;
-    let places = Vec::from_slice(alloc, cutting.places.as_slice())?;
-    if is_made_of(
-        part,
-        routers,
-        cutting.layers.numbers(),
-        cutting.owners.as_slice(),
-        places.as_slice(),
-        all.as_slice(),
-    ) {
+    add_pieces(part, routers, cutting, all)?;
+    let places = Vec::from_slice(cutting.alloc, cutting.places.as_slice())?;
+    let cut = Cut {
+        layers: cutting.layers.numbers(),
+        owners: &cutting.owners,
+        places: &places,
+        pieces: all,
+    };
+    if is_made_of(part, routers, &cut) {
         return Ok(Places::from_vec(places));
     }
-    add_whole(alloc, part, routers, all)
+    add_whole(cutting.alloc, part, routers, all)
 }
 
 /// Adds the pieces of a part that no earlier part has.
 fn add_pieces<'m>(
-    alloc: Global,
     part: &Part<'m>,
     routers: u32,
     cutting: &mut Cutting<'m>,
@@ -89,14 +86,13 @@ fn add_pieces<'m>(
         IsMadeOf all.old.items other others → IsMadeOf all.new.items other others) }
 {
     for router in part.steppers() {
-        add_piece(alloc, part, routers, *router, cutting, all)?;
+        add_piece(part, routers, *router, cutting, all)?;
     }
     Ok(())
 }
 
 /// Adds the piece of a part in which a router is, where it's in one that isn't found yet for the part, nor for an earlier one.
 fn add_piece<'m>(
-    alloc: Global,
     part: &Part<'m>,
     routers: u32,
     router: u32,
@@ -117,7 +113,7 @@ fn add_piece<'m>(
     }
     cutting.put(router, all.len())?;
     let layers = cutting.layers.numbers();
-    let piece = part.piece(alloc, routers, layers, cutting.layer_of(router))?;
+    let piece = part.piece(cutting.alloc, routers, layers, cutting.layer_of(router))?;
     all.push(piece)?;
     Ok(())
 }

@@ -1,4 +1,5 @@
-ghost use Rattle.std.specs.Prelude.{◌≡◌, ◌<◌, ◌&&◌, ◌⊎◌, ◌↔◌, IfSome, IsTrue, length};
+ghost use Rattle.std.specs.Prelude.{◌≡◌, ◌<◌, ◌≤◌, ◌&&◌, ◌↔◌, ℕ, IfSome, IsTrue, length};
+ghost use Rattle.std.specs.Vec.{vec_capacity};
 ghost use Rattle.igp_theory.specs.Forwarding.{MustForward, Steps};
 ghost use Rattle.igp_theory.specs.Loops.{AroundRing, IsTag, IsTagOf};
 ghost use Rattle.igp_theory.specs.Migrations.{started};
@@ -10,7 +11,7 @@ ghost use Rattle.prefix_atoms.specs.Classes.{IsInClass};
 ghost use Rattle.rib_mix.specs.Mixture.{migration_of};
 ghost use Rattle.loop_finder.specs.Faults.{KeepsRing};
 ghost use Rattle.loop_finder.specs.steps.Rings.{next_in};
-ghost use Rattle.loop_finder.specs.steps.Starts.{StepsFrom, TurnsAreTagged, TurnsStep};
+ghost use Rattle.loop_finder.specs.steps.Starts.{StepsEither, StepsFrom, TurnsAreTagged, TurnsStep};
 
 use crate::class_hops::next_hops;
 use crate::class_steps::is_among;
@@ -25,26 +26,28 @@ pub(crate) fn tag_from_start<O: RouteSource, N: RouteSource>(
     mixed: &Mixed<'_, O, N>,
     start: &[Phase],
     address: u32,
-    ring: &mut [Turn],
+    ring: &mut Vec<Turn>,
 )
     requires start { length start.now ≡ length mixed.now.net }
-    requires steps { AroundRing (StepsFrom (migration_of O.table N.table mixed.now) (state_in start.now) address) (routers_of ring.old) }
-    ensures routers { routers_of ring.new ≡ routers_of ring.old }
-    ensures tags { AroundRing (λ (s t : Turn). IsTag (started (state_in start.now) (migration_of O.table N.table mixed.now)) address s t.router) ring.new }
+    requires steps { AroundRing (StepsFrom (migration_of O.table N.table mixed.now) (state_in start.now) address) (routers_of ring.old.items) }
+    ensures routers { routers_of ring.new.items ≡ routers_of ring.old.items }
+    ensures tags { AroundRing (λ (s t : Turn). IsTag (started (state_in start.now) (migration_of O.table N.table mixed.now)) address s t.router)
+        ring.new.items }
+    ensures capacity { vec_capacity ring.old ≤ vec_capacity ring.new }
 {
     let atom = mixed.atoms().of(address);
     for place in 0..ring.len() {
         let router = ring[place].router;
         let next = turn_after(ring, place);
-        let tag = start_tag(mixed, address, atom, start[router as usize], router, next);
+        let tag = start_tag(mixed, atom, start[router as usize], router, next);
         ring[place] = Turn { router, tag };
     }
 }
 
 /// The router of the turn after a place of a ring.
-fn turn_after(ring: &[Turn], place: usize) -> u32
-    requires { place < length ring.now }
-    ensures { result ≡ next_in (routers_of ring.now) place }
+fn turn_after(ring: &Vec<Turn>, place: usize) -> u32
+    requires { place < length ring.now.items }
+    ensures { result ≡ next_in (routers_of ring.now.items) place }
 {
     if place + 1 < ring.len() {
         ring[place + 1].router
@@ -53,23 +56,22 @@ fn turn_after(ring: &[Turn], place: usize) -> u32
     }
 }
 
-/// By which of a phase and New a router steps to another.
+/// By which of a phase and New a router that has to pass a class's packets on steps to another.
 fn start_tag<O: RouteSource, N: RouteSource>(
     mixed: &Mixed<'_, O, N>,
-    address: u32,
     atom: u32,
     start: Phase,
     router: u32,
     next: u32,
 ) -> Tag
-    requires class { IsInClass mixed.now.classes atom address }
-    requires steps { Steps (migration_of O.table N.table mixed.now) router start address next
-        ⊎ Steps (migration_of O.table N.table mixed.now) router Phase.New address next }
-    ensures { IsTagOf result (Steps (migration_of O.table N.table mixed.now) router start address next)
-        (Steps (migration_of O.table N.table mixed.now) router Phase.New address next) }
+    requires atom { atom < length mixed.now.classes.samples }
+    requires router { router < length mixed.now.net }
+    ensures { (a : ℕ) → IsInClass mixed.now.classes atom a → StepsEither (migration_of O.table N.table mixed.now) start a router next →
+        IsTagOf result (Steps (migration_of O.table N.table mixed.now) router start a next)
+        (Steps (migration_of O.table N.table mixed.now) router Phase.New a next) }
 {
-    let first = leads(mixed, address, atom, start, router, next);
-    let last = leads(mixed, address, atom, Phase::New, router, next);
+    let first = leads(mixed, atom, start, router, next);
+    let last = leads(mixed, atom, Phase::New, router, next);
     match (first, last) {
         (true, true) => Tag::Both,
         (true, false) => Tag::Old,
@@ -77,18 +79,18 @@ fn start_tag<O: RouteSource, N: RouteSource>(
     }
 }
 
-/// Whether a router that has to pass packets for an address on steps to another in a phase.
+/// Whether a router that has to pass a class's packets on steps to another in a phase.
 fn leads<O: RouteSource, N: RouteSource>(
     mixed: &Mixed<'_, O, N>,
-    address: u32,
     atom: u32,
     phase: Phase,
     router: u32,
     next: u32,
 ) -> bool
-    requires class { IsInClass mixed.now.classes atom address }
-    requires must { MustForward mixed.now.net address router }
-    ensures { IsTrue result ↔ Steps (migration_of O.table N.table mixed.now) router phase address next }
+    requires atom { atom < length mixed.now.classes.samples }
+    requires router { router < length mixed.now.net }
+    ensures { (a : ℕ) → IsInClass mixed.now.classes atom a → MustForward mixed.now.net a router →
+        IsTrue result ↔ Steps (migration_of O.table N.table mixed.now) router phase a next }
 {
     is_among(next_hops(mixed, atom, phase, router), next)
 }
@@ -98,13 +100,14 @@ pub(crate) fn tag_found<O: RouteSource, N: RouteSource>(
     mixed: &Mixed<'_, O, N>,
     start: &[Phase],
     found: Option<Fault>,
-    ring: &mut [Turn],
+    ring: &mut Vec<Turn>,
 )
     requires start { length start.now ≡ length mixed.now.net }
-    requires steps { IfSome found (λ fault. TurnsStep (migration_of O.table N.table mixed.now) (state_in start.now) fault ring.old) }
-    ensures routers { routers_of ring.new ≡ routers_of ring.old }
-    ensures tags { IfSome found (λ fault. TurnsAreTagged (started (state_in start.now) (migration_of O.table N.table mixed.now)) fault ring.new) }
-    ensures ring { KeepsRing found ring.old ring.new }
+    requires steps { IfSome found (λ fault. TurnsStep (migration_of O.table N.table mixed.now) (state_in start.now) fault ring.old.items) }
+    ensures routers { routers_of ring.new.items ≡ routers_of ring.old.items }
+    ensures tags { IfSome found (λ fault. TurnsAreTagged (started (state_in start.now) (migration_of O.table N.table mixed.now)) fault ring.new.items) }
+    ensures ring { KeepsRing found ring.old.items ring.new.items }
+    ensures capacity { vec_capacity ring.old ≤ vec_capacity ring.new }
 {
     if let Some(Fault::Loop { address }) = found {
         tag_from_start(mixed, start, address, ring);

@@ -68,10 +68,11 @@ fn least_apart(was: u32, now: u32) -> u32
 }
 
 /// The waves of ranked routers: each makes both changes in its wave.
-pub(crate) fn rank_waves(ranks: &[u32], times: &mut [ChangeWaves])
-    requires many { length times.old ≡ length ranks.now }
+pub(crate) fn rank_waves(ranks: &[u32], times: &mut Vec<ChangeWaves>)
+    requires many { length times.old.items ≡ length ranks.now }
     requires few { (u : ℕ) → rank_of ranks.now u + 1 < 2 ^ 32 }
-    ensures { times_in times.new ≡ router_times all_old ranks.now }
+    ensures times { times_in times.new.items ≡ router_times all_old ranks.now }
+    ensures many { length times.new.items ≡ length ranks.now }
 {
     for router in 0..ranks.len() {
         let wave = ranks[router] + 1;
@@ -83,9 +84,10 @@ pub(crate) fn rank_waves(ranks: &[u32], times: &mut [ChangeWaves])
 }
 
 /// The phases in which the routers begin a wave.
-pub(crate) fn begin_wave(phases: &mut [Phase], times: &[ChangeWaves], wave: u32)
-    requires { length phases.old ≡ length times.now }
-    ensures { BeginWave (length times.now) (times_in times.now) wave phases.new }
+pub(crate) fn begin_wave(phases: &mut Vec<Phase>, times: &Vec<ChangeWaves>, wave: u32)
+    requires { length phases.old.items ≡ length times.now.items }
+    ensures phases { BeginWave (length times.now.items) (times_in times.now.items) wave phases.new.items }
+    ensures many { length phases.new.items ≡ length times.now.items }
 {
     for router in 0..times.len() {
         phases[router] = times[router].begins(wave);
@@ -93,9 +95,10 @@ pub(crate) fn begin_wave(phases: &mut [Phase], times: &[ChangeWaves], wave: u32)
 }
 
 /// The phases in which they end it.
-pub(crate) fn end_wave(phases: &mut [Phase], times: &[ChangeWaves], wave: u32)
-    requires { length phases.old ≡ length times.now }
-    ensures { BeginWave (length times.now) (times_in times.now) (wave + 1) phases.new }
+pub(crate) fn end_wave(phases: &mut Vec<Phase>, times: &Vec<ChangeWaves>, wave: u32)
+    requires { length phases.old.items ≡ length times.now.items }
+    ensures phases { BeginWave (length times.now.items) (times_in times.now.items) (wave + 1) phases.new.items }
+    ensures many { length phases.new.items ≡ length times.now.items }
 {
     for router in 0..times.len() {
         phases[router] = times[router].ends(wave);
@@ -103,9 +106,9 @@ pub(crate) fn end_wave(phases: &mut [Phase], times: &[ChangeWaves], wave: u32)
 }
 
 /// The last wave in which some router makes its second change, and the first of all where there is none.
-pub(crate) fn last_wave(times: &[ChangeWaves]) -> u32
+pub(crate) fn last_wave(times: &Vec<ChangeWaves>) -> u32
     ensures some { 1 ≤ result }
-    ensures last { (u : ℕ) → u < length times.now → times_in times.now (second u) ≤ result }
+    ensures last { (u : ℕ) → u < length times.now.items → times_in times.now.items (second u) ≤ result }
 {
     let mut last = 1;
     for waves in times {

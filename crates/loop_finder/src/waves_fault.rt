@@ -3,112 +3,79 @@ ghost use Rattle.std.specs.Bool.{OnTrue};
 ghost use Rattle.loop_finder.specs.Mixes.{mix_of};
 ghost use Rattle.loop_finder.specs.Calm.{AreCalm};
 ghost use Rattle.loop_finder.specs.Faults.{KeepsRing, told, told_fault};
-ghost use Rattle.loop_finder.specs.Parts.{AreParts};
-ghost use Rattle.loop_finder.specs.Pieces.{AreMadeOf, ArePieces};
-ghost use Rattle.loop_finder.specs.Rooms.{HasRoom};
+ghost use Rattle.loop_finder.specs.Works.{IsWork};
+ghost use Rattle.loop_finder.specs.Subjects.{IsSubject};
 ghost use Rattle.loop_finder.specs.Times.{times_in};
 ghost use Rattle.loop_finder.specs.steps.Times.{IsInOrder};
-ghost use Rattle.loop_finder.specs.steps.Verdicts.{FaultyWave, FaultyWaves, IsClearAt, SoundWave, SoundWaves, Told, two_states};
-ghost use Rattle.loop_finder.specs.steps.WaveStarts.{AreClearParts, BeginsSound};
+ghost use Rattle.loop_finder.specs.steps.Verdicts.{FaultyWave, FaultyWaves, SoundWave, SoundWaves};
+ghost use Rattle.loop_finder.specs.steps.WaveStarts.{BeginsSound};
 
-use crate::calm::{least_of, renew};
-use crate::class_fault::class_fault;
-use crate::classes_fault::classes_fault;
+use crate::calm::{Calm, least_of};
+use crate::classes_fault::{classes_fault, stir_in};
 use crate::fault::Fault;
 use crate::part::Part;
-use crate::pieces::Pieces;
-use crate::room::Room;
+use crate::span::Span;
+use crate::subject::Subject;
 use crate::times::{ChangeWaves, begin_wave, end_wave, last_wave};
-use crate::watch::Places;
-use rib_mix::{Mixed, Phase};
+use crate::work::Work;
 use route_core::RouteSource;
 
 /// The number of the first wave with an unsound state, with its fault. `begun` tells that the state in which the first wave
 /// begins is sound.
 ///
-/// `kept` is the latest timetable, and `calm` tells for each piece before which of its waves it is calm; afterwards they are
-/// those of this one.
+/// `calm` tells of the latest timetable before which of its waves each piece is calm; afterwards it tells of this one.
 pub(crate) fn times_fault<O: RouteSource, N: RouteSource>(
-    mixed: &Mixed<'_, O, N>,
-    parts: &[Part<'_>],
-    pieces: &Pieces<'_>,
+    subject: &Subject<'_, O, N>,
     begun: bool,
     times: &[ChangeWaves],
-    kept: &mut [ChangeWaves],
-    calm: &mut [u32],
-    first: &mut [Phase],
-    last: &mut [Phase],
-    room: &mut Room,
+    calm: &mut Calm,
+    work: &mut Work,
 ) -> Option<(u32, Fault)>
-    requires parts { AreParts (mix_of O.table N.table mixed.now) parts.now (length mixed.now.classes.samples) }
-    requires pieces { ArePieces parts.now (length mixed.now.net) pieces.now }
-    requires begun { OnTrue begun (BeginsSound (mix_of O.table N.table mixed.now) (times_in times.now) 1) }
-    requires times { length times.now ≡ length mixed.now.net }
+    requires subject { IsSubject (mix_of O.table N.table subject.now.mixed.now) subject.now.parts.items subject.now.pieces subject.now.watch.items }
+    requires begun { OnTrue begun (BeginsSound (mix_of O.table N.table subject.now.mixed.now) (times_in times.now) 1) }
+    requires times { length times.now ≡ length subject.now.mixed.now.net }
     requires order { IsInOrder (times_in times.now) }
-    requires kept { length kept.old ≡ length mixed.now.net }
-    requires calm { AreCalm pieces.now.all.items (times_in kept.old) calm.old }
-    requires first { length first.old ≡ length mixed.now.net }
-    requires last { length last.old ≡ length mixed.now.net }
-    requires room { HasRoom (length mixed.now.net) room.old }
-    ensures kept { kept.new ≡ times.now }
-    ensures calm { AreCalm pieces.now.all.items (times_in kept.new) calm.new }
-    ensures room { HasRoom (length mixed.now.net) room.new }
-    ensures sound { IfNone result (SoundWaves (mix_of O.table N.table mixed.now) (times_in times.now)) }
-    ensures fault { IfSome result (λ found.
-        FaultyWaves (mix_of O.table N.table mixed.now) (times_in times.now) found.0 (told_fault found.1 room.new.ring.items)) }
-    ensures ring { KeepsRing (told result) room.old.ring.items room.new.ring.items }
+    requires many { length calm.old.times.items ≡ length subject.now.mixed.now.net }
+    requires calm { AreCalm subject.now.pieces.all.items (times_in calm.old.times.items) calm.old.before.items }
+    requires work { IsWork (length subject.now.mixed.now.net) work.old }
+    ensures many { length calm.new.times.items ≡ length subject.now.mixed.now.net }
+    ensures calm { AreCalm subject.now.pieces.all.items (times_in calm.new.times.items) calm.new.before.items }
+    ensures work { IsWork (length subject.now.mixed.now.net) work.new }
+    ensures sound { IfNone result (SoundWaves (mix_of O.table N.table subject.now.mixed.now) (times_in times.now)) }
+    ensures fault { IfSome result (λ found. FaultyWaves (mix_of O.table N.table subject.now.mixed.now) (times_in times.now) found.0
+        (told_fault found.1 work.new.room.ring.items)) }
+    ensures ring { KeepsRing (told result) work.old.room.ring.items work.new.room.ring.items }
 {
-    let watch = pieces.watch.as_slice();
-    renew(
-        pieces.all.as_slice(),
-        watch,
-        mixed.net().routers(),
-        times,
-        kept,
-        calm,
-        room,
-    );
-    waves_fault(mixed, parts, pieces, begun, times, calm, first, last, room)
+    let routers = subject.mixed.net().routers();
+    calm.renew(&subject.pieces, routers, times, &mut work.room);
+    waves_fault(subject, begun, calm, work)
 }
 
-/// The number of the first wave with an unsound state, with its fault. `begun` tells that the state in which the first wave
-/// begins is sound.
-///
-/// `calm` tells for each piece before which wave it is calm: where the first state of a wave is sound in which all pieces of a
-/// part are calm, all its states are sound for the class of the part.
+/// The same for the timetable for which `calm` tells for each piece before which wave it is calm: where the first state of a
+/// wave is sound in which all pieces of a part are calm, all its states are sound for the class of the part.
 fn waves_fault<O: RouteSource, N: RouteSource>(
-    mixed: &Mixed<'_, O, N>,
-    parts: &[Part<'_>],
-    pieces: &Pieces<'_>,
+    subject: &Subject<'_, O, N>,
     begun: bool,
-    times: &[ChangeWaves],
-    calm: &[u32],
-    first: &mut [Phase],
-    last: &mut [Phase],
-    room: &mut Room,
+    calm: &Calm,
+    work: &mut Work,
 ) -> Option<(u32, Fault)>
-    requires parts { AreParts (mix_of O.table N.table mixed.now) parts.now (length mixed.now.classes.samples) }
-    requires pieces { ArePieces parts.now (length mixed.now.net) pieces.now }
-    requires begun { OnTrue begun (BeginsSound (mix_of O.table N.table mixed.now) (times_in times.now) 1) }
-    requires times { length times.now ≡ length mixed.now.net }
-    requires order { IsInOrder (times_in times.now) }
-    requires calm { AreCalm pieces.now.all.items (times_in times.now) calm.now }
-    requires first { length first.old ≡ length mixed.now.net }
-    requires last { length last.old ≡ length mixed.now.net }
-    requires room { HasRoom (length mixed.now.net) room.old }
-    ensures room { HasRoom (length mixed.now.net) room.new }
-    ensures sound { IfNone result (SoundWaves (mix_of O.table N.table mixed.now) (times_in times.now)) }
-    ensures fault { IfSome result (λ found.
-        FaultyWaves (mix_of O.table N.table mixed.now) (times_in times.now) found.0 (told_fault found.1 room.new.ring.items)) }
-    ensures ring { KeepsRing (told result) room.old.ring.items room.new.ring.items }
+    requires subject { IsSubject (mix_of O.table N.table subject.now.mixed.now) subject.now.parts.items subject.now.pieces subject.now.watch.items }
+    requires begun { OnTrue begun (BeginsSound (mix_of O.table N.table subject.now.mixed.now) (times_in calm.now.times.items) 1) }
+    requires times { length calm.now.times.items ≡ length subject.now.mixed.now.net }
+    requires order { IsInOrder (times_in calm.now.times.items) }
+    requires calm { AreCalm subject.now.pieces.all.items (times_in calm.now.times.items) calm.now.before.items }
+    requires work { IsWork (length subject.now.mixed.now.net) work.old }
+    ensures work { IsWork (length subject.now.mixed.now.net) work.new }
+    ensures sound { IfNone result (SoundWaves (mix_of O.table N.table subject.now.mixed.now) (times_in calm.now.times.items)) }
+    ensures fault { IfSome result (λ found. FaultyWaves (mix_of O.table N.table subject.now.mixed.now) (times_in calm.now.times.items)
+        found.0 (told_fault found.1 work.new.room.ring.items)) }
+    ensures ring { KeepsRing (told result) work.old.room.ring.items work.new.room.ring.items }
 {
-    let end = last_wave(times);
-    let mut wave = first_stirred(is_told(begun, parts), calm);
+    let end = last_wave(&calm.times);
+    let mut wave = first_stirred(&subject.parts, begun, calm);
     while wave <= end {
         let known = begins_sound(begun, wave);
-        if let Some(fault) = wave_fault(
-            mixed, parts, pieces, known, times, calm, wave, first, last, room,
-        ) {
+        if let Some(fault) = wave_fault(subject, known, calm, wave, work) {
             return Some((wave, fault));
         }
         if wave == end {
@@ -127,8 +94,8 @@ fn begins_sound(begun: bool, wave: u32) -> bool
 }
 
 /// Whether every router moves in all parts.
-fn all_move(parts: &[Part<'_>]) -> bool
-    ensures { OnTrue result (All (λ part. part.moves ≡ true) parts.now) }
+fn all_move(parts: &Vec<Part<'_>>) -> bool
+    ensures { OnTrue result (All (λ part. part.moves ≡ true) parts.now.items) }
 {
     for place in 0..parts.len() {
         if !parts[place].moves() {
@@ -138,132 +105,52 @@ fn all_move(parts: &[Part<'_>]) -> bool
     true
 }
 
-/// Whether the first state is known to be sound, and every router moves in all parts.
-fn is_told(begun: bool, parts: &[Part<'_>]) -> bool
-    ensures begun { OnTrue result (begun ≡ true) }
-    ensures moves { OnTrue result (All (λ part. part.moves ≡ true) parts.now) }
-{
-    begun && all_move(parts)
-}
-
 /// The first wave of which it isn't known that all pieces are calm in it; where it isn't known that this tells of its states, the
 /// first of all.
-fn first_stirred(told: bool, calm: &[u32]) -> u32
+fn first_stirred(parts: &Vec<Part<'_>>, begun: bool, calm: &Calm) -> u32
     ensures some { 1 ≤ result }
-    ensures told { 1 < result → told ≡ true }
-    ensures calm { 1 < result → (p : ℕ) → p < length calm.now → result ≤ slice_index calm.now p }
+    ensures begun { 1 < result → begun ≡ true }
+    ensures moves { 1 < result → All (λ part. part.moves ≡ true) parts.now.items }
+    ensures calm { 1 < result → (p : ℕ) → p < length calm.now.before.items → result ≤ slice_index calm.now.before.items p }
 {
-    if !told {
+    if !begun {
         return 1;
     }
-    least_of(calm).max(1)
+    if !all_move(parts) {
+        return 1;
+    }
+    least_of(&calm.before).max(1)
 }
 
 /// The fault of the states of a wave. `begun` tells that the one in which it begins is sound.
 fn wave_fault<O: RouteSource, N: RouteSource>(
-    mixed: &Mixed<'_, O, N>,
-    parts: &[Part<'_>],
-    pieces: &Pieces<'_>,
+    subject: &Subject<'_, O, N>,
     begun: bool,
-    times: &[ChangeWaves],
-    calm: &[u32],
+    calm: &Calm,
     wave: u32,
-    first: &mut [Phase],
-    last: &mut [Phase],
-    room: &mut Room,
+    work: &mut Work,
 ) -> Option<Fault>
-    requires parts { AreParts (mix_of O.table N.table mixed.now) parts.now (length mixed.now.classes.samples) }
-    requires pieces { ArePieces parts.now (length mixed.now.net) pieces.now }
-    requires begun { OnTrue begun (BeginsSound (mix_of O.table N.table mixed.now) (times_in times.now) wave) }
+    requires subject { IsSubject (mix_of O.table N.table subject.now.mixed.now) subject.now.parts.items subject.now.pieces subject.now.watch.items }
+    requires begun { OnTrue begun (BeginsSound (mix_of O.table N.table subject.now.mixed.now) (times_in calm.now.times.items) wave) }
     requires wave { 1 ≤ wave }
-    requires times { length times.now ≡ length mixed.now.net }
-    requires order { IsInOrder (times_in times.now) }
-    requires calm { AreCalm pieces.now.all.items (times_in times.now) calm.now }
-    requires first { length first.old ≡ length mixed.now.net }
-    requires last { length last.old ≡ length mixed.now.net }
-    requires room { HasRoom (length mixed.now.net) room.old }
-    ensures room { HasRoom (length mixed.now.net) room.new }
-    ensures sound { IfNone result (SoundWave (mix_of O.table N.table mixed.now) (times_in times.now) wave) }
-    ensures fault { IfSome result (λ fault.
-        FaultyWave (mix_of O.table N.table mixed.now) (times_in times.now) wave (told_fault fault room.new.ring.items)) }
-    ensures ring { KeepsRing result room.old.ring.items room.new.ring.items }
+    requires times { length calm.now.times.items ≡ length subject.now.mixed.now.net }
+    requires order { IsInOrder (times_in calm.now.times.items) }
+    requires calm { AreCalm subject.now.pieces.all.items (times_in calm.now.times.items) calm.now.before.items }
+    requires work { IsWork (length subject.now.mixed.now.net) work.old }
+    ensures work { IsWork (length subject.now.mixed.now.net) work.new }
+    ensures sound { IfNone result (SoundWave (mix_of O.table N.table subject.now.mixed.now) (times_in calm.now.times.items) wave) }
+    ensures fault { IfSome result (λ fault. FaultyWave (mix_of O.table N.table subject.now.mixed.now) (times_in calm.now.times.items)
+        wave (told_fault fault work.new.room.ring.items)) }
+    ensures ring { KeepsRing result work.old.room.ring.items work.new.room.ring.items }
 {
-    begin_wave(first, times, wave);
-    end_wave(last, times, wave);
-    if begun {
-        stirred_fault(
-            mixed,
-            parts,
-            pieces.made.as_slice(),
-            calm,
-            wave,
-            first,
-            last,
-            room,
-        )
-    } else {
-        classes_fault(mixed, parts, first, last, room)
-    }
-}
-
-/// The fault of the steps of two states, for the first class that has one. The states between them are sound for the
-/// parts whose pieces are all calm in a wave.
-fn stirred_fault<O: RouteSource, N: RouteSource>(
-    mixed: &Mixed<'_, O, N>,
-    parts: &[Part<'_>],
-    made: &[Places],
-    calm: &[u32],
-    wave: u32,
-    first: &[Phase],
-    last: &[Phase],
-    room: &mut Room,
-) -> Option<Fault>
-    requires parts { AreParts (mix_of O.table N.table mixed.now) parts.now (length mixed.now.classes.samples) }
-    requires many { length made.now ≡ length parts.now }
-    requires calm { AreClearParts (IsClearAt (mix_of O.table N.table mixed.now) first.now last.now) parts.now made.now calm.now wave }
-    requires first { length first.now ≡ length mixed.now.net }
-    requires last { length last.now ≡ length mixed.now.net }
-    requires room { HasRoom (length mixed.now.net) room.old }
-    ensures room { HasRoom (length mixed.now.net) room.new }
-    ensures told { Told (two_states (mix_of O.table N.table mixed.now) first.now last.now) result room.new.ring.items }
-    ensures ring { KeepsRing result room.old.ring.items room.new.ring.items }
-{
-    for place in 0..parts.len() {
-        if is_calm_in(&parts[place], &made[place], calm, wave) {
-            continue;
-        }
-        if let Some(fault) = class_fault(mixed, first, last, parts[place].atom(), room) {
-            return Some(fault);
-        }
-    }
-    None
-}
-
-/// Whether every router moves in a part, and all its pieces, at these places, are calm in a wave.
-fn is_calm_in(part: &Part<'_>, places: &Places, calm: &[u32], wave: u32) -> bool
-    ensures moves { OnTrue result (part.now.moves ≡ true) }
-    ensures calm { OnTrue result (All (λ p. wave < slice_index calm.now p) places.now) }
-{
-    part.moves() && are_calm_in(places.as_slice(), calm, wave)
-}
-
-/// Whether the pieces at some places are calm in a wave.
-fn are_calm_in(places: &[usize], calm: &[u32], wave: u32) -> bool
-    ensures { OnTrue result (All (λ p. wave < slice_index calm.now p) places.now) }
-{
-    for place in places {
-        if wave >= calm_at(calm, *place) {
-            return false;
-        }
-    }
-    true
-}
-
-/// The wave before which the piece at a place is calm.
-fn calm_at(calm: &[u32], place: usize) -> u32
-    ensures { result ≡ slice_index calm.now place }
-{
-    calm.get(place).copied().unwrap_or(0)
+    begin_wave(&mut work.first, &calm.times, wave);
+    end_wave(&mut work.last, &calm.times, wave);
+    let span = Span {
+        first: work.first.as_slice(),
+        last: work.last.as_slice(),
+    };
+    let stir = stir_in(begun, calm, wave);
+    classes_fault(subject, &span, stir, &mut work.room)
 }
 
 /// The fault alone, of an answer with the number of its wave.

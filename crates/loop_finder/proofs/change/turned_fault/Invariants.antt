@@ -8,8 +8,9 @@ use Rattle.loop_finder.proofs.change.turned_fault.Given as goal
 abbrev pub invariant-loop-place : goal.invariant-loop-place
 invariant-loop-place g l = record {
   stays : (j : ℕ) (d : ClassPart) → j < l.place-index
-      → StaysSoundAt (mix_of g.O.RouteSource.table g.N.RouteSource.table l.mixed) (record { phases = l.phases; router = l.router; was = l.was })
-      (get_or l.parts (get_or l.places j 0) d).atom;
-  room : HasRoom (length l.mixed.net) l.room;
+      → StaysSoundAt (mix_of g.O.RouteSource.table g.N.RouteSource.table l.subject.mixed.now)
+      (record { phases = l.turned.phases.now; router = l.turned.router; was = l.turned.was })
+      (get_or l.subject.parts.items (get_or l.places j 0) d).atom;
+  room : HasRoom (length l.subject.mixed.now.net) l.room;
   ring : l.room.ring.items ≡ l.fn.room.ring.items;
 }

@@ -2,4 +2,4 @@ use Rattle.std.proofs.Common.{ℕ, ◌<◌, get_or}
 use Rattle.loop_finder.proofs.cut_check.are_below.Given as goal
 
 abbrev pub invariant-loop-place : goal.invariant-loop-place
-invariant-loop-place l = (k : ℕ) → k < l.place-index → get_or l.places k 0 < l.end
+invariant-loop-place l = (k : ℕ) → k < l.place-index → get_or l.places.items k 0 < l.end

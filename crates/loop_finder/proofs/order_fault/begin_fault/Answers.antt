@@ -1,14 +1,12 @@
-use Rattle.std.proofs.Common.{Bool, sym, subst}
-use Rattle.std.specs.Bool.{OnTrue}
-use Rattle.igp_theory.specs.Phases.{State, all_old, state_in}
-use Rattle.loop_finder.specs.Soundness.{Sound}
+use Rattle.std.proofs.Common.{ap, ◌∙◌}
+use Rattle.igp_theory.specs.Phases.{all_old, state_in}
 use Rattle.loop_finder.proofs.OrderStates.{same_state}
-use Rattle.loop_finder.specs.Mixes.{mix_of}
 use Rattle.loop_finder.proofs.order_fault.begin_fault.Goals as goal
 
-pub returns-then-begun-clause-sound : goal.returns-then-begun-clause-sound
-returns-then-begun-clause-sound g c =
-    subst (λ (state : State). Sound (mix_of g.O.RouteSource.table g.N.RouteSource.table c.args.mixed.now) state)
-    (same_state all_old (state_in c.args.phases.now) (λ u.
-    sym (c.requires.phases u)))
-    (subst (λ (b : Bool). OnTrue b (Sound (mix_of g.O.RouteSource.table g.N.RouteSource.table c.args.mixed.now) all_old)) c.if-begun.true c.requires.begun)
+pub returns-clause-sound : goal.returns-clause-sound
+returns-clause-sound g c =
+    rw (ap state_in c.as_slice.ensures.value ∙ same_state (state_in c.args.work.now.first.items) all_old c.requires.phases) at c.state_fault.ensures.sound
+
+pub returns-clause-fault : goal.returns-clause-fault
+returns-clause-fault g c =
+    rw (ap state_in c.as_slice.ensures.value ∙ same_state (state_in c.args.work.now.first.items) all_old c.requires.phases) at c.state_fault.ensures.fault

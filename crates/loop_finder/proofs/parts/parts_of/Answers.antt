@@ -1,4 +1,5 @@
 use Rattle.std.proofs.Common.{◌≡◌, ℕ, ◌≤◌, ◌^◌, length, ap, ◌∙◌, arith, subst}
+use Rattle.net_model.specs.Refusals.{IsNetwork}
 use Rattle.prefix_atoms.specs.Classes.{Classes}
 use Rattle.loop_finder.specs.Parts.{AreParts}
 use Rattle.loop_finder.proofs.StateVerdicts.{classes_few}
@@ -12,6 +13,9 @@ overflow_cast-atom g c =
     let few : length c.args.mixed.now.classes.samples ≤ 2 ^ 32 =
     classes_few c.args.mixed.now.classes.prefixes c.args.mixed.now.classes.samples c.atoms.ensures.classes.classing.samples in
     omega (arith, many, few, c.loop-atom-test.true)
+
+pub add_part-requires-clause-network : goal.add_part-requires-clause-network
+add_part-requires-clause-network g c = subst IsNetwork c.net.ensures c.routers.ensures.network
 
 pub returns : goal.returns
 returns g c =

@@ -1,18 +1,21 @@
 use Rattle.std.proofs.Common.{refl, inl, inr}
 use Rattle.std.proofs.lemmas.Bool.{false≢true}
+use Rattle.igp_theory.specs.Forwarding.{MustForward}
 use Rattle.loop_finder.proofs.retag.start_tag.Goals as goal
 
-pub leads-first-requires-clause-must : goal.leads-first-requires-clause-must
-leads-first-requires-clause-must g c = elim c.requires.steps [ inl steps ↦ steps.must | inr steps ↦ steps.must ]
-
-pub leads-last-requires-clause-must : goal.leads-last-requires-clause-must
-leads-last-requires-clause-must g c = elim c.requires.steps [ inl steps ↦ steps.must | inr steps ↦ steps.must ]
+pub returns-in-true-true : goal.returns-in-true-true
+returns-in-true-true g c a inside steps =
+    let must : MustForward c.args.mixed.now.net a c.args.router = elim steps [ inl one ↦ one.must | inr other ↦ other.must ] in
+    ((c.in-true-true.ensures a inside must).0 refl, (c.in-true-true.ensures' a inside must).0 refl)
 
 pub returns-in-true-false : goal.returns-in-true-false
-returns-in-true-false g c = (c.in-true-false.ensures.0 refl, λ steps. false≢true (c.in-true-false.ensures'.1 steps))
+returns-in-true-false g c a inside steps =
+    let must : MustForward c.args.mixed.now.net a c.args.router = elim steps [ inl one ↦ one.must | inr other ↦ other.must ] in
+    ((c.in-true-false.ensures a inside must).0 refl, λ new. false≢true ((c.in-true-false.ensures' a inside must).1 new))
 
 pub returns-in-false-default : goal.returns-in-false-default
-returns-in-false-default g c = (
-  λ steps. false≢true (c.in-false-default.ensures.1 steps),
-  elim c.requires.steps [ inl steps ↦ absurd (false≢true (c.in-false-default.ensures.1 steps)) | inr steps ↦ steps ],
-)
+returns-in-false-default g c a inside steps =
+    let must : MustForward c.args.mixed.now.net a c.args.router = elim steps [ inl one ↦ one.must | inr other ↦ other.must ] in (
+      λ first. false≢true ((c.in-false-default.ensures a inside must).1 first),
+      elim steps [ inl first ↦ absurd (false≢true ((c.in-false-default.ensures a inside must).1 first)) | inr new ↦ new ],
+    )
