@@ -9,27 +9,31 @@ use Rattle.net_model.specs.Configuration.{Configuration}
 use Rattle.net_model.specs.Network.{Network, HasConfiguration, UpInterface}
 use Rattle.net_model.specs.declared.interface.Interface.{Interface}
 use Rattle.net_addr.proofs.SomeElement.{any_of}
-use Rattle.route_tables.specs.Lists.{Adds}
-use Rattle.ospf_routes.specs.steps.Candidates.{HasOspfSubnet, IsRangeOf, IsOspfCandidate, all, subnet, range}
+use Rattle.route_tables.specs.Lists.{Adds, Exactly}
+use Rattle.ospf_routes.specs.steps.Candidates.{HasOspfSubnet, IsRangeOver, IsSubnetUnder, IsOspfCandidate, all, subnet, range}
+use Rattle.ospf_routes.specs.steps.Subnets.{IsUpSubnet}
+use Rattle.ospf_routes.specs.declared.subnets.Subnet.{Subnet}
 
 -- the candidates of the routers below n are there
-pub record AreCandidatesBelow (net : Network) (n : ℕ) (dests : List Block) : Type 0 where
+pub record AreCandidatesBelow (net : Network) (given : List Subnet) (n : ℕ) (dests : List Block) : Type 0 where
   pub all : Contains dests default_prefix
   pub subnets : (w : ℕ) (i : Interface) (p : Block) → w < n → UpInterface net w i → HasOspfSubnet p i → Contains dests p
-  pub ranges : (w : ℕ) (config : Configuration) (p : Block) → w < n → HasConfiguration net w config → Any (IsRangeOf p) config.ranges → Contains dests p
+  pub ranges : (w : ℕ) (config : Configuration) (p : Block) → w < n → HasConfiguration net w config → Any (IsRangeOver given p) config.ranges →
+      Contains dests p
 
-pub candidates_none : (net : Network) (dests : List Block) → dests ≡ default_prefix ∷ [] → AreCandidatesBelow net 0 dests
-candidates_none net dests is = record {
+pub candidates_none : (net : Network) (subnets : List Subnet) (dests : List Block) → dests ≡ default_prefix ∷ [] →
+    AreCandidatesBelow net subnets 0 dests
+candidates_none net subnets dests is = record {
   all = subst (λ (l : List Block). Contains l default_prefix) (sym is) (0, omega arith, refl);
   subnets = λ w i q below. absurd (omega arith);
   ranges = λ w i q below. absurd (omega arith);
 }
 
 -- one more router: its subnets first, then its ranges
-pub candidates_more : (net : Network) (n : ℕ) (config : Configuration) (old mid new : List Block) → HasConfiguration net n config →
-    AreCandidatesBelow net n old → Adds old mid (λ p. Any (HasOspfSubnet p) config.interfaces) → Adds mid new (λ p. Any (IsRangeOf p) config.ranges) →
-    AreCandidatesBelow net (n + 1) new
-candidates_more net n config old mid new router before first second =
+pub candidates_more : (net : Network) (subnets : List Subnet) (n : ℕ) (config : Configuration) (old mid new : List Block) →
+    HasConfiguration net n config → AreCandidatesBelow net subnets n old → Adds old mid (λ p. Any (HasOspfSubnet p) config.interfaces) →
+    Adds mid new (λ p. Any (IsRangeOver subnets p) config.ranges) → AreCandidatesBelow net subnets (n + 1) new
+candidates_more net subnets n config old mid new router before first second =
     let keep : (p : Block) → Contains old p → Contains new p = λ p has. (second p).1 (inl ((first p).1 (inl has))) in
     record {
       all = keep default_prefix before.all;
@@ -47,17 +51,22 @@ candidates_more net n config old mid new router before first second =
         | inr last ↦
             let same : w ≡ n = omega arith in
             let is : other ≡ config = HasConfiguration-unique net n other config (subst (λ (k : ℕ). HasConfiguration net k other) same has) router in
-            (second p).1 (inr (subst (λ (c : Configuration). Any (IsRangeOf p) c.ranges) is have))
+            (second p).1 (inr (subst (λ (c : Configuration). Any (IsRangeOver subnets p) c.ranges) is have))
       ];
     }
 
 -- all candidates are there
-pub candidates_all : (net : Network) (n : ℕ) (dests : List Block) → length net ≡ n → AreCandidatesBelow net n dests → (p : Block) → IsOspfCandidate net p →
-    Contains dests p
-candidates_all net n dests count are p (all same) = subst (λ (x : Block). Contains dests x) (sym same) are.all
-candidates_all net n dests count are p (subnet is) =
+pub candidates_all : (net : Network) (subnets : List Subnet) (n : ℕ) (dests : List Block) → length net ≡ n →
+    Exactly (IsUpSubnet net) subnets →
+    AreCandidatesBelow net subnets n dests → (p : Block) → IsOspfCandidate net p → Contains dests p
+candidates_all net subnets n dests count up are p (all same) = subst (λ (x : Block). Contains dests x) (sym same) are.all
+candidates_all net subnets n dests count up are p (subnet is) =
     let within : is.router < length net = UpInterface-within net is.router is.interface is.up in
     are.subnets is.router is.interface p (omega arith) is.up is.has
-candidates_all net n dests count are p (range is) =
+candidates_all net subnets n dests count up are p (range is) =
     let within : is.router < length net = HasConfiguration-within net is.router is.config is.has_config in
-    are.ranges is.router is.config p (omega arith) is.has_config is.has
+    are.ranges is.router is.config p (omega arith) is.has_config
+    (any_of (IsRangeOver subnets p) is.config.ranges is.range is.among (record {
+      dest = is.dest;
+      over = any_of (IsSubnetUnder is.range) subnets is.subnet ((up is.subnet).1 is.up) is.under;
+    }))

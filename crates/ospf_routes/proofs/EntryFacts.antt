@@ -1,7 +1,9 @@
 -- The entries of a router, by its routes.
-use Rattle.std.proofs.Common.{◌≡◌, ◌↔◌, ℕ, List, Option, None, Some, MatchOption, length, refl, subst}
+use Rattle.std.proofs.Common.{◌≡◌, ◌↔◌, ℕ, List, Option, None, Some, MatchOption, length, refl, subst, sym}
 use Rattle.net_addr.specs.Addresses.{Block}
 use Rattle.net_model.specs.Network.{Network, Connected}
+use Rattle.net_model.specs.declared.area.Range.{Range}
+use Rattle.net_model.specs.declared.interface.Interface.{Interface}
 use Rattle.route_core.specs.declared.entry.Entry.{Entry}
 use Rattle.route_core.specs.declared.entry.Entry.TheVariants.{Via}
 use Rattle.walk_core.specs.BestOffers.{AreInRange, NoneTotals}
@@ -18,7 +20,6 @@ use Rattle.igp_theory.specs.Ospf.{into_backbone, into_area, InterAreaCost, OspfE
 use Rattle.walk_core.specs.Reach.{Reach}
 use Rattle.route_tables.specs.declared.route.Route.{Route}
 use Rattle.route_tables.proofs.BestRoutes.{best_route_makes, route_by_hops}
-use Rattle.net_addr.proofs.SomeElement.{any_of}
 use Rattle.ospf_routes.specs.declared.areas.AreaWalks.{AreaWalks}
 use Rattle.ospf_routes.specs.declared.entry.Asked.{Asked}
 use Rattle.ospf_routes.specs.declared.entry.Deciding.{Deciding}
@@ -31,7 +32,8 @@ use Rattle.std.specs.Option.{IfSome}
 use Rattle.std.specs.List.{Any, Contains}
 use Rattle.std.proofs.lemmas.Option.{MatchOption-at_some, MatchOption-at_none}
 use Rattle.ospf_routes.specs.declared.ranges.ActiveRange.{ActiveRange}
-use Rattle.ospf_routes.specs.steps.Candidates.{IsOspfCandidate, IsRangeOf, all, range}
+use Rattle.ospf_routes.specs.steps.Candidates.{IsOspfCandidate, all, range}
+use Rattle.ospf_routes.specs.steps.Subnets.{joins_on}
 use Rattle.ospf_routes.specs.steps.Routing.{IsListenedRoute, ListenedCost}
 use Rattle.ospf_routes.proofs.RangeFacts.{active_range_is, intra_is_candidate, range_cost_active}
 
@@ -150,7 +152,21 @@ found_by asked none (Some route) no_entry is = is
 active_is_candidate : (net : Network) (u : ℕ) (p : Block) → IsActiveRange net p u → IsOspfCandidate net p
 active_is_candidate net u p is =
     let has = is.active.component.range in
-    range (record { router = u; config = has.config; has_config = has.router; has = any_of (IsRangeOf p) has.config.ranges is.range has.among is.dest })
+    let best = is.active.component.reached.best in
+    let offers = best.attained.offered in
+    let i : Interface = offers.interface in
+    let r : Range = is.range in
+    range (record {
+      router = u;
+      config = has.config;
+      has_config = has.router;
+      range = r;
+      among = has.among;
+      dest = is.dest;
+      subnet = record { dest = is.active.dest; at = best.at; area = Some r.area; asks = best.attained.asks; joins = joins_on i };
+      up = record { interface = i; up = offers.up; dest = offers.subnet; area = sym offers.area; costs = sym offers.costs; joins = refl };
+      under = record { area = refl; covered = is.active.component.covered };
+    })
 
 subnet_summary_is_candidate : (net : Network) (n : ℕ) (p : Block) (b cost : ℕ) → SummarizesSubnet net n p b cost → IsOspfCandidate net p
 subnet_summary_is_candidate net n p b cost s = intra_is_candidate net s.area p b cost s.costs

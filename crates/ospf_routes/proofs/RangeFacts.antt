@@ -1,12 +1,13 @@
 -- Components and active ranges.
-use Rattle.std.proofs.Common.{◌≡◌, ℕ, ◌<◌, ◌↔◌, inl, inr, ⊎_elim, List, [], ◌∷◌, ◌++◌, length, get_or, Option, Some, None, MatchOption, true}
+use Rattle.std.proofs.Common.{◌≡◌, ℕ, ◌<◌, ◌≤◌, ◌↔◌, ◌⊎◌, inl, inr, ⊎_elim, List, [], ◌∷◌, ◌++◌, length, get_or, Option, Some, None, MatchOption, true}
 use Rattle.std.proofs.Common.{false, refl, sym, ap, subst, ◌∙◌, arith}
 use Rattle.std.specs.List.{Contains, Any, All}
-use Rattle.std.proofs.lemmas.Bool.{cases_lt, false≢true}
+use Rattle.std.proofs.lemmas.Bool.{cases_eq, cases_lt, false≢true}
 use Rattle.std.proofs.lemmas.Option.{none-some, same_Some}
+use Rattle.std.proofs.lemmas.List.Elements.{Contains-append_cases, Contains-append_left, Contains-append_right, Contains-push}
 use Rattle.std.proofs.lemmas.List.Elements.{Contains-push_cases, Contains-get_or, All-contains}
 use Rattle.std.specs.Option.{IsSome}
-use Rattle.net_addr.specs.Addresses.{Block, Covers}
+use Rattle.net_addr.specs.Addresses.{Block, Covers, first_bits}
 use Rattle.net_model.proofs.Adjacency.{HasConfiguration-unique}
 use Rattle.net_model.proofs.Members.{Contains-map}
 use Rattle.net_model.proofs.NetworkFacts.{InArea-within}
@@ -17,12 +18,12 @@ use Rattle.igp_theory.specs.Ospf.{IntraAreaCost, HasRange, IsComponent, IsActive
 use Rattle.ospf_routes.specs.steps.Candidates.{IsOspfCandidate, subnet}
 use Rattle.ospf_routes.specs.steps.Destinations.{ospf_prefixes}
 use Rattle.ospf_routes.specs.Lists.{Exactly, Adds}
-use Rattle.ospf_routes.specs.steps.Ranges.{IsLonger, HasComponentCost, IsComponentOfSome, IsPicked, IsActiveAt}
+use Rattle.ospf_routes.specs.steps.Ranges.{IsLonger, HasComponentCost, IsComponentOfSome, IsCoveredAt, IsPicked, IsActiveAt}
 use Rattle.ospf_routes.specs.steps.Ranges.{HasActive, AreActiveRanges, AreRangesAround, AreRangesBelow, HoldRanges}
 use Rattle.ospf_routes.specs.declared.intra_area.Destination.{Destination}
 use Rattle.ospf_routes.specs.declared.ranges.ActiveRange.{ActiveRange}
 use Rattle.net_addr.proofs.SomeElement.{any_of, any_in}
-use Rattle.route_tables.proofs.ListFacts.{exactly_same}
+use Rattle.route_tables.proofs.ListFacts.{exactly_same, the_one}
 
 -- Components
 
@@ -33,29 +34,38 @@ range_among net b config given r router are has =
     subst (λ (l : List Range). Contains l r) (sym are)
     (subst (λ (c : Configuration). Contains c.ranges r) (HasConfiguration-unique net b has.config config has.router router) has.among)
 
-pub component_is : (net : Network) (b : ℕ) (config : Configuration) (given : List Range) (r : Range) (p : Block) (cost : ℕ) → HasRange net b r →
-    HasConfiguration net b config → given ≡ config.ranges →
-    Covers r.dest p → (Any (IsLonger r p) given → ⊥) → IntraAreaCost net r.area p b cost → IsComponent net b r p cost
-component_is net b config given r p cost has router are covers none reached = record {
-  range = has;
-  covered = covers;
-  reached = reached;
-  longest = λ other also area over. elim (cases_lt r.dest.len other.dest.len) [
-    | inl longer ↦ absurd (none (any_of (IsLonger r p) given other (range_among net b config given other router are also)
-        (record { area = area; covers = over; longer = longer })))
-    | inr short ↦ omega arith
-  ];
-}
-
--- and what it costs within its area is what it costs as a component
-pub component_at : (net : Network) (b : ℕ) (config : Configuration) (given : List Range) (r : Range) (p : Block) (found : Option ℕ) → HasRange net b r →
-    HasConfiguration net b config → given ≡ config.ranges → Covers r.dest p → (Any (IsLonger r p) given → ⊥) →
-    ((cost : ℕ) → (found ≡ Some cost) ↔ IntraAreaCost net r.area p b cost) →
-    (cost : ℕ) → (found ≡ Some cost) ↔ IsComponent net b r p cost
-component_at net b config given r p found has router are covers none costs cost = (
-  λ same. component_is net b config given r p cost has router are covers none ((costs cost).0 same),
-  λ component. (costs cost).1 component.reached,
+-- what the range covers is a component, unless a longer range does
+pub component_at : (net : Network) (b : ℕ) (config : Configuration) (given : List Range) (r : Range) (p : Block) → HasRange net b r →
+    HasConfiguration net b config → given ≡ config.ranges → (Any (IsLonger r p) given → ⊥) →
+    (cost : ℕ) → IsCoveredAt net b r p cost ↔ IsComponent net b r p cost
+component_at net b config given r p has router are none cost = (
+  λ is. record {
+    range = has;
+    covered = is.covered;
+    reached = is.reached;
+    longest = λ other also area over. elim (cases_lt r.dest.len other.dest.len) [
+      | inl longer ↦ absurd (none (any_of (IsLonger r p) given other (range_among net b config given other router are also)
+          (record { area = area; covers = over; longer = longer })))
+      | inr short ↦ omega arith
+    ];
+  },
+  λ component. record { covered = component.covered; reached = component.reached },
 )
+
+-- where a longer range covers it, it is none
+pub no_component : (net : Network) (b : ℕ) (config : Configuration) (given : List Range) (r : Range) (p : Block) →
+    HasConfiguration net b config → given ≡ config.ranges → Any (IsLonger r p) given → (cost : ℕ) → IsComponent net b r p cost → ⊥
+no_component net b config given r p router are any cost component =
+    let f = any_in (IsLonger r p) given any in
+    let has : HasRange net b f.item = record {
+      border = component.range.border;
+      config = config;
+      router = router;
+      among = subst (λ (l : List Range). Contains l f.item) are f.among;
+    } in
+    let short = component.longest f.item has f.holds.area f.holds.covers in
+    let longer = f.holds.longer in
+    omega arith
 
 -- a prefix with an intra-area cost is a subnet
 pub intra_is_candidate : (net : Network) (n : ℕ) (p : Block) (u cost : ℕ) → IntraAreaCost net n p u cost → IsOspfCandidate net p
@@ -230,14 +240,131 @@ active_range_is net u p actives are = (
 
 -- Router by router
 
--- No component
+-- The longest range
 
-pub component_of_some : (net : Network) (b : ℕ) (config : Configuration) (given : List Range) (p : Block) → HasConfiguration net b config →
-    given ≡ config.ranges →
-    All (λ (r : Range). (c : ℕ) → IsComponent net b r p c → ⊥) given → IsComponentOfSome net b p → ⊥
-component_of_some net b config given p router are none is =
-    let among : Contains given is.range = range_among net b config given is.range router are is.component.range in
-    All-contains (λ (r : Range). (c : ℕ) → IsComponent net b r p c → ⊥) given is.range none among is.cost is.component
+-- the range is of area n, and covers p
+record IsMatching (n : ℕ) (p : Block) (r : Range) : Type 0 where
+  pub area : r.area ≡ n
+  pub covers : Covers r.dest p
+
+matches_or_not : (n : ℕ) (p : Block) (r : Range) → IsMatching n p r ⊎ (IsMatching n p r → ⊥)
+matches_or_not n p r = elim (cases_eq r.area n) [
+  | inl area ↦ elim (cases_lt p.len r.dest.len) [
+    | inl short ↦ inr (λ is. let longer = is.covers.longer in omega arith)
+    | inr longer ↦ elim (cases_eq (first_bits r.dest.len p.base) (first_bits r.dest.len r.dest.base)) [
+      | inl inside ↦ inl (record { area = area; covers = record { longer = longer; inside = inside } })
+      | inr outside ↦ inr (λ is. outside is.covers.inside)
+    ]
+  ]
+  | inr other ↦ inr (λ is. other is.area)
+]
+
+-- none of these is longer that is of area n and covers p
+record Longest (n : ℕ) (p : Block) (ranges : List Range) : Type 0 where
+  pub range : Range
+  pub among : Contains ranges range
+  pub is : IsMatching n p range
+  pub longest : (other : Range) → Contains ranges other → IsMatching n p other → other.dest.len ≤ range.dest.len
+
+-- the longest of the first range and of those behind it
+longest_of : (n : ℕ) (p : Block) (r : Range) (ranges : List Range) → IsMatching n p r ⊎ (IsMatching n p r → ⊥) →
+    ((other : Range) → Contains ranges other → IsMatching n p other → ⊥) ⊎ Longest n p ranges →
+    ((other : Range) → Contains (r ∷ ranges) other → IsMatching n p other → ⊥) ⊎ Longest n p (r ∷ ranges)
+longest_of n p r ranges first rest = elim rest [
+  | inl none ↦ elim first [
+    | inl is ↦ inr (record {
+      range = r;
+      among = here;
+      is = is;
+      longest = λ other among also. elim (cases other among) [
+        | inl same ↦ let e = ap (λ (x : Range). x.dest.len) same in omega arith
+        | inr later ↦ absurd (none other later also)
+      ];
+    })
+    | inr unlike ↦ inl (λ other among also. elim (cases other among) [
+      | inl same ↦ unlike (subst (IsMatching n p) same also)
+      | inr later ↦ none other later also
+    ])
+  ]
+  | inr best ↦ elim first [
+    | inl is ↦ elim (cases_lt best.range.dest.len r.dest.len) [
+      | inl longer ↦ inr (record {
+        range = r;
+        among = here;
+        is = is;
+        longest = λ other among also. elim (cases other among) [
+          | inl same ↦ let e = ap (λ (x : Range). x.dest.len) same in omega arith
+          | inr later ↦ let low = best.longest other later also in omega arith
+        ];
+      })
+      | inr short ↦ inr (record {
+        range = best.range;
+        among = behind best.range best.among;
+        is = best.is;
+        longest = λ other among also. elim (cases other among) [
+          | inl same ↦ let e = ap (λ (x : Range). x.dest.len) same in omega arith
+          | inr later ↦ best.longest other later also
+        ];
+      })
+    ]
+    | inr unlike ↦ inr (record {
+      range = best.range;
+      among = behind best.range best.among;
+      is = best.is;
+      longest = λ other among also. elim (cases other among) [
+        | inl same ↦ absurd (unlike (subst (IsMatching n p) same also))
+        | inr later ↦ best.longest other later also
+      ];
+    })
+  ]
+]
+  where
+    here : Contains (r ∷ ranges) r
+    here = Contains-append_left (r ∷ []) ranges r (Contains-push [] r)
+
+    behind : (other : Range) → Contains ranges other → Contains (r ∷ ranges) other
+    behind other among = Contains-append_right (r ∷ []) ranges other among
+
+    cases : (other : Range) → Contains (r ∷ ranges) other → (other ≡ r) ⊎ Contains ranges other
+    cases other among = ⊎_elim (λ first. inl (the_one r other first)) (λ later. inr later) (Contains-append_cases (r ∷ []) ranges other among)
+
+longest_or_none : (n : ℕ) (p : Block) (ranges : List Range) →
+    ((other : Range) → Contains ranges other → IsMatching n p other → ⊥) ⊎ Longest n p ranges
+longest_or_none n p [] = inl (λ other among also. absurd (omega (arith, among.1)))
+longest_or_none n p (r ∷ ranges) = longest_of n p r ranges (matches_or_not n p r) (longest_or_none n p ranges)
+
+-- what a range covers is a component of the longest one of its area that does
+pub covered_is_component : (net : Network) (b : ℕ) (r : Range) (p : Block) (cost : ℕ) → HasRange net b r → IsCoveredAt net b r p cost →
+    IsComponentOfSome net b p
+covered_is_component net b r p cost has is = elim (longest_or_none r.area p has.config.ranges) [
+  | inl none ↦ absurd (none r has.among (record { area = refl; covers = is.covered }))
+  | inr best ↦ record {
+    range = best.range;
+    cost = cost;
+    component = record {
+      range = record { border = has.border; config = has.config; router = has.router; among = best.among };
+      covered = best.is.covers;
+      reached = subst (λ (n : ℕ). IntraAreaCost net n p b cost) (sym best.is.area) is.reached;
+      longest = λ other also area over.
+          best.longest other (range_among net b has.config has.config.ranges other has.router refl also)
+          (record { area = area ∙ best.is.area; covers = over });
+    };
+  }
+]
+
+-- an active range is one of the router's
+pub active_is_range : (net : Network) (b : ℕ) (actives : List ActiveRange) (a : ActiveRange) → AreActiveRanges net b actives →
+    Contains actives a → HasRange net b a.range
+active_is_range net b actives a are among = (range_cost_active net b a.range a.cost ((are.exact a).0 among)).component.range
+
+-- where no active range covers it, it is a component of none
+pub no_component_of : (net : Network) (b : ℕ) (actives : List ActiveRange) (p : Block) → AreActiveRanges net b actives →
+    All (λ (a : ActiveRange). (c : ℕ) → IsCoveredAt net b a.range p c → ⊥) actives → IsComponentOfSome net b p → ⊥
+no_component_of net b actives p are none is =
+    let h = are.every is.range (record { dest = p; cost = is.cost; component = is.component }) in
+    All-contains (λ (a : ActiveRange). (c : ℕ) → IsCoveredAt net b a.range p c → ⊥) actives h.active none h.among is.cost
+    (subst (λ (r : Range). IsCoveredAt net b r p is.cost) (sym h.range)
+    (record { covered = is.component.covered; reached = is.component.reached }))
 
 -- lists that hold the prefixes of all routers' active ranges
 pub hold_ranges : (ranges : List (List ActiveRange)) (old new : List Block) → old ≡ [] →

@@ -2,7 +2,7 @@ ghost use Rattle.std.specs.Prelude.{◌≡◌, ◌<◌, ◌↔◌, length, Some,
 ghost use Rattle.ospf_routes.specs.steps.Destinations.{IsDestinationIn};
 ghost use Rattle.net_model.specs.Network.{IsBorderRouter};
 ghost use Rattle.ospf_routes.specs.Lists.{Adds, Exactly};
-ghost use Rattle.ospf_routes.specs.steps.Ranges.{AreRangesBelow};
+ghost use Rattle.ospf_routes.specs.steps.Ranges.{AreActiveRanges, AreRangesBelow};
 ghost use Rattle.ospf_routes.specs.steps.Summarized.{AreSummarized, IsAreaSubnet, IsListedRange, IsRangeRoute, SummarizedSubnet};
 ghost use Rattle.ospf_routes.specs.declared.area_route.AreaRoute.{AreaRoute as Route};
 
@@ -29,7 +29,7 @@ pub(crate) fn summarized(
     ensures { IfOk result (λ routes. AreSummarized domain.now.net destination.now.dest routes.items) }
 {
     let mut routes = Vec::new(alloc);
-    push_subnets(&mut routes, domain, destination)?;
+    push_subnets(&mut routes, domain, ranges, destination)?;
     push_ranges(&mut routes, borders, ranges, destination.dest)?;
     Ok(routes)
 }
@@ -38,13 +38,15 @@ pub(crate) fn summarized(
 fn push_subnets(
     routes: &mut Vec<AreaRoute>,
     domain: &Domain<'_>,
+    ranges: &[ActiveRanges],
     destination: &Destination,
 ) -> Result<(), OutOfMemory>
+    requires ranges { AreRangesBelow domain.now.net (length domain.now.net) ranges.now }
     requires destination { IsDestinationIn domain.now destination.now }
     ensures { OnOk result (Adds routes.old.items routes.new.items (λ r. SummarizedSubnet domain.now.net destination.now.dest r.at r)) }
 {
     for part in destination.parts.as_slice() {
-        push_area_subnets(routes, domain, destination, part)?;
+        push_area_subnets(routes, domain, ranges, destination, part)?;
     }
     Ok(())
 }
@@ -53,15 +55,21 @@ fn push_subnets(
 fn push_area_subnets(
     routes: &mut Vec<AreaRoute>,
     domain: &Domain<'_>,
+    ranges: &[ActiveRanges],
     destination: &Destination,
     part: &AreaOffers,
 ) -> Result<(), OutOfMemory>
+    requires ranges { AreRangesBelow domain.now.net (length domain.now.net) ranges.now }
     requires destination { IsDestinationIn domain.now destination.now }
     requires part { Contains destination.now.parts.items part.now }
     ensures { OnOk result (Adds routes.old.items routes.new.items (IsAreaSubnet domain.now.net destination.now.dest part.now.area)) }
 {
     for b in domain.area(part.zone).borders.as_slice() {
-        push_option(routes, subnet_summary(domain, destination, part, *b))?;
+        let actives = ranges[*b as usize].as_slice();
+        push_option(
+            routes,
+            subnet_summary(domain, actives, destination, part, *b),
+        )?;
     }
     Ok(())
 }
@@ -70,18 +78,20 @@ fn push_area_subnets(
 /// component of a range.
 fn subnet_summary(
     domain: &Domain<'_>,
+    actives: &[ActiveRange],
     destination: &Destination,
     part: &AreaOffers,
     b: u32,
 ) -> Option<AreaRoute>
     requires border { IsBorderRouter domain.now.net b }
     requires router { b < length domain.now.net }
+    requires ranges { AreActiveRanges domain.now.net b actives.now }
     requires destination { IsDestinationIn domain.now destination.now }
     requires part { Contains destination.now.parts.items part.now }
     ensures { (r : Route) → (result ≡ Some r) ↔ ((r.at ≡ b) × IsAreaSubnet domain.now.net destination.now.dest part.now.area r) }
 {
     let asks = part_cost(domain, part, b)?;
-    if is_component(domain, destination, b) {
+    if is_component(domain, actives, destination, b) {
         return None;
     }
     Some(AreaRoute {

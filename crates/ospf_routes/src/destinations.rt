@@ -19,7 +19,7 @@ pub(crate) fn destinations(
     ensures { IfOk result (λ all. AreOspfDestinations domain.now all.items) }
 {
     let subnets = Subnets::of_network(alloc, domain.net())?;
-    let dests = candidates_of(alloc, domain.net())?;
+    let dests = candidates_of(alloc, domain.net(), &subnets)?;
     each_destination(alloc, domain, &subnets, dests.as_slice())
 }
 

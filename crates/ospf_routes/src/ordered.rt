@@ -1,5 +1,6 @@
 ghost use Rattle.std.specs.Prelude.{◌≡◌, ◌<◌, ◌≤◌, ◌↔◌, ℕ, length, slice_index_or, Contains};
 ghost use Rattle.std.specs.List.Sorted.{IsNonDecreasingBy};
+ghost use Rattle.net_addr.specs.Addresses.{Covers};
 
 use net_addr::Prefix;
 
@@ -13,6 +14,16 @@ pub(crate) trait HasPrefix {
     /// The prefix.
     fn prefix(&self) -> Prefix
         ensures { result ≡ prefix self.now };
+}
+
+impl HasPrefix for Prefix {
+    ghost prefix = { λ x. x };
+
+    fn prefix(&self) -> Prefix
+        ensures { result ≡ self.now }
+    {
+        *self
+    }
 }
 
 /// Puts them in the order of the addresses that their prefixes begin with.
@@ -33,6 +44,16 @@ pub(crate) fn between<T: HasPrefix>(all: &[T], low: u32, high: u32) -> &[T]
     let (_, from) = all.split_at(count_below(all, low));
     let (here, _) = from.split_at(count_up_to(from, high));
     here
+}
+
+/// Of such a list those that a prefix covers, and others that begin with one of its addresses. It takes time of the logarithm
+/// of the list.
+pub(crate) fn under<T: HasPrefix>(all: &[T], over: Prefix) -> &[T]
+    requires { IsNonDecreasingBy (λ (x : T). (T.prefix x).base) all.now }
+    ensures among { (x : T) → Contains result.now x → Contains all.now x }
+    ensures every { (x : T) → Contains all.now x → Covers over (T.prefix x) → Contains result.now x }
+{
+    between(all, over.base(), over.last())
 }
 
 /// How many of these, which are in order, begin below this address.

@@ -1,18 +1,16 @@
 ghost use Rattle.std.specs.Prelude.{◌≡◌, ◌<◌, ◌↔◌, ℕ, length, Some, All, Any, Contains, IfOk, IsTrue, OnOk, MatchOption};
-ghost use Rattle.std.specs.List.Sorted.{IsNonDecreasingBy};
-ghost use Rattle.net_addr.specs.Addresses.{Covers};
 ghost use Rattle.net_model.specs.Network.{IsBorderRouter, Network};
 ghost use Rattle.igp_theory.specs.Ospf.{HasRange, IsActive, IsComponent};
 ghost use Rattle.ospf_routes.specs.steps.Destinations.{AreOspfDestinations, IsDestinationIn};
 ghost use Rattle.ospf_routes.specs.Lists.{Adds, Exactly};
-ghost use Rattle.ospf_routes.specs.steps.Ranges.{AreActiveRanges, AreRangesAround, AreRangesBelow, HasComponentCost, IsActiveAt, IsComponentOfSome, IsGreatestOf, IsLeastOf};
+ghost use Rattle.ospf_routes.specs.steps.Ranges.{AreActiveRanges, AreRangesAround, AreRangesBelow, HasComponentCost, IsActiveAt};
+ghost use Rattle.ospf_routes.specs.steps.Ranges.{IsComponentOfSome, IsCoveredAt, IsGreatestOf, IsLeastOf};
 ghost use Rattle.ospf_routes.specs.steps.Ranges.{HoldRanges, IsLonger, IsPicked};
-ghost use Rattle.ospf_routes.specs.declared.intra_area.Destination.{Destination as DestinationValue};
 
 use crate::OutOfMemory;
 use crate::domain::Domain;
 use crate::intra_area::{Destination, part_cost, part_of};
-use crate::ordered::{HasPrefix, between, sort_by_base};
+use crate::ordered::{HasPrefix, between, sort_by_base, under};
 use net_addr::Prefix;
 use net_model::Range;
 use route_tables::push_option;
@@ -122,11 +120,51 @@ pub(crate) fn all_ranges(
     Ok(ranges)
 }
 
+/// The prefixes of active ranges, in the order of the addresses that they begin with.
+#[derive(Debug, Drop)]
+pub(crate) struct RangePrefixes {
+    all: Vec<Prefix>,
+}
+
+impl Model for RangePrefixes {
+    ghost use Rattle.std.specs.Prelude.{List};
+    ghost use Rattle.std.specs.List.Sorted.{IsNonDecreasingBy};
+    ghost use Rattle.net_addr.specs.Addresses.{Block};
+
+    ghost Value = { List Block };
+
+    ghost view = { λ x. x.all.items };
+
+    ghost invariant = { λ x. IsNonDecreasingBy (λ (p : Block). p.base) x.all.items };
+}
+
+impl RangePrefixes {
+    /// The prefixes of all these active ranges.
+    pub fn of_ranges(alloc: Global, ranges: &[ActiveRanges]) -> Result<RangePrefixes, OutOfMemory>
+        ensures { IfOk result (λ prefixes. (net : Network) → AreRangesBelow net (length net) ranges.now → HoldRanges net prefixes) }
+    {
+        let mut all = range_prefixes(alloc, ranges)?;
+        sort_by_base(&mut all);
+        Ok(RangePrefixes { all })
+    }
+
+    /// Whether the prefix is one of them. It takes time of the logarithm of all of them.
+    pub fn has(&self, dest: Prefix) -> bool
+        ensures { IsTrue result ↔ Contains self.now dest }
+    {
+        is_in(between(self.all.as_slice(), dest.base(), dest.base()), dest)
+    }
+}
+
+/// Whether the prefix is one of these.
+fn is_in(prefixes: &[Prefix], dest: Prefix) -> bool
+    ensures { IsTrue result ↔ Contains prefixes.now dest }
+{
+    prefixes.iter().any(|prefix| *prefix == dest)
+}
+
 /// The prefixes of all active ranges.
-pub(crate) fn range_prefixes(
-    alloc: Global,
-    ranges: &[ActiveRanges],
-) -> Result<Vec<Prefix>, OutOfMemory>
+fn range_prefixes(alloc: Global, ranges: &[ActiveRanges]) -> Result<Vec<Prefix>, OutOfMemory>
     ensures { IfOk result (λ prefixes. (net : Network) → AreRangesBelow net (length net) ranges.now → HoldRanges net prefixes.items) }
 {
     let mut prefixes = Vec::new(alloc);
@@ -240,7 +278,7 @@ fn component_costs(
     requires destinations { AreOspfDestinations domain.now destinations.now }
     ensures { IfOk result (λ costs. Exactly (HasComponentCost domain.now.net b range.now) costs.items) }
 {
-    costs_among(alloc, domain, inside(destinations, range.dest), b, range)
+    costs_among(alloc, domain, under(destinations, range.dest), b, range)
 }
 
 /// What those of some destinations cost that are components of the range.
@@ -264,15 +302,6 @@ fn costs_among(
     Ok(costs)
 }
 
-/// The destinations that the range covers, and others that begin with one of its addresses.
-fn inside(destinations: &[Destination], range: Prefix) -> &[Destination]
-    requires { IsNonDecreasingBy (λ (d : DestinationValue). d.dest.base) destinations.now }
-    ensures among { (d : DestinationValue) → Contains result.now d → Contains destinations.now d }
-    ensures every { (d : DestinationValue) → Contains destinations.now d → Covers range d.dest → Contains result.now d }
-{
-    between(destinations, range.base(), range.last())
-}
-
 /// What the prefix costs as a component of the range.
 fn component_cost(
     domain: &Domain<'_>,
@@ -285,14 +314,24 @@ fn component_cost(
     requires destination { IsDestinationIn domain.now destination.now }
     ensures { (cost : ℕ) → (result ≡ Some cost) ↔ IsComponent domain.now.net b range.now destination.now.dest cost }
 {
-    if !range.dest.covers(destination.dest) {
-        return None;
-    }
-    let part = part_of(destination.parts.as_slice(), range.area)?;
+    let cost = covered_cost(domain, destination, b, *range)?;
     let ranges = domain.config(b).ranges.as_slice();
     if has_longer(ranges, *range, destination.dest) {
         return None;
     }
+    Some(cost)
+}
+
+/// What the prefix costs in the area of a range that covers it.
+fn covered_cost(domain: &Domain<'_>, destination: &Destination, b: u32, range: Range) -> Option<u64>
+    requires router { b < length domain.now.net }
+    requires destination { IsDestinationIn domain.now destination.now }
+    ensures { (cost : ℕ) → (result ≡ Some cost) ↔ IsCoveredAt domain.now.net b range destination.now.dest cost }
+{
+    if !range.dest.covers(destination.dest) {
+        return None;
+    }
+    let part = part_of(destination.parts.as_slice(), range.area)?;
     part_cost(domain, part, b)
 }
 
@@ -310,16 +349,21 @@ fn is_longer(other: Range, range: Range, dest: Prefix) -> bool
     other.area == range.area && other.dest.covers(dest) && range.dest.len() < other.dest.len()
 }
 
-/// Whether the prefix is a component of a range of the border router.
-pub(crate) fn is_component(domain: &Domain<'_>, destination: &Destination, b: u32) -> bool
+/// Whether the prefix is a component of a range of the border router, of which these are the active ranges: one of them covers
+/// it, in whose area it has an intra-area cost, and the longest such one has it as a component.
+pub(crate) fn is_component(
+    domain: &Domain<'_>,
+    actives: &[ActiveRange],
+    destination: &Destination,
+    b: u32,
+) -> bool
     requires router { b < length domain.now.net }
-    requires border { IsBorderRouter domain.now.net b }
+    requires ranges { AreActiveRanges domain.now.net b actives.now }
     requires destination { IsDestinationIn domain.now destination.now }
     ensures { IsTrue result ↔ IsComponentOfSome domain.now.net b destination.now.dest }
 {
-    let ranges = domain.config(b).ranges.as_slice();
-    for range in ranges {
-        if component_cost(domain, destination, b, range).is_some() {
+    for active in actives {
+        if covered_cost(domain, destination, b, active.range).is_some() {
             return true;
         }
     }

@@ -1,12 +1,12 @@
 ghost use Rattle.std.specs.Prelude.{◌≡◌, ◌↔◌, ℕ, Some, Any, IfOk, OnOk};
 ghost use Rattle.ospf_routes.specs.Lists.{Adds, Exactly};
-ghost use Rattle.ospf_routes.specs.steps.Subnets.{AreSubnetsAround, IsHome, IsInterfaceSubnet, IsSubnetRoute, IsUpSubnet};
+ghost use Rattle.ospf_routes.specs.steps.Subnets.{AreSubnetsAround, AreSubnetsUnder, IsHome, IsInterfaceSubnet, IsSubnetRoute, IsUpSubnet};
 ghost use Rattle.ospf_routes.specs.declared.area_route.AreaRoute.{AreaRoute as Route};
 ghost use Rattle.ospf_routes.specs.declared.subnets.Subnet.{Subnet as SubnetValue};
 
 use crate::OutOfMemory;
 use crate::area_route::AreaRoute;
-use crate::ordered::{HasPrefix, between, sort_by_base};
+use crate::ordered::{HasPrefix, between, sort_by_base, under};
 use net_addr::Prefix;
 use net_model::{Interface, Net};
 use route_tables::push_option;
@@ -71,6 +71,14 @@ impl Subnets {
         ensures { AreSubnetsAround self.now dest result.now }
     {
         between(self.all.as_slice(), dest.base(), dest.base())
+    }
+
+    /// Those that a prefix covers, and others that begin with one of its addresses. It takes time of the logarithm of all of
+    /// them.
+    pub fn under(&self, over: Prefix) -> &[Subnet]
+        ensures { AreSubnetsUnder self.now over result.now }
+    {
+        under(self.all.as_slice(), over)
     }
 }
 

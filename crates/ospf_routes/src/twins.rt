@@ -9,15 +9,15 @@ use crate::OutOfMemory;
 use crate::domain::Domain;
 use crate::intra_area::{AreaOffers, Destination};
 use crate::latest::Latest;
-use crate::ranges::{ActiveRanges, range_prefixes};
+use crate::ranges::{ActiveRanges, RangePrefixes};
 use crate::summaries::Summaries;
-use net_addr::Prefix;
 use route_tables::are_alike;
 use std::alloc::Global;
 
 /// For each destination an earlier one with the same entries at every router, where one is found: the latest that is
 /// connected at the same one router, where the offers and the announcements of both cost the same but for constants, which
-/// never decide between areas or sorts of routes. It takes time of the destinations, their offers and the routers.
+/// never decide between areas or sorts of routes. It takes time of the destinations, of their offers and the logarithm of
+/// all ranges, and of the routers.
 pub(crate) fn all_twins(
     alloc: Global,
     domain: &Domain<'_>,
@@ -30,17 +30,11 @@ pub(crate) fn all_twins(
     requires summaries { AreSummaries domain.now destinations.now summaries.now }
     ensures { IfOk result (λ twins. AreTwins domain.now.net (ospf_prefixes destinations.now) twins.items) }
 {
-    let ranged = range_prefixes(alloc, ranges)?;
+    let ranged = RangePrefixes::of_ranges(alloc, ranges)?;
     let mut latest = Latest::none(alloc, domain.routers() as usize)?;
     let mut twins = Vec::with_capacity(alloc, destinations.len())?;
     for place in 0..destinations.len() {
-        twins.push(twin_of(
-            destinations,
-            ranged.as_slice(),
-            summaries,
-            &mut latest,
-            place,
-        ))?;
+        twins.push(twin_of(destinations, &ranged, summaries, &mut latest, place))?;
     }
     Ok(twins)
 }
@@ -49,7 +43,7 @@ pub(crate) fn all_twins(
 /// is this one.
 fn twin_of(
     destinations: &[Destination],
-    ranged: &[Prefix],
+    ranged: &RangePrefixes,
     summaries: &Summaries,
     latest: &mut Latest,
     place: usize,
@@ -75,7 +69,7 @@ fn twin_of(
 fn are_twins(
     destinations: &[Destination],
     summaries: &Summaries,
-    ranged: &[Prefix],
+    ranged: &RangePrefixes,
     one: usize,
     other: usize,
 ) -> bool
@@ -94,10 +88,10 @@ fn are_twins(
     if !have_twin_summaries(summaries, one, other) {
         return false;
     }
-    if is_ranged(ranged, near.dest) {
+    if ranged.has(near.dest) {
         return false;
     }
-    !is_ranged(ranged, far.dest)
+    !ranged.has(far.dest)
 }
 
 /// The router that the destination is connected at, where it is one alone.
@@ -119,13 +113,6 @@ fn have_one_home(one: &Destination, other: &Destination) -> bool
         (Some(home), Some(far)) => home == far,
         _ => false,
     }
-}
-
-/// Whether the prefix is one of these.
-fn is_ranged(ranged: &[Prefix], dest: Prefix) -> bool
-    ensures { IsTrue result ↔ Contains ranged.now dest }
-{
-    ranged.iter().any(|range| *range == dest)
 }
 
 /// Whether what the interfaces of each area offer of two destinations is alike.

@@ -3,7 +3,7 @@ use Rattle.std.specs.Prelude.{◌≡◌, ◌<◌, ◌≤◌, ℕ, Bool, true, fa
 use Rattle.net_addr.specs.Addresses.{Block, Covers}
 use Rattle.net_model.specs.Network.{Network}
 use Rattle.net_model.specs.declared.area.Range.{Range}
-use Rattle.igp_theory.specs.Ospf.{IsComponent, IsActive, IsActiveRange, RangeCost}
+use Rattle.igp_theory.specs.Ospf.{IntraAreaCost, IsComponent, IsActive, IsActiveRange, RangeCost}
 use Rattle.ospf_routes.specs.steps.Places.{AreEach}
 use Rattle.ospf_routes.specs.Lists.{Exactly}
 use Rattle.ospf_routes.specs.declared.ranges.ActiveRange.{ActiveRange}
@@ -13,6 +13,11 @@ pub record IsLonger (r : Range) (p : Block) (other : Range) : Type 0 where
   pub area : other.area ≡ r.area
   pub covers : Covers other.dest p
   pub longer : r.dest.len < other.dest.len
+
+-- the range covers p, which has this intra-area cost at b in the range's area
+pub record IsCoveredAt (net : Network) (b : ℕ) (r : Range) (p : Block) (cost : ℕ) : Type 0 where
+  pub covered : Covers r.dest p
+  pub reached : IntraAreaCost net r.area p b cost
 
 -- some component of the range costs this
 pub record HasComponentCost (net : Network) (b : ℕ) (r : Range) (cost : ℕ) : Type 0 where

@@ -1,6 +1,6 @@
 -- The subnets of the interfaces that are up, whatever these run.
 use Rattle.std.specs.Prelude.{◌≡◌, ◌&&◌, ℕ, Bool, not, List, Some, IsTrue, Contains}
-use Rattle.net_addr.specs.Addresses.{Block}
+use Rattle.net_addr.specs.Addresses.{Block, Covers}
 use Rattle.net_model.specs.Network.{Network, UpInterface}
 use Rattle.net_model.specs.declared.interface.Interface.{Interface}
 use Rattle.ospf_routes.specs.declared.area_route.AreaRoute.{AreaRoute}
@@ -32,6 +32,11 @@ pub record IsUpSubnet (net : Network) (s : Subnet) : Type 0 where
 pub record AreSubnetsAround (all : List Subnet) (p : Block) (near : List Subnet) : Type 0 where
   pub among : (s : Subnet) → Contains near s → Contains all s
   pub every : (s : Subnet) → Contains all s → s.dest ≡ p → Contains near s
+
+-- these are some of the subnets, and among them all that the prefix p covers
+pub record AreSubnetsUnder (all : List Subnet) (p : Block) (near : List Subnet) : Type 0 where
+  pub among : (s : Subnet) → Contains near s → Contains all s
+  pub every : (s : Subnet) → Contains all s → Covers p s.dest → Contains near s
 
 -- the subnet is of the prefix p, and router u's
 pub record IsHome (p : Block) (u : ℕ) (s : Subnet) : Type 0 where

@@ -1,9 +1,11 @@
-use Rattle.std.proofs.Common.{◌≡◌, ℕ}
+use Rattle.std.proofs.Common.{[], ◌≡◌, ℕ, ◌<◌, get_or, length, sym, subst}
 use Rattle.route_tables.proofs.ListFacts.{adds_at, adds_end}
 use Rattle.ospf_routes.proofs.AreaFacts.{number_at}
 use Rattle.ospf_routes.proofs.BorderLists.{inner_at, inner_is_router}
 use Rattle.ospf_routes.proofs.IntraFacts.{part_for}
 use Rattle.ospf_routes.proofs.SummaryFacts.{area_subnets_are}
+use Rattle.ospf_routes.proofs.PlaceFacts.{place_read}
+use Rattle.ospf_routes.specs.steps.Ranges.{AreActiveRanges}
 use Rattle.ospf_routes.specs.steps.Summarized.{IsAreaSubnet}
 use Rattle.ospf_routes.specs.declared.area_route.AreaRoute.{AreaRoute}
 use Rattle.ospf_routes.proofs.area_boundary.push_area_subnets.Goals as goal
@@ -17,6 +19,21 @@ pub subnet_summary-requires-clause-router : goal.subnet_summary-requires-clause-
 subnet_summary-requires-clause-router c =
     inner_is_router c.args.domain.now.net c.area.result.now c.as_slice-b-items.result.now c.loop-b.b-index 0 c.area.ensures.area
     c.as_slice-b-items.ensures c.loop-b-test.true
+
+pub bounds-ranges-b : goal.bounds-ranges-b
+bounds-ranges-b c =
+    subst (λ (n : ℕ). get_or c.as_slice-b-items.result.now c.loop-b.b-index 0 < n) (sym c.requires.ranges.count)
+    (inner_is_router c.args.domain.now.net c.area.result.now c.as_slice-b-items.result.now c.loop-b.b-index 0 c.area.ensures.area
+    c.as_slice-b-items.ensures c.loop-b-test.true)
+
+pub subnet_summary-requires-clause-ranges : goal.subnet_summary-requires-clause-ranges
+subnet_summary-requires-clause-ranges c =
+    subst (AreActiveRanges c.args.domain.now.net (get_or c.as_slice-b-items.result.now c.loop-b.b-index 0)) (sym c.as_slice-actives.ensures)
+    (place_read (AreActiveRanges c.args.domain.now.net) [] (length c.args.domain.now.net) c.args.ranges.now
+    (get_or c.as_slice-b-items.result.now c.loop-b.b-index 0) c.index-ranges-b.result c.requires.ranges
+    (inner_is_router c.args.domain.now.net c.area.result.now c.as_slice-b-items.result.now c.loop-b.b-index 0 c.area.ensures.area
+    c.as_slice-b-items.ensures c.loop-b-test.true)
+    c.index-ranges-b.is)
 
 pub loop-b-preserved : goal.loop-b-preserved
 loop-b-preserved c =

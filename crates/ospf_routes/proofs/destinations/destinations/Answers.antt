@@ -1,4 +1,4 @@
-use Rattle.std.proofs.Common.{◌≡◌, ◌∙◌, All, Contains, subst}
+use Rattle.std.proofs.Common.{◌≡◌, ◌∙◌, All, Contains, subst, sym}
 use Rattle.net_addr.specs.Addresses.{Block}
 use Rattle.net_model.specs.Network.{Network}
 use Rattle.ospf_routes.specs.Lists.{Exactly}
@@ -8,6 +8,10 @@ use Rattle.ospf_routes.specs.steps.Subnets.{IsUpSubnet}
 use Rattle.route_tables.proofs.DestinationLists.{if_ok_both}
 use Rattle.ospf_routes.proofs.DestinationFacts.{are_destinations}
 use Rattle.ospf_routes.proofs.destinations.destinations.Goals as goal
+
+pub candidates_of-requires : goal.candidates_of-requires
+candidates_of-requires c =
+    subst (λ (n : Network). Exactly (IsUpSubnet n) c.in_ok-subnets.subnets) (c.net.ensures.is ∙ sym c.net-2.ensures.is) c.in_ok-subnets.ensures
 
 pub each_destination-requires : goal.each_destination-requires
 each_destination-requires c =

@@ -1,8 +1,8 @@
 use Rattle.std.proofs.Common.{ℕ}
 use Rattle.std.specs.List.{AllWithin}
-use Rattle.net_model.specs.declared.area.Range.{Range}
-use Rattle.igp_theory.specs.Ospf.{IsComponent}
+use Rattle.ospf_routes.specs.steps.Ranges.{IsCoveredAt}
+use Rattle.ospf_routes.specs.declared.ranges.ActiveRange.{ActiveRange}
 use Rattle.ospf_routes.proofs.ranges.is_component.Given as goal
 
-abbrev pub invariant-loop-range : goal.invariant-loop-range
-invariant-loop-range l = AllWithin (λ (r : Range). (c : ℕ) → IsComponent l.domain.net l.b r l.destination.dest c → ⊥) l.ranges 0 l.range-index
+abbrev pub invariant-loop-active : goal.invariant-loop-active
+invariant-loop-active l = AllWithin (λ (a : ActiveRange). (c : ℕ) → IsCoveredAt l.domain.net l.b a.range l.destination.dest c → ⊥) l.actives 0 l.active-index

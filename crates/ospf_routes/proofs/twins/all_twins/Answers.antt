@@ -15,12 +15,11 @@ loop-place-preserved c =
     let ds : List Destination = c.args.destinations.now in
     let place : ℕ = c.loop-place.place in
     let alike : Block → Block → Type 0 = AreAlikePrefixes (length net) (OspfEntry net) in
-    let hold : HoldRanges net c.as_slice.result.now = subst (HoldRanges net) (sym c.as_slice.ensures.value)
-    (c.in_ok-ranged.ensures net c.requires.ranges) in
+    let hold : HoldRanges net c.in_ok-ranged.ranged = c.in_ok-ranged.ensures net c.requires.ranges in
     record {
       twins = subst (λ (l : List (Option ℕ)). AreEarlierBy alike (ospf_prefixes ds) (place + 1) l) (sym {A = List (Option ℕ)} c.in_ok-push.ensures.items)
           (earlier_more alike (ospf_prefixes ds) place c.loop-place.twins.items c.twin_of.result c.loop-place.invariant.twins
-          (twin_found c.args.domain.now ds c.as_slice.result.now c.args.summaries.now place c.twin_of.result c.routers.ensures.known c.requires.destinations
+          (twin_found c.args.domain.now ds c.in_ok-ranged.ranged c.args.summaries.now place c.twin_of.result c.routers.ensures.known c.requires.destinations
           hold c.requires.summaries c.loop-place-test.true c.twin_of.ensures.below c.twin_of.ensures.twins));
       latest = c.twin_of.ensures.latest;
     }

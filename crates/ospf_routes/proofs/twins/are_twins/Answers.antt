@@ -12,8 +12,8 @@ returns c = λ free. record {
   twins = record {
     homes = c.if-not-have_one_home.ensures refl;
     parts = c.if-not-have_twin_offers.ensures refl;
-    no_range = λ any. false≢true (c.if-is_ranged.ensures.1 any);
-    other_no_range = λ any. false≢true (sym (not_true c.is_ranged-2.result free) ∙ c.is_ranged-2.ensures.1 any);
+    no_range = λ any. false≢true (c.if-has.ensures.1 any);
+    other_no_range = λ any. false≢true (sym (not_true c.has-2.result free) ∙ c.has-2.ensures.1 any);
   };
   announced = c.if-not-have_twin_summaries.ensures refl;
 }
