@@ -1,11 +1,11 @@
--- The lines that make a change, as a text: how they read.
+-- The lines that set a distance, as a text: how they read.
 use Rattle.std.proofs.Common.{◌≡◌, ℕ, ◌+◌, ◌<◌, ◌≤◌, ◌^◌, Bool, true, false, List, [], ◌∷◌, Some, Ok}
-use Rattle.std.proofs.Common.{Err, cond, ◌||◌, ◌&&◌, refl, sym, ap, subst, ◌∙◌, arith, codes, decimal}
+use Rattle.std.proofs.Common.{◌≢◌, ◌⊎◌, inl, inr, nat_eq, Err, cond, ◌||◌, ◌&&◌, refl, sym, ap, subst, ◌∙◌, arith, codes, decimal}
 use Rattle.std.specs.Prelude.{All, bytes_eq}
 use Rattle.std.specs.Char.{IsAsciiDigit}
 use Rattle.std.proofs.lemmas.Slice.Eq.{bytes_eq-Decides}
 use Rattle.std.specs.List.{list_all}
-use Rattle.std.proofs.lemmas.Bool.{le-leb}
+use Rattle.std.proofs.lemmas.Bool.{eqb-true, le-leb}
 use Rattle.printed_lines.specs.Words.{joined, spaced}
 use Rattle.printed_lines.specs.Texts.{text_of}
 use Rattle.printed_lines.proofs.NumberFacts.{decimal-IsNumeral, numbers_read_back}
@@ -16,7 +16,7 @@ use Rattle.ios_lines.specs.OspfLines.{ospf_line, apart_distance}
 use Rattle.ios_lines.specs.declared.isis_line.IsisLine.TheVariants.{Distance as IsisDistance}
 use Rattle.ios_lines.specs.declared.ospf_line.OspfLine.TheVariants.{Distance as OspfDistance}
 use Rattle.ios_lines.specs.Heads.{head_of}
-use Rattle.ios_lines.specs.declared.kind.ReadKind.TheVariants.{SecondProcess, BadDistance, Unsupported}
+use Rattle.ios_lines.specs.declared.kind.ReadKind.TheVariants.{SecondProcess, BadDistance, DistanceClash, Unsupported}
 use Rattle.ios_lines.specs.declared.head.Head.TheVariants.{Ospf as OspfHead, Isis as IsisHead}
 use Rattle.ios_lines.proofs.NumberFacts.{number-some}
 use Rattle.ios_sections.specs.Sections.{section_with}
@@ -26,7 +26,7 @@ use Rattle.ios_reader.specs.InsertedLines.{IsLineBlock}
 use Rattle.printed_sections.specs.PrintedSections.{is_fine_line, line_with, section_lines_from}
 use Rattle.printed_sections.proofs.SectionFacts.{number_fine, section_fits, section_says}
 use Rattle.step_scripts.specs.Scripts.{isis_head, ospf_head, distance_line}
-use Rattle.applied_changes.proofs.FurtherSections.{isis_distance_at, isis_section, ospf_distance_at, ospf_section}
+use Rattle.applied_changes.proofs.FurtherSections.{isis_setting, isis_setting_section, ospf_setting, ospf_setting_section}
 
 -- ---- a block of two lines, of which the first opens the section of a process ----
 
@@ -59,29 +59,43 @@ distance_read : (distance : ℕ) → distance < 2 ^ 64 → distance ≤ MOST_DIS
 distance_read distance small high =
     number-some MOST_DISTANCE distance (decimal distance) (numbers_read_back distance MOST_DISTANCE small high).1.stands
 
-isis_distance_read : isis_line (distance_words ISIS_DISTANCE) ≡ IsisDistance (Ok ISIS_DISTANCE)
-isis_distance_read =
-    ap (λ o. IsisDistance (isis_distance (at_least 1 BadDistance o))) (distance_read ISIS_DISTANCE (omega arith) (omega arith))
+-- a distance of IS-IS is its own or the greatest
+isis_distance_read : (distance : ℕ) → (distance ≡ ISIS_DISTANCE) ⊎ (distance ≡ MOST_DISTANCE) →
+    isis_line (distance_words distance) ≡ IsisDistance (Ok distance)
+isis_distance_read distance (inl own) =
+    subst (λ (n : ℕ). isis_line (distance_words n) ≡ IsisDistance (Ok n)) (sym own)
+    (ap (λ o. IsisDistance (isis_distance (at_least 1 BadDistance o))) (distance_read ISIS_DISTANCE (omega arith) (omega arith)))
+isis_distance_read distance (inr most) =
+    subst (λ (n : ℕ). isis_line (distance_words n) ≡ IsisDistance (Ok n)) (sym most)
+    (ap (λ o. IsisDistance (isis_distance (at_least 1 BadDistance o))) (distance_read MOST_DISTANCE (omega arith) (omega arith)))
 
 -- a number isn't the word `ospf`
-no_number : bytes_eq (decimal MOST_DISTANCE) (codes "ospf") ≡ false
-no_number = by_test (bytes_eq (decimal MOST_DISTANCE) (codes "ospf")) refl
+no_number : (distance : ℕ) → distance < 2 ^ 64 → bytes_eq (decimal distance) (codes "ospf") ≡ false
+no_number distance small = by_test (bytes_eq (decimal distance) (codes "ospf")) refl
   where
-    by_test : (b : Bool) → bytes_eq (decimal MOST_DISTANCE) (codes "ospf") ≡ b → b ≡ false
+    by_test : (b : Bool) → bytes_eq (decimal distance) (codes "ospf") ≡ b → b ≡ false
     by_test false e = refl
     by_test true e =
-        let same : decimal MOST_DISTANCE ≡ codes "ospf" = (bytes_eq-Decides (decimal MOST_DISTANCE) (codes "ospf")).0 e in
-        let digits : All IsAsciiDigit (decimal MOST_DISTANCE) = (decimal-IsNumeral MOST_DISTANCE (omega arith)).digits in
+        let same : decimal distance ≡ codes "ospf" = (bytes_eq-Decides (decimal distance) (codes "ospf")).0 e in
+        let digits : All IsAsciiDigit (decimal distance) = (decimal-IsNumeral distance small).digits in
         let first : IsAsciiDigit 111 = subst (λ l. All IsAsciiDigit l) same digits 0 0 (omega arith) in
         absurd (let high = first.1 in omega (arith, high))
 
-ospf_distance_read : ospf_line (distance_words MOST_DISTANCE) ≡ OspfDistance (Ok MOST_DISTANCE)
-ospf_distance_read =
+-- one of OSPF is from 1 to the greatest and not that of IS-IS
+ospf_distance_read : (distance : ℕ) → 1 ≤ distance → distance ≤ MOST_DISTANCE → distance ≢ ISIS_DISTANCE →
+    ospf_line (distance_words distance) ≡ OspfDistance (Ok distance)
+ospf_distance_read distance low high apart =
     ap (λ (b : Bool). OspfDistance (cond (b || false) (Err Unsupported)
-    (apart_distance (at_least 1 BadDistance (number_of MOST_DISTANCE (decimal MOST_DISTANCE)))))) no_number
-    ∙ ap (λ o. OspfDistance (apart_distance (at_least 1 BadDistance o))) (distance_read MOST_DISTANCE (omega arith) (omega arith))
+    (apart_distance (at_least 1 BadDistance (number_of MOST_DISTANCE (decimal distance)))))) (no_number distance (omega (arith, high)))
+    ∙ ap (λ o. OspfDistance (apart_distance (at_least 1 BadDistance o))) (distance_read distance (omega (arith, high)) high)
+    ∙ ap (λ (b : Bool). OspfDistance (apart_distance (cond b (Ok distance) (Err BadDistance)))) (le-leb 1 distance low)
+    ∙ ap (λ (b : Bool). OspfDistance (cond b (Err DistanceClash) (Ok distance))) (by_test (nat_eq distance ISIS_DISTANCE) refl)
+  where
+    by_test : (b : Bool) → nat_eq distance ISIS_DISTANCE ≡ b → b ≡ false
+    by_test false e = refl
+    by_test true e = absurd (apart (eqb-true distance ISIS_DISTANCE e))
 
--- ---- the block of a first change ----
+-- ---- the block of IS-IS ----
 
 abbrev isis_rest : Word → List Word
 isis_rest [] = codes "isis" ∷ []
@@ -98,28 +112,33 @@ isis_head_is : (tag : Word) → head_of (router_word ∷ isis_rest tag) ≡ Isis
 isis_head_is [] = refl
 isis_head_is (b ∷ tag) = refl
 
--- the lines of a first change, as a text
-abbrev pub isis_block : Word → List ℕ
-isis_block tag = text_of (isis_head tag ∷ distance_line ISIS_DISTANCE ∷ [])
+-- the lines that set the distance, as a text
+abbrev pub isis_block : ℕ → Word → List ℕ
+isis_block distance tag = text_of (isis_head tag ∷ distance_line distance ∷ [])
 
-isis_block_reads : (tag : Word) → list_all is_printable tag ≡ true → ReadsAsBlock (isis_head tag) (isis_rest tag) ISIS_DISTANCE
-isis_block_reads tag fine =
-    reads_as_block (isis_head tag) (isis_rest tag) ISIS_DISTANCE (isis_head_words tag) (isis_rest_fine tag fine) (omega arith)
+module _ (distance : ℕ) (tag : Word) (is : (distance ≡ ISIS_DISTANCE) ⊎ (distance ≡ MOST_DISTANCE)) (fine : list_all is_printable tag ≡ true) where
+  isis_small : (distance ≡ ISIS_DISTANCE) ⊎ (distance ≡ MOST_DISTANCE) → distance < 2 ^ 64
+  isis_small (inl own) = omega (arith, own)
+  isis_small (inr most) = omega (arith, most)
 
-pub isis_block_fits : (tag : Word) → list_all is_printable tag ≡ true → IsLineBlock (isis_block tag)
-isis_block_fits tag fine = (isis_block_reads tag fine).fits
+  isis_block_reads : ReadsAsBlock (isis_head tag) (isis_rest tag) distance
+  isis_block_reads = reads_as_block (isis_head tag) (isis_rest tag) distance (isis_head_words tag) (isis_rest_fine tag fine) (isis_small is)
 
-pub isis_block_sections : (tag : Word) (count : ℕ) → list_all is_printable tag ≡ true →
-    sections_further_on count (isis_block tag) ≡ Isis (isis_section (count + 1) tag) ∷ []
-isis_block_sections tag count fine =
-    (isis_block_reads tag fine).sections count
-    ∙ ap (λ h. section_with h (count + 1) (line_with (count + 2) 1 (spaced (distance_words ISIS_DISTANCE)) (distance_words ISIS_DISTANCE) ∷ []) ∷ [])
-    (isis_head_is tag)
-    ∙ ap (λ says. Isis (record { line = count + 1; tag = tag; lines = record { line = count + 2; says = says } ∷ [] }) ∷ []) isis_distance_read
-    ∙ ap (λ n. Isis (record { line = count + 1; tag = tag; lines = isis_distance_at n ∷ [] }) ∷ [])
-    (let e : count + 2 ≡ count + 1 + 1 = omega arith in e)
+  pub isis_block_fits : IsLineBlock (isis_block distance tag)
+  isis_block_fits = isis_block_reads.fits
 
--- ---- the block of a second change ----
+  pub isis_block_sections : (count : ℕ) →
+      sections_further_on count (isis_block distance tag) ≡ Isis (isis_setting_section distance (count + 1) tag) ∷ []
+  isis_block_sections count =
+      isis_block_reads.sections count
+      ∙ ap (λ h. section_with h (count + 1) (line_with (count + 2) 1 (spaced (distance_words distance)) (distance_words distance) ∷ []) ∷ [])
+      (isis_head_is tag)
+      ∙ ap (λ says. Isis (record { line = count + 1; tag = tag; lines = record { line = count + 2; says = says } ∷ [] }) ∷ [])
+      (isis_distance_read distance is)
+      ∙ ap (λ n. Isis (record { line = count + 1; tag = tag; lines = isis_setting distance n ∷ [] }) ∷ [])
+      (let e : count + 2 ≡ count + 1 + 1 = omega arith in e)
+
+-- ---- the block of OSPF ----
 
 abbrev ospf_rest : ℕ → List Word
 ospf_rest process = codes "ospf" ∷ decimal process ∷ []
@@ -130,23 +149,26 @@ ospf_head_is process low high =
     (number-some MOST_PROCESS process (decimal process) (numbers_read_back process MOST_PROCESS (omega (arith, high)) high).1.stands)
     ∙ ap (λ (b : Bool). OspfHead (cond b (Ok process) (Err SecondProcess))) (le-leb 1 process low)
 
-abbrev pub ospf_block : ℕ → List ℕ
-ospf_block process = text_of (ospf_head process ∷ distance_line MOST_DISTANCE ∷ [])
+abbrev pub ospf_block : ℕ → ℕ → List ℕ
+ospf_block distance process = text_of (ospf_head process ∷ distance_line distance ∷ [])
 
-ospf_block_reads : (process : ℕ) → process < 2 ^ 64 → ReadsAsBlock (ospf_head process) (ospf_rest process) MOST_DISTANCE
-ospf_block_reads process small =
-    reads_as_block (ospf_head process) (ospf_rest process) MOST_DISTANCE refl
-    (ap (λ (t : Bool). (t && true) && true && true && true) (number_fine process small)) (omega arith)
+module _ (distance process : ℕ) (some : 1 ≤ distance) (most : distance ≤ MOST_DISTANCE) (apart : distance ≢ ISIS_DISTANCE)
+    (low : 1 ≤ process) (high : process ≤ MOST_PROCESS) where
+  ospf_block_reads : ReadsAsBlock (ospf_head process) (ospf_rest process) distance
+  ospf_block_reads =
+      reads_as_block (ospf_head process) (ospf_rest process) distance refl
+      (ap (λ (t : Bool). (t && true) && true && true && true) (number_fine process (omega (arith, high)))) (omega (arith, most))
 
-pub ospf_block_fits : (process : ℕ) → process ≤ MOST_PROCESS → IsLineBlock (ospf_block process)
-ospf_block_fits process high = (ospf_block_reads process (omega (arith, high))).fits
+  pub ospf_block_fits : IsLineBlock (ospf_block distance process)
+  ospf_block_fits = ospf_block_reads.fits
 
-pub ospf_block_sections : (process count : ℕ) → 1 ≤ process → process ≤ MOST_PROCESS →
-    sections_further_on count (ospf_block process) ≡ Ospf (ospf_section (count + 1) process) ∷ []
-ospf_block_sections process count low high =
-    (ospf_block_reads process (omega (arith, high))).sections count
-    ∙ ap (λ h. section_with h (count + 1) (line_with (count + 2) 1 (spaced (distance_words MOST_DISTANCE)) (distance_words MOST_DISTANCE) ∷ []) ∷ [])
-    (ospf_head_is process low high)
-    ∙ ap (λ says. Ospf (record { line = count + 1; process = process; lines = record { line = count + 2; says = says } ∷ [] }) ∷ []) ospf_distance_read
-    ∙ ap (λ n. Ospf (record { line = count + 1; process = process; lines = ospf_distance_at n ∷ [] }) ∷ [])
-    (let e : count + 2 ≡ count + 1 + 1 = omega arith in e)
+  pub ospf_block_sections : (count : ℕ) →
+      sections_further_on count (ospf_block distance process) ≡ Ospf (ospf_setting_section distance (count + 1) process) ∷ []
+  ospf_block_sections count =
+      ospf_block_reads.sections count
+      ∙ ap (λ h. section_with h (count + 1) (line_with (count + 2) 1 (spaced (distance_words distance)) (distance_words distance) ∷ []) ∷ [])
+      (ospf_head_is process low high)
+      ∙ ap (λ says. Ospf (record { line = count + 1; process = process; lines = record { line = count + 2; says = says } ∷ [] }) ∷ [])
+      (ospf_distance_read distance some most apart)
+      ∙ ap (λ n. Ospf (record { line = count + 1; process = process; lines = ospf_setting distance n ∷ [] }) ∷ [])
+      (let e : count + 2 ≡ count + 1 + 1 = omega arith in e)

@@ -1,4 +1,5 @@
--- A further section of a process that sets its distance: no fault comes with it, and nothing but the distance changes.
+-- A further section of a process that sets its distance, to whatever it is: no fault comes with it, and nothing but the distance
+-- changes.
 use Rattle.std.proofs.Common.{◌≡◌, ℕ, ◌+◌, Bool, true, false, not, ◌&&◌, ◌||◌, cond, drop, List, [], ◌∷◌, ◌++◌, map, Option}
 use Rattle.std.proofs.Common.{Some, None, Ok, refl, sym}
 use Rattle.std.proofs.Common.{ap, subst, ◌∙◌, append-nil, length-append, nat_eq, nat_lt, length, ◌<◌, arith}
@@ -11,11 +12,10 @@ use Rattle.std.proofs.lemmas.List.Concat.{flat_map-append}
 use Rattle.std.proofs.lemmas.List.Elements.{filter-append, filter_map-append}
 use Rattle.std.proofs.lemmas.List.Folds.{list_any-append}
 use Rattle.net_model.specs.Configuration.{Configuration}
-use Rattle.net_model.specs.declared.bounds.TheConstants.{ISIS_DISTANCE, MOST_DISTANCE}
 use Rattle.ios_lines.specs.Words.{Word, is_printable}
 use Rattle.ios_lines.specs.Lookups.{later, last_of, earlier, first_of, replaced}
-use Rattle.ios_lines.specs.FaultOrder.{fault_at, faults_if}
 use Rattle.ios_lines.proofs.LineLookups.{last_of-push}
+use Rattle.ios_lines.specs.FaultOrder.{fault_at, faults_if}
 use Rattle.ios_lines.specs.InterfaceLines.{counting}
 use Rattle.ios_lines.specs.declared.kind.ReadKind.{ReadKind}
 use Rattle.ios_lines.specs.declared.kind.ReadKind.TheVariants.{SecondProcess, Unsupported, BadNet}
@@ -39,11 +39,11 @@ use Rattle.ios_sections.specs.declared.section.InterfaceSection.{InterfaceSectio
 use Rattle.ios_reader.specs.Routers.{Router, router_with, title_said, levels_said, router_metric_said, isis_distance_said, isis_passive_said}
 use Rattle.ios_reader.specs.Routers.{ospf_distance_said, ospf_passive_said, passive_default_said, reference_said, area_taken, range_said, stub_said}
 use Rattle.ios_reader.specs.Routers.{default_cost_said, is_same_range, is_same_area, stub_lines_in, stub_of, rfc1583_said, ranges_in, stubs_in, leak_said}
-use Rattle.ios_reader.specs.InterfacesAsRead.{address_given, area_by, area_with, interface_area}
-use Rattle.ios_reader.specs.InterfacesAsRead.{interface_as_read}
+use Rattle.ios_reader.specs.InterfacesAsRead.{address_given, area_by, area_with, interface_area, interface_as_read}
 use Rattle.ios_reader.specs.InterfaceFacts.{facts_of}
 use Rattle.ios_reader.specs.Faults.{interface_faults}
 use Rattle.ios_reader.proofs.LookedUp.{two_none, none_left, none_right, ospf_lines_by, isis_lines_by, process_by, HasNoFault, configuration_by}
+use Rattle.applied_changes.specs.AppliedTexts.{with_distances}
 
 -- ---- one item more at the end of a list ----
 
@@ -79,23 +79,23 @@ any_stays p xs x off = list_any-append p xs (x ∷ []) ∙ ap (λ b. list_any p 
 -- ---- a section of the IS-IS process more ----
 
 -- the line that sets the distance, and its section
-abbrev pub isis_distance_at : ℕ → IsisStatement
-isis_distance_at line = record { line = line; says = IsisDistance (Ok ISIS_DISTANCE) }
+abbrev pub isis_setting : ℕ → ℕ → IsisStatement
+isis_setting distance line = record { line = line; says = IsisDistance (Ok distance) }
 
-abbrev pub isis_section : ℕ → Word → IsisSection
-isis_section line tag = record { line = line; tag = tag; lines = isis_distance_at (line + 1) ∷ [] }
+abbrev pub isis_setting_section : ℕ → ℕ → Word → IsisSection
+isis_setting_section distance line tag = record { line = line; tag = tag; lines = isis_setting distance (line + 1) ∷ [] }
 
 -- with the distance of IS-IS
-abbrev pub with_isis_distance : Configuration → Configuration
-with_isis_distance c = record c { distances = record { ospf = c.distances.ospf; isis = ISIS_DISTANCE } }
+abbrev pub with_isis_at : ℕ → Configuration → Configuration
+with_isis_at distance c = with_distances c.distances.ospf distance c
 
-module _ (name : Option Word) (interfaces : List InterfaceSection) (ospf : List OspfSection) (f : IsisSection) (more : List IsisSection) (heads : List Fault)
-    (ends line : ℕ) where
+module _ (distance : ℕ) (name : Option Word) (interfaces : List InterfaceSection) (ospf : List OspfSection) (f : IsisSection) (more : List IsisSection)
+    (heads : List Fault) (ends line : ℕ) where
   abbrev x : IsisSection
-  x = isis_section line f.tag
+  x = isis_setting_section distance line f.tag
 
   abbrev d : IsisStatement
-  d = isis_distance_at (line + 1)
+  d = isis_setting distance (line + 1)
 
   abbrev lines_before : List IsisStatement
   lines_before = isis_lines_by (f ∷ more)
@@ -165,7 +165,7 @@ module _ (name : Option Word) (interfaces : List InterfaceSection) (ospf : List 
       ) refl
 
   pub isis_made : list_all is_printable f.tag ≡ true →
-      configuration_by name interfaces ospf (f ∷ (more ++ x ∷ [])) ≡ with_isis_distance (configuration_by name interfaces ospf (f ∷ more))
+      configuration_by name interfaces ospf (f ∷ (more ++ x ∷ [])) ≡ with_isis_at distance (configuration_by name interfaces ospf (f ∷ more))
   isis_made printable =
       let l : List IsisStatement = lines_before in
       rw (
@@ -174,20 +174,20 @@ module _ (name : Option Word) (interfaces : List InterfaceSection) (ospf : List 
         last_stays (λ (s : IsisStatement). leak_said s.says) l d refl,
         last_stays (λ (s : IsisStatement). title_said s.says) l d refl,
         last_stays (λ (s : IsisStatement). levels_said s.says) l d refl,
-        last_is (λ (s : IsisStatement). isis_distance_said s.says) l d (Ok ISIS_DISTANCE) refl,
+        last_is (λ (s : IsisStatement). isis_distance_said s.says) l d (Ok distance) refl,
       ) refl
 
 -- ---- a section of the OSPF process more ----
 
-abbrev pub ospf_distance_at : ℕ → OspfStatement
-ospf_distance_at line = record { line = line; says = OspfDistance (Ok MOST_DISTANCE) }
+abbrev pub ospf_setting : ℕ → ℕ → OspfStatement
+ospf_setting distance line = record { line = line; says = OspfDistance (Ok distance) }
 
-abbrev pub ospf_section : ℕ → ℕ → OspfSection
-ospf_section line process = record { line = line; process = process; lines = ospf_distance_at (line + 1) ∷ [] }
+abbrev pub ospf_setting_section : ℕ → ℕ → ℕ → OspfSection
+ospf_setting_section distance line process = record { line = line; process = process; lines = ospf_setting distance (line + 1) ∷ [] }
 
 -- with the distance of OSPF
-abbrev pub with_ospf_distance : Configuration → Configuration
-with_ospf_distance c = record c { distances = record { ospf = MOST_DISTANCE; isis = c.distances.isis } }
+abbrev pub with_ospf_at : ℕ → Configuration → Configuration
+with_ospf_at distance c = with_distances distance c.distances.isis c
 
 module _ (p : ℕ) where
   first_of_all : (ms : List Mention) (m : Mention) → flat_map (process_faults (Some p)) ms ≡ [] → nat_eq m.process p ≡ true →
@@ -212,17 +212,17 @@ module _ (p : ℕ) where
       first_of_all ms m (none_right (process_faults (Some p) m) (flat_map (process_faults (Some p)) ms) none)
       (not_faulty (nat_eq m.process p) m.line SecondProcess (none_left (process_faults (Some p) m) (flat_map (process_faults (Some p)) ms) none))
 
-same_flat : {A B : Type 0} (f g : A → List B) → ((x : A) → f x ≡ g x) → (xs : List A) → flat_map f xs ≡ flat_map g xs
+pub same_flat : {A B : Type 0} (f g : A → List B) → ((x : A) → f x ≡ g x) → (xs : List A) → flat_map f xs ≡ flat_map g xs
 same_flat f g same [] = refl
 same_flat f g same (x ∷ xs) = ap (λ l. l ++ flat_map f xs) (same x) ∙ ap (λ l. g x ++ l) (same_flat f g same xs)
 
-module _ (name : Option Word) (interfaces : List InterfaceSection) (ospf : List OspfSection) (isis : List IsisSection) (heads : List Fault) (ends line p : ℕ)
-    (running : process_by ospf interfaces ≡ Some p) where
+module _ (distance : ℕ) (name : Option Word) (interfaces : List InterfaceSection) (ospf : List OspfSection) (isis : List IsisSection) (heads : List Fault)
+    (ends line p : ℕ) (running : process_by ospf interfaces ≡ Some p) where
   abbrev y : OspfSection
-  y = ospf_section line p
+  y = ospf_setting_section distance line p
 
   abbrev e : OspfStatement
-  e = ospf_distance_at (line + 1)
+  e = ospf_setting distance (line + 1)
 
   abbrev sections : List OspfSection
   sections = ospf ++ y ∷ []
@@ -338,7 +338,7 @@ module _ (name : Option Word) (interfaces : List InterfaceSection) (ospf : List 
       (λ s. ap (λ o. stub_with s o) (last_stays (λ (t : OspfStatement). default_cost_said s.area t.says) l e refl)) (stub_lines_in l)
 
   pub ospf_made : HasNoFault name interfaces ospf isis heads ends →
-      configuration_by name interfaces sections isis ≡ with_ospf_distance (configuration_by name interfaces ospf isis)
+      configuration_by name interfaces sections isis ≡ with_ospf_at distance (configuration_by name interfaces ospf isis)
   ospf_made n =
       rw (
         still_running n,
@@ -348,5 +348,5 @@ module _ (name : Option Word) (interfaces : List InterfaceSection) (ospf : List 
         same_ranges own,
         same_stubs own,
         last_stays (λ (s : OspfStatement). rfc1583_said s.says) own e refl,
-        last_is (λ (s : OspfStatement). ospf_distance_said s.says) own e (Ok MOST_DISTANCE) refl,
+        last_is (λ (s : OspfStatement). ospf_distance_said s.says) own e (Ok distance) refl,
       ) refl

@@ -1,5 +1,5 @@
 -- A text with the lines of changes put in, configuration by configuration: the pieces of the text with their blocks.
-use Rattle.std.proofs.Common.{◌≡◌, ℕ, ◌+◌, List, [], ◌∷◌, ◌++◌, length, map, drop, refl, sym, ap, subst, ◌∙◌}
+use Rattle.std.proofs.Common.{◌≡◌, ℕ, ◌+◌, List, [], ◌∷◌, ◌++◌, length, map, drop, sym, ap, subst, ◌∙◌}
 use Rattle.std.proofs.Common.{append_assoc, length-append, arith}
 use Rattle.std.proofs.lemmas.List.{take_rest}
 use Rattle.net_model.specs.Configuration.{Configuration}
@@ -7,7 +7,6 @@ use Rattle.igp_theory.specs.declared.phase.Phase.{Phase}
 use Rattle.ios_sections.specs.TextLines.{Part, lines_in, parts_of}
 use Rattle.ios_sections.specs.Sections.{sections_in}
 use Rattle.ios_reader.specs.Texts.{ReadsText}
-use Rattle.ios_reader.specs.Places.{start_of}
 use Rattle.ios_reader.specs.PutBlocks.{Piece, as_they_were, with_blocks}
 use Rattle.ios_reader.proofs.BlockPieces.{ArePlaced, between_front, drop_front, IsCutText, cut_text}
 use Rattle.applied_changes.specs.AppliedTexts.{in_phase, block_in, applied_text}

@@ -1,14 +1,12 @@
 ghost use Rattle.std.specs.Prelude.{◌≡◌, ◌<◌, ◌^◌, ◌++◌, [], List, IfOk, OnOk, length, map, unwrap_or};
-ghost use Rattle.net_addr.specs.Lines.{text_lines};
 ghost use Rattle.net_model.specs.Configuration.{Configuration};
 ghost use Rattle.igp_theory.specs.States.{state_of};
 ghost use Rattle.ios_sections.specs.Sections.{sections_from_first};
-ghost use Rattle.ios_sections.specs.TextLines.{parts_after};
+ghost use Rattle.ios_sections.specs.TextLines.{lines_in, parts_of};
 ghost use Rattle.ios_reader.specs.Configurations.{configuration_of};
 ghost use Rattle.ios_reader.specs.Texts.{ReadsText};
 ghost use Rattle.applied_changes.specs.AppliedTexts.{applied_text, block_for, in_phase};
 ghost use Rattle.applied_changes.specs.NamedPhases.{phase_named};
-ghost use Rattle.ios_reader.specs.Places.{between, start_of};
 ghost use Rattle.applied_changes.specs.steps.AppliedParts.{applied_parts};
 
 use crate::OutOfMemory;
@@ -20,7 +18,7 @@ use ios_sections::read_section::sections_from_first;
 use ios_sections::statements::statements_of;
 use ios_sections::text::counted_lines;
 use ios_sections::text_line::TextLine;
-use net_addr::{Bytes, Line, Name, lines};
+use net_addr::{Bytes, Name, lines};
 use net_model::Net;
 use std::alloc::Global;
 
@@ -42,47 +40,33 @@ pub fn apply(
     ensures reads { IfOk result (λ applied. (configurations : List Configuration) → ReadsText text.now configurations →
         ReadsText applied (map (λ (c : Configuration). in_phase (phase_named net.now (state_of order.now changes) c.name) c) configurations)) }
 {
-    let lines = lines(alloc, text)?;
-    let counted = counted_lines(alloc, text, lines.as_slice())?;
-    let all = with_blocks(
-        alloc,
-        text,
-        lines.as_slice(),
-        counted.as_slice(),
-        net,
-        order,
-        changes,
-    )?;
-    Ok(Bytes::from_vec(all))
+    Ok(Bytes::from_vec(with_blocks(alloc, net, order, changes, text)?))
 }
 
-/// A text, of which these lines count, with the lines of changes.
+/// A text of configurations with the lines of changes.
 fn with_blocks(
     alloc: Global,
-    text: &[u8],
-    lines: &[Line],
-    counted: &[TextLine],
     net: &Net,
     order: &[u32],
     changes: u32,
+    text: &[u8],
 ) -> Result<Vec<u8>, OutOfMemory>
-    requires { lines.now ≡ text_lines text.now }
-    ensures { IfOk result (λ all. all.items ≡ applied_parts (phase_named net.now (state_of order.now changes)) text.now 0 (parts_after [] counted.now)) }
+    requires { length text.now < 2 ^ 26 }
+    ensures { IfOk result (λ all. all.items
+        ≡ applied_parts (phase_named net.now (state_of order.now changes)) text.now 0 (parts_of (lines_in text.now))) }
 {
+    let lines = lines(alloc, text)?;
+    let counted = counted_lines(alloc, text, lines.as_slice())?;
+    let counted = counted.as_slice();
     let mut all = Vec::new(alloc);
     let mut from = 0;
     let mut start = 0;
     for (i, line) in counted.iter().enumerate() {
         if line.is_end() {
             let block = block_text(alloc, net, order, changes, &counted[start..i])?;
-            from = add_block(
-                &mut all,
-                text,
-                lines,
-                from,
-                line.number() as usize,
-                block.as_slice(),
-            )?;
+            let end = start_of(text, lines.as_slice(), line.number() as usize);
+            add_block(&mut all, between(text, from, end), block.as_slice())?;
+            from = end;
             start = i + 1;
         }
     }
@@ -90,23 +74,13 @@ fn with_blocks(
     Ok(all)
 }
 
-/// Adds a text from this place up to a line, and the lines put before it, and tells where this line begins.
-fn add_block(
-    all: &mut Vec<u8>,
-    text: &[u8],
-    lines: &[Line],
-    from: usize,
-    ends: usize,
-    block: &[u8],
-) -> Result<usize, OutOfMemory>
-    requires { lines.now ≡ text_lines text.now }
-    ensures next { IfOk result (λ next. next ≡ start_of text.now ends) }
-    ensures added { OnOk result (all.new.items ≡ all.old.items ++ (between text.now from (start_of text.now ends) ++ block.now)) }
+/// Adds what stands before an `end` line, and the lines put before it.
+fn add_block(all: &mut Vec<u8>, before: &[u8], block: &[u8]) -> Result<(), OutOfMemory>
+    ensures { OnOk result (all.new.items ≡ all.old.items ++ (before.now ++ block.now)) }
 {
-    let end = start_of(text, lines, ends);
-    all.extend_from_slice(between(text, from, end))?;
+    all.extend_from_slice(before)?;
     all.extend_from_slice(block)?;
-    Ok(end)
+    Ok(())
 }
 
 /// The lines that take the router, whose configuration these lines make, to its phase.

@@ -15,8 +15,8 @@ use Rattle.igp_theory.specs.States.{phase_after}
 use Rattle.step_scripts.specs.Scripts.{by_configuration, change_lines, isis_change_lines, ospf_change_lines, ospf_distance_lines}
 use Rattle.applied_changes.specs.AppliedTexts.{in_phase, with_distances}
 use Rattle.live_replan.specs.BackTexts.{isis_undo_lines, undo_lines}
-use Rattle.undone_changes.specs.steps.Settings.{IsAllowed, Setting, setting_lines, with_setting, with_settings}
-use Rattle.undone_changes.specs.steps.Settings.Setting.{isis_at, ospf_at}
+use Rattle.applied_changes.specs.Settings.{IsAllowed, Setting, setting_lines, with_setting, with_settings}
+use Rattle.applied_changes.specs.Settings.Setting.{isis_at, ospf_at}
 use Rattle.undone_changes.proofs.RouterChanges.{AreParted, begun_back, begun_kept, done_back, done_kept, half_back, none_made, on}
 
 -- ---- the lines ----

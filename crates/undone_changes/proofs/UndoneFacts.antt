@@ -50,9 +50,9 @@ use Rattle.applied_changes.proofs.AppliedFacts.{applied_text_reads}
 use Rattle.typed_distances.specs.TypedTexts.{typed_texts}
 use Rattle.typed_distances.proofs.TypedTexts.{texts_forward}
 use Rattle.undone_changes.specs.UndoneTexts.{UndoneTextsForward, block_there_and_back, changes_at, state_kept, undone_text}
-use Rattle.undone_changes.specs.steps.Settings.{setting_lines, with_settings}
+use Rattle.applied_changes.specs.Settings.{setting_lines, with_settings}
 use Rattle.undone_changes.proofs.RouterChanges.{are_parted, counted_on, on}
-use Rattle.undone_changes.proofs.SetGrowth.{all_grow}
+use Rattle.applied_changes.proofs.GrownConfigurations.{all_grow}
 use Rattle.undone_changes.proofs.Undoing.{all_allowed, leaves, lines_are, there_and_back}
 
 -- ---- phases and changes by name ----
