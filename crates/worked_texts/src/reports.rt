@@ -1,5 +1,4 @@
 ghost use Rattle.std.specs.Prelude.{◌≡◌, ◌≢◌, ◌<◌, ◌≤◌, ℕ, All, IfOk, length};
-ghost use Rattle.net_model.specs.Network.{Network};
 ghost use Rattle.migration_report.specs.Outcomes.{HasOutcomeText, IsTellable};
 ghost use Rattle.migration_report.specs.Texts.{IsPrinted};
 
@@ -29,13 +28,25 @@ fn prints(
     Ok(())
 }
 
-/// The decision on a network of two routers is printed as this line.
-fn tells(rt: &impl Abort, alloc: Global, decision: Decision, expected: &[u8]) -> Result<(), Fail>
-    requires { (net : Network) → length net ≡ 2 → IsTellable net decision }
+/// A network of two routers.
+fn two_routers(rt: &impl Abort, alloc: Global) -> Result<Net, Fail>
+    ensures { IfOk result (λ net. length net ≡ 2) }
 {
     let net = Net::build(alloc, bare(alloc, 2)?)?;
-    let routers = net.routers();
-    assert_eq!(rt; routers, 2);
+    assert_eq!(rt; net.routers(), 2);
+    Ok(net)
+}
+
+/// The decision on a network of two routers is printed as this line.
+fn tells(
+    rt: &impl Abort,
+    alloc: Global,
+    net: Net,
+    decision: Decision,
+    expected: &[u8],
+) -> Result<(), Fail>
+    requires { IsTellable net decision }
+{
     prints(rt, alloc, Outcome::Decided { net, decision }, expected)?;
     Ok(())
 }
@@ -56,47 +67,68 @@ fn ring(alloc: Global) -> Result<Turns, AllocError>
 }
 
 #[test]
-fn an_order_is_safe_or_unsafe(rt: HostRuntime) -> Result<(), Fail> {
-    let alloc = rt.alloc();
-    let turns = ring(alloc)?;
-    let looped = Decision::Unsafe {
-        state: 2,
-        fault: EndFault::Loop {
-            address: 0x0a00_0003,
-            turns,
-        },
-    };
-    let missing = Decision::Unsafe {
-        state: 0,
-        fault: EndFault::Missing {
-            address: 0x0a01_0000,
-            router: 1,
-        },
-    };
-    tells(&rt, alloc, Decision::Safe, b"safe 4\n")?;
-    tells(&rt, alloc, looped, b"unsafe 2 10.0.0.3 loop R1 R2\n")?;
-    tells(&rt, alloc, missing, b"unsafe 0 10.1.0.0 missing R2\n")?;
-    Ok(())
+fn an_order_is_safe(rt: HostRuntime) -> Result<(), Fail> {
+    let net = two_routers(&rt, rt.alloc())?;
+    tells(&rt, rt.alloc(), net, Decision::Safe, b"safe 4\n")
 }
 
 #[test]
-fn a_wave_list_is_safe_or_unsafe(rt: HostRuntime) -> Result<(), Fail> {
-    let alloc = rt.alloc();
-    let missing = Decision::UnsafeWave {
-        wave: 1,
-        fault: EndFault::Missing {
-            address: 0x0a01_0000,
-            router: 1,
-        },
+fn a_state_of_an_order_has_a_loop(rt: HostRuntime) -> Result<(), Fail> {
+    let net = two_routers(&rt, rt.alloc())?;
+    let turns = ring(rt.alloc())?;
+    let fault = EndFault::Loop {
+        address: 0x0a00_0003,
+        turns,
     };
+    let looped = Decision::Unsafe { state: 2, fault };
     tells(
         &rt,
-        alloc,
-        Decision::SafeWaves { waves: 1 },
-        b"safe 4 waves 1\n",
-    )?;
-    tells(&rt, alloc, missing, b"unsafe wave 1 10.1.0.0 missing R2\n")?;
-    Ok(())
+        rt.alloc(),
+        net,
+        looped,
+        b"unsafe 2 10.0.0.3 loop R1 R2\n",
+    )
+}
+
+#[test]
+fn a_state_of_an_order_lacks_a_step(rt: HostRuntime) -> Result<(), Fail> {
+    let net = two_routers(&rt, rt.alloc())?;
+    let fault = EndFault::Missing {
+        address: 0x0a01_0000,
+        router: 1,
+    };
+    let missing = Decision::Unsafe { state: 0, fault };
+    tells(
+        &rt,
+        rt.alloc(),
+        net,
+        missing,
+        b"unsafe 0 10.1.0.0 missing R2\n",
+    )
+}
+
+#[test]
+fn a_wave_list_is_safe(rt: HostRuntime) -> Result<(), Fail> {
+    let net = two_routers(&rt, rt.alloc())?;
+    let safe = Decision::SafeWaves { waves: 1 };
+    tells(&rt, rt.alloc(), net, safe, b"safe 4 waves 1\n")
+}
+
+#[test]
+fn a_wave_lacks_a_step(rt: HostRuntime) -> Result<(), Fail> {
+    let net = two_routers(&rt, rt.alloc())?;
+    let fault = EndFault::Missing {
+        address: 0x0a01_0000,
+        router: 1,
+    };
+    let missing = Decision::UnsafeWave { wave: 1, fault };
+    tells(
+        &rt,
+        rt.alloc(),
+        net,
+        missing,
+        b"unsafe wave 1 10.1.0.0 missing R2\n",
+    )
 }
 
 /// The file that is named in refusals.
@@ -160,14 +192,13 @@ fn input_is_refused(rt: HostRuntime) -> Result<(), Fail> {
 
 #[test]
 fn an_order_is_refused(rt: HostRuntime) -> Result<(), Fail> {
-    let alloc = rt.alloc();
+    let net = two_routers(&rt, rt.alloc())?;
     let order = Decision::BadOrder {
-        file: file(alloc)?,
+        file: file(rt.alloc())?,
         line: 4,
         kind: OrderKind::Twice,
     };
-    tells(&rt, alloc, order, b"refused r1.cfg 4 Twice\n")?;
-    Ok(())
+    tells(&rt, rt.alloc(), net, order, b"refused r1.cfg 4 Twice\n")
 }
 
 /// The refusal of a network is printed as this line.
