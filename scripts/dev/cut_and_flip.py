@@ -90,6 +90,7 @@ PAIR_SCRIPT = rb"(?:! \d+ " + NAME + rb"\n|! wave \d+\n|! end\n|router ospf \d+\
 
 # What `why` prints behind the line of `check`.
 REASON = NAME + rb" wave \d+ (?:may be earlier|after " + NAME + rb" " + ADDRESS + TURNS + rb")\n"
+CHANGE_REASON = CHANGE[1:] + rb" wave \d+ (?:may be earlier|after" + CHANGE + rb"(?: " + ADDRESS + TURNS + rb")?)\n"
 PREFIX = ADDRESS + rb"/\d+"
 USE = rb"(?:none|" + PREFIX + rb" (?:connected 0|(?:ospf|isis) \d+ (?:discard|to" + NAMES + rb")))\n"
 WAY = rb"target " + PREFIX + rb" at" + NAMES + rb"\n(?:at " + NAME + rb" (?:old|middle|new) " + USE + rb")+"
@@ -139,7 +140,7 @@ TEXTS = {
 
 TEXTS["why"] = {
     **TEXTS["check"],
-    0: TEXTS["check"][0] + rb"(?:" + REASON + rb")*",
+    0: TEXTS["check"][0] + rb"(?:(?:" + REASON + rb")*|(?:" + CHANGE_REASON + rb")*)",
     1: TEXTS["check"][1] + WAY,
 }
 TEXTS["twopass"] = {**TEXTS["plan"], 0: CHANGE_WAVES, 1: CLOSED_CHANGES, 8: OPEN_CHANGES}
@@ -189,6 +190,7 @@ def calls_of_examples():
         ["twopass", *example("twopass", *square, "r5.cfg")],
         ["twopass", "--budget", "5", *example("square", *square)],
         ["check", *example("twopass", "passes.txt", *square, "r5.cfg")],
+        ["why", *example("twopass", "passes.txt", *square, "r5.cfg")],
         ["scripts", *example("triangle", "waves.txt", *triangle)],
         ["replay", *example("triangle", "waves.txt", "journal.txt", *triangle)],
         ["replan", *example("stopped", "waves.txt", "journal.txt", "before.cfg")],

@@ -210,7 +210,7 @@ refuse_each_command() {
         "refute stopped/tree.txt $square" "replan triangle/waves.txt triangle/safe.txt $triangle" \
         "prepare $design" "prepare design/safe.txt design/r1.cfg" "plan $triangle" "plan $levels" "plan $square" \
         "plan --budget 1 $square" "plan triangle/r1.cfg" "twopass $triangle" "twopass --budget 1 $square" \
-        "check twopass/passes.txt $passes" "scripts twopass/passes.txt $passes" \
+        "check twopass/passes.txt $passes" "why twopass/passes.txt $passes" "scripts twopass/passes.txt $passes" \
         "survey $border" "survey survey/lost-indentation/r1.cfg survey/pager/r1.cfg" "survey square/tree.txt square/order.txt" \
         "pair $pair" "pair $merged" "pair --budget 1 $merged" "pair redesign/old.cfg redesign/old.cfg" "paircheck redesign/waves.txt $pair" \
         "pairrefute redesign/tree.txt $merged" "pairscripts redesign/waves.txt $pair" "sample 3" "check" "explain a.cfg" "plan --budget 0 a.cfg" "--help"; do

@@ -36,10 +36,10 @@ use Rattle.explained_changes.specs.ChangeReasons.{AreSoundChanges, ChangeMayBeEa
 -- Ranks
 
 module _ (ranks : List ℕ) (i rank : ℕ) where
-  reranked_other : (k : ℕ) → k ≢ i → rank_of (reranked ranks i rank) k ≡ rank_of ranks k
+  pub reranked_other : (k : ℕ) → k ≢ i → rank_of (reranked ranks i rank) k ≡ rank_of ranks k
   reranked_other k other = get_or-set_other ranks i k rank 0 other
 
-  reranked_there : rank ≤ rank_of ranks i → rank_of (reranked ranks i rank) i ≡ rank
+  pub reranked_there : rank ≤ rank_of ranks i → rank_of (reranked ranks i rank) i ≡ rank
   reranked_there upto = elim (cases_lt i (length ranks)) [
     | inl within ↦ get_or-set_same ranks i rank 0 within
     | inr past ↦

@@ -1,1 +1,6 @@
 pub mod ChangeReasons
+mod ChangeTimes
+pub mod AskedLists
+pub mod ToldChanges
+pub mod OneChangeText
+pub mod SameChangeTexts

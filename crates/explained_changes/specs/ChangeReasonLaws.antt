@@ -1,4 +1,4 @@
--- What the laws of reasons say of single changes, of any list of ranks that a migration is sound throughout.
+-- What the laws of reasons say of single changes, of any list of ranks that a migration is sound throughout; and of their texts.
 use Rattle.std.specs.Prelude.{◌≡◌, ℕ, ◌<◌, List, All}
 use Rattle.order_core.specs.Rankings.{rank_of}
 use Rattle.order_core.specs.declared.turn.Turn.{Turn}
@@ -11,6 +11,7 @@ use Rattle.igp_theory.specs.WaveFaults.{IsTimesFault}
 use Rattle.plan_theory.specs.Ranked.{changes_ranked}
 use Rattle.explained_waves.specs.Reasons.{one_earlier, reranked}
 use Rattle.explained_changes.specs.ChangeReasons.{AreSoundChanges, ChangeMayBeEarlier, IsBehindFirst, IsChangeReason}
+use Rattle.explained_changes.specs.ChangeReasonTexts.{IsChangeReasonsText}
 
 -- where a change stands one wave earlier and there is a fault, it is a loop of the network
 abbrev pub FaultsOneEarlierAreOfLoops : Migration → Type 0
@@ -37,3 +38,8 @@ abbrev pub ChangeReasonsForbidEarlierWaves : Migration → Type 0
 ChangeReasonsForbidEarlierWaves move =
     (ranks : List ℕ) (i a rank : ℕ) (turns : List Turn) → BeginsOld move → AreSoundChanges move ranks → IsBehindFirst ranks i →
     IsChangeReason move ranks i a turns → rank < rank_of ranks i → ¬ AreSoundChanges move (reranked ranks i rank)
+
+-- of a wave list of single changes there is one text of reasons, where every router begins in Old
+abbrev pub HasOneChangeReasonsText : Migration → Type 0
+HasOneChangeReasonsText move =
+    (ranks text other : List ℕ) → BeginsOld move → IsChangeReasonsText move ranks text → IsChangeReasonsText move ranks other → text ≡ other

@@ -1,2 +1,4 @@
 pub mod ChangeReasons
+pub mod ChangeReasonTexts
 pub mod ChangeReasonLaws
+pub mod steps

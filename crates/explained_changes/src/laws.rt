@@ -1,5 +1,5 @@
 ghost use Rattle.explained_changes.specs.ChangeReasonLaws.{FaultsOneEarlierAreChangeReasons, FaultsOneEarlierAreOfLoops};
-ghost use Rattle.explained_changes.specs.ChangeReasonLaws.{ChangeReasonsForbidEarlierWaves, ChangeReasonsKeepLater};
+ghost use Rattle.explained_changes.specs.ChangeReasonLaws.{ChangeReasonsForbidEarlierWaves, ChangeReasonsKeepLater, HasOneChangeReasonsText};
 
 use igp_theory::AnyMigration;
 
@@ -12,4 +12,9 @@ pub fn earlier_changes_are_no_safer<T: AnyMigration>()
     ensures reason { FaultsOneEarlierAreChangeReasons T.migration }
     ensures one { ChangeReasonsKeepLater T.migration }
     ensures all { ChangeReasonsForbidEarlierWaves T.migration }
+{}
+
+/// The law that there is one text of the reasons of single changes.
+pub fn change_texts_are_one<T: AnyMigration>()
+    ensures { HasOneChangeReasonsText T.migration }
 {}

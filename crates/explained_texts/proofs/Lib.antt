@@ -1,5 +1,5 @@
-mod ToldTexts
-mod ReasonLines
+pub mod ToldTexts
+pub mod ReasonLines
 mod EarlierTimes
 mod OrderPhases
 pub mod WayFaults

@@ -31,7 +31,7 @@ use Rattle.explained_texts.proofs.ToldTexts.{one_told}
 -- ---- reasons ----
 
 -- of the routers that a router comes after, the lowest is one
-lowest_once : (ranks : List ℕ) (ring other : List Turn) (v u w : ℕ) → ring ≡ other → IsLowestBefore ranks ring v u →
+pub lowest_once : (ranks : List ℕ) (ring other : List Turn) (v u w : ℕ) → ring ≡ other → IsLowestBefore ranks ring v u →
     IsLowestBefore ranks other v w → u ≡ w
 lowest_once ranks ring other v u w same one two =
     let first = one.lowest w (subst (λ (l : List Turn). Contains (old_routers l) w) (sym same) two.is_old) two.just_before in

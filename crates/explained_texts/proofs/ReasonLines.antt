@@ -28,7 +28,8 @@ use Rattle.rib_mix.specs.Mixture.{migration_of}
 use Rattle.explained_waves.specs.Reasons.{MayBeEarlier, one_earlier}
 use Rattle.explained_waves.proofs.Reasons.{fault_reason}
 use Rattle.explained_texts.specs.ReasonTexts.{KeepsLater}
-use Rattle.explained_texts.specs.steps.Asking.{AskedList, IsListAsked, is_old_of}
+use Rattle.explained_texts.specs.AskedLists.{AskedList}
+use Rattle.explained_texts.specs.steps.Asking.{IsListAsked, is_old_of}
 
 -- ---- the ranks of the list ----
 

@@ -25,7 +25,7 @@ module _ {move : Migration} {old' new' : Tables} (same : HaveSameTables move old
 
   -- ---- reasons ----
 
-  throughout_over : {time : Timetable} → IsSoundThroughout move time → IsSoundThroughout other time
+  pub throughout_over : {time : Timetable} → IsSoundThroughout move time → IsSoundThroughout other time
   throughout_over is = record { table = is.table; sound = λ state of. sound_over same (is.sound state of) }
 
   reason_over : {ranks : List ℕ} {v : ℕ} {fault : Fault} → IsReason move ranks v fault → IsReason other ranks v fault

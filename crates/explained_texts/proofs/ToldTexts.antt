@@ -1,12 +1,11 @@
 -- Texts of what is told of a list: one item more, one text, and the same for what tells the same.
-use Rattle.std.proofs.Common.{◌≡◌, ◌∙◌, ℕ, ◌+◌, ◌<◌, ◌≤◌, List, [], ◌∷◌, ◌++◌, Contains, ap, refl, subst, sym}
+use Rattle.std.proofs.Common.{◌≡◌, ◌∙◌, ℕ, ◌+◌, ◌<◌, ◌≤◌, inl, inr, List, [], ◌∷◌, ◌++◌, Contains, ap, refl, subst, sym}
 use Rattle.std.proofs.Common.{append_assoc, append-nil, get_or, length, map, take}
 use Rattle.std.proofs.lemmas.List.{map-append, take_all, take_more}
 use Rattle.std.proofs.lemmas.List.Concat.{flat_map-append}
 use Rattle.printed_lines.specs.Words.{spaced}
-use Rattle.net_model.proofs.Members.{Contains-first, Contains-rest}
-use Rattle.explained_texts.specs.ToldItems.{AreTold, none_told, first_told}
-use Rattle.explained_texts.specs.steps.Telling.{TellsAll, TellsMore}
+use Rattle.net_model.proofs.Members.{Contains-cases, Contains-first, Contains-none, Contains-rest}
+use Rattle.explained_texts.specs.ToldItems.{AreTold, none_told, first_told, TellsAll, TellsMore}
 
 pub told_more : {A : Type 0} (T : A → List ℕ → Type 0) (x : A) (more : List ℕ) → T x more → (xs : List A) (text : List ℕ) →
     AreTold T xs text → AreTold T (xs ++ x ∷ []) (text ++ more)
@@ -28,6 +27,15 @@ told_over T S over none_told = none_told
 told_over T S over (first_told x rest told text is all) =
     first_told x rest told text (over x told (Contains-first x rest) is)
     (told_over T S (λ y some inside. over y some (Contains-rest x rest y inside)) all)
+
+-- of each item something is told
+pub each_told : {A : Type 0} (T : A → List ℕ → Type 0) {xs : List A} {s : List ℕ} → AreTold T xs s → (x : A) → Contains xs x →
+    (t : List ℕ) × T x t
+each_told T none_told x inside = absurd (Contains-none x inside)
+each_told T (first_told y rest told text is all) x inside = elim (Contains-cases y rest x inside) [
+  | inl same ↦ (told, subst (λ z. T z told) same is)
+  | inr later ↦ each_told T all x later
+]
 
 -- ---- texts that grow ----
 

@@ -1,7 +1,5 @@
--- The way of a fault can be told: of the first fault of an order in its state, and of that of a wave list in its wave.
+-- The way of a fault can be told: of the first fault of an order in its state, and of that of a timetable in its wave.
 use Rattle.std.proofs.Common.{◌≡◌, ℕ, ◌+◌, ◌≤◌, ◌⊎◌, inl, inr, List, length, arith, refl, subst, sym}
-use Rattle.std.proofs.lemmas.Bool.{cases_lt, cases_eq}
-use Rattle.order_core.specs.Rankings.{rank_of}
 use Rattle.order_core.specs.declared.turn.Tag.{Tag}
 use Rattle.order_core.specs.declared.turn.Tag.TheVariants as tag
 use Rattle.order_core.specs.declared.turn.Turn.{Turn}
@@ -9,17 +7,18 @@ use Rattle.igp_theory.specs.Forwarding.{Steps}
 use Rattle.igp_theory.specs.LoopLaws.{BeginsOld}
 use Rattle.igp_theory.specs.Loops.{Fault, IsFault, IsFirstFault, IsTag, IsTagOf, loop_arises, missing_step}
 use Rattle.igp_theory.specs.Migrations.{Migration}
-use Rattle.igp_theory.specs.Phases.{State}
+use Rattle.igp_theory.specs.Phases.{State, made_in}
 use Rattle.igp_theory.specs.States.{StepsIn, state_of}
-use Rattle.igp_theory.specs.Timetables.{IsStateOfWave, router_times}
+use Rattle.igp_theory.specs.Timetables.{IsStateOfWave, IsTimetable, Timetable}
 use Rattle.igp_theory.specs.WaveFaults.{IsFaultOver, IsTimesFault, StepsInSome, loop_over_all, missing_in_one}
 use Rattle.igp_theory.specs.declared.phase.Phase.{Phase}
-use Rattle.igp_theory.specs.declared.phase.Phase.TheVariants.{Old, New}
+use Rattle.igp_theory.specs.declared.phase.Phase.TheVariants.{Old, Middle, New}
+use Rattle.igp_theory.proofs.LoopLaws.{later_step}
 use Rattle.igp_theory.proofs.Phases.{step_of_ends}
 use Rattle.igp_theory.proofs.Rings.{around_both, around_inside, around_of_routers, found_goes_round, some_turn}
 use Rattle.igp_theory.proofs.SameTables.{around_ring_over}
-use Rattle.igp_theory.proofs.Switches.{router_after, router_before}
-use Rattle.explained_texts.specs.WayTexts.{IsFaultInSpan, StateSpan, goes_round, lacks_step, order_span, told_phase, turn_phase, wave_span}
+use Rattle.igp_theory.proofs.Timetables.{made_grows}
+use Rattle.explained_texts.specs.WayTexts.{IsFaultInSpan, StateSpan, goes_round, lacks_step, order_span, times_span, told_phase, turn_phase}
 
 -- ---- the state of an order ----
 
@@ -46,54 +45,51 @@ order_stands move order k fault first = stands_in_state move (state_of order k) 
 
 -- ---- the states of a wave ----
 
--- the phases in which a router begins and ends a wave: it isn't its turn yet, or it is, or it has been
-data RoundPhases (first last : Phase) : Type 0 where
-  not_yet : first ≡ Old → last ≡ Old → RoundPhases first last
-  switches : first ≡ Old → last ≡ New → RoundPhases first last
-  has_been : first ≡ New → last ≡ New → RoundPhases first last
+-- a router steps to h when a wave begins or when it ends, and these are its phases there
+module _ (move : Migration) (a u h : ℕ) where
+  abbrev S : Phase → Type 0
+  S phase = Steps move u phase a h
 
-module _ (move : Migration) (begins : BeginsOld move) (ranks : List ℕ) (w : ℕ) (one : 1 ≤ w) where
+  -- where it steps so in Old alone it does when the wave begins
+  old_told : (first last : Phase) → made_in first ≤ made_in last → S Old → ¬ S New → S first ⊎ S last → S first
+  old_told first last upto old other (inl at) = at
+  old_told Old last upto old other (inr at) = old
+  old_told Middle Old upto old other (inr at) = absurd (omega (arith, upto))
+  old_told Middle Middle upto old other (inr at) = at
+  old_told Middle New upto old other (inr at) = absurd (other at)
+  old_told New Old upto old other (inr at) = absurd (omega (arith, upto))
+  old_told New Middle upto old other (inr at) = absurd (omega (arith, upto))
+  old_told New New upto old other (inr at) = at
+
+  -- where it does in New alone it does when the wave ends
+  new_told : (first last : Phase) → made_in first ≤ made_in last → ¬ S Old → S New → S first ⊎ S last → S last
+  new_told first last upto other new (inr at) = at
+  new_told first New upto other new (inl at) = new
+  new_told Old Old upto other new (inl at) = at
+  new_told Middle Old upto other new (inl at) = absurd (omega (arith, upto))
+  new_told New Old upto other new (inl at) = absurd (omega (arith, upto))
+  new_told Old Middle upto other new (inl at) = absurd (other at)
+  new_told Middle Middle upto other new (inl at) = at
+  new_told New Middle upto other new (inl at) = absurd (omega (arith, upto))
+
+  -- so it does in the phase that is told of it
+  told_step : (span : StateSpan) (t : Tag) → made_in (span.first u) ≤ made_in (span.last u) → IsTagOf t (S Old) (S New) →
+      S (span.first u) ⊎ S (span.last u) → S (told_phase span t u)
+  told_step span tag.Old upto tags round = old_told (span.first u) (span.last u) upto tags.0 tags.1 round
+  told_step span tag.New upto tags round = new_told (span.first u) (span.last u) upto tags.0 tags.1 round
+  told_step span tag.Both upto tags round = later_step Old tags.0 tags.1 (span.first u) (omega arith)
+
+module _ (move : Migration) (begins : BeginsOld move) (time : Timetable) (table : IsTimetable (length move.net) move.start time) (w : ℕ) where
   abbrev span : StateSpan
-  span = wave_span move.start ranks w
-
-  round_phases : (u : ℕ) → RoundPhases (span.first u) (span.last u)
-  round_phases u = elim (cases_lt (rank_of ranks u + 1) w) [
-    | inl before ↦ has_been (router_after move.start ranks u w Old (begins u) before)
-        (router_after move.start ranks u (w + 1) Old (begins u) (omega (arith, before)))
-    | inr from ↦ elim (cases_eq (rank_of ranks u + 1) w) [
-      | inl same ↦ switches (router_before move.start ranks u w Old (begins u) one (omega (arith, same)))
-          (router_after move.start ranks u (w + 1) Old (begins u) (omega (arith, same)))
-      | inr apart ↦ not_yet (router_before move.start ranks u w Old (begins u) one (omega (arith, from)))
-          (router_before move.start ranks u (w + 1) Old (begins u) (omega arith) (omega (arith, from, apart)))
-    ]
-  ]
-
-  module _ (a u h : ℕ) where
-    abbrev S : Phase → Type 0
-    S phase = Steps move u phase a h
-
-    -- a router that steps when the wave begins or when it ends does so in the phase that is told of it
-    told_step : (t : Tag) → RoundPhases (span.first u) (span.last u) → IsTagOf t (S Old) (S New) →
-        S (span.first u) ⊎ S (span.last u) → S (told_phase span t u)
-    told_step tag.Old (not_yet first last) tags round = subst S (sym first) tags.0
-    told_step tag.Old (switches first last) tags round = subst S (sym first) tags.0
-    told_step tag.Old (has_been first last) tags (inl at) = absurd (tags.1 (subst S first at))
-    told_step tag.Old (has_been first last) tags (inr at) = absurd (tags.1 (subst S last at))
-    told_step tag.New (not_yet first last) tags (inl at) = absurd (tags.0 (subst S first at))
-    told_step tag.New (not_yet first last) tags (inr at) = absurd (tags.0 (subst S last at))
-    told_step tag.New (switches first last) tags round = subst S (sym last) tags.1
-    told_step tag.New (has_been first last) tags round = subst S (sym last) tags.1
-    told_step tag.Both (not_yet first last) tags round = subst S (sym first) tags.0
-    told_step tag.Both (switches first last) tags round = subst S (sym first) tags.0
-    told_step tag.Both (has_been first last) tags round = subst S (sym first) tags.1
+  span = times_span time w
 
   abbrev states : State → Type 0
-  states = IsStateOfWave (length move.net) (router_times move.start ranks) w
+  states = IsStateOfWave (length move.net) time w
 
   told_steps : (a : ℕ) (r s : Turn) → IsTag move a r s.router × StepsInSome move states a r.router s.router →
       Steps move r.router (turn_phase span r) a s.router
   told_steps a r s both =
-      told_step a r.router s.router r.tag (round_phases r.router)
+      told_step move a r.router s.router span r.tag (made_grows table r.router w (w + 1) (omega arith))
       (subst (λ (phase : Phase). IsTagOf r.tag (Steps move r.router phase a s.router) (Steps move r.router New a s.router))
       (begins r.router) both.0.steps)
       (step_of_ends (span.first r.router) (span.last r.router) (both.1.state r.router)
@@ -108,6 +104,6 @@ module _ (move : Migration) (begins : BeginsOld move) (ranks : List ℕ) (w : �
       (around_both (λ (r s : Turn). IsTag move a r s.router) (λ (r s : Turn). StepsInSome move states a r.router s.router) ring tags
       (around_of_routers (StepsInSome move states a) ring (found_goes_round found))))
 
-pub waves_stand : (move : Migration) (ranks : List ℕ) (w : ℕ) (fault : Fault) → BeginsOld move →
-    IsTimesFault move (router_times move.start ranks) w fault → IsFaultInSpan move (wave_span move.start ranks w) fault
-waves_stand move ranks w fault begins is = stands_in_wave move begins ranks w is.from_one fault is.here
+pub times_stand : (move : Migration) (time : Timetable) (w : ℕ) (fault : Fault) → BeginsOld move → IsTimetable (length move.net) move.start time →
+    IsTimesFault move time w fault → IsFaultInSpan move (times_span time w) fault
+times_stand move time w fault begins table is = stands_in_wave move begins time table w fault is.here

@@ -10,17 +10,16 @@ use Rattle.igp_theory.specs.Loops.{AroundRing, Fault, IsFirstFault, loop}
 use Rattle.igp_theory.specs.Migrations.{Migration}
 use Rattle.igp_theory.specs.Phases.{State, made_in}
 use Rattle.igp_theory.specs.States.{state_of}
-use Rattle.igp_theory.specs.Timetables.{IsStateOfWave, router_times}
+use Rattle.igp_theory.specs.Timetables.{IsStateOfWave, IsTimetable, Timetable}
 use Rattle.igp_theory.specs.WaveFaults.{IsFaultOver, IsTimesFault, loop_over_all}
 use Rattle.igp_theory.specs.declared.phase.Phase.{Phase}
 use Rattle.igp_theory.proofs.OrderedLists.{pairs_first, pairs_rest}
 use Rattle.igp_theory.proofs.Rings.{around_inside, found_distinct, turns_distinct}
 use Rattle.igp_theory.proofs.Phases.{phases_same}
-use Rattle.igp_theory.proofs.Switches.{routers_have_times}
 use Rattle.igp_theory.proofs.Timetables.{made_grows}
 use Rattle.net_model.proofs.Members.{Contains-cases, Contains-none}
 use Rattle.explained_texts.specs.WayStates.{GoesRoundIn, IsShownInOne}
-use Rattle.explained_texts.specs.WayTexts.{InSpan, IsFirstLacking, IsWayText, StateSpan, UsesTowards, of_ring, of_router, order_span, turn_phase, wave_span}
+use Rattle.explained_texts.specs.WayTexts.{InSpan, IsFirstLacking, IsWayText, StateSpan, UsesTowards, of_ring, of_router, order_span, times_span, turn_phase}
 
 -- one of two phases, by which of two facts holds
 abbrev choose : {P Q : Type 0} → P ⊎ Q → Phase → Phase → Phase
@@ -121,30 +120,29 @@ order_in_one move order k fault text first (of_router a u phase _ _ _ lacks _) =
   shows = record { phase = phase; told = lacks; is_in = lacking_alone move (state_of order k) a u phase lacks };
 }
 
--- ---- wave lists ----
+-- ---- timetables ----
 
 -- the routers of the ring of a fault are distinct
 fault_distinct : (move : Migration) (states : State → Type 0) (a : ℕ) (ring : List Turn) → IsFaultOver move states (loop a ring) →
     AllPairs (λ (r s : Turn). r.router ≢ s.router) ring
 fault_distinct move states a ring (loop_over_all least all found tags) = turns_distinct ring (found_distinct found)
 
-module _ (move : Migration) (ranks : List ℕ) (w : ℕ) where
+module _ (move : Migration) (time : Timetable) (w : ℕ) (table : IsTimetable (length move.net) move.start time) where
   abbrev span : StateSpan
-  span = wave_span move.start ranks w
+  span = times_span time w
 
   ordered : (u : ℕ) → made_in (span.first u) ≤ made_in (span.last u)
-  ordered u = made_grows (routers_have_times (length move.net) move.start ranks) u w (w + 1) (omega arith)
+  ordered u = made_grows table u w (w + 1) (omega arith)
 
-  pub wave_in_one : (fault : Fault) (text : List ℕ) → IsTimesFault move (router_times move.start ranks) w fault →
-      IsWayText move span fault text →
-      IsShownInOne move (IsStateOfWave (length move.net) (router_times move.start ranks) w) span fault
-  wave_in_one fault text is (of_ring a ring _ _ _ goes _) = record {
+  pub times_in_one : (fault : Fault) (text : List ℕ) → IsTimesFault move time w fault → IsWayText move span fault text →
+      IsShownInOne move (IsStateOfWave (length move.net) time w) span fault
+  times_in_one fault text is (of_ring a ring _ _ _ goes _) = record {
     state = told_state span ring;
     among = λ u below. ring_between span ordered ring u;
     shows = goes_round_in move span (told_state span ring) a ring
-        (in_told span ring (fault_distinct move (IsStateOfWave (length move.net) (router_times move.start ranks) w) a ring is.here)) goes;
+        (in_told span ring (fault_distinct move (IsStateOfWave (length move.net) time w) a ring is.here)) goes;
   }
-  wave_in_one fault text is (of_router a u phase _ _ _ lacks _) = record {
+  times_in_one fault text is (of_router a u phase _ _ _ lacks _) = record {
     state = put u phase span.first;
     among = λ v below. put_between span ordered u phase span.first lacks.between (first_between span ordered) v;
     shows = record {

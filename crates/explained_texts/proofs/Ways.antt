@@ -21,7 +21,7 @@ use Rattle.explained_texts.specs.TextLaws.{HasOneEntry}
 use Rattle.explained_texts.specs.WayTexts.{InSpan, IsFirstLacking, IsTargetLine, IsUseLine, IsWayText, IsFaultInSpan, StateSpan, UsesTowards}
 use Rattle.explained_texts.specs.WayTexts.{goes_round, lacks_step, of_ring, turn_phase}
 use Rattle.explained_texts.specs.steps.Mixing.{HasLawfulTables}
-use Rattle.explained_texts.specs.steps.Telling.{TellsAll}
+use Rattle.explained_texts.specs.ToldItems.{TellsAll}
 use Rattle.explained_texts.proofs.OneUse.{uses_towards}
 
 -- ---- what is asked of a fault ----

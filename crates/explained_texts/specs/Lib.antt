@@ -6,4 +6,5 @@ pub mod WayTexts
 pub mod FaultPlaces
 pub mod WayStates
 pub mod TextLaws
+pub mod AskedLists
 pub mod steps

@@ -9,11 +9,11 @@ use Rattle.igp_theory.specs.Loops.{Fault, IsFirstFault}
 use Rattle.igp_theory.specs.Migrations.{Migration}
 use Rattle.igp_theory.specs.Routes.{Tables}
 use Rattle.igp_theory.specs.States.{state_of}
-use Rattle.igp_theory.specs.Timetables.{IsStateOfWave, router_times}
+use Rattle.igp_theory.specs.Timetables.{IsStateOfWave, IsTimetable, Timetable}
 use Rattle.igp_theory.specs.WaveFaults.{IsTimesFault}
 use Rattle.explained_texts.specs.ReasonTexts.{IsReasonsText}
 use Rattle.explained_texts.specs.WayStates.{IsShownInOne}
-use Rattle.explained_texts.specs.WayTexts.{IsWayText, IsFaultInSpan, StateSpan, order_span, wave_span}
+use Rattle.explained_texts.specs.WayTexts.{IsWayText, IsFaultInSpan, StateSpan, order_span, times_span}
 
 -- of a wave list there is one text of reasons
 abbrev pub HasOneReasonsText : Migration → Type 0
@@ -30,15 +30,15 @@ HasOneWayText move =
     (span : StateSpan) (fault : Fault) (text other : List ℕ) → IsNetwork move.net → HasOneEntry move.net move.old →
     HasOneEntry move.net move.new → IsWayText move span fault text → IsWayText move span fault other → text ≡ other
 
--- the way of the first fault of an order can be told, and that of the fault of a wave list where every router begins in Old
+-- the way of the first fault of an order can be told, and that of the fault of a timetable where every router begins in Old
 abbrev pub FirstFaultsStandInTheirState : Migration → Type 0
 FirstFaultsStandInTheirState move =
     (order : List ℕ) (k : ℕ) (fault : Fault) → IsFirstFault move order k fault → IsFaultInSpan move (order_span order k) fault
 
 abbrev pub WaveFaultsStandInTheirWave : Migration → Type 0
 WaveFaultsStandInTheirWave move =
-    (ranks : List ℕ) (w : ℕ) (fault : Fault) → BeginsOld move → IsTimesFault move (router_times move.start ranks) w fault →
-    IsFaultInSpan move (wave_span move.start ranks w) fault
+    (time : Timetable) (w : ℕ) (fault : Fault) → BeginsOld move → IsTimetable (length move.net) move.start time →
+    IsTimesFault move time w fault → IsFaultInSpan move (times_span time w) fault
 
 -- what is told of a fault is so in one state: in that of the order, or in one of the wave
 abbrev pub WaysOfOrdersAreInOneState : Migration → Type 0
@@ -49,6 +49,6 @@ WaysOfOrdersAreInOneState move =
 
 abbrev pub WaysOfWavesAreInOneState : Migration → Type 0
 WaysOfWavesAreInOneState move =
-    (ranks : List ℕ) (w : ℕ) (fault : Fault) (text : List ℕ) → IsTimesFault move (router_times move.start ranks) w fault →
-    IsWayText move (wave_span move.start ranks w) fault text →
-    IsShownInOne move (IsStateOfWave (length move.net) (router_times move.start ranks) w) (wave_span move.start ranks w) fault
+    (time : Timetable) (w : ℕ) (fault : Fault) (text : List ℕ) → IsTimetable (length move.net) move.start time →
+    IsTimesFault move time w fault → IsWayText move (times_span time w) fault text →
+    IsShownInOne move (IsStateOfWave (length move.net) time w) (times_span time w) fault

@@ -11,7 +11,7 @@ use Rattle.igp_theory.specs.Loops.{AroundRing, Fault, loop, missing}
 use Rattle.igp_theory.specs.Migrations.{Migration}
 use Rattle.igp_theory.specs.Phases.{State, made_in}
 use Rattle.igp_theory.specs.States.{state_of}
-use Rattle.igp_theory.specs.Timetables.{IsBetweenPhases, router_times, state_before}
+use Rattle.igp_theory.specs.Timetables.{IsBetweenPhases, Timetable, change_times, router_times, state_before}
 use Rattle.igp_theory.specs.declared.phase.Phase.{Phase}
 use Rattle.printed_lines.specs.Words.{prefix_word, router_word}
 use Rattle.printed_lines.specs.Texts.{line}
@@ -29,12 +29,17 @@ pub record StateSpan : Type 0 where
 abbrev pub order_span : List ℕ → ℕ → StateSpan
 order_span order k = record { first = state_of order k; last = state_of order k }
 
--- the states of a wave, counted from 1, of routers that start so: from that in which it begins to that in which it ends
+-- the states of a wave, counted from 1, of a timetable: from that in which it begins to that in which it ends
+abbrev pub times_span : Timetable → ℕ → StateSpan
+times_span time w = record { first = state_before time w; last = state_before time (w + 1) }
+
+-- of ranked routers that start so
 abbrev pub wave_span : State → List ℕ → ℕ → StateSpan
-wave_span start ranks w = record {
-  first = state_before (router_times start ranks) w;
-  last = state_before (router_times start ranks) (w + 1);
-}
+wave_span start ranks w = times_span (router_times start ranks) w
+
+-- of ranked single changes
+abbrev pub change_span : List ℕ → ℕ → StateSpan
+change_span ranks w = times_span (change_times ranks) w
 
 -- the phase of a router in a span
 abbrev pub InSpan : StateSpan → ℕ → Phase → Type 0

@@ -15,9 +15,10 @@ ghost use Rattle.explained_texts.specs.RingWords.{tagged_word};
 ghost use Rattle.refutation_check.specs.TreeLines.{letter_of};
 ghost use Rattle.explained_texts.specs.ReasonTexts.{IsLowestBefore, IsReasonLine, KeepsLater, after_words, may_words};
 ghost use Rattle.explained_texts.specs.steps.Asking.{is_old_of};
-ghost use Rattle.explained_texts.specs.steps.Telling.{TellsMore};
+ghost use Rattle.explained_texts.specs.ToldItems.{TellsMore};
 
 use crate::OutOfMemory;
+use crate::ring::{lowest_before, with_turns};
 use loop_finder::{ChangeWaves, Fault, Finder};
 use net_model::Net;
 use order_core::{Tag, Turn};
@@ -41,7 +42,8 @@ pub(crate) struct EarlierList<'a, O: RouteSource, N: RouteSource> {
 
 impl<'a, O: RouteSource, N: RouteSource> Model for EarlierList<'a, O, N> {
     ghost use Rattle.std.specs.Prelude.{vec_len};
-    ghost use Rattle.explained_texts.specs.steps.Asking.{AskedList, IsListAsked};
+    ghost use Rattle.explained_texts.specs.AskedLists.{AskedList};
+    ghost use Rattle.explained_texts.specs.steps.Asking.{IsListAsked};
 
     ghost Value = { AskedList O N };
 
@@ -190,7 +192,7 @@ fn fault_line<O: RouteSource, N: RouteSource>(
 }
 
 /// The fault alone, of an answer with the number of its wave.
-fn fault_alone(found: Option<(u32, Fault)>) -> Option<Fault>
+pub fn fault_alone(found: Option<(u32, Fault)>) -> Option<Fault>
     ensures { result ≡ told found }
 {
     match found {
@@ -216,8 +218,8 @@ fn earlier_waves(ranks: &[u32], earlier: u32, times: &mut [ChangeWaves])
     }
 }
 
-/// The wave of a router in it, counted from 1.
-fn earlier_wave(ranks: &[u32], earlier: u32, router: usize) -> u32
+/// The wave of a router, or of a single change, where another or itself stands one wave earlier; counted from 1.
+pub fn earlier_wave(ranks: &[u32], earlier: u32, router: usize) -> u32
     requires router { router < length ranks.now }
     requires earlier { earlier < length ranks.now }
     requires few { (u : ℕ) → rank_of ranks.now u + 1 < 2 ^ 32 }
@@ -229,43 +231,6 @@ fn earlier_wave(ranks: &[u32], earlier: u32, router: usize) -> u32
     } else {
         ranks[router] + 1
     }
-}
-
-/// The lowest router tagged `Old` of the wave before a router's own.
-fn lowest_before(ranks: &[u32], ring: &[Turn], router: u32) -> u32
-    requires router { router < length ranks.now }
-    requires few { (u : ℕ) → rank_of ranks.now u + 1 < 2 ^ 32 }
-    requires short { length ranks.now < 2 ^ 32 }
-    requires inside { All (λ turn. turn.router < length ranks.now) ring.now }
-    requires some { (u : ℕ) × Contains (old_routers ring.now) u × (rank_of ranks.now u + 1 ≡ rank_of ranks.now router) }
-    ensures { IsLowestBefore ranks.now ring.now router result }
-{
-    let rank = ranks[router as usize];
-    for before in 0..ranks.len() as u32 {
-        if ranks[before as usize] + 1 == rank && is_old_turn(ring, before) {
-            return before;
-        }
-    }
-    unreachable!()
-}
-
-/// Whether a router is tagged `Old` in a ring.
-fn is_old_turn(ring: &[Turn], router: u32) -> bool
-    ensures { IsTrue result ↔ Contains (old_routers ring.now) router }
-{
-    for turn in ring {
-        if is_old_of(*turn, router) {
-            return true;
-        }
-    }
-    false
-}
-
-/// Whether a turn is a router's, and tagged `Old`.
-fn is_old_of(turn: Turn, router: u32) -> bool
-    ensures { result ≡ is_old_of router turn }
-{
-    turn.router == router && turn.tag.is_old()
 }
 
 /// The line of a router that may stand one wave earlier.
@@ -306,31 +271,6 @@ fn after_line(
     let line = line.word(b"wave")?.number(wave)?.word(b"after")?;
     let line = line.word(name_of(net, after))?.address(address)?;
     with_turns(line, net, ring)
-}
-
-/// The line with some turns more.
-fn with_turns(line: LineBuilder, net: &Net, ring: &[Turn]) -> Result<LineBuilder, OutOfMemory>
-    requires { All (λ turn. turn.router < length net.now) ring.now }
-    ensures { IfOk result (λ longer. longer ≡ line ++ spaced (map (tagged_word (names_of net.now)) ring.now)) }
-{
-    let mut line = line;
-    for turn in ring {
-        line = line
-            .word(name_of(net, turn.router))?
-            .attach(b':', letter(turn.tag))?;
-    }
-    Ok(line)
-}
-
-/// The letter of a tag.
-fn letter(tag: Tag) -> &'static [u8]
-    ensures { result.now ≡ letter_of tag ∷ [] }
-{
-    match tag {
-        Tag::Old => b"O",
-        Tag::New => b"N",
-        Tag::Both => b"B",
-    }
 }
 
 /// The name of a router.

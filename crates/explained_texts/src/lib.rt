@@ -8,17 +8,20 @@
 //! | File | What it holds |
 //! |---|---|
 //! | `reasons`, `earlier` | the text of reasons; what is asked of the finder for a router, and the line |
+//! | `ring` | what is told of the ring of a loop |
 //! | `way`, `place` | the way of a packet; where its fault was found, and the phases that are told |
 //! | `target` | the line of a target |
 //! | `uses` | what a router uses, in words |
 //! | `laws` | that there is one text of each, and that a way is told in one state |
 //!
-//! `reasons_text` asks the finder once for each router; `way_text` looks up what each router of the ring uses.
+//! `reasons_text` asks the finder once for each router; `way_text` looks up what each router of the ring uses. What else is public
+//! here serves the reasons of single changes (`explained_changes`).
 #![tactic(auto)]
 
 // Safe lists.
 mod earlier;
 mod reasons;
+mod ring;
 
 // Unsafe ones.
 mod place;
@@ -29,8 +32,10 @@ mod way;
 // Laws.
 mod laws;
 
+pub use earlier::{earlier_wave, fault_alone};
 pub use laws::{texts_are_one, ways_are_in_one_state};
 pub use place::FaultPlace;
 pub use reasons::reasons_text;
+pub use ring::{lowest_before, with_turns};
 pub use std::alloc::AllocError as OutOfMemory;
 pub use way::way_text;

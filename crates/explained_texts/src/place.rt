@@ -1,7 +1,7 @@
 ghost use Rattle.std.specs.Prelude.{◌≡◌, ◌+◌, ◌≤◌, ℕ, take};
 ghost use Rattle.igp_theory.specs.Phases.{all_old};
 ghost use Rattle.igp_theory.specs.States.{changes_of, changes_on, phase_after, state_of};
-ghost use Rattle.igp_theory.specs.Timetables.{router_times, state_before};
+ghost use Rattle.igp_theory.specs.Timetables.{change_times, router_times, state_before};
 ghost use Rattle.order_core.specs.Rankings.{rank_of};
 ghost use Rattle.explained_texts.specs.FaultPlaces.{span_of};
 ghost use Rattle.explained_texts.specs.WayTexts.{told_phase};
@@ -19,9 +19,16 @@ pub enum FaultPlace<'a> {
         /// How many changes were made.
         number: u32,
     },
-    /// In the states of a wave.
+    /// In the states of a wave of routers.
     Wave {
         /// The rank of each router.
+        ranks: &'a [u32],
+        /// The number of the wave, counted from 1.
+        number: u32,
+    },
+    /// In the states of a wave of single changes.
+    ChangeWave {
+        /// The rank of each change: of the first one of router u at 2u, of the second one at 2u + 1.
         ranks: &'a [u32],
         /// The number of the wave, counted from 1.
         number: u32,
@@ -35,7 +42,10 @@ impl FaultPlace<'_> {
     {
         match self {
             FaultPlace::State { order, number } => order_phase(order, number, router),
-            FaultPlace::Wave { ranks, number } => wave_phase(ranks, number, router),
+            FaultPlace::Wave { ranks, number } => wave_phase(ranks, u64::from(number), router),
+            FaultPlace::ChangeWave { ranks, number } => {
+                change_phase(ranks, u64::from(number), router)
+            }
         }
     }
 
@@ -45,7 +55,10 @@ impl FaultPlace<'_> {
     {
         match self {
             FaultPlace::State { order, number } => order_phase(order, number, router),
-            FaultPlace::Wave { ranks, number } => ended_phase(ranks, number, router),
+            FaultPlace::Wave { ranks, number } => wave_phase(ranks, u64::from(number) + 1, router),
+            FaultPlace::ChangeWave { ranks, number } => {
+                change_phase(ranks, u64::from(number) + 1, router)
+            }
         }
     }
 
@@ -95,33 +108,36 @@ fn phase_after(made: u32) -> Phase
 }
 
 /// The phase in which a ranked router begins a wave.
-fn wave_phase(ranks: &[u32], wave: u32, router: u32) -> Phase
+fn wave_phase(ranks: &[u32], wave: u64, router: u32) -> Phase
     ensures { result ≡ state_before (router_times all_old ranks.now) wave router }
 {
-    if u64::from(rank_at(ranks, router)) + 1 < u64::from(wave) {
+    if wave_at(ranks, router as usize) < wave {
         Phase::New
     } else {
         Phase::Old
     }
 }
 
-/// The phase in which it ends it.
-fn ended_phase(ranks: &[u32], wave: u32, router: u32) -> Phase
-    ensures { result ≡ state_before (router_times all_old ranks.now) (wave + 1) router }
+/// The phase in which the router of ranked single changes begins a wave.
+fn change_phase(ranks: &[u32], wave: u64, router: u32) -> Phase
+    ensures { result ≡ state_before (change_times ranks.now) wave router }
 {
-    if rank_at(ranks, router) < wave {
+    let number = router as usize + router as usize;
+    if wave_at(ranks, number + 1) < wave {
         Phase::New
+    } else if wave_at(ranks, number) < wave {
+        Phase::Middle
     } else {
         Phase::Old
     }
 }
 
-/// The rank of a router.
-fn rank_at(ranks: &[u32], router: u32) -> u32
-    ensures { result ≡ rank_of ranks.now router }
+/// The wave of a router or of a change, counted from 1.
+fn wave_at(ranks: &[u32], number: usize) -> u64
+    ensures { result ≡ rank_of ranks.now number + 1 }
 {
-    match ranks.get(router as usize) {
-        Some(rank) => *rank,
-        None => 0,
+    match ranks.get(number) {
+        Some(rank) => u64::from(*rank) + 1,
+        None => 1,
     }
 }

@@ -11,10 +11,9 @@ ghost use Rattle.rib_mix.specs.Answers.{NextLeadsTo};
 ghost use Rattle.rib_mix.specs.Mixture.{migration_of};
 ghost use Rattle.route_core.specs.Tables.{HasEntry};
 ghost use Rattle.explained_texts.specs.FaultPlaces.{span_of};
-ghost use Rattle.explained_texts.specs.ToldItems.{AreTold};
+ghost use Rattle.explained_texts.specs.ToldItems.{AreTold, TellsAll, TellsMore};
 ghost use Rattle.explained_texts.specs.WayTexts.{IsFirstLacking, IsUseLine, IsWayText, InSpan, IsFaultInSpan, turn_phase};
 ghost use Rattle.explained_texts.specs.steps.Mixing.{HasLawfulTables};
-ghost use Rattle.explained_texts.specs.steps.Telling.{TellsAll, TellsMore};
 
 use crate::OutOfMemory;
 use crate::place::FaultPlace;

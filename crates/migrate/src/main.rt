@@ -8,20 +8,28 @@ ghost use Rattle.migration_report.specs.Codes.{code_of};
 use migrate_cli::{Status, run};
 use std::io;
 use std::process::ExitCode;
-use store_edge::{RealFiles, RealSink, call_words};
+use store_edge::{RealFiles, RealSink, TerminalSink, call_words};
 
 fn main(rt: HostRuntime) -> ExitCode {
     exit_code(answer(&rt))
 }
 
-/// Answers the words of the environment, by the files of the system and on standard output.
+/// Answers the words of the environment, by the files of the system and on standard output. Where standard error is a terminal, a
+/// long call says there how far it is.
 fn answer(rt: &HostRuntime) -> Status {
     let Ok(words) = call_words(rt) else {
         return Status::Memory;
     };
     let mut files = RealFiles::new(rt, rt.alloc());
     let mut out = RealSink::new(io::writer(rt));
-    run(rt.alloc(), words.as_slice(), &mut files, &mut out)
+    let mut progress = TerminalSink::new(rt.stderr());
+    run(
+        rt.alloc(),
+        words.as_slice(),
+        &mut files,
+        &mut out,
+        &mut progress,
+    )
 }
 
 /// The exit code that tells a status.

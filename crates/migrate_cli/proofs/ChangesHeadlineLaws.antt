@@ -1,6 +1,5 @@
 -- What a plan of single changes means, in packets.
-use Rattle.std.proofs.Common.{◌<◌, ℕ, List, length, refl, take}
-use Rattle.igp_theory.specs.Changes.{Change}
+use Rattle.std.proofs.Common.{◌<◌, ℕ, length, refl, take}
 use Rattle.igp_theory.specs.LoopLaws.{BeginsOld}
 use Rattle.igp_theory.specs.Migrations.{Migration}
 use Rattle.igp_theory.specs.Phases.{State}

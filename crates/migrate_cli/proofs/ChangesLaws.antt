@@ -18,9 +18,10 @@ use Rattle.step_scripts.specs.WaveLines.{header_of}
 use Rattle.step_scripts.specs.declared.version.Version.{Version}
 use Rattle.step_scripts.specs.declared.version.Version.TheVariants.{One, Two}
 use Rattle.step_scripts.proofs.LeastFaults.{first_header}
-use Rattle.change_orders.specs.TwoFaults.{two_header}
+use Rattle.change_orders.specs.TwoFaults.{IsLeastTwoFault, two_header}
 use Rattle.change_orders.specs.TwoFiles.{NamesTwo}
 use Rattle.change_orders.specs.TwoTexts.{two_refusal_text}
+use Rattle.change_orders.specs.declared.kind.TwoKind.{TwoKind}
 use Rattle.change_orders.specs.declared.kind.TwoRefusal.{TwoRefusal}
 use Rattle.change_orders.specs.declared.kind.TwoRefusal.TheVariants.{Bad, OutOfMemory}
 use Rattle.change_orders.proofs.TwoFileLaws.{one_list, one_refusal}
@@ -83,7 +84,7 @@ tree_of_no_other text rest lines = record {
 
 -- ---- order files ----
 
-one_changes_decision : {move : Migration} {ranks : List ℕ} {d e : Decision} → IsChangesDecision move ranks d → IsChangesDecision move ranks e → d ≡ e
+pub one_changes_decision : {move : Migration} {ranks : List ℕ} {d e : Decision} → IsChangesDecision move ranks d → IsChangesDecision move ranks e → d ≡ e
 one_changes_decision (safe_changes _) (safe_changes _) = refl
 one_changes_decision (safe_changes sound) (unsafe_changes _ _ not _) = absurd (not sound)
 one_changes_decision (unsafe_changes _ _ not _) (safe_changes sound) = absurd (not sound)
@@ -97,11 +98,16 @@ abbrev told_line : List ℕ → TwoRefusal → List ℕ
 told_line file (Bad number kind) = two_refusal_text file number kind
 told_line file OutOfMemory = []
 
+pub one_faulty_changes : (net : Network) (order : NamedText) (n m : ℕ) (k j : TwoKind) → IsLeastTwoFault net order.text n k →
+    IsLeastTwoFault net order.text m j → BadChanges (two_refusal_text order.file n k) ≡ BadChanges (two_refusal_text order.file m j)
+one_faulty_changes net order n m k j one other =
+    let same : Bad n k ≡ Bad m j = one_refusal net order.text (Bad n k) (Bad m j) (λ e. Prim.cc e) (λ e. Prim.cc e) one other in
+    ap (λ (r : TwoRefusal). BadChanges (told_line order.file r)) same
+
 one_changes_check : {move : Migration} {order : NamedText} {d e : Decision} → NamesAscend move.net → IsChangesCheck move order d →
     IsChangesCheck move order e → d ≡ e
 one_changes_check {move} {order} ascending (faulty_changes n k one) (faulty_changes m j other) =
-    let same : Bad n k ≡ Bad m j = one_refusal move.net order.text (Bad n k) (Bad m j) (λ e. Prim.cc e) (λ e. Prim.cc e) one other in
-    ap (λ (r : TwoRefusal). BadChanges (told_line order.file r)) same
+    one_faulty_changes move.net order n m k j one other
 one_changes_check ascending (faulty_changes n k least) (named_changes _ _ names _ _) = absurd (names.faultless n k least.faulty)
 one_changes_check ascending (named_changes _ _ names _ _) (faulty_changes n k least) = absurd (names.faultless n k least.faulty)
 one_changes_check {move} {order} {e = e} ascending (named_changes one _ names _ is) (named_changes other _ again _ its) =

@@ -1,5 +1,5 @@
 -- A call that ended so keeps its promises.
-use Rattle.std.proofs.Common.{◌≡◌, ◌≢◌, ◌∷◌, [], ℕ, List, arith, refl, subst, sym}
+use Rattle.std.proofs.Common.{◌≡◌, ◌≢◌, ℕ, List, arith, refl, subst, sym}
 use Rattle.igp_theory.specs.Migrations.{ospf_to_isis}
 use Rattle.ospf_pair.specs.PairMigrations.{ospf_to_ospf}
 use Rattle.store_edge.specs.Faults.{Rose}
@@ -24,6 +24,7 @@ use Rattle.migrate_cli.specs.Completeness.Writes.{unwritten}
 use Rattle.migrate_cli.specs.DeltaPromise.{HasDelta}
 use Rattle.migrate_cli.specs.DesignPromise.{HasDesigned}
 use Rattle.migrate_cli.specs.ExplainedPromise.{HasExplained}
+use Rattle.migrate_cli.specs.FailuresPromise.{HasFailures}
 use Rattle.migrate_cli.specs.ObservePromise.{HasObserved}
 use Rattle.migrate_cli.specs.PicturePromise.{HasDrawn}
 use Rattle.migrate_cli.specs.PairPromise.{HasPaired}
@@ -48,6 +49,7 @@ use Rattle.migrate_cli.proofs.CompletenessLaws.{prepare_writes, replay_decides, 
 use Rattle.migrate_cli.proofs.DeltaPromiseLaws.{delta_writes, new_lines_alone}
 use Rattle.migrate_cli.proofs.DesignPromiseLaws.{design_writes, has_designed}
 use Rattle.migrate_cli.proofs.ExplainedPromiseLaws.{has_explained, why_decides}
+use Rattle.migrate_cli.proofs.FailuresPromiseLaws.{failures_decides, has_failures}
 use Rattle.migrate_cli.proofs.ObservePromiseLaws.{has_observed, observe_decides, observe_finds}
 use Rattle.migrate_cli.proofs.PicturePromiseLaws.{has_drawn, picture_decides}
 use Rattle.migrate_cli.proofs.PairPromiseLaws.{has_paired, pair_check_decides, pair_decides, pair_refute_decides, pair_scripts_write}
@@ -210,6 +212,11 @@ module _ (call : Call) (before after : Outside) where
           means = λ file configs asks. wrote_so IsYesOrNo (HasDrawn call file configs (course before after)) (λ q. q) (λ q. q)
               (λ outcome is adds of. has_drawn call file configs (course before after) asks is adds of) ends;
           decides = λ it calm. calm_so Decides memory (picture_decides call it asked) ends fails calm;
+        };
+        failures = record {
+          means = λ file configs asks. wrote_so IsYesOrNo (HasFailures call file configs (course before after)) (λ q. q) (λ q. q)
+              (λ outcome is adds of. has_failures call file configs (course before after) asks is adds of) ends;
+          decides = λ it calm. calm_so Decides memory (failures_decides call it asked) ends fails calm;
         };
       }
 

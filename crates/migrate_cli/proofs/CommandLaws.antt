@@ -3,7 +3,7 @@ use Rattle.std.proofs.Common.{◌≡◌, ◌∙◌, ◌∷◌, [], List, ap, get
 use Rattle.net_model.specs.Refusals.{NamesAscend}
 use Rattle.migrate_words.specs.declared.command.CommandKind.{CommandKind}
 use Rattle.migrate_words.specs.declared.command.CommandKind.TheVariants.{Check, Prepare, Plan, TwoPass, Refute, Scripts, Replay, Sample}
-use Rattle.migrate_words.specs.declared.command.CommandKind.TheVariants.{Pair, PairScripts, PairCheck, PairRefute, Design, Split, Delta, Tables, Why, Rollback, Replan, Observe, Picture, Survey}
+use Rattle.migrate_words.specs.declared.command.CommandKind.TheVariants.{Pair, PairScripts, PairCheck, PairRefute, Design, Split, Delta, Tables, Why, Rollback, Replan, Observe, Picture, Failures, Survey}
 use Rattle.migration_report.specs.Outcomes.{IsTellable}
 use Rattle.migration_report.specs.declared.decision.Decision.{Decision}
 use Rattle.net_model.specs.Network.{Network}
@@ -14,6 +14,7 @@ use Rattle.migrate_cli.specs.PlanDecision.{IsPlanOver}
 use Rattle.migrate_cli.specs.Decisions.{Input, IsDecision}
 use Rattle.migrate_cli.specs.DeltaDecision.{IsDeltaDecision, settled_lines_alone}
 use Rattle.migrate_cli.specs.ExplainedDecision.{IsExplainedDecision}
+use Rattle.migrate_cli.specs.FailuresDecision.{IsFailuresDecision}
 use Rattle.migrate_cli.specs.PictureDecision.{IsPictureDecision}
 use Rattle.migrate_cli.specs.PrepareDecision.{IsPrepareDecision, configured, with_settled_lines}
 use Rattle.migrate_cli.specs.Reading.{NamedText}
@@ -27,6 +28,7 @@ use Rattle.migrate_cli.proofs.ChangesLaws.{judged_order_tellable, judged_tree_te
 use Rattle.migrate_cli.proofs.CheckLaws.{check_tellable, one_check_decision}
 use Rattle.migrate_cli.proofs.DesignLaws.{design_tellable, one_design_decision}
 use Rattle.migrate_cli.proofs.ExplainedLaws.{explained_tellable, one_explained_decision}
+use Rattle.migrate_cli.proofs.FailuresLaws.{failures_tellable, one_failures_decision}
 use Rattle.migrate_cli.proofs.PictureLaws.{one_picture_decision, picture_tellable}
 use Rattle.migrate_cli.proofs.PairLaws.{one_pair_decision, one_script, pair_tellable, script_tellable}
 use Rattle.migrate_cli.proofs.PlanLaws.{one_plan_decision, one_sample_decision, plan_decision_tellable, sample_tellable}
@@ -116,6 +118,8 @@ one_decision Replan input {e = e} ascending one other =
     (subst (λ (file : NamedText). IsReplanDecision other.0 (journal_of file.text input.net) input.number e) (sym journal) other.3))
 one_decision Picture input {e = e} ascending one other =
     one_picture_decision one.0 input.net ascending one.2 (moved (λ file. IsPictureDecision file input.net e) one.1 other.1 other.2)
+one_decision Failures input {e = e} ascending one other =
+    one_failures_decision one.0 input.net ascending one.2 (moved (λ file. IsFailuresDecision file input.net e) one.1 other.1 other.2)
 one_decision Design input ascending one other = one_design_decision one other
 one_decision Observe input ascending one other = absurd one
 one_decision Survey input ascending one other = absurd one
@@ -143,6 +147,7 @@ decision_tellable Why input d is = explained_tellable is.0 input.net is.2
 decision_tellable Rollback input d is = rollback_tellable {journal = journal_of is.1.text input.net} is.3
 decision_tellable Replan input d is = replan_tellable {journal = journal_of is.1.text input.net} is.3
 decision_tellable Picture input d is = picture_tellable is.0 input.net is.2
+decision_tellable Failures input d is = failures_tellable is.0 input.net is.2
 decision_tellable Design input d is = design_tellable is
 decision_tellable Observe input d is = absurd is
 decision_tellable Survey input d is = absurd is

@@ -1,5 +1,5 @@
 -- What a call of `delta` wrote are the new lines alone.
-use Rattle.std.proofs.Common.{◌≡◌, ◌≢◌, [], ◌∷◌, ℕ, List, subst}
+use Rattle.std.proofs.Common.{◌≡◌, ◌≢◌, [], ℕ, List, subst}
 use Rattle.store_edge.specs.Sink.{AddsBytes}
 use Rattle.design_file.specs.Answers.{SaysDesign}
 use Rattle.isis_writer.proofs.DeltaPieces.{delta_of_pieces}

@@ -1,5 +1,12 @@
 -- What is told over mixed forwarding, and over the tables before and after, is so of the migration.
 use Rattle.std.proofs.Common.{◌≡◌, ◌<◌, ℕ, List, length, subst, sym}
+use Rattle.change_orders.specs.TwoFiles.{AreTwoWaves}
+use Rattle.igp_theory.specs.LoopLaws.{BeginsOld}
+use Rattle.igp_theory.specs.Timetables.{IsTimetable, change_times}
+use Rattle.plan_theory.specs.Ranked.{changes_ranked}
+use Rattle.plan_theory.proofs.ChangesServe.{changes_serve}
+use Rattle.plan_theory.proofs.Serving.{Serves}
+use Rattle.wave_oracle.proofs.ChangeRankings.{two_waves_keep}
 use Rattle.igp_theory.specs.Laws.{HaveSameTables}
 use Rattle.igp_theory.specs.Loops.{Fault}
 use Rattle.igp_theory.specs.Migrations.{Migration, listed_migration, migration}
@@ -13,8 +20,17 @@ use Rattle.route_core.specs.Tables.{HasEntry}
 use Rattle.explained_texts.specs.ReasonTexts.{IsReasonsText}
 use Rattle.explained_texts.specs.WayTexts.{IsFaultInSpan, IsWayText, StateSpan}
 use Rattle.explained_texts.proofs.SameTexts.{reasons_over, stands_over, way_over}
+use Rattle.explained_changes.specs.ChangeReasonTexts.{IsChangeReasonsText}
+use Rattle.explained_changes.proofs.SameChangeTexts.{change_reasons_over}
 use Rattle.migrate_cli.specs.declared.tables.NewRoutes.{NewRoutes}
 use Rattle.migrate_cli.specs.steps.Tables.{AreBothTables, MixesTables, NetworkMove, move_of, new_entries, new_table}
+
+-- a wave list of single changes, each router's first before its second, has a timetable
+pub change_table : (move : Migration) (ranks : List ℕ) → BeginsOld move → AreTwoWaves (length move.net) ranks →
+    IsTimetable (length move.net) move.start (change_times ranks)
+change_table move ranks begins turns =
+    let serves : Serves move (changes_ranked move) = changes_serve move begins in
+    serves.table ranks turns.ranking (two_waves_keep (length move.net) ranks turns)
 
 module _ (of : NetworkMove) (m : Mixture OspfRoutes NewRoutes) (mixes : MixesTables of m) where
   -- the migration, over some network
@@ -23,6 +39,11 @@ module _ (of : NetworkMove) (m : Mixture OspfRoutes NewRoutes) (mixes : MixesTab
 
   pub reasons_of : (ranks text : List ℕ) → IsReasonsText (migration_of table_at new_table m) ranks text → IsReasonsText (move_of of) ranks text
   reasons_of ranks text is = subst (λ (n : Network). IsReasonsText (moved n) ranks text) mixes.net_is (reasons_over mixes.same is)
+
+  pub change_reasons_of : (ranks text : List ℕ) → IsChangeReasonsText (migration_of table_at new_table m) ranks text →
+      IsChangeReasonsText (move_of of) ranks text
+  change_reasons_of ranks text is =
+      subst (λ (n : Network). IsChangeReasonsText (moved n) ranks text) mixes.net_is (change_reasons_over mixes.same is)
 
   -- the tables before and after, and those that are mixed
   module _ (old : OspfRoutes) (new : NewRoutes) (tables : AreBothTables of old new) where

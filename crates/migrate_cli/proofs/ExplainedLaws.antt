@@ -1,7 +1,7 @@
 -- `why` decides one thing of an order file and a network, which has a text.
-use Rattle.std.proofs.Common.{◌≡◌, ◌∙◌, ◌++◌, ℕ, List, ap, refl, subst, sym}
+use Rattle.std.proofs.Common.{◌≡◌, ℕ, List, ap, refl, subst, sym}
 use Rattle.net_model.specs.Network.{Network}
-use Rattle.net_model.specs.Refusals.{IsNetwork, NamesAscend}
+use Rattle.net_model.specs.Refusals.{NamesAscend}
 use Rattle.igp_theory.specs.Migrations.{Migration, ospf_to_isis}
 use Rattle.igp_theory.proofs.TableLaws.{isis_entry_unique, ospf_entry_unique}
 use Rattle.order_core.specs.Rankings.{flat_of, wave_count}
@@ -10,33 +10,25 @@ use Rattle.plan_theory.specs.declared.planned.EndFault.{EndFault}
 use Rattle.step_scripts.proofs.WaveFileLaws.{no_fault, one_faulty_line, one_wave_list}
 use Rattle.step_scripts.specs.declared.version.Version.{Version}
 use Rattle.step_scripts.specs.declared.version.Version.TheVariants.{One, Two}
-use Rattle.explained_texts.specs.ReasonTexts.{IsReasonsText}
 use Rattle.explained_texts.specs.TextLaws.{HasOneEntry}
 use Rattle.explained_texts.specs.WayTexts.{IsWayText, order_span, wave_span}
 use Rattle.explained_texts.proofs.OneText.{one_reasons_text, one_way_text}
 use Rattle.migration_report.specs.Outcomes.{IsTellable, decision_text}
 use Rattle.migration_report.specs.declared.decision.Decision.{Decision}
-use Rattle.migration_report.specs.declared.decision.Decision.TheVariants.{Safe, SafeWaves, Unsafe, UnsafeWave, BadOrder, ExplainedSafe, ExplainedUnsafe}
-use Rattle.migrate_cli.specs.CheckDecision.{IsOrderDecision, IsWavesDecision}
-use Rattle.migrate_cli.specs.ExplainedDecision.{IsExplainedDecision, IsExplainedList, IsExplainedOrder, IsExplainedWaves, TellsBehind}
-use Rattle.migrate_cli.specs.ExplainedDecision.IsExplainedDecision.{explained_list, faulty_list}
+use Rattle.migration_report.specs.declared.decision.Decision.TheVariants.{Safe, Unsafe, UnsafeWave, BadOrder, ExplainedSafe, ExplainedUnsafe}
+use Rattle.migrate_cli.specs.ExplainedDecision.{IsExplainedDecision, IsExplainedFile, IsExplainedList, IsExplainedOrder, IsExplainedWaves}
+use Rattle.migrate_cli.specs.ExplainedTexts.{TellsBehind}
+use Rattle.migrate_cli.specs.ExplainedDecision.IsExplainedDecision.{explained_routers, explained_singles}
+use Rattle.migrate_cli.specs.ExplainedDecision.IsExplainedFile.{explained_list, faulty_list}
 use Rattle.migrate_cli.specs.ExplainedDecision.IsExplainedOrder.{order_reasons, order_way}
 use Rattle.migrate_cli.specs.ExplainedDecision.IsExplainedWaves.{waves_reasons, waves_way}
 use Rattle.migrate_cli.specs.Reading.{NamedText}
 use Rattle.migrate_cli.proofs.CheckLaws.{one_order_decision, one_waves_decision}
-
--- where one text alone is told behind what texts begin with, there is one of them
-one_behind : {Told : List ℕ → Type 0} {first text other : List ℕ} → ((s t : List ℕ) → Told s → Told t → s ≡ t) → TellsBehind Told first text →
-    TellsBehind Told first other → text ≡ other
-one_behind {first = first} once one two =
-    one.text_is ∙ ap (λ (behind : List ℕ). first ++ behind) (once one.behind two.behind one.told two.told) ∙ sym two.text_is
+use Rattle.migrate_cli.proofs.ExplainedChangesLaws.{explained_changes_tellable, one_behind, one_explained_changes_file, waves_safe_or_unsafe}
 
 -- a yes is no no
 safe_or_unsafe : (state : ℕ) (fault : EndFault) → Safe ≡ Unsafe state fault → ⊥
 safe_or_unsafe state fault e = Prim.cc e
-
-waves_safe_or_unsafe : (waves wave : ℕ) (fault : EndFault) → SafeWaves waves ≡ UnsafeWave wave fault → ⊥
-waves_safe_or_unsafe waves wave fault e = Prim.cc e
 
 -- a migration whose tables have one entry for a prefix
 module _ (move : Migration) (one_old : HasOneEntry move.net move.old) (one_new : HasOneEntry move.net move.new) (ranks : List ℕ) where
@@ -85,16 +77,26 @@ module _ (order : NamedText) (net : Network) where
       (subst (λ (v : Version). IsExplainedList (ospf_to_isis net) v ranks e) (sym versions)
       (subst (λ (r : List ℕ). IsExplainedList (ospf_to_isis net) its_version r e) (sym lists) its))
 
-  pub one_explained_decision : {d e : Decision} → NamesAscend net → IsExplainedDecision order net d → IsExplainedDecision order net e → d ≡ e
-  one_explained_decision ascending (faulty_list n k one) (faulty_list m j other) =
+  one_explained_file : {d e : Decision} → NamesAscend net → IsExplainedFile (ospf_to_isis net) order d → IsExplainedFile (ospf_to_isis net) order e →
+      d ≡ e
+  one_explained_file ascending (faulty_list n k one) (faulty_list m j other) =
       let same = one_faulty_line net order.text n m k j one other in λ i. BadOrder order.file (same.0 i) (same.1 i)
-  one_explained_decision ascending (faulty_list n k least) (explained_list version ranks _ names _) =
+  one_explained_file ascending (faulty_list n k least) (explained_list version ranks _ names _) =
       absurd (no_fault net order.text version ranks n k ascending names least.faulty)
-  one_explained_decision ascending (explained_list version ranks _ names _) (faulty_list n k least) =
+  one_explained_file ascending (explained_list version ranks _ names _) (faulty_list n k least) =
       absurd (no_fault net order.text version ranks n k ascending names least.faulty)
-  one_explained_decision ascending (explained_list version ranks d names is) (explained_list its_version its_ranks e again its) =
+  one_explained_file ascending (explained_list version ranks d names is) (explained_list its_version its_ranks e again its) =
       let same = one_wave_list net order.text version its_version ranks its_ranks ascending names again in
       one_of_list version its_version ranks its_ranks d e same.0 same.1 is its
+
+  -- `why` decides one thing of an order file
+  pub one_explained_decision : {d e : Decision} → NamesAscend net → IsExplainedDecision order net d → IsExplainedDecision order net e → d ≡ e
+  one_explained_decision ascending (explained_routers _ _ is) (explained_routers _ _ its) = one_explained_file ascending is its
+  one_explained_decision ascending (explained_routers _ not _) (explained_singles _ begins _) = absurd (not begins)
+  one_explained_decision ascending (explained_singles _ begins _) (explained_routers _ not _) = absurd (not begins)
+  one_explained_decision ascending (explained_singles _ _ is) (explained_singles _ _ its) =
+      one_explained_changes_file (ospf_to_isis net) (λ u p a b within one two. ospf_entry_unique one two)
+      (λ u p a b within one two. isis_entry_unique one two) (λ u. refl) order ascending is its
 
   list_tellable : (version : Version) (ranks : List ℕ) (d : Decision) → IsExplainedList (ospf_to_isis net) version ranks d → IsTellable net d
   list_tellable One ranks d (order_reasons _ _ _ _) = tt
@@ -102,6 +104,10 @@ module _ (order : NamedText) (net : Network) where
   list_tellable Two ranks d (waves_reasons _ _ _) = tt
   list_tellable Two ranks d (waves_way _ _ _ _ _ _) = tt
 
+  file_tellable : {d : Decision} → IsExplainedFile (ospf_to_isis net) order d → IsTellable net d
+  file_tellable (faulty_list _ _ _) = tt
+  file_tellable (explained_list version ranks d _ is) = list_tellable version ranks d is
+
   pub explained_tellable : {d : Decision} → IsExplainedDecision order net d → IsTellable net d
-  explained_tellable (faulty_list _ _ _) = tt
-  explained_tellable (explained_list version ranks d _ is) = list_tellable version ranks d is
+  explained_tellable (explained_routers _ _ is) = file_tellable is
+  explained_tellable (explained_singles _ _ is) = explained_changes_tellable (ospf_to_isis net) order is

@@ -37,7 +37,7 @@ module _ (move : Migration) where
   sound_where_delivers state all = delivers_sound move state all
 
   -- where none is seamless none delivers
-  none_delivers : HasNoneSeamless move → NoneDelivers move
+  pub none_delivers : HasNoneSeamless move → NoneDelivers move
   none_delivers none = record {
     no_waves_deliver = λ ranks ranking deliver.
         none.waves ranks (record {

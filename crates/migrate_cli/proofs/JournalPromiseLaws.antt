@@ -1,10 +1,6 @@
 -- What is said of calls that take an order file and a journal.
 use Rattle.std.proofs.Common.{◌≡◌, ◌∷◌, ℕ, List, [], ap₂, take}
 use Rattle.std.proofs.Common.{ap, sym, ◌∙◌}
-use Rattle.igp_theory.specs.Changes.{Change}
-use Rattle.step_scripts.specs.WaveFiles.{NamesWaves}
-use Rattle.step_scripts.specs.declared.version.Version.{Version}
-use Rattle.migrate_words.specs.declared.command.CommandKind.{CommandKind}
 use Rattle.migrate_cli.specs.Reading.{NamedText, named_text, named_texts}
 
 -- the texts of two own files

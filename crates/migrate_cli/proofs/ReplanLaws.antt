@@ -1,5 +1,5 @@
 -- `replan` decides one thing of an order file, a journal and a network.
-use Rattle.std.proofs.Common.{◌≡◌, ℕ, List, ap, length, map, refl, subst, sym, ◌∙◌}
+use Rattle.std.proofs.Common.{◌≡◌, ℕ, List, ap, length, subst, sym, ◌∙◌}
 use Rattle.std.proofs.lemmas.List.{length-map}
 use Rattle.igp_theory.specs.Migrations.{Migration, migration, ospf_to_isis, started}
 use Rattle.igp_theory.specs.Ospf.{OspfEntry}

@@ -1,5 +1,5 @@
 -- What a call of `replan` promises.
-use Rattle.std.proofs.Common.{◌≡◌, ◌≢◌, ◌∷◌, [], ℕ, List, refl, subst, sym}
+use Rattle.std.proofs.Common.{◌≢◌, [], ℕ, List, subst, sym}
 use Rattle.igp_theory.specs.Migrations.{ospf_to_isis}
 use Rattle.igp_theory.proofs.Delivery.{isis_hop_is_router, ospf_hop_is_router}
 use Rattle.net_model.specs.Refusals.{IsNetwork, NamesAscend}

@@ -1,6 +1,6 @@
 -- The waves of the rest that a search finds: a router that is New at the start is in no pair, so it stands in the first wave, beside
 -- another one where not all are New; and no chain of two or more has it.
-use Rattle.std.proofs.Common.{◌≡◌, ◌≢◌, ◌⊎◌, inl, inr, ◌<◌, ◌≤◌, ◌∷◌, ◌++◌, true, ℕ, suc, zero, ◌+◌, List, [], All, Contains, IsTrue, length, get_or, arith, ap, refl, subst, sym, ◌∙◌}
+use Rattle.std.proofs.Common.{◌≡◌, ◌≢◌, ◌⊎◌, inl, inr, ◌<◌, ◌≤◌, ◌∷◌, ◌++◌, true, ℕ, suc, zero, List, [], All, Contains, IsTrue, length, get_or, arith, ap, refl, subst, sym, ◌∙◌}
 use Rattle.std.proofs.lemmas.Bool.{cases_lt}
 use Rattle.std.proofs.lemmas.List.{get_or_default}
 use Rattle.std.proofs.lemmas.List.Elements.{All-contains, Contains-push_cases}
@@ -15,7 +15,7 @@ use Rattle.igp_theory.proofs.Rings.{around_at}
 use Rattle.live_replan.specs.RestLaws.{AreRestWaves, KeepsChain, LeadWithNew}
 use Rattle.live_replan.specs.RestTexts.{has_rest, is_left}
 use Rattle.live_replan.proofs.RestFacts.{rest_waves}
-use Rattle.order_core.specs.Pairs.{AreBelow, Pair}
+use Rattle.order_core.specs.Pairs.{Pair}
 use Rattle.order_core.specs.Rankings.{IsRanking, rank_of}
 use Rattle.order_core.specs.Turns.{new_routers, old_routers}
 use Rattle.order_core.specs.declared.turn.Tag.{Tag}

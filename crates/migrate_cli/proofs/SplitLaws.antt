@@ -26,7 +26,7 @@ use Rattle.step_scripts.specs.declared.version.Version.TheVariants.{One, Two}
 use Rattle.migration_report.specs.Outcomes.{IsTellable, decision_status}
 use Rattle.migration_report.specs.declared.decision.Decision.{Decision}
 use Rattle.migration_report.specs.declared.decision.Decision.TheVariants.{Split}
-use Rattle.migrate_cli.specs.CheckDecision.{IsCheckOver, IsOrderDecision, IsWavesDecision}
+use Rattle.migrate_cli.specs.CheckDecision.{IsCheckOver}
 use Rattle.migrate_cli.specs.CheckDecision.IsOrderDecision.{safe, unsafe as unsafe_order}
 use Rattle.migrate_cli.specs.CheckDecision.IsWavesDecision.{safe_waves, unsafe_wave}
 use Rattle.migrate_cli.specs.CheckDecision.IsCheckDecision.{by_routers}

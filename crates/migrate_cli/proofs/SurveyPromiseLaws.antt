@@ -1,5 +1,5 @@
 -- What a call of `survey` promises.
-use Rattle.std.proofs.Common.{◌≡◌, ◌≢◌, [], ℕ, List, All, ap, refl, subst, sym}
+use Rattle.std.proofs.Common.{◌≡◌, ◌≢◌, ℕ, List, All, ap, refl, subst, sym}
 use Rattle.store_edge.specs.Sink.{AddsBytes}
 use Rattle.survey_report.specs.SurveyFiles.{survey_files}
 use Rattle.migrate_words.proofs.OneCommand.{one_command}

@@ -1,5 +1,5 @@
 -- What is found over the tables before and after a migration holds of it.
-use Rattle.std.proofs.Common.{◌≡◌, ◌∙◌, ◌<◌, ℕ, List, Result, Ok, Err, IfOk, None, Some, arith, length, subst, sym}
+use Rattle.std.proofs.Common.{◌≡◌, ◌∙◌, ℕ, List, Result, Ok, Err, IfOk, None, Some, arith, length, subst, sym}
 use Rattle.igp_theory.specs.Laws.{HaveSameTables}
 use Rattle.igp_theory.specs.Loops.{Fault, IsFirstFault}
 use Rattle.igp_theory.specs.Migrations.{Migration, listed_migration, migration}

@@ -1,6 +1,5 @@
 -- What a call of `twopass` promises.
-use Rattle.std.proofs.Common.{◌≡◌, ◌≢◌, ◌++◌, ◌∷◌, ℕ, List, [], refl, subst, sym}
-use Rattle.net_addr.specs.Lines.{line_texts}
+use Rattle.std.proofs.Common.{◌≢◌, ℕ, List, [], refl, subst, sym}
 use Rattle.igp_theory.specs.Migrations.{Migration, ospf_to_isis}
 use Rattle.igp_theory.proofs.Delivery.{isis_hop_is_router, ospf_hop_is_router}
 use Rattle.net_model.specs.Network.{Network}

@@ -12,6 +12,7 @@ use Rattle.migrate_cli.specs.Completeness.{CheckDecides, ReplayDecides}
 use Rattle.migrate_cli.specs.DeltaPromise.{DeltaPromise}
 use Rattle.migrate_cli.specs.DesignPromise.{DesignPromise}
 use Rattle.migrate_cli.specs.ExplainedPromise.{ExplainedPromise}
+use Rattle.migrate_cli.specs.FailuresPromise.{FailuresPromise}
 use Rattle.migrate_cli.specs.ObservePromise.{ObservePromise}
 use Rattle.migrate_cli.specs.PairPromise.{PairCheckDecides, PairPromise, PairRefuteDecides, PairScriptsWrites}
 use Rattle.migrate_cli.specs.PicturePromise.{PicturePromise}
@@ -82,3 +83,5 @@ pub record Claim (call : Call) (before after : Outside) (status : Status) : Type
   pub observes : ObservePromise call before after status
   -- `picture` says what `check` says, and writes the one picture of the network, the list and its fault
   pub pictures : PicturePromise call before after status
+  -- `failures` says what `check` says, and where that is a yes, of each link what the list comes to without it
+  pub failures : FailuresPromise call before after status

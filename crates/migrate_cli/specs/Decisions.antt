@@ -5,13 +5,14 @@ use Rattle.migrate_words.specs.Schemes.{AskedScheme}
 use Rattle.migrate_words.specs.declared.command.Command.{Command}
 use Rattle.migrate_words.specs.declared.command.CommandKind.{CommandKind}
 use Rattle.migrate_words.specs.declared.command.CommandKind.TheVariants.{Check, Prepare, Plan, TwoPass, Refute, Scripts, Replay, Sample}
-use Rattle.migrate_words.specs.declared.command.CommandKind.TheVariants.{Pair, PairScripts, PairCheck, PairRefute, Split, Delta, Tables, Why, Rollback, Replan, Design, Observe, Picture, Survey}
+use Rattle.migrate_words.specs.declared.command.CommandKind.TheVariants.{Pair, PairScripts, PairCheck, PairRefute, Split, Delta, Tables, Why, Rollback, Replan, Design, Observe, Picture, Failures, Survey}
 use Rattle.migration_report.specs.declared.decision.Decision.{Decision}
 use Rattle.migrate_cli.specs.CommandFiles.{GivenTexts}
 use Rattle.migrate_cli.specs.CheckDecision.{IsCheckDecision}
 use Rattle.migrate_cli.specs.DeltaDecision.{IsDeltaDecision}
 use Rattle.migrate_cli.specs.DesignDecision.{IsDesignDecision}
 use Rattle.migrate_cli.specs.ExplainedDecision.{IsExplainedDecision}
+use Rattle.migrate_cli.specs.FailuresDecision.{IsFailuresDecision}
 use Rattle.migrate_cli.specs.PrepareDecision.{IsPrepareDecision, configured}
 use Rattle.ospf_pair.specs.NetworkPairs.{network_pair}
 use Rattle.migrate_cli.specs.PairDecision.{IsPairCheck, IsPairPlan, IsPairScripts, IsPairTree}
@@ -86,6 +87,7 @@ IsDecision Replan input decision =
     (order : NamedText) × (journal : NamedText) × (input.own ≡ order ∷ journal ∷ []) ×
     IsReplanDecision order (journal_of journal.text input.net) input.number decision
 IsDecision Picture input decision = (order : NamedText) × (input.own ≡ order ∷ []) × IsPictureDecision order input.net decision
+IsDecision Failures input decision = (order : NamedText) × (input.own ≡ order ∷ []) × IsFailuresDecision order input.net decision
 IsDecision Design input decision = IsDesignDecision input.scheme input.net decision
 IsDecision Observe input decision = ⊥
 IsDecision Survey input decision = ⊥

@@ -1,6 +1,6 @@
--- What `why` decides of an order file and a network that is at its start: what `check` decides of the file as one of routers, and
--- behind the line of that why it is so.
-use Rattle.std.specs.Prelude.{◌≡◌, ℕ, List, ◌++◌}
+-- What `why` decides of an order file and a network that is at its start: what `check` decides of the file, and behind the line of that
+-- why it is so.
+use Rattle.std.specs.Prelude.{ℕ, List}
 use Rattle.net_model.specs.Network.{Network}
 use Rattle.net_model.specs.Refusals.{IsNetwork}
 use Rattle.igp_theory.specs.Migrations.{Migration, ospf_to_isis}
@@ -9,6 +9,7 @@ use Rattle.order_core.specs.Rankings.{flat_of, wave_count}
 use Rattle.plan_theory.specs.Plans.{fault_told}
 use Rattle.plan_theory.specs.declared.planned.EndFault.{EndFault}
 use Rattle.step_scripts.specs.FaultyLines.{IsLeastFaultyLine}
+use Rattle.change_orders.specs.TwoFaults.{two_header}
 use Rattle.step_scripts.specs.WaveFiles.{NamesWaves}
 use Rattle.step_scripts.specs.declared.kind.OrderKind.{OrderKind}
 use Rattle.step_scripts.specs.declared.version.Version.{Version}
@@ -20,13 +21,10 @@ use Rattle.migration_report.specs.declared.decision.Decision.{Decision}
 use Rattle.migration_report.specs.declared.decision.Decision.TheVariants.{Safe, SafeWaves, Unsafe, UnsafeWave, BadOrder}
 use Rattle.migration_report.specs.declared.decision.Decision.TheVariants.{ExplainedSafe, ExplainedUnsafe}
 use Rattle.migrate_cli.specs.CheckDecision.{IsOrderDecision, IsWavesDecision}
+use Rattle.migrate_cli.specs.ExplainedChanges.{IsExplainedChangesFile}
+use Rattle.migrate_cli.specs.ExplainedTexts.{TellsBehind}
+use Rattle.migrate_cli.specs.FirstLines.{BeginsWith}
 use Rattle.migrate_cli.specs.Reading.{NamedText}
-
--- a text tells something behind what it begins with
-pub record TellsBehind (Told : List ℕ → Type 0) (first text : List ℕ) : Type 0 where
-  pub behind : List ℕ
-  pub told : Told behind
-  pub text_is : text ≡ first ++ behind
 
 -- behind the line of `check` of an order: where it is safe, and so is the list in which each router is a wave, of each router but the
 -- first why it isn't beside the one before it, or that it may be; where it isn't, the way of a packet in its first unsound state
@@ -54,10 +52,17 @@ abbrev pub IsExplainedList : Migration → Version → List ℕ → Decision →
 IsExplainedList move One ranks decision = IsExplainedOrder move ranks decision
 IsExplainedList move Two ranks decision = IsExplainedWaves move ranks decision
 
--- the order file has a faulty line, and one of single changes has in its first line; or it names a list, which is explained by the
--- tables of OSPF and of IS-IS
+-- the order file has a faulty line, or names a list of routers, which is explained
+pub data IsExplainedFile (move : Migration) (order : NamedText) : Decision → Type 0 where
+  faulty_list : (number : ℕ) (kind : OrderKind) → IsLeastFaultyLine move.net order.text number kind →
+      IsExplainedFile move order (BadOrder order.file number kind)
+  explained_list : (version : Version) (ranks : List ℕ) (decision : Decision) → NamesWaves move.net order.text version ranks →
+      IsExplainedList move version ranks decision → IsExplainedFile move order decision
+
+-- by the tables of OSPF and of IS-IS, where a file whose first line is that of single changes is one of these, and every other file
+-- one of routers
 pub data IsExplainedDecision (order : NamedText) (net : Network) : Decision → Type 0 where
-  faulty_list : (number : ℕ) (kind : OrderKind) → IsLeastFaultyLine net order.text number kind →
-      IsExplainedDecision order net (BadOrder order.file number kind)
-  explained_list : (version : Version) (ranks : List ℕ) (decision : Decision) → NamesWaves net order.text version ranks →
-      IsExplainedList (ospf_to_isis net) version ranks decision → IsExplainedDecision order net decision
+  explained_routers : (decision : Decision) → ¬ BeginsWith two_header order.text → IsExplainedFile (ospf_to_isis net) order decision →
+      IsExplainedDecision order net decision
+  explained_singles : (decision : Decision) → BeginsWith two_header order.text → IsExplainedChangesFile (ospf_to_isis net) order decision →
+      IsExplainedDecision order net decision

@@ -19,10 +19,13 @@ pub mod ReplayDecision
 pub mod ScriptsDecision
 pub mod SplitDecision
 pub mod TablesDecision
+pub mod ExplainedTexts
+pub mod ExplainedChanges
 pub mod ExplainedDecision
 pub mod RollbackDecision
 pub mod ReplanDecision
 pub mod PictureDecision
+pub mod FailuresDecision
 pub mod PairDecision
 pub mod DesignDecision
 pub mod ObserveDecision
@@ -50,6 +53,7 @@ pub mod RestHeadline
 pub mod ReplanPromise
 pub mod ObservePromise
 pub mod PicturePromise
+pub mod FailuresPromise
 pub mod SamplePromise
 pub mod PairPromise
 pub mod DesignPromise

@@ -1,6 +1,5 @@
 -- What the commands over two networks decide of these.
-use Rattle.std.specs.Prelude.{◌≡◌, ◌≢◌, ℕ, List, [], ◌∷◌}
-use Rattle.net_model.specs.Network.{Network}
+use Rattle.std.specs.Prelude.{◌≢◌, ℕ, List}
 use Rattle.igp_theory.specs.Migrations.{Migration}
 use Rattle.ospf_pair.specs.NetworkPairs.{NetworkPair}
 use Rattle.ospf_pair.specs.PairMigrations.{ospf_to_ospf}

@@ -12,7 +12,7 @@ use Rattle.migrate_words.specs.declared.command.Command.{Command}
 use Rattle.migrate_words.specs.declared.command.CommandKind.TheVariants.{Pair, PairCheck, PairRefute, PairScripts}
 use Rattle.migration_report.specs.declared.status.Status.{Status}
 use Rattle.migrate_cli.specs.Calls.{Call, Outside, course, Course}
-use Rattle.migrate_cli.specs.CommandFiles.{command_of, config_texts, files_of, groups_of, own_texts}
+use Rattle.migrate_cli.specs.CommandFiles.{command_of, files_of, groups_of, own_texts}
 use Rattle.migrate_cli.specs.Completeness.{Decides, DecidesTree, IsAccepted, NoFaultRose, Writes}
 use Rattle.migrate_cli.specs.Configurations.{GiveNetworks, IsAtStart}
 use Rattle.migrate_cli.specs.Headline.{Headline}

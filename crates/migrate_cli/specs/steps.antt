@@ -4,4 +4,5 @@ pub mod Stops
 pub mod Unread
 pub mod Tables
 pub mod FirstUnsound
+pub mod StandingNetworks
 pub mod Answering

@@ -2,8 +2,12 @@ ghost use Rattle.std.specs.Prelude.{◌≡◌, ◌*◌, ◌<◌, ◌≤◌, IfOk
 ghost use Rattle.change_orders.specs.TwoFiles.{AreTwoWaves};
 ghost use Rattle.change_orders.specs.TwoTexts.{two_refusal_text};
 ghost use Rattle.migrate_cli.specs.ChangesDecision.{IsChangesCheck, IsChangesDecision, IsChangesTree};
+ghost use Rattle.igp_theory.specs.Timetables.{change_times};
+ghost use Rattle.ospf_routes.specs.RouteTables.{table_at};
+ghost use Rattle.rib_mix.specs.Mixture.{migration_of};
 ghost use Rattle.migrate_cli.specs.Reading.{named_text};
-ghost use Rattle.migrate_cli.specs.steps.Tables.{MixesTables, NetworkMove, move_of};
+ghost use Rattle.migrate_cli.specs.steps.FirstUnsound.{IsFirstUnsoundTime};
+ghost use Rattle.migrate_cli.specs.steps.Tables.{MixesTables, NetworkMove, move_of, new_table};
 
 use crate::OutOfMemory;
 use crate::files::FILE_MOST;
@@ -13,6 +17,7 @@ use migration_report::Decision;
 use net_addr::Bytes;
 use order_core::Waves;
 use ospf_routes::OspfRoutes;
+use plan_theory::EndFault;
 use rib_mix::Mixed;
 use std::alloc::{AllocError, Global};
 use two_pass::{TwoFinder, TwoKind, TwoRefusal, read_two, two_refusal_text, verify_two};
@@ -37,7 +42,12 @@ pub(crate) fn check_changes(
 }
 
 /// What is decided where a line of an order file of single changes is faulty.
-fn bad_changes(alloc: Global, file: &str, line: u32, kind: TwoKind) -> Result<Decision, OutOfMemory>
+pub(crate) fn bad_changes(
+    alloc: Global,
+    file: &str,
+    line: u32,
+    kind: TwoKind,
+) -> Result<Decision, OutOfMemory>
     ensures { IfOk result (λ decision. decision ≡ Decision.BadChanges (two_refusal_text file.now line kind)) }
 {
     let text = two_refusal_text(alloc, file, line, kind)?;
@@ -68,14 +78,32 @@ fn judge_mixed_changes(
     requires waves { AreTwoWaves (length mixed.now.net) waves.now }
     ensures { (of : NetworkMove) → MixesTables of mixed.now → IfOk result (IsChangesDecision (move_of of) waves.now) }
 {
-    let mut finder = TwoFinder::new(alloc, mixed)?;
-    match finder.fault(waves.ranks()) {
+    let found = first_unsound_changes(alloc, mixed, waves)?;
+    match found {
         None => Ok(Decision::SafeWaves {
             waves: waves.count(),
         }),
+        Some((wave, fault)) => Ok(Decision::UnsafeWave { wave, fault }),
+    }
+}
+
+/// The first wave of single changes with a state that isn't sound, with what is wrong in it, by mixed forwarding; none where the
+/// migration is sound throughout the list.
+pub(crate) fn first_unsound_changes(
+    alloc: Global,
+    mixed: &Mixed<'_, OspfRoutes, NewRoutes>,
+    waves: &Waves,
+) -> Result<Option<(u32, EndFault)>, OutOfMemory>
+    requires few { 2 * length mixed.now.net ≤ 1000 }
+    requires waves { AreTwoWaves (length mixed.now.net) waves.now }
+    ensures { IfOk result (IsFirstUnsoundTime (migration_of table_at new_table mixed.now) (change_times waves.now)) }
+{
+    let mut finder = TwoFinder::new(alloc, mixed)?;
+    match finder.fault(waves.ranks()) {
+        None => Ok(None),
         Some((wave, fault)) => {
             let fault = whole_fault(alloc, fault, finder.ring())?;
-            Ok(Decision::UnsafeWave { wave, fault })
+            Ok(Some((wave, fault)))
         }
     }
 }

@@ -117,6 +117,19 @@ pub(crate) fn first_unsound_state(
     ensures { IfOk result (IsFirstUnsoundState (migration_of table_at new_table mixed.now) order.now) }
 {
     let mut finder = Finder::new(alloc, mixed)?;
+    let found = unsound_state(alloc, &mut finder, order)?;
+    Ok(found)
+}
+
+/// The same by a finder over mixed forwarding.
+pub(crate) fn unsound_state(
+    alloc: Global,
+    finder: &mut Finder<'_, OspfRoutes, NewRoutes>,
+    order: &[u32],
+) -> Result<Option<(u32, EndFault)>, OutOfMemory>
+    requires { IsOrder (length finder.old.mixture.net) order.now }
+    ensures { IfOk result (IsFirstUnsoundState (migration_of table_at new_table finder.old.mixture) order.now) }
+{
     match finder.order_fault(order) {
         None => Ok(None),
         Some((state, fault)) => {
@@ -164,6 +177,19 @@ pub(crate) fn first_unsound_wave(
     ensures { IfOk result (IsFirstUnsoundWave (migration_of table_at new_table mixed.now) waves.now) }
 {
     let mut finder = Finder::new(alloc, mixed)?;
+    let found = unsound_wave(alloc, &mut finder, waves)?;
+    Ok(found)
+}
+
+/// The same by a finder over mixed forwarding.
+pub(crate) fn unsound_wave(
+    alloc: Global,
+    finder: &mut Finder<'_, OspfRoutes, NewRoutes>,
+    waves: &Waves,
+) -> Result<Option<(u32, EndFault)>, OutOfMemory>
+    requires { length waves.now ≡ length finder.old.mixture.net }
+    ensures { IfOk result (IsFirstUnsoundWave (migration_of table_at new_table finder.old.mixture) waves.now) }
+{
     match finder.waves_fault(waves.ranks()) {
         None => Ok(None),
         Some((wave, fault)) => {

@@ -5,6 +5,7 @@ ghost use Rattle.ospf_pair.specs.PairRefusals.{MakePair};
 ghost use Rattle.migrate_cli.specs.CommandFiles.{AsksNetworks, NeedsStart, OverNetworks, given_texts, own_files};
 ghost use Rattle.migrate_cli.specs.Decisions.{IsDecision, input_of};
 ghost use Rattle.migrate_cli.specs.Reading.{AreShort};
+ghost use Rattle.migrate_cli.specs.steps.FilesRead.{IsJudgedAtOnce};
 
 use crate::OutOfMemory;
 use crate::check::{check_over, judge_check};
@@ -59,6 +60,7 @@ pub(crate) fn judge_command(
     requires range { IsInRange command.now }
     requires networks { AsksNetworks command.now.kind }
     requires one { OverNetworks command.now.kind → ⊥ }
+    requires at_once { IsJudgedAtOnce command.now.kind }
     requires some { 0 < length net.now }
     requires own { AreShort (own_files command.now) own.now }
     requires configs { All (λ text. length text ≤ FILE_MOST) configs.now }

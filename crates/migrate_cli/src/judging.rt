@@ -7,7 +7,7 @@ ghost use Rattle.design_writer.specs.CostDesigns.{HaveTextNames};
 ghost use Rattle.migrate_words.specs.Asked.{IsInRange};
 ghost use Rattle.migrate_cli.specs.CommandFiles.{AsksNetworks, NeedsStart, OverNetworks, config_texts, files_of, given_texts, groups_of};
 ghost use Rattle.migrate_cli.specs.CommandFiles.{own_files, own_texts, text_names};
-ghost use Rattle.migrate_cli.specs.steps.FilesRead.{ReadsFiles};
+ghost use Rattle.migrate_cli.specs.steps.FilesRead.{IsJudgedAtOnce, ReadsFiles};
 ghost use Rattle.migrate_cli.specs.Configurations.{GiveNetwork, GiveNetworks, IsAtStart};
 ghost use Rattle.migrate_cli.specs.Reading.{AreShort};
 ghost use Rattle.migrate_cli.specs.steps.Unread.{RefusesUnread};
@@ -16,6 +16,7 @@ ghost use Rattle.migrate_cli.specs.Outcomes.{IsOutcome};
 use crate::OutOfMemory;
 use crate::commands::{judge_command, judge_pair, needs_start, over_networks};
 use crate::configurations::{Unread, read_all, read_two};
+use crate::failures::judge_failures;
 use crate::files::{FILE_MOST, name_bytes, text_names};
 use crate::observing::judge_observe;
 use crate::surveying::judge_survey;
@@ -26,12 +27,14 @@ use net_model::{Net, NetRefusal};
 use ospf_pair::{PairNet, PairRefusal, pair_or_refusal};
 use sample_network::sample_text;
 use std::alloc::{AllocError, Global};
+use store_edge::Sink;
 
-/// What a command comes to on the texts of its files.
-pub(crate) fn judge(
+/// What a command comes to on the texts of its files. A long one says on a sink how far it is.
+pub(crate) fn judge<P: Sink>(
     alloc: Global,
     command: &Command<'_>,
     texts: &[Bytes],
+    progress: &mut P,
 ) -> Result<Outcome, OutOfMemory>
     requires range { IsInRange command.now }
     requires short { AreShort (files_of command.now) texts.now }
@@ -41,6 +44,7 @@ pub(crate) fn judge(
         CommandKind::Sample => judge_made(alloc, command),
         CommandKind::Survey => judge_survey(alloc, command, texts),
         CommandKind::Observe => judge_observe(alloc, command, texts),
+        CommandKind::Failures => judge_failures(alloc, command, texts, progress),
         _ => judge_read(alloc, command, texts),
     }
 }
@@ -59,6 +63,7 @@ fn judge_made(alloc: Global, command: &Command<'_>) -> Result<Outcome, OutOfMemo
 fn judge_read(alloc: Global, command: &Command<'_>, texts: &[Bytes]) -> Result<Outcome, OutOfMemory>
     requires reads { ReadsFiles command.now.kind }
     requires networks { AsksNetworks command.now.kind }
+    requires at_once { IsJudgedAtOnce command.now.kind }
     requires range { IsInRange command.now }
     requires short { AreShort (files_of command.now) texts.now }
     ensures { IfOk result (IsOutcome command.now (given_texts (own_texts command.now texts.now) (config_texts command.now texts.now))) }
@@ -81,6 +86,7 @@ fn judge_texts(
 ) -> Result<Outcome, OutOfMemory>
     requires networks { AsksNetworks command.now.kind }
     requires one { OverNetworks command.now.kind → ⊥ }
+    requires at_once { IsJudgedAtOnce command.now.kind }
     requires range { IsInRange command.now }
     requires own { AreShort (own_files command.now) own.now }
     requires each { length (text_names command.now) ≡ length texts.now }
@@ -221,6 +227,7 @@ fn judge_network(
     requires own { AreShort (own_files command.now) own.now }
     requires networks { AsksNetworks command.now.kind }
     requires one { OverNetworks command.now.kind → ⊥ }
+    requires at_once { IsJudgedAtOnce command.now.kind }
     requires configs { All (λ text. length text ≤ FILE_MOST) configs.now }
     requires names { HaveTextNames net }
     ensures { IfOk result (λ outcome. GiveNetwork configs.now net →

@@ -14,8 +14,9 @@
 //! | `settling` | what a design settles for a network |
 //! | `surveying` | what `survey` tells of texts that need not make a network |
 //! | `observing` | what `observe` comes to, which reads two networks one after the other |
+//! | `failures`, `progress` | what `failures` comes to, link by link; saying meanwhile how far it is |
 //! | `design`, `prepare`, `delta`, `shown`, `plan`, `check`, `why`, `picture`, `refute` | what each command decides, `tables` in `shown` |
-//! | `twopass`, `changes` | of single changes: what `twopass` decides, and what `check` and `refute` decide of their files |
+//! | `twopass`, `changes`, `why_changes` | of single changes: what `twopass` decides, and `check`, `refute` and `why` of their files |
 //! | `rest`, `replan`, `rollback` | of a night that was stopped: what `refute` decides of its trees, and what these decide |
 //! | `split`, `scripts`, `replay`, `pair`, `sample` | the same of those for the night, and of the others |
 //! | `sending` | writing in pieces of 4,096 bytes |
@@ -38,6 +39,7 @@ mod files;
 mod first_lines;
 mod judging;
 mod moves;
+mod progress;
 mod reading;
 mod settling;
 mod tables;
@@ -47,6 +49,7 @@ mod changes;
 mod check;
 mod delta;
 mod design;
+mod failures;
 mod observing;
 mod pair;
 mod picture;
@@ -64,6 +67,7 @@ mod split;
 mod surveying;
 mod twopass;
 mod why;
+mod why_changes;
 
 // what is counted, and laws
 mod laws;

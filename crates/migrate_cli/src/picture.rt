@@ -73,7 +73,11 @@ fn checked_picture(
 }
 
 /// The line of `check`.
-fn checked_line(alloc: Global, net: &Net, checked: &Decision) -> Result<Bytes, OutOfMemory>
+pub(crate) fn checked_line(
+    alloc: Global,
+    net: &Net,
+    checked: &Decision,
+) -> Result<Bytes, OutOfMemory>
     requires { IsListVerdict net.now checked.now }
     ensures { IfOk result (λ text. text ≡ decision_text net.now checked.now) }
 {

@@ -21,15 +21,22 @@ const FILES_MOST: usize = 200;
 /// Answers the words of a call, by its files, and writes the answer.
 ///
 /// The words are those after the program's name, of one of the commands. What they come to is decided first, then its
-/// text is built whole, and then its first byte is written.
-pub fn run<F: Files, S: Sink>(alloc: Global, words: &[String], files: &mut F, out: &mut S) -> Status
+/// text is built whole, and then its first byte is written. A long command says meanwhile on a sink of its own how far it is:
+/// whatever that sink does, the answer is the same.
+pub fn run<F: Files, S: Sink, P: Sink>(
+    alloc: Global,
+    words: &[String],
+    files: &mut F,
+    out: &mut S,
+    progress: &mut P,
+) -> Status
     ensures { Claim (call_of (map string_bytes words.now) (F.content files.old))
         (outside (reads_so_far (F.asked files.old) (F.faults files.old) (F.failed_at files.old))
         (S.written out.old) (S.faults out.old))
         (outside (reads_so_far (F.asked files.new) (F.faults files.new) (F.failed_at files.new))
         (S.written out.new) (S.faults out.new)) result }
 {
-    let Ok(outcome) = decide(alloc, words, files) else {
+    let Ok(outcome) = decide(alloc, words, files, progress) else {
         return Status::Memory;
     };
     let status = outcome.status();
@@ -43,14 +50,19 @@ pub fn run<F: Files, S: Sink>(alloc: Global, words: &[String], files: &mut F, ou
 }
 
 /// What the words of a call come to.
-fn decide<F: Files>(alloc: Global, words: &[String], files: &mut F) -> Result<Outcome, OutOfMemory>
+fn decide<F: Files, P: Sink>(
+    alloc: Global,
+    words: &[String],
+    files: &mut F,
+    progress: &mut P,
+) -> Result<Outcome, OutOfMemory>
     ensures answer { HasAnswer (call_of (map string_bytes words.now) (F.content files.old))
         (F.asked files.old) (F.asked files.new) result }
     ensures reads { ReadsEnd result (reads_so_far (F.asked files.old) (F.faults files.old) (F.failed_at files.old))
         (reads_so_far (F.asked files.new) (F.faults files.new) (F.failed_at files.new)) }
 {
     match read_command(alloc, words) {
-        Ok(command) => decide_command(alloc, &command, files),
+        Ok(command) => decide_command(alloc, &command, files, progress),
         Err(refused) => refuse_words(alloc, refused),
     }
 }
@@ -75,10 +87,11 @@ fn refuse_words(alloc: Global, refused: WordsRefused) -> Result<Outcome, OutOfMe
 }
 
 /// What a command comes to.
-fn decide_command<F: Files>(
+fn decide_command<F: Files, P: Sink>(
     alloc: Global,
     command: &Command<'_>,
     files: &mut F,
+    progress: &mut P,
 ) -> Result<Outcome, OutOfMemory>
     requires { IsInRange command.now }
     ensures answer { (words : List (List ℕ)) → Asks words command.now → HasAnswer (call_of words (F.content files.old))
@@ -96,7 +109,7 @@ fn decide_command<F: Files>(
         return Err(AllocError);
     };
     match read_texts(alloc, wanted.as_slice(), files) {
-        Ok(texts) => judge(alloc, command, texts.as_slice()),
+        Ok(texts) => judge(alloc, command, texts.as_slice(), progress),
         Err(stop) => refuse_stop(alloc, stop),
     }
 }

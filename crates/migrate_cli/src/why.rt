@@ -14,16 +14,18 @@ ghost use Rattle.order_core.specs.Rankings.{flat_of};
 ghost use Rattle.ospf_routes.specs.RouteTables.{table_at};
 ghost use Rattle.plan_theory.specs.Plans.{fault_told};
 ghost use Rattle.rib_mix.specs.Mixture.{migration_of};
-ghost use Rattle.migrate_cli.specs.ExplainedDecision.{IsExplainedDecision, IsExplainedList, IsExplainedOrder, IsExplainedWaves};
-ghost use Rattle.migrate_cli.specs.ExplainedDecision.{TellsBehind};
+ghost use Rattle.migrate_cli.specs.ExplainedDecision.{IsExplainedDecision, IsExplainedFile, IsExplainedList, IsExplainedOrder, IsExplainedWaves};
+ghost use Rattle.migrate_cli.specs.ExplainedTexts.{TellsBehind};
 ghost use Rattle.migrate_cli.specs.Reading.{named_text};
 ghost use Rattle.migrate_cli.specs.steps.Tables.{MixesTables, NetworkMove, move_of, new_table};
 
 use crate::OutOfMemory;
 use crate::check::{first_unsound_state, first_unsound_wave};
 use crate::files::{FILE_MOST, bad_order};
+use crate::first_lines::begins_with;
 use crate::moves::Move;
 use crate::tables::{NewRoutes, Tables};
+use crate::why_changes::explain_changes;
 use explained_texts::{FaultPlace, reasons_text, way_text};
 use migration_report::{Decision, safe_text, unsafe_text, waves_safe_text, waves_unsafe_text};
 use net_addr::Bytes;
@@ -35,7 +37,8 @@ use rib_mix::Mixed;
 use std::alloc::{AllocError, Global};
 use step_scripts::{OrderRefusal, Version, WaveFile, read_waves};
 
-/// What is decided of the text of an order file of routers and a network with a router: what `check` decides of it, and why.
+/// What is decided of the text of an order file, of routers or of single changes, and a network with a router: what `check` decides of
+/// it, and why.
 pub(crate) fn judge_why(
     alloc: Global,
     file: &str,
@@ -46,8 +49,27 @@ pub(crate) fn judge_why(
     requires some { 0 < length net.now }
     ensures { IfOk result (IsExplainedDecision (named_text file.now order.now) net.now) }
 {
-    match read_waves(alloc, net, order.as_slice()) {
-        Ok(read) => explain_list(alloc, &read, &Move::to_isis(net)),
+    let of = Move::to_isis(net);
+    if begins_with(b"order 3", order.as_slice()) {
+        explain_changes(alloc, file, order, &of)
+    } else {
+        explain_routers(alloc, file, order, &of)
+    }
+}
+
+/// What is decided of the text of an order file of routers and a migration, and why.
+fn explain_routers(
+    alloc: Global,
+    file: &str,
+    order: &Bytes,
+    of: &Move<'_>,
+) -> Result<Decision, OutOfMemory>
+    requires short { length order.now ≤ FILE_MOST }
+    requires some { 0 < length of.now.net }
+    ensures { IfOk result (IsExplainedFile (move_of of.now) (named_text file.now order.now)) }
+{
+    match read_waves(alloc, of.net(), order.as_slice()) {
+        Ok(read) => explain_list(alloc, &read, of),
         Err(OrderRefusal::OutOfMemory) => Err(AllocError),
         Err(OrderRefusal::Bad { line, kind }) => bad_order(alloc, file, line, kind),
     }
@@ -140,8 +162,7 @@ fn order_way(
         order,
         number: state,
     };
-    let way = fault_way(alloc, tables, mixed, place, fault)?;
-    let text = behind(first, &way)?;
+    let text = with_way(alloc, tables, mixed, (place, fault), first)?;
     Ok(Decision::ExplainedUnsafe { text })
 }
 
@@ -202,8 +223,7 @@ fn waves_way(
         ranks,
         number: wave,
     };
-    let way = fault_way(alloc, tables, mixed, place, fault)?;
-    let text = behind(first, &way)?;
+    let text = with_way(alloc, tables, mixed, (place, fault), first)?;
     Ok(Decision::ExplainedUnsafe { text })
 }
 
@@ -224,6 +244,23 @@ fn with_reasons(
     behind(first, &reasons)
 }
 
+/// A text with the way of a packet for a fault behind it.
+pub(crate) fn with_way(
+    alloc: Global,
+    tables: &Tables<'_>,
+    mixed: &Mixed<'_, OspfRoutes, NewRoutes>,
+    told: (FaultPlace<'_>, &EndFault),
+    first: Bytes,
+) -> Result<Bytes, OutOfMemory>
+    requires mixes { MixesTables tables.now mixed.now }
+    requires fault { IsFaultInSpan (migration_of table_at new_table mixed.now) (span_of told.0) (fault_told told.1.now) }
+    ensures { IfOk result (TellsBehind (IsWayText (move_of tables.now) (span_of told.entry.0) (fault_told told.entry.1.now)) first) }
+{
+    let (place, fault) = told;
+    let way = fault_way(alloc, tables, mixed, place, fault)?;
+    behind(first, &way)
+}
+
 /// The way of a packet for a fault, by the tables before and after.
 fn fault_way(
     alloc: Global,
@@ -241,7 +278,7 @@ fn fault_way(
 }
 
 /// A text with another one behind it.
-fn behind(first: Bytes, more: &Bytes) -> Result<Bytes, OutOfMemory>
+pub(crate) fn behind(first: Bytes, more: &Bytes) -> Result<Bytes, OutOfMemory>
     ensures { IfOk result (λ text. text ≡ first ++ more.now) }
 {
     let mut all = first.into_vec();

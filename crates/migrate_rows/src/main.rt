@@ -16,7 +16,7 @@ use net_addr::{Bytes, Name};
 use std::alloc::Global;
 use std::io::Write;
 use std::{fs, io, rt};
-use store_edge::{Calls, FileList, Files, MemoryFiles, RealFiles, RealSink};
+use store_edge::{Calls, FileList, Files, MemoryFiles, RealFiles, RealSink, SureSink};
 
 fn main(rt: HostRuntime) -> Result<()> {
     let calls = fs::read_to_string(&rt, "calls.txt")?;
@@ -68,7 +68,8 @@ impl Answer {
 /// Answers words on these files, into memory.
 fn answered<F: Files>(alloc: Global, words: &[String], files: &mut F) -> Answer {
     let mut out = RealSink::telling(Vec::new(alloc));
-    let status = run(alloc, words, files, &mut out);
+    let mut progress = SureSink::new(alloc);
+    let status = run(alloc, words, files, &mut out, &mut progress);
     Answer {
         status,
         text: out.into_writer(),

@@ -3,7 +3,7 @@ use Rattle.std.specs.Prelude.{List, [], ◌∷◌, codes}
 use Rattle.clap.specs.Words.{Text}
 use Rattle.migrate_words.specs.declared.command.CommandKind.{CommandKind}
 use Rattle.migrate_words.specs.declared.command.CommandKind.TheVariants.{Check, Prepare, Plan, TwoPass, Refute, Scripts, Replay, Sample}
-use Rattle.migrate_words.specs.declared.command.CommandKind.TheVariants.{Pair, PairScripts, PairCheck, PairRefute, Design, Split, Delta, Tables, Why, Picture, Rollback, Replan, Observe, Survey}
+use Rattle.migrate_words.specs.declared.command.CommandKind.TheVariants.{Pair, PairScripts, PairCheck, PairRefute, Design, Split, Delta, Tables, Why, Picture, Failures, Rollback, Replan, Observe, Survey}
 use Rattle.migrate_words.specs.declared.subcommands.ConfigFiles.{ConfigFiles}
 use Rattle.migrate_words.specs.declared.subcommands.ConfigFiles.TheVariants.{NoConfigs, Several, Networks}
 use Rattle.migrate_words.specs.declared.subcommands.NumberTaken.{NumberTaken}
@@ -44,6 +44,7 @@ usage_of Delta = usage (codes "delta") NoNumber (codes "DESIGN" ∷ []) Several
 usage_of Tables = usage (codes "tables") NoNumber [] Several
 usage_of Why = usage (codes "why") NoNumber (codes "ORDER" ∷ []) Several
 usage_of Picture = usage (codes "picture") NoNumber (codes "ORDER" ∷ []) Several
+usage_of Failures = usage (codes "failures") NoNumber (codes "ORDER" ∷ []) Several
 usage_of Rollback = usage (codes "rollback") NoNumber (codes "ORDER" ∷ codes "JOURNAL" ∷ []) Several
 usage_of Replan = usage (codes "replan") Budget (codes "ORDER" ∷ codes "JOURNAL" ∷ []) Several
 usage_of Observe = usage (codes "observe") NoNumber (codes "ORDER" ∷ codes "BEFORE" ∷ []) Several
@@ -53,4 +54,4 @@ usage_of Design = usage (codes "design") DesignOptions [] Several
 abbrev pub kinds : List CommandKind
 kinds =
     Survey ∷ Check ∷ Prepare ∷ Plan ∷ TwoPass ∷ Refute ∷ Scripts ∷ Replay ∷ Sample ∷ Pair ∷ PairScripts ∷ PairCheck ∷ PairRefute ∷ Split ∷ Delta
-    ∷ Tables ∷ Why ∷ Picture ∷ Rollback ∷ Replan ∷ Observe ∷ Design ∷ []
+    ∷ Tables ∷ Why ∷ Picture ∷ Failures ∷ Rollback ∷ Replan ∷ Observe ∷ Design ∷ []

@@ -58,6 +58,8 @@ pub enum CommandKind {
     Why,
     /// `picture ORDER CONFIG...`: the verdict on an order or on a list of waves, and the network as a picture with its waves.
     Picture,
+    /// `failures ORDER CONFIG...`: the verdict on an order or on a list of waves, and on it in the network without each of its links.
+    Failures,
     /// `rollback ORDER JOURNAL CONFIG...`: the lines that take the changes of a journal back, from the last to the first.
     Rollback,
     /// `replan [--budget N] ORDER JOURNAL CONFIG...`: waves of what a journal has left that are safe throughout.

@@ -90,7 +90,7 @@ pub(crate) fn networks() -> &'static [OwnFile]
     &NETWORKS
 }
 
-static SUBCOMMANDS: [Subcommand; 22] = [
+static SUBCOMMANDS: [Subcommand; 23] = [
     Subcommand {
         kind: CommandKind::Survey,
         word: "survey",
@@ -249,6 +249,15 @@ static SUBCOMMANDS: [Subcommand; 22] = [
         word: "picture",
         about: "Judges an order or a list of waves as check does, and draws the network",
         usage: "migrate picture ORDER CONFIG...",
+        number: NumberTaken::NoNumber,
+        own: &[ORDER],
+        configs: ConfigFiles::Several,
+    },
+    Subcommand {
+        kind: CommandKind::Failures,
+        word: "failures",
+        about: "Judges an order or a list of waves as check does, and with each link down by itself",
+        usage: "migrate failures ORDER CONFIG...",
         number: NumberTaken::NoNumber,
         own: &[ORDER],
         configs: ConfigFiles::Several,

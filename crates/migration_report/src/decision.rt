@@ -170,14 +170,16 @@ pub enum Decision {
         /// The line that tells the router.
         text: Bytes,
     },
-    /// All states of an order or of a wave list are sound, and why its routers aren't in earlier waves.
+    /// All states of an order or of a wave list are sound, and more is told: by `why` what keeps routers or changes from earlier
+    /// waves, by `picture` the network with its waves.
     ExplainedSafe {
-        /// The line that it is safe, and behind it the reasons.
+        /// The line that it is safe, and behind it the reasons; or the picture with that line in it.
         text: Bytes,
     },
-    /// A state of an order or of a wave list isn't sound, and what packets do there.
+    /// A state of an order or of a wave list isn't sound, and more is told: by `why` what packets do there, by `picture` the network
+    /// with its waves and the fault.
     ExplainedUnsafe {
-        /// The line that it is unsafe, and behind it the way of a packet.
+        /// The line that it is unsafe, and behind it the way of a packet; or the picture with that line in it.
         text: Bytes,
     },
 }

@@ -23,7 +23,7 @@ pub enum End {
 }
 
 /// The line that tells what is wrong in an end that isn't sound. The only error is want of memory.
-pub(crate) fn unsound_text(
+pub fn unsound_text(
     alloc: Global,
     net: &Net,
     end: End,

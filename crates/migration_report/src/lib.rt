@@ -36,7 +36,7 @@ mod design;
 mod kinds;
 
 pub use decision::Decision;
-pub use ends::{End, start_text};
+pub use ends::{End, start_text, unsound_text};
 pub use journal::Nexts;
 pub use outcome::Outcome;
 pub use refusal::Refusal;

@@ -9,8 +9,9 @@
 //! | bytes moved between a reader or a writer and memory | `specs/Transfer.antt` | `transfer.rt` |
 //!
 //! The program runs on `RealFiles` and `RealSink`, whose bytes the operating system holds; over a writer in memory a `RealSink`
-//! can tell them. `MemoryFiles` and `MemorySink` fail at the calls that they are told to; `SureFiles` and `SureSink` never fail,
-//! and show that what a caller owes can be met. All four are for the tests of this crate and of its callers, which need no disk.
+//! can tell them. What it says meanwhile goes to a `TerminalSink`, which writes only to a terminal. `MemoryFiles` and
+//! `MemorySink` fail at the calls that they are told to; `SureFiles` and `SureSink` never fail, and show that what a caller owes
+//! can be met. All four are for the tests of this crate and of its callers, which need no disk.
 //!
 //! A read takes time of the bytes that it gives, a write of those that it takes; in memory a read looks besides for its name
 //! among those of the files.
@@ -23,6 +24,7 @@ mod sink;
 // Real files, a real sink, and the words of the environment.
 mod real_files;
 mod real_sink;
+mod terminal_sink;
 mod transfer;
 mod words;
 
@@ -48,5 +50,6 @@ pub use sink::{Failed, Sink};
 pub use std::alloc::AllocError as OutOfMemory;
 pub use sure_files::SureFiles;
 pub use sure_sink::SureSink;
+pub use terminal_sink::TerminalSink;
 pub use transfer::read_front;
 pub use words::call_words;

@@ -38,6 +38,18 @@ pub(crate) struct Collected {
     faults: u64,
 }
 
+impl Collected {
+    /// A sink that takes so many pieces.
+    fn new(alloc: Global, pieces: u64) -> Collected {
+        Collected {
+            all: Vec::new(alloc),
+            lengths: Vec::new(alloc),
+            left: pieces,
+            faults: 0,
+        }
+    }
+}
+
 impl Sink for Collected {
     ghost written = { λ _. None };
 
@@ -65,12 +77,14 @@ pub(crate) struct Outcome {
     pub(crate) status: Status,
     most: Vec<u64>,
     pub(crate) out: Collected,
+    /// What it said meanwhile.
+    progress: Collected,
 }
 
 /// An order file and configuration files, by their names.
 pub(crate) type FilesOf<'a> = &'a [(&'a str, &'a [u8])];
 
-/// Runs a command on these files, of which one read fails, and none where its number is 0, while so many pieces are taken.
+/// Runs a command on these files, of which one read fails, and none where its number is 0, while each sink takes so many pieces.
 pub(crate) fn run_command(
     alloc: Global,
     command: &str,
@@ -92,17 +106,14 @@ pub(crate) fn run_command(
         files: MemoryFiles::new(alloc, FileList::from_vec(all), calls),
         most: Vec::new(alloc),
     };
-    let mut out = Collected {
-        all: Vec::new(alloc),
-        lengths: Vec::new(alloc),
-        left: pieces,
-        faults: 0,
-    };
-    let status = run(alloc, words.as_slice(), &mut held, &mut out);
+    let mut out = Collected::new(alloc, pieces);
+    let mut progress = Collected::new(alloc, pieces);
+    let status = run(alloc, words.as_slice(), &mut held, &mut out, &mut progress);
     Ok(Outcome {
         status,
         most: held.most,
         out,
+        progress,
     })
 }
 
@@ -186,5 +197,46 @@ fn a_script_is_cut_where_its_second_write_fails(rt: HostRuntime) -> Result<(), F
     let cut = run_command(alloc, "scripts", &files, 0, 1)?;
     assert_eq!(rt; cut.status, Status::WriteFault);
     assert_eq!(rt; cut.out.lengths.as_slice(), [4096].as_slice());
+    Ok(())
+}
+
+const TWO_LINKS: [(&str, &[u8]); 3] = [
+    ("o.txt", b"order 1\nR1\nR2\n"),
+    (
+        "r1.cfg",
+        b"hostname R1
+interface Ethernet0
+ ip address 10.0.0.1 255.255.255.252
+interface Ethernet1
+ ip address 10.0.0.5 255.255.255.252
+end
+",
+    ),
+    (
+        "r2.cfg",
+        b"hostname R2
+interface Ethernet0
+ ip address 10.0.0.2 255.255.255.252
+interface Ethernet1
+ ip address 10.0.0.6 255.255.255.252
+end
+",
+    ),
+];
+
+#[test]
+fn a_long_call_says_how_far_it_is_and_a_fault_there_is_let_be(rt: HostRuntime) -> Result<(), Fail> {
+    for (pieces, said) in [
+        (2, "\rfailures: 1 of 2 links\rfailures: 2 of 2 links\n"),
+        (1, "\rfailures: 1 of 2 links"),
+    ] {
+        let outcome = run_command(rt.alloc(), "failures", &TWO_LINKS, 0, pieces)?;
+        assert_eq!(rt; outcome.status, Status::Done);
+        assert_eq!(rt;
+            outcome.out.all.as_slice(),
+            b"safe 4\nfailures 2 links 2 withstood 0 break 0 ends\n".as_slice()
+        );
+        assert_eq!(rt; outcome.progress.all.as_slice(), said.as_bytes());
+    }
     Ok(())
 }

@@ -1,19 +1,14 @@
 -- A safe wave list of whose routers is asked whether they may stand one wave earlier.
-use Rattle.std.specs.Prelude.{◌≡◌, ℕ, ◌+◌, ◌^◌, ◌<◌, ◌==◌, ◌&&◌, Bool, List, length}
+use Rattle.std.specs.Prelude.{◌≡◌, ℕ, ◌+◌, ◌^◌, ◌<◌, ◌==◌, ◌&&◌, Bool, length}
 use Rattle.order_core.specs.Rankings.{rank_of}
 use Rattle.order_core.specs.Turns.{is_old}
 use Rattle.order_core.specs.declared.turn.Turn.{Turn}
 use Rattle.igp_theory.specs.Phases.{all_old, state_in}
 use Rattle.loop_finder.specs.Faults.{Finding}
 use Rattle.loop_finder.specs.Mixes.{Listing}
-use Rattle.rib_mix.specs.Mixture.{Mixture, migration_of}
+use Rattle.rib_mix.specs.Mixture.{migration_of}
 use Rattle.explained_waves.specs.Reasons.{AreSoundRanks}
-
--- what the migration is over, the ranks of the routers, and the ring of the latest loop
-pub record AskedList (O N : Type 0) : Type 0 where
-  pub mixture : Mixture O N
-  pub ranks : List ℕ
-  pub ring : List Turn
+use Rattle.explained_texts.specs.AskedLists.{AskedList}
 
 -- the migration is sound throughout the list, and the finder searches it from the start of all Old, with room for a timetable
 pub record IsListAsked {O N : Type 0} (old : Listing O) (new : Listing N) (list : AskedList O N) (finding : Finding O N)

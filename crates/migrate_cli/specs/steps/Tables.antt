@@ -9,7 +9,6 @@ use Rattle.igp_theory.specs.Ospf.{OspfEntry}
 use Rattle.igp_theory.specs.Routes.{HaveSameEntries, Tables}
 use Rattle.ospf_routes.specs.RouteTables.{AreOspfRoutes, router_count, table_at}
 use Rattle.ospf_routes.specs.declared.source.OspfRoutes.{OspfRoutes}
-use Rattle.isis_routes.specs.declared.source.IsisRoutes.{IsisRoutes}
 use Rattle.rib_mix.specs.Mixture.{Mixture, migration_of}
 use Rattle.route_core.specs.Tables.{HasEntry}
 use Rattle.route_core.specs.declared.entry.Entry.{Entry}

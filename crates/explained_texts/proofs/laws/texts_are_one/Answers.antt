@@ -1,5 +1,5 @@
 use Rattle.explained_texts.proofs.OneText.{one_reasons_text, one_way_text}
-use Rattle.explained_texts.proofs.WayFaults.{order_stands, waves_stand}
+use Rattle.explained_texts.proofs.WayFaults.{order_stands, times_stand}
 use Rattle.explained_texts.proofs.laws.texts_are_one.Goals as goal
 
 pub returns : goal.returns
@@ -8,5 +8,5 @@ returns g c = record {
   way = λ span fault text other network one_old one_new is its.
       one_way_text g.T.AnyMigration.migration network one_old one_new span is its;
   of_order = order_stands g.T.AnyMigration.migration;
-  of_waves = waves_stand g.T.AnyMigration.migration;
+  of_waves = times_stand g.T.AnyMigration.migration;
 }

@@ -2,8 +2,7 @@ use Rattle.std.proofs.Common.{◌∙◌, ◌+◌, ◌<◌, ◌^◌, ℕ, List, [
 use Rattle.order_core.specs.Rankings.{flat_of, rank_of}
 use Rattle.rib_mix.specs.Mixture.{Mixture, migration_of}
 use Rattle.explained_texts.specs.ReasonTexts.{IsReasonLine}
-use Rattle.explained_texts.specs.ToldItems.{AreTold, none_told}
-use Rattle.explained_texts.specs.steps.Telling.{TellsMore}
+use Rattle.explained_texts.specs.ToldItems.{AreTold, none_told, TellsMore}
 use Rattle.explained_texts.proofs.ReasonLines.{few_ranks, flat_inside}
 use Rattle.explained_texts.proofs.ToldTexts.{told_next}
 use Rattle.explained_texts.proofs.reasons.reasons_text.Goals as goal

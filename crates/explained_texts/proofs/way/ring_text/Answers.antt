@@ -7,7 +7,7 @@ use Rattle.igp_theory.specs.Loops.{loop}
 use Rattle.igp_theory.specs.Migrations.{listed_migration}
 use Rattle.explained_texts.specs.FaultPlaces.{span_of}
 use Rattle.explained_texts.specs.WayTexts.{IsTargetLine, IsUseLine, IsWayText, turn_phase}
-use Rattle.explained_texts.specs.steps.Telling.{TellsAll}
+use Rattle.explained_texts.specs.ToldItems.{TellsAll}
 use Rattle.explained_texts.proofs.Ways.{ring_inside, ring_target, ring_way}
 use Rattle.explained_texts.proofs.way.ring_text.Goals as goal
 

@@ -5,7 +5,7 @@ use Rattle.igp_theory.specs.declared.phase.Phase.{Phase}
 use Rattle.order_core.specs.declared.turn.Turn.{Turn}
 use Rattle.explained_texts.specs.FaultPlaces.{span_of}
 use Rattle.explained_texts.specs.WayTexts.{IsUseLine, turn_phase}
-use Rattle.explained_texts.specs.steps.Telling.{TellsMore}
+use Rattle.explained_texts.specs.ToldItems.{TellsMore}
 use Rattle.explained_texts.proofs.way.with_turn.Goals as goal
 
 pub returns : goal.returns

@@ -3,7 +3,7 @@ use Rattle.order_core.specs.declared.turn.Turn.{Turn}
 use Rattle.igp_theory.specs.Migrations.{listed_migration}
 use Rattle.explained_texts.specs.FaultPlaces.{span_of}
 use Rattle.explained_texts.specs.WayTexts.{IsUseLine, turn_phase}
-use Rattle.explained_texts.specs.steps.Telling.{TellsAll}
+use Rattle.explained_texts.specs.ToldItems.{TellsAll}
 use Rattle.explained_texts.proofs.way.with_turns.Given as goal
 
 abbrev pub invariant-loop-turn : goal.invariant-loop-turn

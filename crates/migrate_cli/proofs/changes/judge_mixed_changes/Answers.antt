@@ -1,54 +1,29 @@
-use Rattle.std.proofs.Common.{◌∙◌, ◌*◌, ℕ, List, ap, length, refl, subst, sym}
-use Rattle.igp_theory.specs.Timetables.{IsSoundThroughout, change_times}
-use Rattle.igp_theory.specs.WaveFaults.{IsTimesFault}
+use Rattle.std.proofs.Common.{subst, sym}
+use Rattle.igp_theory.specs.Timetables.{change_times}
 use Rattle.igp_theory.proofs.WaveFaultLaws.{times_fault_unsound}
-use Rattle.loop_finder.specs.Faults.{told_fault}
-use Rattle.order_core.specs.Rankings.{IsRanking, KeepsPairs}
 use Rattle.ospf_routes.specs.RouteTables.{table_at}
-use Rattle.ospf_routes.specs.declared.source.OspfRoutes.{OspfRoutes}
-use Rattle.plan_theory.specs.Ranked.{change_base}
-use Rattle.wave_oracle.proofs.ChangeRankings.{two_waves_keep}
-use Rattle.rib_mix.specs.Mixture.{Mixture, migration_of}
+use Rattle.rib_mix.specs.Mixture.{migration_of}
 use Rattle.migration_report.specs.declared.decision.Decision.TheVariants.{SafeWaves}
 use Rattle.migrate_cli.specs.ChangesDecision.{IsChangesDecision}
 use Rattle.migrate_cli.specs.ChangesDecision.IsChangesDecision.{safe_changes, unsafe_changes}
-use Rattle.migrate_cli.specs.declared.tables.NewRoutes.{NewRoutes}
+use Rattle.migrate_cli.specs.steps.FirstUnsound.{IsFirstUnsoundTime}
 use Rattle.migrate_cli.specs.steps.Tables.{move_of, new_table}
 use Rattle.migrate_cli.proofs.TableFacts.{sound_throughout, times_fault}
 use Rattle.migrate_cli.proofs.changes.judge_mixed_changes.Goals as goal
-
-pub fault-requires-clause-waves : goal.fault-requires-clause-waves
-fault-requires-clause-waves c =
-    subst (λ (m : Mixture OspfRoutes NewRoutes). IsRanking (2 * length m.net) c.ranks.result.now) (sym c.in_ok-finder.ensures.mixture)
-    (subst (λ (ranks : List ℕ). IsRanking (2 * length c.args.mixed.now.net) ranks) (sym c.ranks.ensures.ranks) c.requires.waves.ranking)
-
-pub fault-requires-clause-keeps : goal.fault-requires-clause-keeps
-fault-requires-clause-keeps c =
-    let n = length c.args.mixed.now.net in
-    subst (λ (m : Mixture OspfRoutes NewRoutes). KeepsPairs c.ranks.result.now (change_base (length m.net))) (sym c.in_ok-finder.ensures.mixture)
-    (subst (λ (ranks : List ℕ). KeepsPairs ranks (change_base n)) (sym c.ranks.ensures.ranks) (two_waves_keep n c.args.waves.now c.requires.waves))
 
 pub returns-in-None : goal.returns-in-None
 returns-in-None c = λ of mixes.
     let ranks = c.args.waves.now in
     let mixed = c.args.mixed.now in
-    let here = subst (λ (ranks : List ℕ). IsSoundThroughout (migration_of table_at new_table mixed) (change_times ranks)) c.ranks.ensures.ranks
-    (subst (λ (m : Mixture OspfRoutes NewRoutes). IsSoundThroughout (migration_of table_at new_table m) (change_times c.ranks.result.now))
-    c.in_ok-finder.ensures.mixture (c.in-None.ensures.sound.0 refl)) in
     subst (λ n. IsChangesDecision (move_of of) ranks (SafeWaves n)) (sym c.count.ensures)
-    (safe_changes (sound_throughout of mixed mixes (change_times ranks) here))
+    (safe_changes (sound_throughout of mixed mixes (change_times ranks)
+    (subst (IsFirstUnsoundTime (migration_of table_at new_table mixed) (change_times ranks)) c.in-None.is c.in_ok-found.ensures)))
 
-pub returns : goal.returns
-returns c = λ of mixes.
+pub returns-in-Some : goal.returns-in-Some
+returns-in-Some c = λ of mixes.
     let ranks = c.args.waves.now in
     let mixed = c.args.mixed.now in
-    let wave = c.in-Some.wave in
-    let told = told_fault c.in-Some.fault c.fault.new.self.turns in
-    let here = subst (λ (ranks : List ℕ). IsTimesFault (migration_of table_at new_table mixed) (change_times ranks) wave told) c.ranks.ensures.ranks
-    (subst (λ (m : Mixture OspfRoutes NewRoutes). IsTimesFault (migration_of table_at new_table m) (change_times c.ranks.result.now) wave told)
-    c.in_ok-finder.ensures.mixture c.in-Some.ensures.fault) in
-    let whole = c.in_ok-fault-in-Some.fault in
-    let fault = subst (IsTimesFault (move_of of) (change_times ranks) wave)
-    (sym (c.in_ok-fault-in-Some.ensures ∙ ap (told_fault c.in-Some.fault) c.ring.ensures))
-    (times_fault of mixed mixes (change_times ranks) wave told here) in
-    unsafe_changes wave whole (λ sound. times_fault_unsound (move_of of) (change_times ranks) wave _ fault sound) fault
+    let fault = times_fault of mixed mixes (change_times ranks) c.in-Some.wave _
+    (subst (IsFirstUnsoundTime (migration_of table_at new_table mixed) (change_times ranks)) c.in-Some.is c.in_ok-found.ensures) in
+    unsafe_changes c.in-Some.wave c.in-Some.fault
+    (λ sound. times_fault_unsound (move_of of) (change_times ranks) c.in-Some.wave _ fault sound) fault

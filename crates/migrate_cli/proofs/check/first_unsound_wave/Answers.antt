@@ -1,35 +1,14 @@
-use Rattle.std.proofs.Common.{◌∙◌, ◌≡◌, ap, length, refl, subst, sym}
-use Rattle.igp_theory.specs.Phases.{all_old}
-use Rattle.igp_theory.specs.Timetables.{router_times}
-use Rattle.igp_theory.specs.WaveFaults.{IsTimesFault}
-use Rattle.igp_theory.specs.Waves.{AreSeamlessWaves}
-use Rattle.loop_finder.specs.Faults.{told_fault}
-use Rattle.order_core.specs.Rankings.{IsRanking}
+use Rattle.std.proofs.Common.{◌∙◌, ap, length, subst, sym}
 use Rattle.ospf_routes.specs.RouteTables.{table_at}
 use Rattle.rib_mix.specs.Mixture.{migration_of}
+use Rattle.migrate_cli.specs.steps.FirstUnsound.{IsFirstUnsoundWave}
 use Rattle.migrate_cli.specs.steps.Tables.{new_table}
 use Rattle.migrate_cli.proofs.check.first_unsound_wave.Goals as goal
 
-pub waves_fault-requires : goal.waves_fault-requires
-waves_fault-requires c =
-    let each : length c.args.waves.now ≡ length c.in_ok-finder.finder.mixture.net =
-    c.requires ∙ ap (λ m. length m.net) (sym c.in_ok-finder.ensures.mixture) in
-    subst (λ ranks. IsRanking (length c.in_ok-finder.finder.mixture.net) ranks) (sym c.ranks.ensures.ranks)
-    (subst (λ n. IsRanking n c.args.waves.now) each c.ranks.ensures.ranking)
-
-pub returns-in-None : goal.returns-in-None
-returns-in-None c =
-    let ranks = c.args.waves.now in
-    subst (λ m. AreSeamlessWaves (migration_of table_at new_table m) ranks) c.in_ok-finder.ensures.mixture
-    (subst (AreSeamlessWaves (migration_of table_at new_table c.in_ok-finder.finder.mixture)) c.ranks.ensures.ranks (c.in-None.ensures.seamless.0 refl))
+pub unsound_wave-requires : goal.unsound_wave-requires
+unsound_wave-requires c = c.requires ∙ ap (λ m. length m.net) (sym c.in_ok-finder.ensures.mixture)
 
 pub returns : goal.returns
 returns c =
-    let ranks = c.args.waves.now in
-    let move = migration_of table_at new_table c.args.mixed.now in
-    let told = told_fault c.in-Some.fault c.waves_fault.new.self.ring in
-    let first = subst (λ some. IsTimesFault move (router_times all_old some) c.in-Some.wave told) c.ranks.ensures.ranks
-    (subst (λ m. IsTimesFault (migration_of table_at new_table m) (router_times all_old c.ranks.result.now) c.in-Some.wave told)
-    c.in_ok-finder.ensures.mixture c.in-Some.ensures.fault) in
-    subst (IsTimesFault move (router_times all_old ranks) c.in-Some.wave)
-    (sym (c.in_ok-fault-in-Some.ensures ∙ ap (told_fault c.in-Some.fault) c.ring.ensures)) first
+    subst (λ m. IsFirstUnsoundWave (migration_of table_at new_table m) c.args.waves.now c.in_ok-found.found) c.in_ok-finder.ensures.mixture
+    c.in_ok-found.ensures

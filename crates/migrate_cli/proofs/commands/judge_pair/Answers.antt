@@ -1,8 +1,8 @@
-use Rattle.std.proofs.Common.{◌≡◌, ◌∙◌, ◌<◌, List, [], ◌∷◌, ℕ, arith, length, refl, subst, sym}
+use Rattle.std.proofs.Common.{◌≡◌, ◌∙◌, ◌<◌, [], ◌∷◌, arith, length, refl, subst, sym}
 use Rattle.std.proofs.lemmas.Result.{IfOk-weaker}
 use Rattle.std.specs.Prelude.{slice_index_or}
 use Rattle.migrate_words.specs.declared.command.CommandKind.{CommandKind}
-use Rattle.migrate_words.specs.declared.command.CommandKind.TheVariants.{Pair, PairCheck, PairRefute, PairScripts}
+use Rattle.migrate_words.specs.declared.command.CommandKind.TheVariants.{PairCheck, PairRefute, PairScripts}
 use Rattle.migrate_cli.specs.CheckDecision.{IsCheckOver}
 use Rattle.migrate_cli.specs.CommandFiles.{given_texts}
 use Rattle.migrate_cli.specs.Decisions.{Input, IsDecision, input_of}

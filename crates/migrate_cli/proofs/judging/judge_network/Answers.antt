@@ -1,7 +1,5 @@
-use Rattle.std.proofs.Common.{◌≡◌, IfOk, List, [], ◌∷◌, ℕ, sym, subst}
-use Rattle.std.proofs.lemmas.Result.{IfOk-weaker}
-use Rattle.migrate_cli.specs.CommandFiles.{given_texts, groups_of}
-use Rattle.migrate_cli.specs.Configurations.{GiveNetwork, GiveNetworks}
+use Rattle.std.proofs.Common.{[]}
+use Rattle.migrate_cli.specs.CommandFiles.{given_texts}
 use Rattle.migrate_cli.specs.Outcomes.{IsOutcome}
 use Rattle.migrate_cli.specs.Outcomes.IsOutcome.{decided}
 use Rattle.migrate_cli.proofs.AnswerFacts.{start_refused, under_premise}

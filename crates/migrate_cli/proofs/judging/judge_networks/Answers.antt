@@ -1,13 +1,10 @@
-use Rattle.std.proofs.Common.{◌≡◌, ◌∙◌, ◌<◌, ap, arith, sym, subst, ℕ, List, [], ◌∷◌, length, map}
+use Rattle.std.proofs.Common.{◌∙◌, ap, sym, subst, ℕ, List, length}
 use Rattle.std.specs.Borrow.{Bor}
 use Rattle.std.proofs.lemmas.List.{length-map}
-use Rattle.std.proofs.lemmas.Result.{IfOk-weaker}
-use Rattle.migrate_cli.specs.CommandFiles.{given_texts, groups_of}
-use Rattle.migrate_cli.specs.Configurations.{GiveNetworks, RefusesFirst}
-use Rattle.migrate_cli.specs.Outcomes.{IsOutcome}
+use Rattle.migrate_cli.specs.CommandFiles.{given_texts}
 use Rattle.migrate_cli.specs.steps.Unread.{IsUnread}
 use Rattle.migrate_cli.proofs.AnswerFacts.{refused_network, unread_outcome}
-use Rattle.migrate_cli.proofs.GroupLaws.{both_read, first_refuses, gives_two, over_asks, second_refuses}
+use Rattle.migrate_cli.proofs.GroupLaws.{both_read, first_refuses, over_asks, second_refuses}
 use Rattle.migrate_cli.proofs.NetworkFacts.{first_has_router, names_two}
 use Rattle.migrate_cli.proofs.judging.judge_networks.Goals as goal
 

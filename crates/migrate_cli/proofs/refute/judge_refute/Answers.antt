@@ -1,4 +1,4 @@
-use Rattle.std.proofs.Common.{◌≡◌, ◌∙◌, subst, sym, true≢false}
+use Rattle.std.proofs.Common.{◌∙◌, subst, sym, true≢false}
 use Rattle.std.proofs.lemmas.Result.{IfOk-weaker}
 use Rattle.refutation_check.specs.TreeLines.{rest_tree_header, two_tree_header}
 use Rattle.migrate_cli.specs.ChangesDecision.{IsChangesTree}

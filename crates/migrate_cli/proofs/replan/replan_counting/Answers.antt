@@ -1,5 +1,5 @@
-use Rattle.std.proofs.Common.{◌≡◌, ◌∙◌, ◌<◌, ℕ, List, ap, length, subst, sym}
-use Rattle.igp_theory.specs.Migrations.{Migration, ospf_to_isis, started}
+use Rattle.std.proofs.Common.{◌≡◌, ◌∙◌, ◌<◌, List, ap, length, subst, sym}
+use Rattle.igp_theory.specs.Migrations.{ospf_to_isis, started}
 use Rattle.igp_theory.specs.Phases.{state_in}
 use Rattle.igp_theory.specs.declared.phase.Phase.{Phase}
 use Rattle.net_model.specs.Refusals.{IsNetwork}

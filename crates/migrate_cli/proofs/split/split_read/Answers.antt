@@ -1,8 +1,7 @@
-use Rattle.std.proofs.Common.{◌≡◌, ◌∙◌, ap, length, refl, sym, subst, true≢false}
+use Rattle.std.proofs.Common.{◌∙◌, ap, length, refl, sym, subst, true≢false}
 use Rattle.std.proofs.lemmas.Result.{IfOk-weaker}
 use Rattle.igp_theory.specs.Migrations.{ospf_to_isis}
 use Rattle.step_scripts.specs.WaveFiles.{NamesWaves}
-use Rattle.migration_report.specs.declared.decision.Decision.{Decision}
 use Rattle.migrate_cli.specs.CheckDecision.{IsCheckOver}
 use Rattle.migrate_cli.specs.SplitDecision.{IsCutText, IsSplitDecision}
 use Rattle.migrate_cli.specs.SplitDecision.IsSplitDecision.{unsafe}

@@ -1,9 +1,8 @@
-use Rattle.std.proofs.Common.{◌≡◌, ◌∙◌, ◌≤◌, ℕ, List, ap, arith, length, map, subst, sym}
+use Rattle.std.proofs.Common.{◌∙◌, ℕ, List, ap, arith, length, subst, sym}
 use Rattle.std.specs.Borrow.{Bor}
 use Rattle.std.proofs.lemmas.List.{length-map}
 use Rattle.survey_report.specs.SurveyFiles.{survey_files}
 use Rattle.survey_report.specs.SurveyTexts.{IsSurveyText, SurveyText}
-use Rattle.migrate_cli.specs.CommandFiles.{config_texts, given_texts, own_texts}
 use Rattle.migrate_cli.specs.Outcomes.IsOutcome.{surveyed}
 use Rattle.migrate_cli.proofs.FileFacts.{short_configs, survey_each, survey_short, survey_texts}
 use Rattle.migrate_cli.proofs.surveying.judge_survey.Goals as goal

@@ -1,35 +1,35 @@
-use Rattle.std.proofs.Common.{◌∙◌, ap, length, subst, sym}
+use Rattle.std.proofs.Common.{◌∙◌, ◌<◌, length, subst, sym, true≢false}
 use Rattle.std.proofs.lemmas.Result.{IfOk-weaker}
-use Rattle.step_scripts.specs.FaultyLines.{IsLeastFaultyLine, RefusesWaves}
-use Rattle.step_scripts.specs.WaveFiles.{NamesWaves}
-use Rattle.migration_report.specs.declared.decision.Decision.TheVariants.{BadOrder}
-use Rattle.migrate_cli.specs.ExplainedDecision.{IsExplainedDecision, IsExplainedList}
-use Rattle.migrate_cli.specs.ExplainedDecision.IsExplainedDecision.{explained_list, faulty_list}
+use Rattle.change_orders.specs.TwoFaults.{two_header}
+use Rattle.migrate_cli.specs.ExplainedChanges.{IsExplainedChangesFile}
+use Rattle.migrate_cli.specs.ExplainedDecision.{IsExplainedDecision, IsExplainedFile}
+use Rattle.migrate_cli.specs.ExplainedDecision.IsExplainedDecision.{explained_routers, explained_singles}
+use Rattle.migrate_cli.specs.FirstLines.{BeginsWith}
 use Rattle.migrate_cli.specs.Reading.{named_text}
 use Rattle.migrate_cli.specs.steps.Tables.{NetworkMove, move_of}
-use Rattle.migrate_cli.proofs.AnswerFacts.{from_equal}
 use Rattle.migrate_cli.proofs.why.judge_why.Goals as goal
 
-pub explain_list-requires : goal.explain_list-requires
-explain_list-requires c = c.in-Ok.ensures.ok.are.each ∙ ap (λ (of : NetworkMove). length of.net) (sym c.to_isis.ensures)
+pub explain_changes-requires-clause-some : goal.explain_changes-requires-clause-some
+explain_changes-requires-clause-some c = subst (λ (of : NetworkMove). 0 < length of.net) (sym c.to_isis-of.ensures) c.requires.some
 
-pub returns-in-Ok : goal.returns-in-Ok
-returns-in-Ok c =
-    let read = c.in-Ok.read in
-    let net = c.args.net.now in
-    let names = subst (λ text. NamesWaves net text read.version read.waves) c.as_slice.ensures c.in-Ok.ensures.ok in
-    IfOk-weaker c.explain_list.result (IsExplainedList (move_of c.to_isis.result) read.version read.waves)
-    (IsExplainedDecision (named_text c.args.file.now c.args.order.now) net)
-    (λ decision is. explained_list read.version read.waves decision names
-    (subst (λ (of : NetworkMove). IsExplainedList (move_of of) read.version read.waves decision) c.to_isis.ensures is)) c.explain_list.ensures
+pub explain_routers-requires-clause-some : goal.explain_routers-requires-clause-some
+explain_routers-requires-clause-some c = subst (λ (of : NetworkMove). 0 < length of.net) (sym c.to_isis-of.ensures) c.requires.some
 
-pub returns-in-Err-Bad : goal.returns-in-Err-Bad
-returns-in-Err-Bad c =
-    let net = c.args.net.now in
-    let line = c.in-Err-Bad.line in
-    let kind = c.in-Err-Bad.kind in
-    from_equal c.bad_order.result (BadOrder c.args.file.now line kind) (IsExplainedDecision (named_text c.args.file.now c.args.order.now) net)
-    c.bad_order.ensures
-    (faulty_list line kind
-    (subst (λ text. IsLeastFaultyLine net text line kind) c.as_slice.ensures
-    (subst (RefusesWaves net c.as_slice.result.now) c.in-Err-Bad.field-0-is c.in-Err-Bad.ensures.err)))
+pub returns-then-begins_with : goal.returns-then-begins_with
+returns-then-begins_with c =
+    let order = named_text c.args.file.now c.args.order.now in
+    let begins = subst (BeginsWith two_header) c.as_slice.ensures (c.begins_with.ensures.0 c.if-begins_with.true) in
+    IfOk-weaker c.explain_changes.result (IsExplainedChangesFile (move_of c.to_isis-of.result) order) (IsExplainedDecision order c.args.net.now)
+    (λ decision is. explained_singles decision begins
+    (subst (λ (of : NetworkMove). IsExplainedChangesFile (move_of of) order decision) c.to_isis-of.ensures is))
+    c.explain_changes.ensures
+
+pub returns-else-begins_with : goal.returns-else-begins_with
+returns-else-begins_with c =
+    let order = named_text c.args.file.now c.args.order.now in
+    let not : ¬ BeginsWith two_header order.text = λ begins. true≢false
+    (sym (c.begins_with.ensures.1 (subst (BeginsWith two_header) (sym c.as_slice.ensures) begins)) ∙ c.if-begins_with.false) in
+    IfOk-weaker c.explain_routers.result (IsExplainedFile (move_of c.to_isis-of.result) order) (IsExplainedDecision order c.args.net.now)
+    (λ decision is. explained_routers decision not
+    (subst (λ (of : NetworkMove). IsExplainedFile (move_of of) order decision) c.to_isis-of.ensures is))
+    c.explain_routers.ensures

@@ -8,7 +8,7 @@ use Rattle.split_waves.proofs.OneRouterWaves.{order_of_waves}
 use Rattle.explained_texts.specs.ReasonTexts.{IsReasonsText}
 use Rattle.migration_report.specs.Texts.{safe_text}
 use Rattle.migrate_cli.specs.CheckDecision.IsOrderDecision.{safe}
-use Rattle.migrate_cli.specs.ExplainedDecision.{TellsBehind}
+use Rattle.migrate_cli.specs.ExplainedTexts.{TellsBehind}
 use Rattle.migrate_cli.specs.ExplainedDecision.IsExplainedOrder.{order_reasons}
 use Rattle.migrate_cli.specs.steps.Tables.{move_of, new_table}
 use Rattle.migrate_cli.proofs.TableFacts.{seamless_order, seamless_waves}

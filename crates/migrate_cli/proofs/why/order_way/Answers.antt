@@ -13,7 +13,7 @@ use Rattle.explained_texts.proofs.WayFaults.{order_stands}
 use Rattle.migration_report.specs.EndTexts.{EndFaultBelow}
 use Rattle.migration_report.specs.Texts.{unsafe_text}
 use Rattle.migrate_cli.specs.CheckDecision.IsOrderDecision.{unsafe}
-use Rattle.migrate_cli.specs.ExplainedDecision.{TellsBehind}
+use Rattle.migrate_cli.specs.ExplainedTexts.{TellsBehind}
 use Rattle.migrate_cli.specs.ExplainedDecision.IsExplainedOrder.{order_way}
 use Rattle.migrate_cli.specs.steps.Tables.{move_of, new_table}
 use Rattle.migrate_cli.proofs.FaultFacts.{fault_below}
@@ -27,8 +27,8 @@ unsafe_text-requires c =
     subst (λ (net : Network). EndFaultBelow (length net) told.1.now) (sym c.net-net.ensures)
     (fault_below move (state_of (flat_of c.args.waves.now) told.0) told.1.now c.requires.fault.here)
 
-pub fault_way-requires-clause-fault : goal.fault_way-requires-clause-fault
-fault_way-requires-clause-fault c =
+pub with_way-requires-clause-fault : goal.with_way-requires-clause-fault
+with_way-requires-clause-fault c =
     let move = migration_of table_at new_table c.args.mixed.now in
     let told = c.args.told in
     subst (λ (order : List ℕ). IsFaultInSpan move (order_span order told.0) (fault_told told.1.now)) (sym c.flat-order.ensures)
@@ -41,11 +41,10 @@ returns c =
     let order = flat_of c.args.waves.now in
     let net_is : c.net-net.result.now ≡ of.net = c.net-net.ensures ∙ c.requires.mixes.net_is in
     let first = first_fault of c.args.mixed.now c.requires.mixes order told.0 (fault_told told.1.now) c.requires.fault in
-    let way = subst (λ (some : List ℕ). IsWayText (move_of of) (order_span some told.0) (fault_told told.1.now) c.in_ok-way.way) c.flat-order.ensures
-    c.in_ok-way.ensures in
+    let tells = subst (λ (some : List ℕ). TellsBehind (IsWayText (move_of of) (order_span some told.0) (fault_told told.1.now))
+    c.in_ok-first.first c.in_ok-text.text) c.flat-order.ensures c.in_ok-text.ensures in
     let begins : c.in_ok-first.first ≡ unsafe_text (names_of of.net) told.0 (fault_told told.1.now) =
     c.in_ok-first.ensures ∙ ap (λ (net : Network). unsafe_text (names_of net) told.0 (fault_told told.1.now)) net_is in
     order_way told.0 told.1.now c.in_ok-text.text (subst IsNetwork net_is c.routers-routers.ensures.network)
     (unsafe told.0 told.1.now (λ seamless. faulty_not_seamless first seamless) first)
-    (subst (λ (line : List ℕ). TellsBehind (IsWayText (move_of of) (order_span order told.0) (fault_told told.1.now)) line c.in_ok-text.text) begins
-    (record { behind = c.in_ok-way.way; told = way; text_is = c.in_ok-text.ensures }))
+    (subst (λ (line : List ℕ). TellsBehind (IsWayText (move_of of) (order_span order told.0) (fault_told told.1.now)) line c.in_ok-text.text) begins tells)

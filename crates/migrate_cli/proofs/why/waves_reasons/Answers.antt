@@ -1,10 +1,9 @@
 use Rattle.std.proofs.Common.{◌≡◌, ◌∙◌, ◌*◌, ap, length, subst}
 use Rattle.net_model.specs.Network.{Network}
-use Rattle.order_core.specs.Rankings.{wave_count}
 use Rattle.explained_texts.specs.ReasonTexts.{IsReasonsText}
 use Rattle.migration_report.specs.Texts.{waves_safe_text}
 use Rattle.migrate_cli.specs.CheckDecision.IsWavesDecision.{safe_waves}
-use Rattle.migrate_cli.specs.ExplainedDecision.{TellsBehind}
+use Rattle.migrate_cli.specs.ExplainedTexts.{TellsBehind}
 use Rattle.migrate_cli.specs.ExplainedDecision.IsExplainedWaves.{waves_reasons}
 use Rattle.migrate_cli.specs.steps.Tables.{move_of}
 use Rattle.migrate_cli.proofs.TableFacts.{seamless_waves}

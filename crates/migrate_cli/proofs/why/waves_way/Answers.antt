@@ -1,6 +1,7 @@
 use Rattle.std.proofs.Common.{◌≡◌, ◌∙◌, List, ℕ, ap, length, refl, subst, sym}
 use Rattle.igp_theory.specs.Phases.{all_old}
 use Rattle.igp_theory.specs.Timetables.{IsStateOfWave, router_times}
+use Rattle.igp_theory.proofs.Switches.{routers_have_times}
 use Rattle.igp_theory.proofs.WaveFaultLaws.{times_fault_unsound}
 use Rattle.net_model.specs.Network.{Network}
 use Rattle.net_model.specs.Refusals.{IsNetwork}
@@ -9,11 +10,11 @@ use Rattle.ospf_routes.specs.RouteTables.{table_at}
 use Rattle.plan_theory.specs.Plans.{fault_told}
 use Rattle.rib_mix.specs.Mixture.{migration_of}
 use Rattle.explained_texts.specs.WayTexts.{IsFaultInSpan, IsWayText, wave_span}
-use Rattle.explained_texts.proofs.WayFaults.{waves_stand}
+use Rattle.explained_texts.proofs.WayFaults.{times_stand}
 use Rattle.migration_report.specs.EndTexts.{EndFaultBelow}
 use Rattle.migration_report.specs.Texts.{waves_unsafe_text}
 use Rattle.migrate_cli.specs.CheckDecision.IsWavesDecision.{unsafe_wave}
-use Rattle.migrate_cli.specs.ExplainedDecision.{TellsBehind}
+use Rattle.migrate_cli.specs.ExplainedTexts.{TellsBehind}
 use Rattle.migrate_cli.specs.ExplainedDecision.IsExplainedWaves.{waves_way}
 use Rattle.migrate_cli.specs.steps.Tables.{move_of, new_table}
 use Rattle.migrate_cli.proofs.FaultFacts.{fault_over_below}
@@ -27,12 +28,13 @@ waves_unsafe_text-requires c =
     subst (λ (net : Network). EndFaultBelow (length net) told.1.now) (sym c.net-net.ensures)
     (fault_over_below move (IsStateOfWave (length move.net) (router_times all_old c.args.waves.now) told.0) told.1.now c.requires.fault.here)
 
-pub fault_way-requires-clause-fault : goal.fault_way-requires-clause-fault
-fault_way-requires-clause-fault c =
+pub with_way-requires-clause-fault : goal.with_way-requires-clause-fault
+with_way-requires-clause-fault c =
     let move = migration_of table_at new_table c.args.mixed.now in
     let told = c.args.told in
     subst (λ (ranks : List ℕ). IsFaultInSpan move (wave_span all_old ranks told.0) (fault_told told.1.now)) (sym c.ranks-ranks.ensures.ranks)
-    (waves_stand move c.args.waves.now told.0 (fault_told told.1.now) (λ u. refl) c.requires.fault)
+    (times_stand move (router_times all_old c.args.waves.now) told.0 (fault_told told.1.now) (λ u. refl)
+    (routers_have_times (length move.net) all_old c.args.waves.now) c.requires.fault)
 
 pub returns : goal.returns
 returns c =
@@ -41,12 +43,11 @@ returns c =
     let ranks = c.args.waves.now in
     let net_is : c.net-net.result.now ≡ of.net = c.net-net.ensures ∙ c.requires.mixes.net_is in
     let first = times_fault of c.args.mixed.now c.requires.mixes (router_times all_old ranks) told.0 (fault_told told.1.now) c.requires.fault in
-    let way = subst (λ (some : List ℕ). IsWayText (move_of of) (wave_span all_old some told.0) (fault_told told.1.now) c.in_ok-way.way)
-    c.ranks-ranks.ensures.ranks c.in_ok-way.ensures in
+    let tells = subst (λ (some : List ℕ). TellsBehind (IsWayText (move_of of) (wave_span all_old some told.0) (fault_told told.1.now))
+    c.in_ok-first.first c.in_ok-text.text) c.ranks-ranks.ensures.ranks c.in_ok-text.ensures in
     let begins : c.in_ok-first.first ≡ waves_unsafe_text (names_of of.net) told.0 (fault_told told.1.now) =
     c.in_ok-first.ensures ∙ ap (λ (net : Network). waves_unsafe_text (names_of net) told.0 (fault_told told.1.now)) net_is in
     waves_way told.0 told.1.now c.in_ok-text.text (subst IsNetwork net_is c.routers-routers.ensures.network)
     (unsafe_wave told.0 told.1.now
     (λ seamless. times_fault_unsound (move_of of) (router_times all_old ranks) told.0 _ first seamless.throughout) first)
-    (subst (λ (line : List ℕ). TellsBehind (IsWayText (move_of of) (wave_span all_old ranks told.0) (fault_told told.1.now)) line c.in_ok-text.text) begins
-    (record { behind = c.in_ok-way.way; told = way; text_is = c.in_ok-text.ensures }))
+    (subst (λ (line : List ℕ). TellsBehind (IsWayText (move_of of) (wave_span all_old ranks told.0) (fault_told told.1.now)) line c.in_ok-text.text) begins tells)

@@ -2,7 +2,7 @@ use Rattle.std.proofs.Common.{◌≡◌, ◌∙◌, ◌++◌, List, ℕ, ap, len
 use Rattle.std.proofs.lemmas.Result.{IfOk-weaker}
 use Rattle.net_model.specs.Network.{Network}
 use Rattle.explained_texts.specs.ReasonTexts.{IsReasonsText}
-use Rattle.migrate_cli.specs.ExplainedDecision.{TellsBehind}
+use Rattle.migrate_cli.specs.ExplainedTexts.{TellsBehind}
 use Rattle.migrate_cli.specs.steps.Tables.{move_of}
 use Rattle.migrate_cli.proofs.ExplainedFacts.{reasons_of}
 use Rattle.migrate_cli.proofs.why.with_reasons.Goals as goal

@@ -5,7 +5,7 @@ use Rattle.loop_finder.specs.declared.fault.Fault.{Fault}
 use Rattle.rib_mix.specs.Mixture.{migration_of}
 use Rattle.explained_waves.specs.Reasons.{MayBeEarlier}
 use Rattle.explained_texts.specs.ReasonTexts.{KeepsLater}
-use Rattle.explained_texts.specs.steps.Asking.{AskedList}
+use Rattle.explained_texts.specs.AskedLists.{AskedList}
 use Rattle.explained_texts.proofs.ReasonLines.{free_told, have_table, kept_told, written}
 use Rattle.explained_texts.proofs.earlier.EarlierList.earlier_fault.Goals as goal
 

@@ -4,7 +4,7 @@ use Rattle.loop_finder.specs.Faults.{told_fault}
 use Rattle.rib_mix.specs.Mixture.{Mixture, migration_of}
 use Rattle.explained_waves.specs.Reasons.{MayBeEarlier}
 use Rattle.explained_texts.specs.ReasonTexts.{IsReasonLine, KeepsLater}
-use Rattle.explained_texts.specs.steps.Asking.{AskedList}
+use Rattle.explained_texts.specs.AskedLists.{AskedList}
 use Rattle.explained_texts.proofs.earlier.EarlierList.reason_line.Goals as goal
 
 pub told_line-requires-clause-free : goal.told_line-requires-clause-free

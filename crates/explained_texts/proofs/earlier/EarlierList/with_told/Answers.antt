@@ -1,7 +1,7 @@
 use Rattle.std.proofs.Common.{[], append-nil, subst, sym, ◌≡◌}
 use Rattle.order_core.specs.Rankings.{rank_of}
 use Rattle.explained_texts.specs.ReasonTexts.{of_first_wave}
-use Rattle.explained_texts.specs.steps.Asking.{AskedList}
+use Rattle.explained_texts.specs.AskedLists.{AskedList}
 use Rattle.explained_texts.proofs.earlier.EarlierList.with_told.Goals as goal
 
 pub returns-then-self-router-eq0-clause-told : goal.returns-then-self-router-eq0-clause-told

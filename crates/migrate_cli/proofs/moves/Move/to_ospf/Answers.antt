@@ -1,4 +1,4 @@
-use Rattle.std.proofs.Common.{◌≡◌, ◌∙◌, ap, length, sym}
+use Rattle.std.proofs.Common.{◌∙◌, ap, length, sym}
 use Rattle.ospf_pair.proofs.AlikeInterfaces.{AreOneNetwork-from}
 use Rattle.migrate_cli.proofs.moves.Move.to_ospf.Goals as goal
 

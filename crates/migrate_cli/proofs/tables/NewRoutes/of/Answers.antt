@@ -3,7 +3,6 @@ use Rattle.std.specs.Borrow.{Bor}
 use Rattle.std.specs.Prelude.{IfSome, option_map}
 use Rattle.net_model.specs.Network.{Network}
 use Rattle.isis_routes.specs.RouteTables.{AreIsisRoutes}
-use Rattle.ospf_routes.specs.RouteTables.{AreOspfRoutes}
 use Rattle.migrate_cli.specs.declared.tables.NewRoutes.TheVariants.{Isis, Ospf}
 use Rattle.migrate_cli.specs.steps.Tables.{AreNewRoutes, network_move}
 use Rattle.migrate_cli.proofs.TableFacts.{isis_tables, redesign_tables}

@@ -1,0 +1,2 @@
+pub mod LinkFacts
+pub mod DownFacts

@@ -1,0 +1,4 @@
+pub mod SharedLinks
+pub mod ShutDown
+pub mod DownLaws
+pub mod steps

@@ -1,0 +1,3 @@
+pub mod LinkVerdicts
+pub mod FailureTexts
+pub mod FailureLaws
