@@ -129,7 +129,8 @@ module _ (net : Network) (ports : List Port) (lists : ListsUpPorts (IsUpPort net
       let shared : Shares one other = record { wired = link.other_meets.wired; apart = link.apart; subnet = refl } in
       let some = list_any-from_Any (shares_end one) ports (there.0, other, there.1, there.2, shares_back one other shared) in
       Contains-in_filter_map (shared_by_end ports) ports one p here
-      (kept (is_shared_end ports one) p (and_true (not link.one_meets.interface.loopback) _ (true_from link.one_meets.interface.loopback link.one_meets.wired) some))
+      (kept (is_shared_end ports one) p
+      (and_true (not link.one_meets.interface.loopback) _ (true_from link.one_meets.interface.loopback link.one_meets.wired) some))
 
   pub ListsLinks-sorted : (ys zs : List Block) → IsPermutation (filter_map (shared_by_end ports) ports) ys → IsSorted block_cmp ys →
       zs ≡ dedup block_eq ys → ListsLinks net zs

@@ -50,4 +50,5 @@ returns c =
     waves_way told.0 told.1.now c.in_ok-text.text (subst IsNetwork net_is c.routers-routers.ensures.network)
     (unsafe_wave told.0 told.1.now
     (λ seamless. times_fault_unsound (move_of of) (router_times all_old ranks) told.0 _ first seamless.throughout) first)
-    (subst (λ (line : List ℕ). TellsBehind (IsWayText (move_of of) (wave_span all_old ranks told.0) (fault_told told.1.now)) line c.in_ok-text.text) begins tells)
+    (subst (λ (line : List ℕ). TellsBehind (IsWayText (move_of of) (wave_span all_old ranks told.0) (fault_told told.1.now)) line c.in_ok-text.text)
+    begins tells)

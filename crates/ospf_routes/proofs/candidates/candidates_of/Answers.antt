@@ -17,9 +17,11 @@ loop-router-preserved c =
     candidates_more c.args.net.now c.args.subnets.now c.loop-router.router config c.loop-router.dests c.add_subnets.new.dests c.add_ranges.new.dests
     c.config-config.ensures.router c.loop-router.invariant
     (subst (λ (l : List Interface). Adds c.loop-router.dests c.add_subnets.new.dests (λ p. Any (HasOspfSubnet p) l)) are c.in_ok-add_subnets.ensures)
-    (subst (λ (l : List Range). Adds c.add_subnets.new.dests c.add_ranges.new.dests (λ p. Any (IsRangeOver c.args.subnets.now p) l)) ranges_are c.in_ok-add_ranges.ensures)
+    (subst (λ (l : List Range). Adds c.add_subnets.new.dests c.add_ranges.new.dests (λ p. Any (IsRangeOver c.args.subnets.now p) l))
+    ranges_are c.in_ok-add_ranges.ensures)
 
 pub returns : goal.returns
 returns c =
     let count : length c.args.net.now ≡ c.loop-router.router = omega (arith, c.routers-router-end.ensures.count) in
-    λ p is. (c.finish.ensures p).1 (candidates_all c.args.net.now c.args.subnets.now c.loop-router.router c.loop-router.dests count c.requires c.loop-router.invariant p is)
+    λ p is. (c.finish.ensures p).1 (candidates_all c.args.net.now c.args.subnets.now c.loop-router.router c.loop-router.dests count
+    c.requires c.loop-router.invariant p is)
