@@ -1,5 +1,6 @@
 mod SuccessorFacts
 mod MarkedLinks
+mod HeldGraphs
 mod ReachFacts
 mod TraceFacts
 pub mod LayerFacts

@@ -1,33 +1,29 @@
 ghost use Rattle.std.specs.Prelude.{◌≡◌, ℕ, ◌<◌, ◌≤◌, length, Contains, Some, ◌⊎◌, IfSome, IfNone};
-ghost use Rattle.order_core.specs.Pairs.{AreBelow};
 ghost use Rattle.order_core.specs.Marks.{IsMarked};
-ghost use Rattle.precedence_set.specs.Successors.{AreSuccessors};
+ghost use Rattle.precedence_set.specs.Graphs.{IsGraph};
 ghost use Rattle.precedence_set.specs.steps.Walking.{IsKnownUpTo};
 
-use link_trail::Links;
+use crate::graph::SuccessorGraph;
 
 /// The lowest-numbered marked router that is assumed after x, if there is one.
 pub(crate) fn lowest_marked_after(
-    successors: &Links,
-    pairs: &[(u32, u32)],
+    graph: &SuccessorGraph<'_>,
     marks: &[bool],
     x: u32,
 ) -> Option<u32>
     requires x_in { x < length marks.now }
-    requires below { AreBelow (length marks.now) pairs.now }
-    requires successors { AreSuccessors (length marks.now) pairs.now successors.now.lists }
-    requires nodes { length pairs.now ≤ successors.now.nodes }
-    ensures after { IfSome result (λ w. Contains pairs.now (x, w)) }
+    requires graph { IsGraph (length marks.now) graph.now }
+    ensures after { IfSome result (λ w. Contains graph.now.pairs.now (x, w)) }
     ensures marked { IfSome result (λ w. IsMarked marks.now w) }
-    ensures lowest { IfSome result (λ w. (q : ℕ) → Contains pairs.now (x, q) → IsMarked marks.now q → w ≤ q) }
-    ensures none { IfNone result ((q : ℕ) → Contains pairs.now (x, q) → ¬ IsMarked marks.now q) }
+    ensures lowest { IfSome result (λ w. (q : ℕ) → Contains graph.now.pairs.now (x, q) → IsMarked marks.now q → w ≤ q) }
+    ensures none { IfNone result ((q : ℕ) → Contains graph.now.pairs.now (x, q) → ¬ IsMarked marks.now q) }
 {
     let mut lowest = None;
-    let mut at = successors.first(x);
+    let mut at = graph.successors.first(x);
     while let Some(number) = at {
-        let (_, v) = pairs[number as usize];
+        let (_, v) = graph.pairs[number as usize];
         lowest = lowest_with(marks, lowest, v);
-        at = successors.next(number);
+        at = graph.successors.next(number);
     }
     lowest
 }

@@ -4,6 +4,7 @@
 //! | File | What it holds | Time of its calls |
 //! |---|---|---|
 //! | `precedences` | `Precedences`, what callers see | `add`: the routers that v reaches and their pairs; `layers`, `chain`: all pairs and routers |
+//! | `graph` | the pairs with the successors of each router | |
 //! | `tracing` | the cycle that a pair closes, in the way that `LeastCycle` says | the routers reached and their pairs |
 //! | `reaching`, `following` | what a router reaches; the lowest marked router after one | the same |
 //! | `layering` | the layers (`Layers`), made anew or moved by one pair | pairs and routers; one pair constant |
@@ -15,6 +16,9 @@
 // What callers see.
 mod laws;
 mod precedences;
+
+// The pairs.
+mod graph;
 
 // The cycle that a pair closes.
 mod following;

@@ -6,6 +6,7 @@ ghost use Rattle.precedence_set.specs.Layers.{AreLayers, IsLayeredChain};
 ghost use Rattle.order_core.specs.Rankings.{wave_count};
 
 use crate::chaining::trace_chain;
+use crate::graph::SuccessorGraph;
 use crate::layering::{add_to_layers, count_layers, refresh_layers};
 use crate::tracing::closed_cycle;
 use link_trail::Links;
@@ -104,12 +105,13 @@ impl Precedences {
         ensures same { result ≡ Added.Closes → self.new ≡ record self.old { cycle = self.new.cycle } }
         ensures cycle { result ≡ Added.Closes → IsLeastCycle self.old.pairs u v self.new.cycle }
     {
-        let pairs = &self.room[..self.count];
+        let graph = SuccessorGraph {
+            successors: &self.successors,
+            pairs: &self.room[..self.count],
+        };
         match closed_cycle(
-            &self.successors,
-            pairs,
-            u,
-            v,
+            &graph,
+            (u, v),
             &mut self.marks,
             &mut self.counts,
             &mut self.order,
@@ -170,9 +172,12 @@ impl Precedences {
         ensures acyclic { HasNoCycle self.old.pairs }
         ensures below { AreBelow self.old.routers self.old.pairs }
     {
+        let graph = SuccessorGraph {
+            successors: &self.successors,
+            pairs: &self.room[..self.count],
+        };
         refresh_layers(
-            &self.successors,
-            &self.room[..self.count],
+            &graph,
             &mut self.counts,
             &mut self.order,
             &mut self.layers,
@@ -190,17 +195,19 @@ impl Precedences {
         ensures within { result ≤ length out.new }
         ensures same { self.new ≡ self.old }
     {
-        let pairs = &self.room[..self.count];
+        let graph = SuccessorGraph {
+            successors: &self.successors,
+            pairs: &self.room[..self.count],
+        };
         refresh_layers(
-            &self.successors,
-            pairs,
+            &graph,
             &mut self.counts,
             &mut self.order,
             &mut self.layers,
             &mut self.stale,
         );
         let count = count_layers(&self.layers);
-        trace_chain(pairs, &self.layers, count, &mut self.counts, out);
+        trace_chain(graph.pairs, &self.layers, count, &mut self.counts, out);
         count
     }
 }

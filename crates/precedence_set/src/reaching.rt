@@ -1,30 +1,34 @@
 ghost use Rattle.std.specs.Prelude.{◌≡◌, ◌≢◌, ℕ, ◌^◌, ◌<◌, ◌≤◌, ◌⊎◌, length, slice_index, Contains};
-ghost use Rattle.order_core.specs.Pairs.{AreBelow, Reaches};
+ghost use Rattle.order_core.specs.Pairs.{Reaches};
 ghost use Rattle.order_core.specs.Marks.{IsMarked};
 ghost use Rattle.precedence_set.specs.steps.Marks.{AreListed};
-ghost use Rattle.precedence_set.specs.Successors.{AreSuccessors};
+ghost use Rattle.precedence_set.specs.Graphs.{IsGraph};
 
 use crate::following::lowest_marked_after;
-use link_trail::Links;
+use crate::graph::SuccessorGraph;
+
+/// How far a list of routers is: how many are listed, and which of them is looked at next.
+#[derive(Clone, Copy)]
+struct Queue {
+    next: usize,
+    count: usize,
+}
 
 /// Marks and lists what v reaches by the pairs, but nothing by the pairs from u; how many routers are listed. In
 /// time of these routers and the pairs from them.
 pub(crate) fn list_reached(
-    successors: &Links,
-    pairs: &[(u32, u32)],
+    graph: &SuccessorGraph<'_>,
     u: u32,
     v: u32,
     marks: &mut [bool],
     list: &mut [u32],
 ) -> usize
     requires small { length list.old < 2 ^ 31 }
-    requires below { AreBelow (length list.old) pairs.now }
     requires marks_length { length marks.old ≡ length list.old }
-    requires successors { AreSuccessors (length list.old) pairs.now successors.now.lists }
-    requires nodes { length pairs.now ≤ successors.now.nodes }
+    requires graph { IsGraph (length list.old) graph.now }
     requires v_in { v < length list.old }
-    ensures sound { (r : ℕ) → IsMarked marks.new r → Reaches pairs.now v r }
-    ensures complete { Reaches pairs.now v u → IsMarked marks.new u }
+    ensures sound { (r : ℕ) → IsMarked marks.new r → Reaches graph.now.pairs.now v r }
+    ensures complete { Reaches graph.now.pairs.now v u → IsMarked marks.new u }
     ensures inside { (j : ℕ) → j < result → slice_index list.new j < length list.new }
     ensures within { result ≤ length list.new }
 {
@@ -32,7 +36,8 @@ pub(crate) fn list_reached(
     let mut count = list_one(marks, list, 0, v);
     let mut k = 0;
     while k < count {
-        count = list_after(successors, pairs, u, marks, list, k, count);
+        let queue = Queue { next: k, count };
+        count = list_after(graph, u, marks, list, queue);
         k += 1;
     }
     count
@@ -47,40 +52,36 @@ fn unmark_all(marks: &mut [bool])
     }
 }
 
-/// Marks and lists what is assumed after the router at place k, unless that is u; how many are listed then.
+/// Marks and lists what is assumed after the router that is next, unless that is u; how many are listed then.
 fn list_after(
-    successors: &Links,
-    pairs: &[(u32, u32)],
+    graph: &SuccessorGraph<'_>,
     u: u32,
     marks: &mut [bool],
     list: &mut [u32],
-    k: usize,
-    count: usize,
+    queue: Queue,
 ) -> usize
     requires small { length list.old < 2 ^ 31 }
-    requires below { AreBelow (length list.old) pairs.now }
     requires marks_length { length marks.old ≡ length list.old }
-    requires successors { AreSuccessors (length list.old) pairs.now successors.now.lists }
-    requires nodes { length pairs.now ≤ successors.now.nodes }
-    requires place { k < count }
-    requires listed { AreListed marks.old list.old count }
+    requires graph { IsGraph (length list.old) graph.now }
+    requires place { queue.next < queue.count }
+    requires listed { AreListed marks.old list.old queue.count }
     ensures listed { AreListed marks.new list.new result }
     ensures kept { (r : ℕ) → IsMarked marks.old r → IsMarked marks.new r }
-    ensures from { (r : ℕ) → IsMarked marks.new r → IsMarked marks.old r ⊎ Contains pairs.now (slice_index list.old k, r) }
-    ensures after { slice_index list.old k ≢ u → (w : ℕ) → Contains pairs.now (slice_index list.old k, w) → IsMarked marks.new w }
-    ensures same { (j : ℕ) → j < count → slice_index list.new j ≡ slice_index list.old j }
-    ensures no_fewer { count ≤ result }
+    ensures from { (r : ℕ) → IsMarked marks.new r → IsMarked marks.old r ⊎ Contains graph.now.pairs.now (slice_index list.old queue.next, r) }
+    ensures after { slice_index list.old queue.next ≢ u → (w : ℕ) → Contains graph.now.pairs.now (slice_index list.old queue.next, w) → IsMarked marks.new w }
+    ensures same { (j : ℕ) → j < queue.count → slice_index list.new j ≡ slice_index list.old j }
+    ensures no_fewer { queue.count ≤ result }
 {
-    let x = list[k];
+    let x = list[queue.next];
     if x == u {
-        return count;
+        return queue.count;
     }
-    let mut count = count;
-    let mut at = successors.first(x);
+    let mut count = queue.count;
+    let mut at = graph.successors.first(x);
     while let Some(number) = at {
-        let (_, w) = pairs[number as usize];
+        let (_, w) = graph.pairs[number as usize];
         count = list_one(marks, list, count, w);
-        at = successors.next(number);
+        at = graph.successors.next(number);
     }
     count
 }
@@ -109,36 +110,31 @@ fn list_one(marks: &mut [bool], list: &mut [u32], count: usize, w: u32) -> usize
 /// Takes the mark of each of the first listed routers, the last one first, that is before no marked router and
 /// isn't u. What reaches u keeps its mark.
 pub(crate) fn prune(
-    successors: &Links,
-    pairs: &[(u32, u32)],
+    graph: &SuccessorGraph<'_>,
     u: u32,
     marks: &mut [bool],
     list: &[u32],
     count: usize,
 )
-    requires below { AreBelow (length marks.old) pairs.now }
-    requires successors { AreSuccessors (length marks.old) pairs.now successors.now.lists }
-    requires nodes { length pairs.now ≤ successors.now.nodes }
+    requires graph { IsGraph (length marks.old) graph.now }
     requires within { count ≤ length list.now }
     requires inside { (j : ℕ) → j < count → slice_index list.now j < length marks.old }
-    requires complete { (r : ℕ) → Reaches pairs.now r u → IsMarked marks.old r }
-    ensures { (r : ℕ) → Reaches pairs.now r u → IsMarked marks.new r }
+    requires complete { (r : ℕ) → Reaches graph.now.pairs.now r u → IsMarked marks.old r }
+    ensures { (r : ℕ) → Reaches graph.now.pairs.now r u → IsMarked marks.new r }
 {
     for j in (0..count).rev() {
-        prune_one(successors, pairs, u, marks, list[j]);
+        prune_one(graph, u, marks, list[j]);
     }
 }
 
 /// Takes the mark of router x, where it isn't u and is before no marked router.
-fn prune_one(successors: &Links, pairs: &[(u32, u32)], u: u32, marks: &mut [bool], x: u32)
-    requires below { AreBelow (length marks.old) pairs.now }
-    requires successors { AreSuccessors (length marks.old) pairs.now successors.now.lists }
-    requires nodes { length pairs.now ≤ successors.now.nodes }
+fn prune_one(graph: &SuccessorGraph<'_>, u: u32, marks: &mut [bool], x: u32)
+    requires graph { IsGraph (length marks.old) graph.now }
     requires x_in { x < length marks.old }
-    requires complete { (r : ℕ) → Reaches pairs.now r u → IsMarked marks.old r }
-    ensures { (r : ℕ) → Reaches pairs.now r u → IsMarked marks.new r }
+    requires complete { (r : ℕ) → Reaches graph.now.pairs.now r u → IsMarked marks.old r }
+    ensures { (r : ℕ) → Reaches graph.now.pairs.now r u → IsMarked marks.new r }
 {
-    if x == u || lowest_marked_after(successors, pairs, marks, x).is_some() {
+    if x == u || lowest_marked_after(graph, marks, x).is_some() {
         return;
     }
     marks[x as usize] = false;

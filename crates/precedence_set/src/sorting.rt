@@ -1,31 +1,28 @@
 ghost use Rattle.std.specs.Prelude.{◌≡◌, ℕ, ◌+◌, ◌-◌, ◌^◌, ◌<◌, ◌≤◌, length, slice_index, slice_set};
 ghost use Rattle.order_core.specs.Pairs.{AreBelow, HasNoCycle};
-ghost use Rattle.precedence_set.specs.Successors.{AreSuccessors};
+ghost use Rattle.precedence_set.specs.Graphs.{IsGraph};
 ghost use Rattle.precedence_set.specs.steps.Sorting.{AreFree, AreLeftCounts, IsGone, IsListing, IsTopological, queue};
 
-use link_trail::Links;
+use crate::graph::SuccessorGraph;
 
 /// Lists all routers so that each stands after its predecessors, in time of the pairs and routers. The counts
 /// are room to work in.
 pub(crate) fn sort_all(
-    successors: &Links,
-    pairs: &[(u32, u32)],
+    graph: &SuccessorGraph<'_>,
     counts: &mut [u32],
     order: &mut [u32],
 )
     requires small { length order.old < 2 ^ 31 }
-    requires pairs_small { length pairs.now < 2 ^ 31 }
-    requires below { AreBelow (length order.old) pairs.now }
-    requires acyclic { HasNoCycle pairs.now }
-    requires successors { AreSuccessors (length order.old) pairs.now successors.now.lists }
-    requires nodes { length pairs.now ≤ successors.now.nodes }
+    requires pairs_small { length graph.now.pairs.now < 2 ^ 31 }
+    requires acyclic { HasNoCycle graph.now.pairs.now }
+    requires graph { IsGraph (length order.old) graph.now }
     requires counts_length { length counts.old ≡ length order.old }
-    ensures { IsTopological (length order.new) pairs.now order.new }
+    ensures { IsTopological (length order.new) graph.now.pairs.now order.new }
 {
-    count_pairs(pairs, counts);
+    count_pairs(graph.pairs, counts);
     let mut count = list_free(counts, order);
     for k in 0..order.len() {
-        count = list_after(successors, pairs, counts, order, k, count);
+        count = list_after(graph, counts, order, k, count);
     }
 }
 
@@ -69,33 +66,30 @@ fn list_free(counts: &[u32], order: &mut [u32]) -> usize
 
 /// Lists what waits for no router after the one at place k; how many are listed then.
 fn list_after(
-    successors: &Links,
-    pairs: &[(u32, u32)],
+    graph: &SuccessorGraph<'_>,
     counts: &mut [u32],
     order: &mut [u32],
     k: usize,
     count: usize,
 ) -> usize
     requires small { length order.old < 2 ^ 31 }
-    requires below { AreBelow (length order.old) pairs.now }
-    requires successors { AreSuccessors (length order.old) pairs.now successors.now.lists }
-    requires nodes { length pairs.now ≤ successors.now.nodes }
+    requires graph { IsGraph (length order.old) graph.now }
     requires counts_length { length counts.old ≡ length order.old }
     requires listed { k < count }
     requires within { count ≤ length order.old }
-    requires listing { IsListing (length order.old) pairs.now (queue counts.old order.old count) }
-    requires counted { AreLeftCounts pairs.now (IsGone pairs.now order.old k) counts.old }
-    ensures listing { IsListing (length order.new) pairs.now (queue counts.new order.new result) }
+    requires listing { IsListing (length order.old) graph.now.pairs.now (queue counts.old order.old count) }
+    requires counted { AreLeftCounts graph.now.pairs.now (IsGone graph.now.pairs.now order.old k) counts.old }
+    ensures listing { IsListing (length order.new) graph.now.pairs.now (queue counts.new order.new result) }
     ensures within { result ≤ length order.new }
     ensures placed { k < result }
-    ensures counted { AreLeftCounts pairs.now (IsGone pairs.now order.new (k + 1)) counts.new }
+    ensures counted { AreLeftCounts graph.now.pairs.now (IsGone graph.now.pairs.now order.new (k + 1)) counts.new }
 {
     let mut count = count;
-    let mut at = successors.first(order[k]);
+    let mut at = graph.successors.first(order[k]);
     while let Some(number) = at {
-        let (_, v) = pairs[number as usize];
+        let (_, v) = graph.pairs[number as usize];
         count = free_one(counts, order, count, v);
-        at = successors.next(number);
+        at = graph.successors.next(number);
     }
     count
 }

@@ -1,82 +1,76 @@
 ghost use Rattle.std.specs.Prelude.{◌≡◌, ◌≢◌, ℕ, ◌+◌, ◌-◌, ◌^◌, ◌<◌, ◌≤◌, length, true, false, take, slice_index};
 ghost use Rattle.std.specs.Prelude.{slice_set, IfSome, IfNone, OnSome};
-ghost use Rattle.order_core.specs.Pairs.{AreBelow, HasNoCycle, Reaches};
+ghost use Rattle.order_core.specs.Pairs.{HasNoCycle, Reaches};
 ghost use Rattle.precedence_set.specs.LeastCycle.{IsLeastCycle};
 ghost use Rattle.order_core.specs.Marks.{IsMarked};
-ghost use Rattle.precedence_set.specs.Successors.{AreSuccessors};
+ghost use Rattle.precedence_set.specs.Graphs.{IsGraph};
 
 use crate::following::lowest_marked_after;
 use crate::reaching::{list_reached, prune};
-use link_trail::Links;
+use crate::graph::SuccessorGraph;
 
 /// Where the pair (u, v) closes a cycle, writes that cycle and says how long it is. Walks from v along the pairs
 /// and stops at u, in time of the routers that it reaches and the pairs from them. Where that closes a cycle, the
 /// way back is then found among the routers that may lead to u.
 pub(crate) fn closed_cycle(
-    successors: &Links,
-    pairs: &[(u32, u32)],
-    u: u32,
-    v: u32,
+    graph: &SuccessorGraph<'_>,
+    pair: (u32, u32),
     marks: &mut [bool],
     list: &mut [u32],
     path: &mut [u32],
 ) -> Option<usize>
-    requires below { AreBelow (length path.old) pairs.now }
     requires small { length path.old < 2 ^ 31 }
     requires marks_length { length marks.old ≡ length path.old }
     requires list_length { length list.old ≡ length path.old }
-    requires successors { AreSuccessors (length path.old) pairs.now successors.now.lists }
-    requires nodes { length pairs.now ≤ successors.now.nodes }
-    requires u_in { u < length path.old }
-    requires v_in { v < length path.old }
-    requires differ { u ≢ v }
-    requires acyclic { HasNoCycle pairs.now }
-    ensures closes { IfSome result (λ _. Reaches pairs.now v u) }
+    requires graph { IsGraph (length path.old) graph.now }
+    requires u_in { pair.0 < length path.old }
+    requires v_in { pair.1 < length path.old }
+    requires differ { pair.0 ≢ pair.1 }
+    requires acyclic { HasNoCycle graph.now.pairs.now }
+    ensures closes { IfSome result (λ _. Reaches graph.now.pairs.now pair.1 pair.0) }
     ensures within { IfSome result (λ count. count ≤ length path.new) }
-    ensures cycle { IfSome result (λ count. IsLeastCycle pairs.now u v (take count path.new)) }
-    ensures open { IfNone result (¬ Reaches pairs.now v u) }
+    ensures cycle { IfSome result (λ count. IsLeastCycle graph.now.pairs.now pair.0 pair.1 (take count path.new)) }
+    ensures open { IfNone result (¬ Reaches graph.now.pairs.now pair.1 pair.0) }
 {
-    let count = list_reached(successors, pairs, u, v, marks, list);
+    let (u, v) = pair;
+    let count = list_reached(graph, u, v, marks, list);
     if !marks[u as usize] {
         return None;
     }
     mark_all(marks);
-    prune(successors, pairs, u, marks, list, count);
-    way_back(successors, pairs, u, v, marks, path)
+    prune(graph, u, marks, list, count);
+    way_back(graph, u, v, marks, path)
 }
 
 /// Writes u, v and the way back from v to u by lowest numbers, where there is one; how long that is. Goes depth
 /// first and each time to the lowest-numbered marked router, and takes the mark of a router from which it comes
 /// back. What reaches u is marked.
 fn way_back(
-    successors: &Links,
-    pairs: &[(u32, u32)],
+    graph: &SuccessorGraph<'_>,
     u: u32,
     v: u32,
     marks: &mut [bool],
     path: &mut [u32],
 ) -> Option<usize>
-    requires below { AreBelow (length path.old) pairs.now }
     requires small { length path.old < 2 ^ 31 }
     requires marks_length { length marks.old ≡ length path.old }
-    requires successors { AreSuccessors (length path.old) pairs.now successors.now.lists }
-    requires nodes { length pairs.now ≤ successors.now.nodes }
+    requires graph { IsGraph (length path.old) graph.now }
     requires u_in { u < length path.old }
     requires v_in { v < length path.old }
     requires differ { u ≢ v }
-    requires acyclic { HasNoCycle pairs.now }
+    requires acyclic { HasNoCycle graph.now.pairs.now }
     requires begun { IsMarked marks.old v }
-    requires complete { (r : ℕ) → Reaches pairs.now r u → IsMarked marks.old r }
-    ensures closes { IfSome result (λ _. Reaches pairs.now v u) }
+    requires complete { (r : ℕ) → Reaches graph.now.pairs.now r u → IsMarked marks.old r }
+    ensures closes { IfSome result (λ _. Reaches graph.now.pairs.now v u) }
     ensures within { IfSome result (λ count. count ≤ length path.new) }
-    ensures cycle { IfSome result (λ count. IsLeastCycle pairs.now u v (take count path.new)) }
-    ensures open { IfNone result (¬ Reaches pairs.now v u) }
+    ensures cycle { IfSome result (λ count. IsLeastCycle graph.now.pairs.now u v (take count path.new)) }
+    ensures open { IfNone result (¬ Reaches graph.now.pairs.now v u) }
 {
     path[0] = u;
     path[1] = v;
     let mut count = 2;
     while count > 1 {
-        let next = lowest_marked_after(successors, pairs, marks, path[count - 1]);
+        let next = lowest_marked_after(graph, marks, path[count - 1]);
         if next == Some(u) {
             return Some(count);
         }

@@ -4,4 +4,4 @@ use Rattle.order_core.specs.Pairs.{Reaches}
 use Rattle.precedence_set.proofs.reaching.prune.Given as goal
 
 abbrev pub invariant-loop-j : goal.invariant-loop-j
-invariant-loop-j l = (r : ℕ) → Reaches l.pairs r l.u → IsMarked l.marks r
+invariant-loop-j l = (r : ℕ) → Reaches l.graph.pairs.now r l.u → IsMarked l.marks r

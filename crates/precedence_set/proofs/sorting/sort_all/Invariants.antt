@@ -6,6 +6,6 @@ abbrev pub invariant-loop-k : goal.invariant-loop-k
 invariant-loop-k l = record {
   placed : l.k ≤ l.count;
   within : l.count ≤ length l.order;
-  listing : IsListing (length l.order) l.pairs (queue l.counts l.order l.count);
-  counted : AreLeftCounts l.pairs (IsGone l.pairs l.order l.k) l.counts;
+  listing : IsListing (length l.order) l.graph.pairs.now (queue l.counts l.order l.count);
+  counted : AreLeftCounts l.graph.pairs.now (IsGone l.graph.pairs.now l.order l.k) l.counts;
 }

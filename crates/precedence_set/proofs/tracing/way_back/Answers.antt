@@ -15,33 +15,33 @@ differs_from_eq next u e same = false≢true (e ∙ ap (λ (o : Option ℕ). opt
 pub returns-then-eq-clause-closes : goal.returns-then-eq-clause-closes
 returns-then-eq-clause-closes c =
     let next = c.lowest_marked_after-next in
-    let ahead = IsLowestAhead-found c.args.pairs.now c.loop-count.marks _ c.args.u next.result (some_from_eq next.result c.args.u c.if-eq.ensures)
+    let ahead = IsLowestAhead-found c.args.graph.now.pairs.now c.loop-count.marks _ c.args.u next.result (some_from_eq next.result c.args.u c.if-eq.ensures)
     next.ensures.after next.ensures.lowest in
-    (IsWalking-end _ c.args.pairs.now c.args.u c.args.v c.loop-count.marks c.loop-count.path c.loop-count.count (omega (arith, c.loop-count-test.true))
+    (IsWalking-end _ c.args.graph.now.pairs.now c.args.u c.args.v c.loop-count.marks c.loop-count.path c.loop-count.count (omega (arith, c.loop-count-test.true))
     c.loop-count.invariant ahead).1
 
 pub returns-then-eq-clause-cycle : goal.returns-then-eq-clause-cycle
 returns-then-eq-clause-cycle c =
     let next = c.lowest_marked_after-next in
-    let ahead = IsLowestAhead-found c.args.pairs.now c.loop-count.marks _ c.args.u next.result (some_from_eq next.result c.args.u c.if-eq.ensures)
+    let ahead = IsLowestAhead-found c.args.graph.now.pairs.now c.loop-count.marks _ c.args.u next.result (some_from_eq next.result c.args.u c.if-eq.ensures)
     next.ensures.after next.ensures.lowest in
-    (IsWalking-end _ c.args.pairs.now c.args.u c.args.v c.loop-count.marks c.loop-count.path c.loop-count.count (omega (arith, c.loop-count-test.true))
+    (IsWalking-end _ c.args.graph.now.pairs.now c.args.u c.args.v c.loop-count.marks c.loop-count.path c.loop-count.count (omega (arith, c.loop-count-test.true))
     c.loop-count.invariant ahead).0
 
 pub step-count-requires-clause-room : goal.step-count-requires-clause-room
 step-count-requires-clause-room c =
     let next = c.lowest_marked_after-next in
-    room_for_found (length c.args.path.now) c.args.pairs.now c.requires.below c.requires.acyclic c.args.u c.args.v c.loop-count.marks
+    room_for_found (length c.args.path.now) c.args.graph.now.pairs.now c.requires.graph.below c.requires.acyclic c.args.u c.args.v c.loop-count.marks
     c.loop-count.path c.loop-count.count
     (omega (arith, length-set {A = ℕ})) c.loop-count.invariant next.result (differs_from_eq next.result c.args.u c.if-eq.ensures) next.ensures.after
 
 pub loop-count-smaller : goal.loop-count-smaller
 loop-count-smaller c =
     let next = c.lowest_marked_after-next in
-    let room = room_for_found (length c.args.path.now) c.args.pairs.now c.requires.below c.requires.acyclic c.args.u c.args.v c.loop-count.marks
+    let room = room_for_found (length c.args.path.now) c.args.graph.now.pairs.now c.requires.graph.below c.requires.acyclic c.args.u c.args.v c.loop-count.marks
     c.loop-count.path c.loop-count.count
     (omega (arith, length-set {A = ℕ})) c.loop-count.invariant next.result (differs_from_eq next.result c.args.u c.if-eq.ensures) next.ensures.after in
-    step_is_nearer _ c.args.pairs.now c.args.u c.args.v c.loop-count.marks c.loop-count.path c.loop-count.count next.result c.step-count.new.marks
+    step_is_nearer _ c.args.graph.now.pairs.now c.args.u c.args.v c.loop-count.marks c.loop-count.path c.loop-count.count next.result c.step-count.new.marks
     c.step-count.new.path c.step-count.result
     (omega (arith, c.loop-count-test.true)) c.loop-count.invariant room
     (record {
@@ -56,7 +56,7 @@ loop-count-smaller c =
 pub loop-count-preserved : goal.loop-count-preserved
 loop-count-preserved c =
     let next = c.lowest_marked_after-next in
-    IsWalking-step (length c.args.path.now) c.args.pairs.now c.requires.below c.requires.acyclic c.args.u c.args.v c.loop-count.marks
+    IsWalking-step (length c.args.path.now) c.args.graph.now.pairs.now c.requires.graph.below c.requires.acyclic c.args.u c.args.v c.loop-count.marks
     c.loop-count.path c.loop-count.count
     next.result c.step-count.new.marks c.step-count.new.path c.step-count.result (omega (arith, c.loop-count-test.true)) (omega (arith, length-set {A = ℕ}))
     (omega (arith, length-set {A = ℕ}))

@@ -5,7 +5,7 @@ use Rattle.precedence_set.proofs.TraceFacts.{IsWalking}
 use Rattle.precedence_set.proofs.tracing.way_back.Given as goal
 
 abbrev pub invariant-loop-count : goal.invariant-loop-count
-invariant-loop-count l = IsWalking (length l.fn.path) l.pairs (l.u, l.v) (marked_list l.marks l.path l.count)
+invariant-loop-count l = IsWalking (length l.fn.path) l.graph.pairs.now (l.u, l.v) (marked_list l.marks l.path l.count)
 
 abbrev pub decreases-loop-count : goal.decreases-loop-count
 decreases-loop-count l = 2 * marked_count l.marks + (length l.path - l.count)

@@ -12,6 +12,7 @@ use Rattle.precedence_set.specs.Layers.{AreLayers}
 use Rattle.precedence_set.specs.Successors.{AreSuccessors}
 use Rattle.precedence_set.proofs.ChainFacts.{rank_few}
 use Rattle.precedence_set.proofs.MarkedLinks.{AreMarked-now, AreMarked-linked, IsFree-next}
+use Rattle.precedence_set.proofs.HeldGraphs.{graph_held}
 use Rattle.precedence_set.proofs.precedences.Precedences.add.Goals as goal
 
 -- layers that aren't stale after a pair weren't before it
@@ -106,13 +107,10 @@ returns-in-None-clause-closes c =
           (Reaches-from_Leads _ _ _ (subst (λ (xs : List Pair). Leads xs c.args.v c.args.u) (sym pairs) leads))),
     )
 
-pub closed_cycle-requires-clause-successors : goal.closed_cycle-requires-clause-successors
-closed_cycle-requires-clause-successors c =
-    let a = c.self.inside in
-    let now = AreMarked-now a.routers a.room.items a.count a.successors c.self.invariant.marked c.self.invariant.moves in
-    let same = subst (λ (xs : List Pair). AreSuccessors a.routers (take a.count xs) a.successors.lists) (sym c.deref.ensures.value) now in
-    let long : a.routers ≡ length c.deref_mut-3.result.now = omega (arith, c.self.invariant.order_length) in
-    subst (λ (n : ℕ). AreSuccessors n (take a.count c.deref.result.now) a.successors.lists) long same
+pub closed_cycle-requires-clause-graph : goal.closed_cycle-requires-clause-graph
+closed_cycle-requires-clause-graph c =
+    graph_held c.self.inside c.self.invariant _ (omega (arith, c.self.invariant.order_length, c.deref_mut-3.ensures.len)) c.deref.result.now
+    c.deref.ensures.value _ refl refl
 
 pub link-requires-clause-list : goal.link-requires-clause-list
 link-requires-clause-list c =

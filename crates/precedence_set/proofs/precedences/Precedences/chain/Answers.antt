@@ -1,5 +1,5 @@
 -- The layers that are kept are made fresh, and their chain is traced.
-use Rattle.std.proofs.Common.{◌≡◌, List, ℕ, take, length, arith, subst, sym, ap, ◌∙◌}
+use Rattle.std.proofs.Common.{◌≡◌, List, ℕ, refl, take, length, arith, subst, sym, ap, ◌∙◌}
 use Rattle.std.proofs.lemmas.List.{with_items_is}
 use Rattle.order_core.specs.Pairs.{Pair, HasNoCycle}
 use Rattle.order_core.specs.Rankings.{IsRanking}
@@ -9,20 +9,17 @@ use Rattle.precedence_set.specs.Successors.{AreSuccessors}
 use Rattle.precedence_set.proofs.LayerFacts.{layers_rank}
 use Rattle.precedence_set.proofs.LayerSteps.{are_fresh}
 use Rattle.precedence_set.proofs.MarkedLinks.{AreMarked-now}
+use Rattle.precedence_set.proofs.HeldGraphs.{graph_held}
 use Rattle.precedence_set.proofs.precedences.Precedences.chain.Goals as goal
 
 pub refresh_layers-requires-clause-acyclic : goal.refresh_layers-requires-clause-acyclic
 refresh_layers-requires-clause-acyclic c =
     subst (λ (xs : List Pair). HasNoCycle (take c.self.inside.count xs)) (sym c.deref.ensures.value) c.self.invariant.acyclic
 
-pub refresh_layers-requires-clause-successors : goal.refresh_layers-requires-clause-successors
-refresh_layers-requires-clause-successors c =
-    let a = c.self.inside in
-    let old = c.self.invariant in
-    let now = AreMarked-now a.routers a.room.items a.count a.successors old.marked old.moves in
-    let same = subst (λ (xs : List Pair). AreSuccessors a.routers (take a.count xs) a.successors.lists) (sym c.deref.ensures.value) now in
-    let long : a.routers ≡ length c.deref_mut-3.result.now = omega (arith, old.layers_length, c.deref_mut-3.ensures.len) in
-    subst (λ (n : ℕ). AreSuccessors n (take a.count c.deref.result.now) a.successors.lists) long same
+pub refresh_layers-requires-clause-graph : goal.refresh_layers-requires-clause-graph
+refresh_layers-requires-clause-graph c =
+    graph_held c.self.inside c.self.invariant _ (omega (arith, c.self.invariant.layers_length, c.deref_mut-3.ensures.len)) c.deref.result.now
+    c.deref.ensures.value _ refl refl
 
 pub refresh_layers-requires-clause-fresh : goal.refresh_layers-requires-clause-fresh
 refresh_layers-requires-clause-fresh c = λ fresh.
