@@ -52,21 +52,27 @@ pub(crate) fn following(
     }
 }
 
-/// Puts a free node into the list, between two neighbors or at an end.
-pub(crate) fn splice_in(
-    nodes: &mut [Node],
-    ends: &mut [Ends],
-    list: u32,
-    node: u32,
-    previous: Option<u32>,
-    next: Option<u32>,
-)
-    requires list { list < length ends.old }
+/// Where a node is put: into a list, between two neighbors or at an end.
+#[derive(Clone, Copy)]
+pub(crate) struct Gap {
+    pub(crate) list: u32,
+    pub(crate) previous: Option<u32>,
+    pub(crate) next: Option<u32>,
+}
+
+/// Puts a free node into a gap.
+pub(crate) fn splice_in(nodes: &mut [Node], ends: &mut [Ends], gap: Gap, node: u32)
+    requires list { gap.list < length ends.old }
     requires node { node < length nodes.old }
-    requires previous { ForSome previous (λ p. p < length nodes.old) }
-    requires next { ForSome next (λ n. n < length nodes.old) }
-    ensures { PutsBetween (kept nodes.old ends.old) (kept nodes.new ends.new) (stretch_between list previous next) node }
+    requires previous { ForSome gap.previous (λ p. p < length nodes.old) }
+    requires next { ForSome gap.next (λ n. n < length nodes.old) }
+    ensures { PutsBetween (kept nodes.old ends.old) (kept nodes.new ends.new) (stretch_between gap.list gap.previous gap.next) node }
 {
+    let Gap {
+        list,
+        previous,
+        next,
+    } = gap;
     set_next(nodes, ends, list, previous, Some(node));
     set_previous(nodes, ends, list, next, Some(node));
     nodes[node as usize] = Node {

@@ -3,7 +3,7 @@ ghost use Rattle.std.specs.Prelude.{OnOk, OnErr};
 ghost use Rattle.std.specs.Vec.{vec_capacity, vec_len};
 ghost use Rattle.link_trail.specs.Lists.{IsApart, IsFree, IsLinked, IsNextNode, first_node, linked, list_at, lists_at_mark, unlinked};
 
-use crate::chain::{Ends, Node, splice_in, splice_out};
+use crate::chain::{Ends, Gap, Node, splice_in, splice_out};
 use crate::moves::{Move, take_back};
 use std::alloc::{AllocError as OutOfMemory, Global};
 use std::marker::Model;
@@ -85,7 +85,12 @@ impl Links {
         ensures spare { self.new.spare ≡ self.old.spare - 1 }
     {
         let previous = self.ends[list as usize].last;
-        splice_in(&mut self.nodes, &mut self.ends, list, node, previous, None);
+        let gap = Gap {
+            list,
+            previous,
+            next: None,
+        };
+        splice_in(&mut self.nodes, &mut self.ends, gap, node);
         record_move(&mut self.moves, Move::Linked { list, node });
     }
 

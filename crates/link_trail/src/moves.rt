@@ -1,7 +1,7 @@
 ghost use Rattle.link_trail.specs.steps.Splices.{kept};
 ghost use Rattle.link_trail.specs.steps.Undoing.{IsLatest, TakesBack};
 
-use crate::chain::{Ends, Node, following, splice_in, splice_out};
+use crate::chain::{Ends, Gap, Node, following, splice_in, splice_out};
 
 /// A move that stands, with what takes it back.
 #[derive(Clone, Copy, Debug)]
@@ -32,7 +32,12 @@ pub(crate) fn take_back(nodes: &mut [Node], ends: &mut [Ends], latest: Move)
             previous,
         } => {
             let next = following(nodes, ends, list, previous);
-            splice_in(nodes, ends, list, node, previous, next);
+            let gap = Gap {
+                list,
+                previous,
+                next,
+            };
+            splice_in(nodes, ends, gap, node);
         }
     }
 }

@@ -61,14 +61,16 @@ fn take_step<Q: Oracle>(
         return Ok(Some(Ending::Spent));
     }
     stand.branches += 1;
-    let turns = oracle.turns();
+    let branch = Branch {
+        address,
+        turns: oracle.turns(),
+    };
     let more = go_below(
         alloc,
         &mut stand.tree,
         &mut stand.held,
         &mut stand.waiting,
-        address,
-        turns,
+        &branch,
     )?;
     Ok(if more { None } else { Some(Ending::Closed) })
 }
@@ -88,29 +90,35 @@ fn visit<Q: Oracle>(oracle: &mut Q, held: &mut Assumptions, ranks: &mut [u32]) -
     oracle.ask(ranks)
 }
 
+/// A branch: the address at which the layered list of a place breaks, and the turns of its ring.
+#[derive(Clone, Copy)]
+struct Branch<'a> {
+    address: u32,
+    turns: &'a [Turn],
+}
+
 /// Makes the place a branch, and goes on to the next place. Whether there is one.
 fn go_below(
     alloc: Global,
     tree: &mut Tree,
     held: &mut Assumptions,
     waiting: &mut Waiting,
-    address: u32,
-    turns: &[Turn],
+    branch: &Branch<'_>,
 ) -> Result<bool, AllocError>
     requires few { held.old.routers ≤ 1000 }
-    requires some { 0 < length (new_routers turns.now) }
+    requires some { 0 < length (new_routers branch.now.turns.now) }
     requires stands { (base : List Pair) × IsUnder held.old.routers base held.old.pairs
-        (children_below held.old.pairs turns.now waiting.old) }
+        (children_below held.old.pairs branch.now.turns.now waiting.old) }
     ensures routers { held.new.routers ≡ held.old.routers }
     ensures stands { OnOk result ((base : List Pair) → IsUnder held.old.routers base held.old.pairs
-        (children_below held.old.pairs turns.now waiting.old) → IsUnder held.new.routers base held.new.pairs waiting.new) }
-    ensures found { IfOk result (λ found. OnTrue found (GrowsLeaves (tree.old ++ Node.Branch address turns.now ∷ []) tree.new
-        (places_of held.old.pairs (children_below held.old.pairs turns.now waiting.old))
+        (children_below held.old.pairs branch.now.turns.now waiting.old) → IsUnder held.new.routers base held.new.pairs waiting.new) }
+    ensures found { IfOk result (λ found. OnTrue found (GrowsLeaves (tree.old ++ Node.Branch branch.now.address branch.now.turns.now ∷ []) tree.new
+        (places_of held.old.pairs (children_below held.old.pairs branch.now.turns.now waiting.old))
         (held.new.pairs ∷ places_of held.new.pairs waiting.new))) }
-    ensures none { IfOk result (λ found. OnFalse found (GrowsLeaves (tree.old ++ Node.Branch address turns.now ∷ []) tree.new
-        (places_of held.old.pairs (children_below held.old.pairs turns.now waiting.old)) [])) }
+    ensures none { IfOk result (λ found. OnFalse found (GrowsLeaves (tree.old ++ Node.Branch branch.now.address branch.now.turns.now ∷ []) tree.new
+        (places_of held.old.pairs (children_below held.old.pairs branch.now.turns.now waiting.old)) [])) }
 {
-    branch_on(alloc, tree, waiting, address, turns, held.count())?;
+    branch_on(alloc, tree, waiting, branch, held.count())?;
     next_place(alloc, tree, held, waiting)
 }
 
@@ -119,14 +127,14 @@ fn branch_on(
     alloc: Global,
     tree: &mut Tree,
     waiting: &mut Waiting,
-    address: u32,
-    turns: &[Turn],
+    branch: &Branch<'_>,
     above: u32,
 ) -> Result<(), AllocError>
-    requires some { 0 < length (new_routers turns.now) }
-    ensures node { OnOk result (tree.new ≡ tree.old ++ Node.Branch address turns.now ∷ []) }
-    ensures children { OnOk result (waiting.new ≡ map (child_of above) (child_pairs turns.now) ++ waiting.old) }
+    requires some { 0 < length (new_routers branch.now.turns.now) }
+    ensures node { OnOk result (tree.new ≡ tree.old ++ Node.Branch branch.now.address branch.now.turns.now ∷ []) }
+    ensures children { OnOk result (waiting.new ≡ map (child_of above) (child_pairs branch.now.turns.now) ++ waiting.old) }
 {
+    let Branch { address, turns } = *branch;
     waiting.push(alloc, turns, above)?;
     let turns = Turns::from_vec(Vec::from_slice(alloc, turns)?);
     tree.push(Node::Branch { address, turns })

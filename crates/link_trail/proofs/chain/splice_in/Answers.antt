@@ -5,5 +5,5 @@ pub returns : goal.returns
 returns c = record {
   shows = λ lists before after shows free is last first.
       rw (c.set_previous.ensures.nodes, c.set_next.ensures.nodes, c.set_previous.ensures.ends, c.set_next.ensures.ends, ← last, ← first)
-      (ShowsLists-put c.args.nodes.now c.args.ends.now lists c.args.list c.args.node before after shows free is c.requires.list c.requires.node);
+      (ShowsLists-put c.args.nodes.now c.args.ends.now lists c.args.gap.list c.args.node before after shows free is c.requires.list c.requires.node);
 }

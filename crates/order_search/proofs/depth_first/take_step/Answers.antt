@@ -24,17 +24,17 @@ returns-then-stand-budget-clause-step g c =
 pub go_below-requires-clause-some : goal.go_below-requires-clause-some
 go_below-requires-clause-some g c =
     let told = c.in-Breaks.ensures.breaks c.in-Breaks.address refl in
-    rw c.turns-turns.ensures told.both.new
+    rw c.turns.ensures told.both.new
 
 pub go_below-requires-clause-stands : goal.go_below-requires-clause-stands
 go_below-requires-clause-stands g c =
     let asked = IsAsked-visited _ c.args.budget c.args.stand.now c.visit.new.held c.visit.new.ranks c.requires.searching c.visit.ensures.same
     (omega (arith, c.visit.auto.ranks, c.deref_mut.ensures.len, c.requires.searching.room)) c.visit.ensures.layered in
-    let branched = branch_is_made _ c.args.budget _ c.visit.new.ranks c.in-Breaks.address c.turns-turns.result.now _ asked
-    (c.in-Breaks.ensures.breaks c.in-Breaks.address refl) c.turns-turns.ensures c.if-stand-budget.false in (
+    let branched = branch_is_made _ c.args.budget _ c.visit.new.ranks c.in-Breaks.address c.turns.result.now _ asked
+    (c.in-Breaks.ensures.breaks c.in-Breaks.address refl) c.turns.ensures c.if-stand-budget.false in (
       (g.Q.Oracle.meaning c.args.oracle.now).base,
       subst (λ (n : ℕ). IsUnder n ((g.Q.Oracle.meaning c.args.oracle.now).base) c.visit.new.held.pairs
-          (children_below c.visit.new.held.pairs c.turns-turns.result.now c.args.stand.now.waiting))
+          (children_below c.visit.new.held.pairs c.turns.result.now c.args.stand.now.waiting))
           (sym asked.0.searching.routers) branched.under,
     )
 
@@ -42,12 +42,12 @@ pub returns-then-more-clause-step : goal.returns-then-more-clause-step
 returns-then-more-clause-step g c =
     let asked = IsAsked-visited _ c.args.budget c.args.stand.now c.visit.new.held c.visit.new.ranks c.requires.searching c.visit.ensures.same
     (omega (arith, c.visit.auto.ranks, c.deref_mut.ensures.len, c.requires.searching.room)) c.visit.ensures.layered in
-    let branched = branch_is_made _ c.args.budget _ c.visit.new.ranks c.in-Breaks.address c.turns-turns.result.now _ asked
-    (c.in-Breaks.ensures.breaks c.in-Breaks.address refl) c.turns-turns.ensures c.if-stand-budget.false in
+    let branched = branch_is_made _ c.args.budget _ c.visit.new.ranks c.in-Breaks.address c.turns.result.now _ asked
+    (c.in-Breaks.ensures.breaks c.in-Breaks.address refl) c.turns.ensures c.if-stand-budget.false in
     let routers = c.in_ok-more.ensures.routers ∙ asked.0.searching.routers in
     let stands = c.in_ok-more.ensures.stands ((g.Q.Oracle.meaning c.args.oracle.now).base)
     (subst (λ (n : ℕ). IsUnder n ((g.Q.Oracle.meaning c.args.oracle.now).base) c.visit.new.held.pairs
-    (children_below c.visit.new.held.pairs c.turns-turns.result.now c.args.stand.now.waiting)) (sym asked.0.searching.routers) branched.under) in
+    (children_below c.visit.new.held.pairs c.turns.result.now c.args.stand.now.waiting)) (sym asked.0.searching.routers) branched.under) in
     place_is_next _ c.args.budget _ _ branched (OnTrue_at c.if-more.true c.in_ok-more.ensures.found)
     (subst (λ (n : ℕ). IsUnder n ((g.Q.Oracle.meaning c.args.oracle.now).base) c.go_below.new.held.pairs c.go_below.new.waiting) routers stands)
     refl routers asked.0.searching.room
@@ -56,6 +56,6 @@ pub returns-else-more-clause-step : goal.returns-else-more-clause-step
 returns-else-more-clause-step g c =
     let asked = IsAsked-visited _ c.args.budget c.args.stand.now c.visit.new.held c.visit.new.ranks c.requires.searching c.visit.ensures.same
     (omega (arith, c.visit.auto.ranks, c.deref_mut.ensures.len, c.requires.searching.room)) c.visit.ensures.layered in
-    let branched = branch_is_made _ c.args.budget _ c.visit.new.ranks c.in-Breaks.address c.turns-turns.result.now _ asked
-    (c.in-Breaks.ensures.breaks c.in-Breaks.address refl) c.turns-turns.ensures c.if-stand-budget.false in
+    let branched = branch_is_made _ c.args.budget _ c.visit.new.ranks c.in-Breaks.address c.turns.result.now _ asked
+    (c.in-Breaks.ensures.breaks c.in-Breaks.address refl) c.turns.ensures c.if-stand-budget.false in
     tree_is_closed _ c.args.budget _ _ branched (OnFalse_at c.if-more.false c.in_ok-more.ensures.none)
