@@ -66,8 +66,12 @@ fn with_next(
     requires { router < 100 }
     ensures { IfOk result (λ longer. longer ≡ text ++ text_of (next_lines routers router)) }
 {
-    let address = near_end(router);
-    with_link(alloc, text, routers, b"GigabitEthernet0/0", address, router)
+    let end = LinkEnd {
+        name: b"GigabitEthernet0/0",
+        address: near_end(router),
+        link: router,
+    };
+    with_link(alloc, text, routers, &end)
 }
 
 /// The text with the interface of a router to the one before it more.
@@ -83,32 +87,36 @@ fn with_before(
     ensures { IfOk result (λ longer. longer ≡ text ++ text_of (before_lines routers router)) }
 {
     let link = link_before(routers, router);
-    with_link(
-        alloc,
-        text,
-        routers,
-        b"GigabitEthernet0/1",
-        far_end(link),
+    let end = LinkEnd {
+        name: b"GigabitEthernet0/1",
+        address: far_end(link),
         link,
-    )
+    };
+    with_link(alloc, text, routers, &end)
 }
 
-/// The text with an interface more, which has this name and this address at an end of a link.
+/// The end of a link: the interface there, by its name and its address, and the number of the link.
+#[derive(Clone, Copy)]
+struct LinkEnd<'a> {
+    name: &'a [u8],
+    address: u32,
+    link: u32,
+}
+
+/// The text with the interface at an end of a link more.
 fn with_link(
     alloc: Global,
     text: TextBuilder,
     routers: u32,
-    name: &[u8],
-    address: u32,
-    link: u32,
+    end: &LinkEnd<'_>,
 ) -> Result<TextBuilder, OutOfMemory>
-    ensures { IfOk result (λ longer. longer ≡ text ++ text_of (link_lines routers name.now address link)) }
+    ensures { IfOk result (λ longer. longer ≡ text ++ text_of (link_lines routers end.now.name.now end.now.address end.now.link)) }
 {
-    let text = text.line(interface_line(alloc, name)?)?;
-    let text = text.line(address_line(alloc, address, b"255.255.255.252")?)?;
-    let text = text.line(cost_line(alloc, cost_of(routers, link))?)?;
+    let text = text.line(interface_line(alloc, end.name)?)?;
+    let text = text.line(address_line(alloc, end.address, b"255.255.255.252")?)?;
+    let text = text.line(cost_line(alloc, cost_of(routers, end.link))?)?;
     let text = text.line(run_line(alloc)?)?;
-    text.line(metric_line(alloc, metric_of(routers, link))?)
+    text.line(metric_line(alloc, metric_of(routers, end.link))?)
 }
 
 /// The text with the OSPF process of a router more.

@@ -1,8 +1,8 @@
 ghost use Rattle.std.specs.Prelude.{◌≢◌, ◌≤◌, All, AllPairs, IfOk};
 ghost use Rattle.net_model.specs.Configuration.{AreRangesApart, IsInterface, IsRange, IsStub};
 
-use crate::interface::{ospf_interface, three_interfaces};
-use crate::router::ospf_router;
+use crate::interface::{Addressed, ospf_interface, three_interfaces};
+use crate::router::{AreaRules, ospf_router};
 use net_addr::Prefix;
 use net_model::{Config, Configs, Interfaces, Range, Ranges, Stub, Stubs};
 use std::alloc::{AllocError as OutOfMemory, Global};
@@ -18,6 +18,17 @@ pub struct Rules {
     pub near: Option<u32>,
     /// The default cost of R3 into the area, where it is totally stubby there and at R2.
     pub far: Option<u32>,
+}
+
+impl Rules {
+    /// What a border router says, with this default cost.
+    fn border(self, default_cost: Option<u32>) -> Border {
+        Border {
+            ranged: self.ranged,
+            default_cost,
+            rfc1583: self.rfc1583,
+        }
+    }
 }
 
 /// Four routers in a ring, whose links cost 1 but where a number stands: 10 from R1 to R2, and 5 both ways
@@ -39,28 +50,28 @@ pub fn ring_of_areas(alloc: Global, rules: Rules) -> Result<Configs, OutOfMemory
         (0x0a00_0c01, 0, 1),
         (0x0a00_0e01, 0, 5),
     )?;
-    all.push(router(alloc, 0, zero, false, None, true)?)?;
+    all.push(router(alloc, 0, zero, plain(None))?)?;
     let one = interfaces(
         alloc,
         (0x0a01_0201, 24, 1),
         (0x0a00_0c02, 0, 1),
         (0x0a01_1701, 1, 10),
     )?;
-    all.push(router(alloc, 1, one, rules.ranged, rules.near, rules.rfc1583)?)?;
+    all.push(router(alloc, 1, one, rules.border(rules.near))?)?;
     let two = interfaces(
         alloc,
         (0x0a01_0003, 32, 1),
         (0x0a01_1702, 1, 1),
         (0x0a01_2201, 1, 1),
     )?;
-    all.push(router(alloc, 2, two, false, rules.far, true)?)?;
+    all.push(router(alloc, 2, two, plain(rules.far))?)?;
     let three = interfaces(
         alloc,
         (0x0a00_0004, 32, 0),
         (0x0a00_0e02, 0, 5),
         (0x0a01_2202, 1, 1),
     )?;
-    all.push(router(alloc, 3, three, rules.ranged, rules.far, rules.rfc1583)?)?;
+    all.push(router(alloc, 3, three, rules.border(rules.far))?)?;
     Ok(Configs::from_vec(all))
 }
 
@@ -79,10 +90,55 @@ fn interfaces(
     ensures kept { IfOk result (All IsInterface) }
     ensures apart { IfOk result (AllPairs (λ i j. i.name ≢ j.name)) }
 {
-    let loopback = ospf_interface(alloc, 0, stub.0, stub.1, Some(stub.2), 1)?;
-    let first = ospf_interface(alloc, 1, one.0, 30, Some(one.1), one.2)?;
-    let second = ospf_interface(alloc, 2, two.0, 30, Some(two.1), two.2)?;
+    let loopback = ospf_interface(
+        alloc,
+        Addressed {
+            name: 0,
+            address: stub.0,
+            len: stub.1,
+        },
+        Some(stub.2),
+        1,
+    )?;
+    let first = ospf_interface(
+        alloc,
+        Addressed {
+            name: 1,
+            address: one.0,
+            len: 30,
+        },
+        Some(one.1),
+        one.2,
+    )?;
+    let second = ospf_interface(
+        alloc,
+        Addressed {
+            name: 2,
+            address: two.0,
+            len: 30,
+        },
+        Some(two.1),
+        two.2,
+    )?;
     three_interfaces(alloc, loopback, first, second)
+}
+
+/// What one router says of area 1: whether it has the range, the default cost of a totally stubby area, and whether a range costs
+/// the least of its components.
+#[derive(Clone, Copy)]
+struct Border {
+    ranged: bool,
+    default_cost: Option<u32>,
+    rfc1583: bool,
+}
+
+/// A router that says nothing of area 1 but that it is totally stubby, where it has a default cost.
+fn plain(default_cost: Option<u32>) -> Border {
+    Border {
+        ranged: false,
+        default_cost,
+        rfc1583: true,
+    }
 }
 
 /// The router of this number with its interfaces, with or without the range, and with stub area 1 where
@@ -91,17 +147,18 @@ fn router(
     alloc: Global,
     number: u8,
     interfaces: Interfaces,
-    ranged: bool,
-    default_cost: Option<u32>,
-    rfc1583: bool,
+    border: Border,
 ) -> Result<Config, OutOfMemory>
     requires digit { number ≤ 9 }
     requires kept { All IsInterface interfaces }
     requires apart { AllPairs (λ i j. i.name ≢ j.name) interfaces }
 {
-    let ranges = ranges(alloc, ranged)?;
-    let stubs = stubs(alloc, default_cost)?;
-    ospf_router(alloc, number, interfaces, ranges, stubs, rfc1583)
+    let rules = AreaRules {
+        ranges: ranges(alloc, border.ranged)?,
+        stubs: stubs(alloc, border.default_cost)?,
+        rfc1583: border.rfc1583,
+    };
+    ospf_router(alloc, number, interfaces, rules)
 }
 
 /// The range 10.1.0.0/16 of area 1, or none.

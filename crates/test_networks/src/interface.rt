@@ -5,21 +5,28 @@ use net_addr::{Name, Prefix};
 use net_model::{Interface, Interfaces, Levels};
 use std::alloc::{AllocError as OutOfMemory, Global};
 
+/// An interface by its name of one byte, and its address with the length of its prefix.
+#[derive(Clone, Copy)]
+pub(crate) struct Addressed {
+    pub name: u8,
+    pub address: u32,
+    pub len: u8,
+}
+
 /// An interface of an area: of length 32 a loopback, of length 24 passive.
 pub(crate) fn ospf_interface(
     alloc: Global,
-    name: u8,
-    address: u32,
-    len: u8,
+    at: Addressed,
     area: Option<u32>,
     cost: u32,
 ) -> Result<Interface, OutOfMemory>
-    requires short { len ≤ 32 }
+    requires short { at.len ≤ 32 }
     requires some { 1 ≤ cost }
     requires most { cost ≤ 65535 }
     ensures kept { IfOk result IsInterface }
-    ensures named { IfOk result (λ i. i.name ≡ name ∷ []) }
+    ensures named { IfOk result (λ i. i.name ≡ at.name ∷ []) }
 {
+    let Addressed { name, address, len } = at;
     let name = Name::from_vec(Vec::from_slice(alloc, &[name])?);
     Ok(Interface {
         name,
@@ -41,18 +48,17 @@ pub(crate) fn ospf_interface(
 /// An interface of these levels, of which a prefix of length 32 makes a loopback.
 pub(crate) fn isis_interface(
     alloc: Global,
-    name: u8,
-    address: u32,
-    len: u8,
+    at: Addressed,
     metric: u32,
     levels: Levels,
 ) -> Result<Interface, OutOfMemory>
-    requires short { len ≤ 32 }
+    requires short { at.len ≤ 32 }
     requires some { 1 ≤ metric }
     requires most { metric ≤ 16777214 }
     ensures kept { IfOk result IsInterface }
-    ensures named { IfOk result (λ i. i.name ≡ name ∷ []) }
+    ensures named { IfOk result (λ i. i.name ≡ at.name ∷ []) }
 {
+    let Addressed { name, address, len } = at;
     let name = Name::from_vec(Vec::from_slice(alloc, &[name])?);
     Ok(Interface {
         name,

@@ -1,7 +1,7 @@
 ghost use Rattle.std.specs.Prelude.{◌≢◌, ◌≤◌, All, AllPairs, IfOk};
 ghost use Rattle.net_model.specs.Configuration.{IsInterface};
 
-use crate::interface::{isis_interface, three_interfaces};
+use crate::interface::{Addressed, isis_interface, three_interfaces};
 use crate::router::isis_router;
 use net_model::{Configs, Interfaces, Levels};
 use std::alloc::{AllocError as OutOfMemory, Global};
@@ -45,8 +45,35 @@ fn interfaces(
     ensures kept { IfOk result (All IsInterface) }
     ensures apart { IfOk result (AllPairs (λ i j. i.name ≢ j.name)) }
 {
-    let loopback = isis_interface(alloc, 0, 0x0a00_0000 + u32::from(number), 32, 10, levels)?;
-    let first = isis_interface(alloc, 1, links[0], 30, 10, levels)?;
-    let second = isis_interface(alloc, 2, links[1], 30, metric, levels)?;
+    let loopback = isis_interface(
+        alloc,
+        Addressed {
+            name: 0,
+            address: 0x0a00_0000 + u32::from(number),
+            len: 32,
+        },
+        10,
+        levels,
+    )?;
+    let first = isis_interface(
+        alloc,
+        Addressed {
+            name: 1,
+            address: links[0],
+            len: 30,
+        },
+        10,
+        levels,
+    )?;
+    let second = isis_interface(
+        alloc,
+        Addressed {
+            name: 2,
+            address: links[1],
+            len: 30,
+        },
+        metric,
+        levels,
+    )?;
     three_interfaces(alloc, loopback, first, second)
 }

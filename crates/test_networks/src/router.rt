@@ -11,23 +11,35 @@ const DISTANCES: Distances = Distances {
     isis: 255,
 };
 
+/// What a router says of its areas: their ranges, which of them are stub areas, and whether a range costs the least of its
+/// components.
+#[derive(Drop)]
+pub(crate) struct AreaRules {
+    pub ranges: Ranges,
+    pub stubs: Stubs,
+    pub rfc1583: bool,
+}
+
 /// The router of this number, with OSPF process 1 and without IS-IS.
 pub(crate) fn ospf_router(
     alloc: Global,
     number: u8,
     interfaces: Interfaces,
-    ranges: Ranges,
-    stubs: Stubs,
-    rfc1583: bool,
+    rules: AreaRules,
 ) -> Result<Config, OutOfMemory>
     requires digit { number ≤ 9 }
     requires kept { All IsInterface interfaces }
     requires apart { AllPairs (λ i j. i.name ≢ j.name) interfaces }
-    requires ranges { All IsRange ranges }
-    requires ranges_apart { AllPairs AreRangesApart ranges }
-    requires stubs { All IsStub stubs }
-    requires stubs_apart { AllPairs (λ s t. s.area ≢ t.area) stubs }
+    requires ranges { All IsRange rules.ranges }
+    requires ranges_apart { AllPairs AreRangesApart rules.ranges }
+    requires stubs { All IsStub rules.stubs }
+    requires stubs_apart { AllPairs (λ s t. s.area ≢ t.area) rules.stubs }
 {
+    let AreaRules {
+        ranges,
+        stubs,
+        rfc1583,
+    } = rules;
     Ok(Config {
         name: Name::from_vec(Vec::from_slice(alloc, &[b'R', b'0' + number])?),
         interfaces,

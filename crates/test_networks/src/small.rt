@@ -1,8 +1,8 @@
 ghost use Rattle.std.specs.Prelude.{◌≢◌, ◌≤◌, All, AllPairs};
 ghost use Rattle.net_model.specs.Configuration.{IsInterface};
 
-use crate::interface::{one_interface, ospf_interface};
-use crate::router::ospf_router;
+use crate::interface::{Addressed, one_interface, ospf_interface};
+use crate::router::{AreaRules, ospf_router};
 use net_model::{Config, Configs, Interfaces, Ranges, Stubs};
 use std::alloc::{AllocError as OutOfMemory, Global};
 
@@ -25,7 +25,16 @@ pub fn one_target(alloc: Global, count: u8) -> Result<Configs, OutOfMemory> {
     for number in 1..10 {
         if number <= count {
             let area = if number == count { Some(0) } else { None };
-            let loopback = ospf_interface(alloc, 0, 0x0a00_0000 + u32::from(number), 32, area, 1)?;
+            let loopback = ospf_interface(
+                alloc,
+                Addressed {
+                    name: 0,
+                    address: 0x0a00_0000 + u32::from(number),
+                    len: 32,
+                },
+                area,
+                1,
+            )?;
             let interfaces = one_interface(alloc, loopback)?;
             all.push(plain_router(alloc, number, interfaces)?)?;
         }
@@ -41,8 +50,26 @@ pub fn pair(alloc: Global, one: u32, two: u32) -> Result<Configs, OutOfMemory>
     requires most_two { two ≤ 65535 }
 {
     let mut all = Vec::new(alloc);
-    let first = ospf_interface(alloc, 0, 0x0a00_0001, 28, Some(0), one)?;
-    let second = ospf_interface(alloc, 0, 0x0a00_0002, 28, Some(0), two)?;
+    let first = ospf_interface(
+        alloc,
+        Addressed {
+            name: 0,
+            address: 0x0a00_0001,
+            len: 28,
+        },
+        Some(0),
+        one,
+    )?;
+    let second = ospf_interface(
+        alloc,
+        Addressed {
+            name: 0,
+            address: 0x0a00_0002,
+            len: 28,
+        },
+        Some(0),
+        two,
+    )?;
     all.push(plain_router(alloc, 1, one_interface(alloc, first)?)?)?;
     all.push(plain_router(alloc, 2, one_interface(alloc, second)?)?)?;
     Ok(Configs::from_vec(all))
@@ -54,7 +81,10 @@ fn plain_router(alloc: Global, number: u8, interfaces: Interfaces) -> Result<Con
     requires kept { All IsInterface interfaces }
     requires apart { AllPairs (λ i j. i.name ≢ j.name) interfaces }
 {
-    let ranges = Ranges::from_vec(Vec::new(alloc));
-    let stubs = Stubs::from_vec(Vec::new(alloc));
-    ospf_router(alloc, number, interfaces, ranges, stubs, true)
+    let rules = AreaRules {
+        ranges: Ranges::from_vec(Vec::new(alloc)),
+        stubs: Stubs::from_vec(Vec::new(alloc)),
+        rfc1583: true,
+    };
+    ospf_router(alloc, number, interfaces, rules)
 }

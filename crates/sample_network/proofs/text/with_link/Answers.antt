@@ -6,10 +6,10 @@ use Rattle.sample_network.proofs.text.with_link.Goals as goal
 
 pub returns : goal.returns
 returns c =
-    let head = sample_interface_line c.args.name.now in
-    let address = sample_address_line c.args.address (codes "255.255.255.252") in
-    let cost = sample_cost_line (sample_cost c.args.routers c.args.link) in
-    let metric = sample_metric_line (sample_metric c.args.routers c.args.link) in
+    let head = sample_interface_line c.args.end.now.name.now in
+    let address = sample_address_line c.args.end.now.address (codes "255.255.255.252") in
+    let cost = sample_cost_line (sample_cost c.args.routers c.args.end.now.link) in
+    let metric = sample_metric_line (sample_metric c.args.routers c.args.end.now.link) in
     let runs : List (List ℕ) = sample_run_line ∷ metric ∷ [] in
     let costs : List (List ℕ) = cost ∷ runs in
     let addresses : List (List ℕ) = address ∷ costs in
