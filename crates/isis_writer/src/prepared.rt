@@ -34,28 +34,31 @@ pub fn prepared_text(
 {
     let lines = lines(alloc, text)?;
     let counted = counted_lines(alloc, text, lines.as_slice())?;
-    let parts = with_parts(
-        alloc,
-        text,
-        lines.as_slice(),
-        counted.as_slice(),
-        net,
-        settled,
-    )?;
+    let read = ReadText {
+        bytes: text,
+        lines: lines.as_slice(),
+    };
+    let parts = with_parts(alloc, &read, counted.as_slice(), net, settled)?;
     Ok(Bytes::from_vec(parts))
+}
+
+/// A text with its lines.
+#[derive(Clone, Copy)]
+struct ReadText<'a> {
+    bytes: &'a [u8],
+    lines: &'a [Line],
 }
 
 /// The parts of a text, of which these lines count, with their new lines.
 fn with_parts(
     alloc: Global,
-    text: &[u8],
-    lines: &[Line],
+    text: &ReadText<'_>,
     counted: &[TextLine],
     net: &Net,
     settled: &Settled,
 ) -> Result<Vec<u8>, OutOfMemory>
-    requires { lines.now ≡ text_lines text.now }
-    ensures { IfOk result (λ all. all.items ≡ prepared_parts (new_block net.now settled.now) text.now 0 (parts_after [] counted.now)) }
+    requires { text.now.lines.now ≡ text_lines text.now.bytes.now }
+    ensures { IfOk result (λ all. all.items ≡ prepared_parts (new_block net.now settled.now) text.now.bytes.now 0 (parts_after [] counted.now)) }
 {
     let mut all = Vec::new(alloc);
     let mut from = 0;
@@ -63,14 +66,7 @@ fn with_parts(
     for (i, line) in counted.iter().enumerate() {
         if line.is_end() {
             let new = new_text(alloc, net, settled, &counted[start..i])?;
-            from = add_part(
-                &mut all,
-                text,
-                lines,
-                from,
-                line.number() as usize,
-                new.as_slice(),
-            )?;
+            from = add_part(&mut all, text, from, line.number() as usize, new.as_slice())?;
             start = i + 1;
         }
     }
@@ -80,23 +76,23 @@ fn with_parts(
 /// Adds a part of a text from this place on, with new lines before its `end` line, and tells where the next one begins.
 fn add_part(
     all: &mut Vec<u8>,
-    text: &[u8],
-    lines: &[Line],
+    text: &ReadText<'_>,
     from: usize,
     ends: usize,
     new: &[u8],
 ) -> Result<usize, OutOfMemory>
-    requires exact { lines.now ≡ text_lines text.now }
+    requires exact { text.now.lines.now ≡ text_lines text.now.bytes.now }
     requires small { ends < 2 ^ 32 }
-    ensures next { IfOk result (λ next. next ≡ start_of text.now (ends + 1)) }
+    ensures next { IfOk result (λ next. next ≡ start_of text.now.bytes.now (ends + 1)) }
     ensures added { OnOk result (all.new.items ≡ all.old.items
-        ++ (between text.now from (start_of text.now ends) ++ new.now ++ between text.now (start_of text.now ends) (start_of text.now (ends + 1)))) }
+        ++ (between text.now.bytes.now from (start_of text.now.bytes.now ends) ++ new.now ++ between text.now.bytes.now (start_of text.now.bytes.now ends) (start_of text.now.bytes.now (ends + 1)))) }
 {
-    let end = start_of(text, lines, ends);
-    let next = start_of(text, lines, ends + 1);
-    all.extend_from_slice(between(text, from, end))?;
+    let ReadText { bytes, lines } = *text;
+    let end = start_of(bytes, lines, ends);
+    let next = start_of(bytes, lines, ends + 1);
+    all.extend_from_slice(between(bytes, from, end))?;
     all.extend_from_slice(new)?;
-    all.extend_from_slice(between(text, end, next))?;
+    all.extend_from_slice(between(bytes, end, next))?;
     Ok(next)
 }
 

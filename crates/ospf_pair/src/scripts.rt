@@ -11,10 +11,9 @@ ghost use Rattle.ospf_pair.specs.PairScripts.{pair_scripted};
 use crate::PairNet;
 use net_addr::Bytes;
 use net_model::{Config, ISIS_DISTANCE, MOST_DISTANCE, Net};
-use order_core::Waves;
 use printed_lines::{LineBuilder, TextBuilder};
 use std::alloc::{AllocError, Global};
-use step_scripts::{Version, WaveFile};
+use step_scripts::{WaveFile, with_comment, with_wave};
 
 /// The script of a wave list of a pair: for each change of its flat run a comment with its number and its router, and the lines that
 /// make it.
@@ -26,29 +25,37 @@ pub fn pair_scripts(alloc: Global, pair: &PairNet, file: &WaveFile) -> Result<By
     requires { length file.now.waves ≡ length pair.now.old }
     ensures { IfOk result (λ text. text ≡ pair_script_text file.now.version pair.now file.now.waves) }
 {
+    let script = PairScript { pair, file };
     let mut text = TextBuilder::new(alloc);
     for (place, router) in file.waves.flat().iter().enumerate() {
         let made = 2 * place as u64;
-        text = with_first(alloc, text, pair, file, made + 1, *router)?;
+        text = with_first(alloc, text, &script, made + 1, *router)?;
         text = with_second(alloc, text, pair, made + 2, *router)?;
     }
     Ok(with_end(alloc, text, pair)?.finish())
+}
+
+/// What a script is of: a pair, and the waves of its routers.
+#[derive(Clone, Copy)]
+struct PairScript<'a> {
+    pair: &'a PairNet,
+    file: &'a WaveFile,
 }
 
 /// The text with the part more for the first change of a router.
 fn with_first(
     alloc: Global,
     text: TextBuilder,
-    pair: &PairNet,
-    file: &WaveFile,
+    script: &PairScript<'_>,
     number: u64,
     router: u32,
 ) -> Result<TextBuilder, AllocError>
-    requires each { length file.now.waves ≡ length pair.now.old }
-    requires router { router < length pair.now.old }
+    requires each { length script.now.file.now.waves ≡ length script.now.pair.now.old }
+    requires router { router < length script.now.pair.now.old }
     ensures { IfOk result (λ longer. longer ≡
-        text ++ text_of (pair_part (pair_scripted file.now.version pair.now file.now.waves) number (first router))) }
+        text ++ text_of (pair_part (pair_scripted script.now.file.now.version script.now.pair.now script.now.file.now.waves) number (first router))) }
 {
+    let PairScript { pair, file } = *script;
     let text = with_wave(alloc, text, &file.waves, file.version, router)?;
     let text = with_comment(alloc, text, number, pair.old().config(router))?;
     with_process(alloc, text, pair.new_net().config(router), ISIS_DISTANCE)
@@ -69,62 +76,6 @@ fn with_second(
     let config = pair.old().config(router);
     let text = with_comment(alloc, text, number, config)?;
     with_process(alloc, text, config, MOST_DISTANCE)
-}
-
-/// The text with the comment before a wave more, where the script is of version 2 and the router is the first of its wave.
-fn with_wave(
-    alloc: Global,
-    text: TextBuilder,
-    waves: &Waves,
-    version: Version,
-    router: u32,
-) -> Result<TextBuilder, AllocError>
-    requires { router < length waves.now }
-    ensures { IfOk result (λ longer. longer ≡ text ++ text_of (wave_comments version waves.now (first router))) }
-{
-    if shows_waves(version) && opens_wave(waves, router) {
-        let number = u64::from(waves.ranks()[router as usize]) + 1;
-        text.line(wave_comment(alloc, number)?)
-    } else {
-        Ok(text)
-    }
-}
-
-/// Whether a script of this version has a comment before each wave.
-fn shows_waves(version: Version) -> bool
-    ensures { result ≡ shows_waves version }
-{
-    matches!(version, Version::Two)
-}
-
-/// The comment before the wave of this number.
-fn wave_comment(alloc: Global, number: u64) -> Result<LineBuilder, AllocError>
-    ensures { IfOk result (λ line. line ≡ wave_comment number) }
-{
-    let line = LineBuilder::start(alloc, b"!")?.word(b"wave")?;
-    line.number(number)
-}
-
-/// Whether a router is the first one of its wave.
-fn opens_wave(waves: &Waves, router: u32) -> bool
-    requires { router < length waves.now }
-    ensures { result ≡ opens_wave waves.now router }
-{
-    let rank = waves.ranks()[router as usize];
-    waves.wave(rank)[0] == router
-}
-
-/// The text with the comment before a change more.
-fn with_comment(
-    alloc: Global,
-    text: TextBuilder,
-    number: u64,
-    config: &Config,
-) -> Result<TextBuilder, AllocError>
-    ensures { IfOk result (λ longer. longer ≡ text ++ text_of (change_comment number config.now.name ∷ [])) }
-{
-    let line = LineBuilder::start(alloc, b"!")?.number(number)?;
-    text.line(line.word(config.name.as_slice())?)
 }
 
 /// The text with the lines more that give the OSPF process of a router this distance; without one there is no line.

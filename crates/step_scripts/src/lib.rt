@@ -38,7 +38,7 @@ mod script_front;
 pub use change_lines::{with_isis_lines, with_ospf_lines};
 pub use kind::{OrderKind, OrderRefusal};
 pub use laws::waves_laws;
-pub use script::script_text;
+pub use script::{script_text, with_comment, with_wave};
 pub use script_front::script_laws;
 pub use version::Version;
 pub use wave_file::WaveFile;

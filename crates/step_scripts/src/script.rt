@@ -28,31 +28,43 @@ pub fn script_text(
     requires { length waves.now ≡ length net.now }
     ensures { IfOk result (λ text. text ≡ script_text version net.now waves.now) }
 {
+    let script = Script {
+        net,
+        waves,
+        version,
+    };
     let mut text = TextBuilder::new(alloc);
     for (place, router) in waves.flat().iter().enumerate() {
         let made = 2 * place as u64;
-        text = with_first(alloc, text, net, waves, version, made + 1, *router)?;
+        text = with_first(alloc, text, &script, made + 1, *router)?;
         text = with_second(alloc, text, net, made + 2, *router)?;
     }
     Ok(with_end(alloc, text, net)?.finish())
+}
+
+/// What a script is of: the waves of the routers of a network. The version says whether it shows them.
+#[derive(Clone, Copy)]
+struct Script<'a> {
+    net: &'a Net,
+    waves: &'a Waves,
+    version: Version,
 }
 
 /// The text with the part more for the first change of a router.
 fn with_first(
     alloc: Global,
     text: TextBuilder,
-    net: &Net,
-    waves: &Waves,
-    version: Version,
+    script: &Script<'_>,
     number: u64,
     router: u32,
 ) -> Result<TextBuilder, AllocError>
-    requires each { length waves.now ≡ length net.now }
-    requires router { router < length net.now }
-    ensures { IfOk result (λ longer. longer ≡ text ++ text_of (change_part (scripted version net.now waves.now) number (first router))) }
+    requires each { length script.now.waves.now ≡ length script.now.net.now }
+    requires router { router < length script.now.net.now }
+    ensures { IfOk result (λ longer. longer ≡
+        text ++ text_of (change_part (scripted script.now.version script.now.net.now script.now.waves.now) number (first router))) }
 {
-    let config = net.config(router);
-    let text = with_wave(alloc, text, waves, version, router)?;
+    let config = script.net.config(router);
+    let text = with_wave(alloc, text, script.waves, script.version, router)?;
     let text = with_comment(alloc, text, number, config)?;
     with_isis(alloc, text, config)
 }
@@ -74,7 +86,7 @@ fn with_second(
 }
 
 /// The text with the comment before a wave more, where the script is of version 2 and the router is the first of its wave.
-fn with_wave(
+pub fn with_wave(
     alloc: Global,
     text: TextBuilder,
     waves: &Waves,
@@ -116,8 +128,8 @@ fn opens_wave(waves: &Waves, router: u32) -> bool
     waves.wave(rank)[0] == router
 }
 
-/// The text with the comment before a change more.
-fn with_comment(
+/// The text with the comment before a change more: its number and the name of its router.
+pub fn with_comment(
     alloc: Global,
     text: TextBuilder,
     number: u64,

@@ -41,7 +41,12 @@ pub fn read_waves(alloc: Global, net: &Net, text: &[u8]) -> Result<WaveFile, Ord
         });
     };
     let seats = seat_waves(alloc, net, version, text, entries)?;
-    check_ending(alloc, net, version, text, entries, &seats)?;
+    let entries = Entries {
+        version,
+        text,
+        lines: entries,
+    };
+    check_ending(alloc, net, &entries, &seats)?;
     let Some(ranks) = ranks_of(alloc, routers, &seats)? else {
         return Err(OrderRefusal::Bad {
             line: all.as_slice().len() as u32 + 1,
@@ -173,27 +178,34 @@ fn stood_before(seats: &Seats, before: &[u32], router: u32) -> bool
     }
 }
 
+/// The lines of an order file of a version behind the first one.
+#[derive(Clone, Copy)]
+struct Entries<'a> {
+    version: Version,
+    text: &'a [u8],
+    lines: &'a [Line],
+}
+
 /// Refuses what stands behind the waves, where it isn't nothing or a chain of them.
 fn check_ending(
     alloc: Global,
     net: &Net,
-    version: Version,
-    text: &[u8],
-    entries: &[Line],
+    entries: &Entries<'_>,
     seats: &Seats,
 ) -> Result<(), OrderRefusal>
     requires network { IsNetwork net.now }
-    requires entries { AreFileEntries version text.now entries.now }
-    requires first { AreFirstWaves net.now version (bytes_of_lines text.now entries.now) seats.now }
-    ensures ok { OnOk result (AreEntriesRead net.now version (bytes_of_lines text.now entries.now) seats.now) }
-    ensures err { IfErr result (RefusesWaves net.now text.now) }
+    requires entries { AreFileEntries entries.now.version entries.now.text.now entries.now.lines.now }
+    requires first { AreFirstWaves net.now entries.now.version (bytes_of_lines entries.now.text.now entries.now.lines.now) seats.now }
+    ensures ok { OnOk result (AreEntriesRead net.now entries.now.version
+        (bytes_of_lines entries.now.text.now entries.now.lines.now) seats.now) }
+    ensures err { IfErr result (RefusesWaves net.now entries.now.text.now) }
 {
     let waves = seats.count();
-    if waves == entries.len() {
+    if waves == entries.lines.len() {
         return Ok(());
     }
-    let line = entries[waves];
-    let Some(names) = chain_on(alloc, version, bytes_at(text, line.span))? else {
+    let line = entries.lines[waves];
+    let Some(names) = chain_on(alloc, entries.version, bytes_at(entries.text, line.span))? else {
         return Err(OrderRefusal::Bad {
             line: line.number,
             kind: OrderKind::Wave,
@@ -205,10 +217,10 @@ fn check_ending(
             kind: OrderKind::Chain,
         });
     }
-    if waves + 1 == entries.len() {
+    if waves + 1 == entries.lines.len() {
         return Ok(());
     }
-    let next = entries[waves + 1];
+    let next = entries.lines[waves + 1];
     Err(OrderRefusal::Bad {
         line: next.number,
         kind: OrderKind::Wave,

@@ -9,7 +9,7 @@ use Rattle.isis_writer.proofs.prepared.with_parts.Goals as goal
 
 pub loop-i-preserved : goal.loop-i-preserved
 loop-i-preserved c =
-    let text = c.args.text.now in
+    let text = c.args.text.now.bytes.now in
     let parts = prepared_parts (new_block c.args.net.now c.args.settled.now) text in
     let counted = c.args.counted.now in
     let i = c.loop-i.i in

@@ -6,4 +6,4 @@ use Rattle.step_scripts.specs.Scripts.{change_parts, scripted}
 use Rattle.step_scripts.proofs.script.script_text.Given as goal
 
 abbrev pub invariant-loop-place : goal.invariant-loop-place
-invariant-loop-place l = l.text ≡ text_of (change_parts (scripted l.version l.net l.waves) 0 (run_along (take l.place (flat_of l.waves))))
+invariant-loop-place l = l.text ≡ text_of (change_parts (scripted l.script.version l.net l.waves) 0 (run_along (take l.place (flat_of l.waves))))
