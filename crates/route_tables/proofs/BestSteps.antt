@@ -1,5 +1,5 @@
 -- The best of some offers, offer by offer, and a vertex that alone makes the best ones.
-use Rattle.std.proofs.Common.{◌≡◌, ℕ, ◌+◌, ◌<◌, ◌≤◌, ◌⊎◌, inl, inr, List, [], ◌∷◌, ◌++◌, Option, Some, None, IfSome, length, get_or, take, refl, sym, ap}
+use Rattle.std.proofs.Common.{◌≡◌, ℕ, ◌+◌, ◌<◌, ◌≤◌, ◌⊎◌, inl, inr, List, [], ◌∷◌, ◌++◌, Option, Some, None, length, get_or, take, refl, sym, ap}
 use Rattle.std.proofs.Common.{subst, ◌∙◌, arith}
 use Rattle.std.specs.List.{Contains}
 use Rattle.std.proofs.lemmas.Option.{none-some, same_Some}
@@ -139,11 +139,6 @@ pub best_step : (reach : Reach) (offers : List Offer) (i : ℕ) (d : Offer) (bes
 best_step reach offers i d best next total within is better so_far =
     subst (λ (l : List Offer). IsBestSoFar reach l next) (sym (take_more offers i d within))
     (better reach (take i offers) (get_or offers i d) refl (sym is) so_far)
-
--- what is found is the best
-pub some_best : (reach : Reach) (offers : List Offer) (found : Option BestAt) → IsBestSoFar reach offers found → IfSome found (IsBestAt reach offers)
-some_best reach offers None is = tt
-some_best reach offers (Some best) is = is
 
 -- The vertex of the best offer
 

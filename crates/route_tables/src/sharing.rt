@@ -81,8 +81,7 @@ pub(crate) fn sure_at<P: Protocol>(
     }
 }
 
-/// The number of the entry for the prefix at a place, where it has one: that towards its target, where one is known, else
-/// that of its route's entry.
+/// The number of the entry for the prefix at a place, where it has one: that of its route's entry.
 #[inline(never)]
 pub(crate) fn number_asked<P: Protocol>(
     alloc: Global,
@@ -99,10 +98,6 @@ pub(crate) fn number_asked<P: Protocol>(
     ensures number { IfOk result (IsNumberOf ((P.routes protocol.now).entry router
         (prefix_at (P.candidates protocol.now) place)) pool.new.entries.items) }
 {
-    if let Some(target) = protocol.target(place, router) {
-        let number = number_towards(alloc, protocol, router, pool, target)?;
-        return Number::of(number);
-    }
     match protocol.route(alloc, place, router)? {
         Some(route) => Number::of(number_of(alloc, protocol, router, pool, route)?),
         None => Ok(Number::none()),
