@@ -17,9 +17,9 @@
 //!    16.2), `push_announced` for the backbone's own list. Into every other area there go the routes of other areas, what its
 //!    border routers reach over the backbone, and the defaults of stub areas (`stub_areas.rt`, 3.6).
 //! 4. `entry.rt`: the intra-area route, else a discard, else the inter-area route (16, 11.1), by what is announced into the area
-//!    that the router listens to, which `Ospf::asked` reads; `united.rt`: several areas' hops together. `lanes.rt`: for routers in one area alone the deciding offers are the same, so one or two are
-//!    found once for each area and kind of prefixes, of what `Ospf::decision_in` reads. All other routers are in a last lane,
-//!    without decisions.
+//!    that the router listens to, which `Ospf::asked` reads; `united.rt`: several areas' hops together. `lanes.rt`: for
+//!    routers in one area alone the deciding offers are the same, so one or two are found once for each area and kind of
+//!    prefixes, of what `Ospf::decision_in` reads. All other routers are in a last lane, without decisions.
 //!
 //! `twins.rt` finds prefixes that have the same routes at every router, by what is offered and announced of them, and
 //! `lane_twins.rt` those of which this is so at every router in one area alone, each by the latest prefix that the same router
