@@ -1,7 +1,5 @@
 -- Lists of offers whose best is the route of the definitions.
 use Rattle.std.proofs.Common.{◌≡◌, ℕ, ◌<◌, inl, List, length, Option, Some, None, MatchOption, Result, IfOk, refl, sym, subst}
-use Rattle.std.specs.Option.{IfSome}
-use Rattle.std.proofs.lemmas.Option.{IfSome_then}
 use Rattle.std.proofs.lemmas.Result.{IfOk-weaker}
 use Rattle.net_addr.specs.Addresses.{Block, default_prefix}
 use Rattle.net_model.specs.Network.{Network, Connected, Adjacent}
@@ -15,8 +13,6 @@ use Rattle.igp_theory.specs.Isis.{OffersLevelOne, RunsLevelOne, RunsLevelTwo}
 use Rattle.route_tables.specs.AlikeOffers.{AreAlikeOffers}
 use Rattle.route_tables.specs.Routings.{ForwardsBy, IsRouteFor}
 use Rattle.route_tables.specs.declared.route.Route.{Route}
-use Rattle.route_tables.specs.declared.route.Route.TheVariants.{Towards}
-use Rattle.route_tables.specs.declared.route.Target.{Target}
 use Rattle.route_tables.proofs.AlikeRoutes.{AskAlike, alike_lists, alike_turned, dearer_by_nothing}
 use Rattle.route_tables.proofs.BestRoutes.{route_by_hops}
 use Rattle.isis_routes.specs.steps.Asked.{HasNoDownRoute, HasNoLevelRoute, IsAway, IsIsisQuestion}
@@ -50,10 +46,6 @@ pub route_by : {E : Type 0} {at : InLevel} {p : Block} {none : Type 0} {offers :
     IfOk r (IsBestIn at offers) → IfOk r (λ found. MatchOption found none (IsIsisRoute at.domain at.router p))
 route_by {E} {at} {p} {none} {offers} r lead best =
     IfOk-weaker r (IsBestIn at offers) (λ found. MatchOption found none (IsIsisRoute at.domain at.router p)) lead.route best
-
-pub target_by : {at : InLevel} {p : Block} {none : Type 0} {offers : List Offer} (found : Option Target) → LeadIn at p none offers →
-    IfSome found (λ target. IsBestIn at offers (Some (Towards target))) → IfSome found (λ target. IsIsisRoute at.domain at.router p (Towards target))
-target_by found lead best = IfSome_then found best (λ target is. lead.route (Some (Towards target)) is)
 
 -- the offers are up to a constant those whose best makes the entry
 leads : (domain : IsisDomain) (level : Level) (u : ℕ) (p : Block) (offer : Offers) (given all : List Offer) (none : Type 0) → IsKnown domain →

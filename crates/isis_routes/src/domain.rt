@@ -1,10 +1,9 @@
-ghost use Rattle.std.specs.Prelude.{◌≡◌, ◌<◌, ◌↔◌, ℕ, length, Some, IfOk, IfSome, IsTrue};
+ghost use Rattle.std.specs.Prelude.{◌≡◌, ◌<◌, ◌↔◌, ℕ, length, Some, IfOk, IsTrue};
 ghost use Rattle.net_model.specs.Network.{Adjacent};
 ghost use Rattle.walk_core.specs.BestOffers.{AreInRange, ListsOffer};
 ghost use Rattle.walk_core.specs.Offers.{BestCost};
 ghost use Rattle.igp_theory.specs.Isis.{Leaks, OffersDefault, RunsLevelOne, RunsLevelTwo};
 ghost use Rattle.route_tables.specs.Lists.{Exactly};
-ghost use Rattle.route_tables.specs.declared.route.Route.TheVariants.{Towards};
 ghost use Rattle.isis_routes.specs.steps.Domain.{IsKnown};
 ghost use Rattle.isis_routes.specs.steps.LevelReach.{level_reach};
 ghost use Rattle.isis_routes.specs.steps.Levels.{zone_in, zone_number};
@@ -19,7 +18,7 @@ use crate::level_walks::LevelWalks;
 use crate::runs::{leaking_routers, routers_of_both_levels, runs_level_one, runs_level_two};
 use crate::segments::LevelSegments;
 use net_model::Net;
-use route_tables::{Route, Target, best_route, best_target};
+use route_tables::{Route, best_route};
 use std::alloc::Global;
 use std::marker::Model;
 use walk_core::{LeastWalks, Offer};
@@ -149,17 +148,5 @@ impl<'a> Domain<'a> {
         let number = level.zone();
         let walks = self.walks(router, number);
         best_route(alloc, walks, number, offers, self.net().routers())
-    }
-
-    /// Where the route of a router in a level to the best of some offers leads, where that is known at once.
-    #[inline(always)]
-    pub fn best_target(&self, level: Level, offers: &[Offer], router: u32) -> Option<Target>
-        requires router { router < length self.now.net }
-        requires range { AreInRange (level_reach self.now.walks router (zone_number level)) offers.now }
-        ensures { IfSome result (λ target. IsBestIn (in_level self.now level router) offers.now (Some (Towards target))) }
-    {
-        let number = level.zone();
-        let walks = self.walks(router, number);
-        best_target(walks, number, offers)
     }
 }

@@ -3,7 +3,7 @@
 //!
 //! `IsisRoutes::build` (`source.rt`) makes the segments of both levels (`segments.rt`), and then the tables of `Isis`
 //! (`protocol.rt`). Steps 1 to 6 are `Isis::build`, of which 2 to 5 are `destinations.rt`; step 7 is `Isis::decision` where this
-//! tells the route, else step 8 `Isis::target`, else `Isis::route`:
+//! tells the route, else step 8 is `Isis::route`:
 //!
 //! 1. `domain.rt`: what is known before any prefix: the least walks of both levels (`level_walks.rt`, by the number of the
 //!    level, `level.rt`) over their segments, by which the tables know who is adjacent to whom, the routers that run both levels and those that
@@ -15,8 +15,7 @@
 //! 6. `alike.rt`: prefixes with the same routes.
 //! 7. `lanes.rt`: the lanes of routers, and what decides the routes of all that run level 2, and of all that run level 1 alone.
 //! 8. For a router and a prefix (`asked.rt`): `entry.rt`: the level 1 route, else the level 2 route, else the down route, else
-//!    the default; `target.rt`: where the first two lead, where that is known without hops of their own; `leading.rt`: the
-//!    offers that lead them.
+//!    the default; `leading.rt`: the offers that lead the first two.
 //!
 //! Steps 2 to 7 take time of the connected prefixes of all routers, and of prefixes times the routers that run both
 //! levels; step 8 of routers times prefixes that aren't alike, and that no lane decides, times the offers of a prefix.
@@ -47,7 +46,6 @@ mod lanes;
 mod leading;
 mod protocol;
 mod source;
-mod target;
 
 pub use route_tables::OutOfMemory;
 pub use source::IsisRoutes;

@@ -13,10 +13,9 @@ use crate::domain::Domain;
 use crate::entry::route_of;
 use crate::lanes::{LANES, decision_of, lane_of_level, level_of_lane, router_level};
 use crate::segments::LevelSegments;
-use crate::target::target_of;
 use net_addr::Prefix;
 use net_model::Net;
-use route_tables::{Decision, Protocol, Route, Target};
+use route_tables::{Decision, Protocol, Route};
 use std::alloc::Global;
 use std::marker::Model;
 use walk_core::LeastWalks;
@@ -164,11 +163,6 @@ impl<'a> Protocol for Isis<'a> {
         router: u32,
     ) -> Result<Option<Route>, OutOfMemory> {
         route_of(alloc, self.asked(place, router))
-    }
-
-    #[inline(always)]
-    fn target(&self, place: usize, router: u32) -> Option<Target> {
-        target_of(self.asked(place, router))
     }
 
     fn walks(&self, router: u32, zone: usize) -> &LeastWalks {

@@ -23,12 +23,9 @@ use Rattle.route_tables.proofs.BestRoutes.{best_route_makes, route_by_hops}
 use Rattle.ospf_routes.specs.declared.areas.AreaWalks.{AreaWalks}
 use Rattle.ospf_routes.specs.declared.entry.Asked.{Asked}
 use Rattle.ospf_routes.specs.declared.entry.Deciding.{Deciding}
-use Rattle.ospf_routes.specs.steps.Asked.{HasNoEntry, IsDeciding, IsFoundRoute, IsInside, IsQuestion, IsRoute, IsRouteTowards}
+use Rattle.ospf_routes.specs.steps.Asked.{HasNoEntry, IsDeciding, IsFoundRoute, IsQuestion, IsRoute}
 use Rattle.ospf_routes.specs.steps.AreaReach.{area_reach}
 use Rattle.route_tables.specs.BestRoutes.{AreBestHops, IsBestRoute}
-use Rattle.route_tables.specs.declared.route.Route.TheVariants.{Towards}
-use Rattle.route_tables.specs.declared.route.Target.{Target}
-use Rattle.std.specs.Option.{IfSome}
 use Rattle.std.specs.List.{Any, Contains}
 use Rattle.std.proofs.lemmas.Option.{MatchOption-at_some, MatchOption-at_none}
 use Rattle.ospf_routes.specs.declared.ranges.ActiveRange.{ActiveRange}
@@ -108,14 +105,6 @@ range_is asked is = active_range_is asked.domain.now.net asked.router asked.dest
 
 -- Deciding offers
 
-pub inside_decides : (asked : Asked) (d : Deciding) → IsInside asked d → IsDeciding asked d
-inside_decides asked d is = record {
-  zone = is.zone;
-  same = is.same;
-  range = is.range;
-  entry = λ away hops best. let route = is.hops (Some hops) best in intra_area away route.is route.hops_are;
-}
-
 -- a route to the best of deciding offers makes the entry
 pub decided_route : (asked : Asked) (d : Deciding) (n : ℕ) (route : Route) → IsDeciding asked d →
     (Connected asked.domain.now.net asked.router asked.destination.now.dest → ⊥) → n ≡ length asked.domain.now.net →
@@ -134,12 +123,6 @@ pub decided_found : (asked : Asked) (d : Deciding) (n : ℕ) (found : Option Rou
     MatchOption found (NoneTotals d.walks.now d.offers.now) (IsRoute asked)
 decided_found asked d n None decides away count none = none
 decided_found asked d n (Some route) decides away count is = decided_route asked d n route decides away count is
-
-pub decided_target : (asked : Asked) (d : Deciding) (found : Option Target) → IsDeciding asked d →
-    (Connected asked.domain.now.net asked.router asked.destination.now.dest → ⊥) →
-    IfSome found (λ t. IsBestRoute d.walks.now d.offers.now d.zone (length asked.domain.now.net) (Towards t)) → IfSome found (IsRouteTowards asked)
-decided_target asked d None decides away none = tt
-decided_target asked d (Some t) decides away is = decided_route asked d (length asked.domain.now.net) (Towards t) decides away refl is
 
 -- where none of them is reached there is no entry
 pub found_by : (asked : Asked) (none : Type 0) (found : Option Route) → (none → HasNoEntry asked) → MatchOption found none (IsRoute asked) →

@@ -1,10 +1,10 @@
-ghost use Rattle.std.specs.Prelude.{◌≡◌, ◌<◌, ℕ, length, IfOk, IfNone, IfSome, IsTrue, MatchOption};
+ghost use Rattle.std.specs.Prelude.{◌≡◌, ◌<◌, ℕ, length, IfOk, IfNone, IfSome, MatchOption};
 ghost use Rattle.net_addr.specs.Addresses.{Block};
 ghost use Rattle.net_model.specs.Network.{Connected};
 ghost use Rattle.igp_theory.specs.Ospf.{IntraAreaCost, IsActiveRange};
 ghost use Rattle.walk_core.specs.BestOffers.{NoneTotals};
 ghost use Rattle.ospf_routes.specs.steps.Asked.{HasIntraRoute, HasNoEntry, HasNoIntraRoute, IsDeciding, IsFoundRoute, IsInside};
-ghost use Rattle.ospf_routes.specs.steps.Asked.{IsQuestion, IsRoute, IsRouteTowards, MakesIntraRoute};
+ghost use Rattle.ospf_routes.specs.steps.Asked.{IsQuestion, IsRoute, MakesIntraRoute};
 ghost use Rattle.ospf_routes.specs.steps.Destinations.{IsSomePart, IsPartFor};
 ghost use Rattle.ospf_routes.specs.steps.Routing.{AreAreaRoutes, IsAreaRoute};
 
@@ -14,7 +14,7 @@ use crate::intra_area::{AreaOffers, Destination, part_reach};
 use crate::ranges::ActiveRanges;
 use crate::united::united_some;
 use route_core::Hops;
-use route_tables::{Route, Target, best_hops, best_route, best_target, push_option};
+use route_tables::{Route, best_hops, best_route, push_option};
 use std::alloc::Global;
 use walk_core::{LeastWalks, Offer};
 
@@ -43,85 +43,25 @@ struct Deciding<'a> {
     offers: &'a [Offer],
 }
 
-/// Where the route leads, where that is known at once: where one area alone offers the prefix and the router is in it, or
-/// isn't and has no active range of the prefix.
-pub(crate) fn target_of(asked: Asked) -> Option<Target>
+/// The route of a router for a prefix: the intra-area route, else a discard of an active range, else
+/// the inter-area route (RFC 2328, sections 11.1 and 16). There is none for a connected prefix.
+pub(crate) fn route_of(alloc: Global, asked: Asked) -> Result<Option<Route>, OutOfMemory>
     requires { IsQuestion asked }
-    ensures { IfSome result (IsRouteTowards asked.entry) }
+    ensures { IfOk result (IsFoundRoute asked.entry) }
 {
-    match decided_by(asked) {
-        Some(deciding) => target_by(asked, deciding),
-        None => None,
+    if asked.destination.is_home(asked.router) {
+        return Ok(None);
     }
-}
-
-/// Where the route to the best of the offers that decide it leads.
-fn target_by(asked: Asked, deciding: Deciding) -> Option<Target>
-    requires asked { IsQuestion asked }
-    requires decides { IsDeciding asked deciding }
-    ensures { IfSome result (IsRouteTowards asked.entry) }
-{
-    if deciding.offers.is_empty() || asked.destination.is_home(asked.router) {
-        return None;
+    if let Some(route) = intra_route(alloc, asked)? {
+        return Ok(Some(route));
     }
-    best_target(deciding.walks, deciding.zone, deciding.offers)
-}
-
-/// The offers that decide the route, where one area alone offers the prefix.
-fn decided_by(asked: Asked<'_>) -> Option<Deciding<'_>>
-    requires { IsQuestion asked }
-    ensures { IfSome result (IsDeciding asked.entry) }
-{
-    if asked.destination.parts.len() == 1 {
-        return decided_in(asked);
-    }
-    None
-}
-
-/// The offers that decide the route of a prefix that one area alone offers.
-fn decided_in(asked: Asked<'_>) -> Option<Deciding<'_>>
-    requires asked { IsQuestion asked }
-    requires one { length asked.destination.now.parts.items ≡ 1 }
-    ensures { IfSome result (IsDeciding asked.entry) }
-{
-    match inside(asked) {
-        Some(deciding) => Some(deciding),
-        None => listened(asked),
-    }
-}
-
-/// The offers of the one area that offers the prefix, where the router is in that area.
-fn inside(asked: Asked<'_>) -> Option<Deciding<'_>>
-    requires asked { IsQuestion asked }
-    requires one { length asked.destination.now.parts.items ≡ 1 }
-    ensures some { IfSome result (IsInside asked.entry) }
-    ensures none { IfNone result (HasNoIntraRoute asked.entry) }
-{
-    let part = &asked.destination.parts[0];
-    match part_reach(asked.domain, part, asked.router) {
-        Some(walks) => {
-            let offers = part.offers.as_slice();
-            Some(Deciding {
-                walks,
-                zone: part.zone,
-                offers,
-            })
-        }
-        None => None,
-    }
-}
-
-/// The summaries that decide the route of a prefix without an intra-area route, where it is no active range.
-fn listened(asked: Asked<'_>) -> Option<Deciding<'_>>
-    requires asked { IsQuestion asked }
-    requires no_intra { HasNoIntraRoute asked }
-    ensures some { IfSome result (IsDeciding asked.entry) }
-    ensures reached { IfSome result (λ d. NoneTotals d.walks.now d.offers.now → HasNoEntry asked.entry) }
-{
     if asked.ranges.contains(asked.destination.dest) {
-        return None;
+        return Ok(Some(Route::Drops));
     }
-    announced(asked)
+    match announced(asked) {
+        Some(deciding) => route_by(alloc, asked, deciding),
+        None => Ok(None),
+    }
 }
 
 /// The summaries that decide the route of a prefix that is no active range and has no intra-area route: those into the area
@@ -144,75 +84,6 @@ fn announced(asked: Asked<'_>) -> Option<Deciding<'_>>
             })
         }
         None => None,
-    }
-}
-
-/// The route of a router for a prefix; that there is none is mostly known at once.
-pub(crate) fn route_of(alloc: Global, asked: Asked) -> Result<Option<Route>, OutOfMemory>
-    requires { IsQuestion asked }
-    ensures { IfOk result (IsFoundRoute asked.entry) }
-{
-    if is_unheard(asked) {
-        return Ok(None);
-    }
-    full_route(alloc, asked)
-}
-
-/// Whether it is known at once that there is no route: one area alone offers the prefix, in which the router isn't, and
-/// nothing is announced of it where the router listens.
-fn is_unheard(asked: Asked) -> bool
-    requires { IsQuestion asked }
-    ensures { IsTrue result → HasNoEntry asked.entry }
-{
-    if asked.destination.parts.len() == 1 {
-        return is_unheard_outside(asked);
-    }
-    false
-}
-
-/// Whether it is known at once that there is no route for a prefix that one area alone offers.
-fn is_unheard_outside(asked: Asked) -> bool
-    requires asked { IsQuestion asked }
-    requires one { length asked.destination.now.parts.items ≡ 1 }
-    ensures { IsTrue result → HasNoEntry asked.entry }
-{
-    match inside(asked) {
-        Some(_) => false,
-        None => hears_nothing(asked),
-    }
-}
-
-/// Whether nothing is announced of a prefix without an intra-area route, where it is no active range.
-fn hears_nothing(asked: Asked) -> bool
-    requires asked { IsQuestion asked }
-    requires no_intra { HasNoIntraRoute asked }
-    ensures { IsTrue result → HasNoEntry asked.entry }
-{
-    match listened(asked) {
-        Some(deciding) => deciding.offers.is_empty(),
-        None => false,
-    }
-}
-
-/// The route of a router for a prefix: the intra-area route, else a discard of an active range, else
-/// the inter-area route (RFC 2328, sections 11.1 and 16). There is none for a connected prefix.
-#[inline(never)]
-fn full_route(alloc: Global, asked: Asked) -> Result<Option<Route>, OutOfMemory>
-    requires { IsQuestion asked }
-    ensures { IfOk result (IsFoundRoute asked.entry) }
-{
-    if asked.destination.is_home(asked.router) {
-        return Ok(None);
-    }
-    if let Some(route) = intra_route(alloc, asked)? {
-        return Ok(Some(route));
-    }
-    if asked.ranges.contains(asked.destination.dest) {
-        return Ok(Some(Route::Drops));
-    }
-    match announced(asked) {
-        Some(deciding) => route_by(alloc, asked, deciding),
-        None => Ok(None),
     }
 }
 
@@ -253,6 +124,27 @@ fn area_route(alloc: Global, asked: Asked) -> Result<Option<Route>, OutOfMemory>
             best_route(alloc, inside.walks, inside.zone, inside.offers, count)
         }
         None => Ok(None),
+    }
+}
+
+/// The offers of the one area that offers the prefix, where the router is in that area.
+fn inside(asked: Asked<'_>) -> Option<Deciding<'_>>
+    requires asked { IsQuestion asked }
+    requires one { length asked.destination.now.parts.items ≡ 1 }
+    ensures some { IfSome result (IsInside asked.entry) }
+    ensures none { IfNone result (HasNoIntraRoute asked.entry) }
+{
+    let part = &asked.destination.parts[0];
+    match part_reach(asked.domain, part, asked.router) {
+        Some(walks) => {
+            let offers = part.offers.as_slice();
+            Some(Deciding {
+                walks,
+                zone: part.zone,
+                offers,
+            })
+        }
+        None => None,
     }
 }
 

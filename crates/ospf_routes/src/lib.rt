@@ -2,7 +2,7 @@
 //!
 //! `OspfRoutes::build` (`source.rt`) makes the areas with their segments and walks (`all_areas`), and then the tables of `Ospf`
 //! (`protocol.rt`). The rest of step 1, and steps 2 and 3, are `Ospf::build`, which also finds twins; step 4 is
-//! `Ospf::decision` where this tells the route, else `Ospf::target`, else `Ospf::route`:
+//! `Ospf::decision` where this tells the route, else `Ospf::route`:
 //!
 //! 1. `domain.rt`: a network and its areas (`areas.rt`, `members.rt`) with their least walks (section 16.1), whose segments the
 //!    tables keep, and routers, border routers (3.3), whom a router listens to (16.2). Its facts are known wherever one has it.
@@ -17,11 +17,9 @@
 //!    16.2), `push_announced` for the backbone's own list. Into every other area there go the routes of other areas, what its
 //!    border routers reach over the backbone, and the defaults of stub areas (`stub_areas.rt`, 3.6).
 //! 4. `entry.rt`: the intra-area route, else a discard, else the inter-area route (16, 11.1), by what is announced into the area
-//!    that the router listens to, which `Ospf::asked` reads; `united.rt`: several areas' hops together. Where one area alone
-//!    offers a prefix, and one or two offers decide that have the same first hops where both are best, `target_of` tells at
-//!    once where the route leads. `lanes.rt`: for routers in one area alone the deciding offers are the same, so one or two are
-//!    found once for each area and kind of prefixes, of what `Ospf::decision_in` reads. All other routers are in a last lane,
-//!    without decisions.
+//!    that the router listens to, which `Ospf::asked` reads; `united.rt`: several areas' hops together. `lanes.rt`: for
+//!    routers in one area alone the deciding offers are the same, so one or two are found once for each area and kind of
+//!    prefixes, of what `Ospf::decision_in` reads. All other routers are in a last lane, without decisions.
 //!
 //! `twins.rt` finds prefixes that have the same routes at every router, by what is offered and announced of them, and
 //! `lane_twins.rt` those of which this is so at every router in one area alone, each by the latest prefix that the same router

@@ -11,7 +11,7 @@ use crate::OutOfMemory;
 use crate::areas::AreaWalks;
 use crate::destinations::destinations;
 use crate::domain::Domain;
-use crate::entry::{Asked, route_of, target_of};
+use crate::entry::{Asked, route_of};
 use crate::intra_area::Destination;
 use crate::lane_twins::{LaneTwins, all_lane_twins};
 use crate::lanes::decision;
@@ -21,7 +21,7 @@ use crate::summaries::Summaries;
 use crate::twins::all_twins;
 use net_addr::Prefix;
 use net_model::Net;
-use route_tables::{Decision, Protocol, Route, Target};
+use route_tables::{Decision, Protocol, Route};
 use std::alloc::Global;
 use std::marker::Model;
 use walk_core::{LeastWalks, Offer};
@@ -228,10 +228,6 @@ impl<'a> Protocol for Ospf<'a> {
         } else {
             Decision::Unknown
         }
-    }
-
-    fn target(&self, place: usize, router: u32) -> Option<Target> {
-        target_of(self.asked(place, router))
     }
 
     fn route(

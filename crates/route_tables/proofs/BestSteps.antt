@@ -1,17 +1,16 @@
 -- The best of some offers, offer by offer, and a vertex that alone makes the best ones.
-use Rattle.std.proofs.Common.{◌≡◌, ℕ, ◌+◌, ◌<◌, ◌≤◌, ◌⊎◌, inl, inr, List, [], ◌∷◌, ◌++◌, Option, Some, None, IfSome, length, get_or, take, refl, sym, ap}
+use Rattle.std.proofs.Common.{◌≡◌, ℕ, ◌+◌, ◌<◌, ◌≤◌, ◌⊎◌, inl, inr, List, [], ◌∷◌, ◌++◌, Option, Some, None, length, get_or, take, refl, sym, ap}
 use Rattle.std.proofs.Common.{subst, ◌∙◌, arith}
 use Rattle.std.specs.List.{Contains}
 use Rattle.std.proofs.lemmas.Option.{none-some, same_Some}
 use Rattle.std.proofs.lemmas.List.{take_more}
 use Rattle.std.proofs.lemmas.List.Elements.{Contains-append_left, Contains-push, Contains-push_cases}
-use Rattle.walk_core.specs.Reach.{Reach, distance_of, HasHop}
-use Rattle.walk_core.specs.BestOffers.{AreHopsTowards, HasTotal, NoneTotals, IsBestTotal, total_towards, total_with}
+use Rattle.walk_core.specs.Reach.{Reach, distance_of}
+use Rattle.walk_core.specs.BestOffers.{HasTotal, NoneTotals, IsBestTotal, total_towards, total_with}
 use Rattle.walk_core.specs.declared.offers.Offer.{Offer}
 use Rattle.route_tables.specs.BestRoutes.{AreBestHops}
 use Rattle.route_tables.specs.Routings.{AreHopsTo, IsReached}
 use Rattle.route_tables.specs.declared.best.BestAt.{BestAt}
-use Rattle.route_tables.proofs.ListFacts.{the_one}
 use Rattle.route_tables.specs.steps.BestSoFar.{IsBestAt, IsBestSoFar, IsBetterOf, LeadAlike, lower, kept, both}
 
 -- an offer of the first ones is one of more
@@ -140,11 +139,6 @@ best_step reach offers i d best next total within is better so_far =
     subst (λ (l : List Offer). IsBestSoFar reach l next) (sym (take_more offers i d within))
     (better reach (take i offers) (get_or offers i d) refl (sym is) so_far)
 
--- what is found is the best
-pub some_best : (reach : Reach) (offers : List Offer) (found : Option BestAt) → IsBestSoFar reach offers found → IfSome found (IsBestAt reach offers)
-some_best reach offers None is = tt
-some_best reach offers (Some best) is = is
-
 -- The vertex of the best offer
 
 reached_by : (d : Option ℕ) (asks cost : ℕ) → total_with d asks ≡ Some cost → (distance : ℕ) × (d ≡ Some distance)
@@ -185,26 +179,3 @@ alike_hops reach offers best n is same hops to =
         );
       };
     }
-
--- the hops towards a vertex that asks nothing are the first hops towards it
-pub hops_of_one : (reach : Reach) (at distance n : ℕ) (hops : List ℕ) → distance_of reach at ≡ Some distance →
-    AreHopsTowards reach (record { at = at; asks = 0 } ∷ []) distance n hops → AreHopsTo reach at n hops
-hops_of_one reach at distance n hops far towards = record {
-  ascending = towards.ascending;
-  exact = λ h. (
-    λ inside. let over = (towards.exact h).0 inside in
-        (over.0, subst (λ (o : Offer). HasHop reach o.at h) (the_one (record { at = at; asks = 0 }) over.1.offer over.1.among) over.1.hop),
-    λ both. (towards.exact h).1 (
-      both.0,
-      record {
-        offer = record { at = at; asks = 0 };
-        among = Contains-push [] (record { at = at; asks = 0 });
-        total = whole;
-        hop = both.1;
-      },
-    ),
-  );
-}
-  where
-    whole : total_with (distance_of reach at) 0 ≡ Some distance
-    whole = let same : distance + 0 ≡ distance = omega arith in ap (λ (d : Option ℕ). total_with d 0) far ∙ ap (λ (d : ℕ). Some d) same

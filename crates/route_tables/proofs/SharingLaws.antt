@@ -1,16 +1,16 @@
--- Tables in the making: entries that all tables share, and the numbers of those that a table knows.
-use Rattle.std.proofs.Common.{◌≡◌, ℕ, ◌+◌, ◌<◌, ◌↔◌, List, [], ◌∷◌, ◌++◌, length, Some, None, Option, get_or, set, inl, inr, sym, ap, subst, ◌∙◌, arith}
-use Rattle.std.proofs.Common.{Result, Ok, Err, IfOk, OnOk, length-append, append_assoc}
+-- Tables in the making: entries that all tables share, and the numbers of those that a table has.
+use Rattle.std.proofs.Common.{◌≡◌, ℕ, ◌+◌, ◌<◌, ◌≤◌, ◌↔◌, List, [], ◌∷◌, ◌++◌, length, Some, None, Option, get_or, take, inl, inr}
+use Rattle.std.proofs.Common.{sym, ap, subst, ◌∙◌, arith, true, false, ltb, ltb-true, ltb-false, length-append, append_assoc}
+use Rattle.std.specs.List.{Contains}
+use Rattle.std.specs.List.Sorted.{IsNonDecreasingBy, IsPartitionPoint, IsStrictlyIncreasing}
 use Rattle.std.proofs.lemmas.Bool.{cases_eq, cases_lt}
-use Rattle.std.proofs.lemmas.List.{get_or_append_left, length_push, get_or-set_same, get_or-set_other, set_past}
-use Rattle.std.proofs.lemmas.Option.{same_Some}
-use Rattle.walk_core.specs.Reach.{Reach}
+use Rattle.std.proofs.lemmas.List.{get_or_append_left, get_or-take, length-take-le, length_push}
+use Rattle.std.proofs.lemmas.List.Kept.{AllPairs-from_increasing}
+use Rattle.walk_core.specs.Reach.{Reach, listed_hops_of}
 use Rattle.route_core.specs.declared.entry.Entry.{Entry}
 use Rattle.route_core.specs.declared.entry.Entry.TheVariants.{Via, Discard}
-use Rattle.route_tables.specs.Protocols.{ProtocolRoutes}
-use Rattle.route_tables.specs.Routings.{IsEntryTo}
-use Rattle.route_tables.specs.steps.Sharing.{AreKnown, AreNumbers, AreOverOne, AreShared, HasNumber, IsNumberOf, Keeps, KeepsMore}
-use Rattle.route_tables.specs.declared.pool.Known.{Known}
+use Rattle.route_tables.specs.Routings.{AreHopsTo}
+use Rattle.route_tables.specs.steps.Sharing.{AreNumbers, AreOverOne, HasNumber, IsNumberOf, KeepsMore}
 use Rattle.route_tables.specs.declared.pool.Pool.{Pool}
 use Rattle.route_tables.proofs.ListFacts.{each_more}
 
@@ -53,49 +53,19 @@ numbers_more wanted k entries more numbers next are here = record {
       (numbers_kept wanted k entries more numbers are).each here;
 }
 
--- Over one hop
-
-pub over_one_kept : (n : ℕ) (entries more : List Entry) → AreOverOne n entries → AreOverOne n (entries ++ more)
-over_one_kept n entries more are hop below = number_kept (λ entry. entry ≡ Via (hop ∷ [])) entries more hop (are hop below)
-
--- What is known towards vertices
-
--- with what is known now
-pub known_more : (reach : ℕ → Reach) (n : ℕ) (entries : List Entry) (all : List (Option Known)) (at : ℕ) (known : Known) → AreKnown reach n entries all →
-    HasNumber (IsEntryTo (reach known.zone) at n) entries known.number → AreKnown reach n entries (set all at (Some known))
-known_more reach n entries all at noted are is v known there = elim (cases_eq v at) [
-  | inl same ↦ elim (cases_lt at (length all)) [
-    | inl inside ↦
-        let read : get_or (set all at (Some noted)) at None ≡ Some noted = get_or-set_same all at (Some noted) None inside in
-        let one : noted ≡ known = same_Some noted known (sym read ∙ subst (λ (w : ℕ). get_or (set all at (Some noted)) w None ≡ Some known) same there) in
-        subst (λ (w : ℕ). HasNumber (IsEntryTo (reach known.zone) w n) entries known.number) (sym same)
-        (subst (λ (k : Known). HasNumber (IsEntryTo (reach k.zone) at n) entries k.number) one is)
-    | inr past ↦ are v known (subst (λ (l : List (Option Known)). get_or l v None ≡ Some known) (set_past all at (Some noted) past) there)
-  ]
-  | inr other ↦ are v known (sym (get_or-set_other all at v (Some noted) None other) ∙ there)
-]
-
 -- Entries that come
 
--- what is known stays so
-pub shared_kept : (routes : ProtocolRoutes) (u : ℕ) (old new : Pool) (more : List Entry) → new.entries.items ≡ old.entries.items ++ more →
-    new.known.items ≡ old.known.items → AreShared routes u old → AreShared routes u new
-shared_kept routes u old new more entries known are = record {
-  known = subst (λ (l : List Entry). AreKnown (routes.reach u) routes.routers l new.known.items) (sym entries)
-      (λ at one is. number_kept (IsEntryTo (routes.reach u one.zone) at routes.routers) old.entries.items more one.number
-      (are.known at one (subst (λ (l : List (Option Known)). get_or l at None ≡ Some one) known is)));
-  single = subst (AreOverOne routes.routers) (sym entries) (over_one_kept routes.routers old.entries.items more are.single);
-}
+-- the entries over one hop stay so
+pub single_kept : (n : ℕ) (old new : Pool) → KeepsMore old new → AreOverOne n old.entries.items → AreOverOne n new.entries.items
+single_kept n old new kept are = subst (AreOverOne n) (sym kept.entries)
+    (λ hop below. number_kept (λ entry. entry ≡ Via (hop ∷ [])) old.entries.items kept.more hop (are hop below))
 
-pub shared_where_kept : {E : Type 0} (routes : ProtocolRoutes) (u : ℕ) (old new : Pool) (entry : Entry) (r : Result ℕ E) → IfOk r (Keeps old new entry) →
-    AreShared routes u old → OnOk r (AreShared routes u new)
-shared_where_kept routes u old new entry (Ok number) keeps are = shared_kept routes u old new (entry ∷ []) keeps.entries keeps.known are
-shared_where_kept routes u old new entry (Err e) keeps are = keeps
-
-pub shared_where_more : {E : Type 0} (routes : ProtocolRoutes) (u : ℕ) (old new : Pool) (r : Result ℕ E) → OnOk r (KeepsMore old new) →
-    OnOk r (new.known.items ≡ old.known.items) → AreShared routes u old → OnOk r (AreShared routes u new)
-shared_where_more routes u old new (Ok number) kept known are = shared_kept routes u old new kept.more kept.entries known are
-shared_where_more routes u old new (Err e) kept known are = kept
+-- a hop alone that is told is the number of the entry over it
+pub over_hop : (n : ℕ) (wanted : Entry → Type 0) (entries : List Entry) (hop : ℕ) → AreOverOne n entries →
+    (hop < n) × wanted (Via (hop ∷ [])) → HasNumber wanted entries hop
+over_hop n wanted entries hop single (below, is) =
+    let has = single hop below in
+    record { below = has.below; is = subst wanted (sym has.is) is }
 
 -- more and more entries
 pub more_kept : (old mid new : Pool) → KeepsMore old mid → KeepsMore mid new → KeepsMore old new
@@ -103,3 +73,42 @@ more_kept old mid new first second = record {
   more = first.more ++ second.more;
   entries = second.entries ∙ ap (λ (l : List Entry). l ++ second.more) first.entries ∙ append_assoc old.entries.items first.more second.more;
 }
+
+-- First hops
+
+-- numbers that increase don't decrease
+pub in_order : (hops : List ℕ) → IsStrictlyIncreasing hops → IsNonDecreasingBy (λ (h : ℕ). h) hops
+in_order hops up i j d le within = elim (cases_eq i j) [
+  | inl same ↦ let here = ap (λ (k : ℕ). get_or hops k d) same in omega (arith, here)
+  | inr apart ↦ let less = AllPairs-from_increasing hops up i j d (omega arith) within in omega (arith, less)
+]
+
+-- those of the first hops that come before the first one that isn't below n are those below n
+pub hops_below : (reach : Reach) (at n k : ℕ) (hops : List ℕ) → hops ≡ listed_hops_of reach at → IsStrictlyIncreasing hops →
+    k ≤ length hops → IsPartitionPoint (λ (h : ℕ). ltb h n ≡ true) (λ (h : ℕ). ltb h n ≡ false) hops k →
+    AreHopsTo reach at n (take k hops)
+hops_below reach at n k hops same up within point =
+    let long : length (take k hops) ≡ k = length-take-le k hops within in
+    record {
+      ascending = λ i inside.
+          let one = get_or-take k hops i 0 (omega (arith, long, inside)) in
+          let next = get_or-take k hops (i + 1) 0 (omega (arith, long, inside)) in
+          let less = up i (omega (arith, long, inside, within)) in
+          omega (arith, one, next, less);
+      exact = λ h. (
+        λ (i, inside, is).
+            let here : get_or hops i h ≡ h = sym (get_or-take k hops i h (omega (arith, long, inside))) ∙ is in
+            let low = ltb-true (get_or hops i h) n (point.0 i h (omega arith) (omega (arith, long, inside))) in
+            (omega (arith, here, low), subst (λ (l : List ℕ). Contains l h) same (i, omega (arith, long, inside, within), here)),
+        λ both.
+            let among : Contains hops h = subst (λ (l : List ℕ). Contains l h) (sym same) both.1 in
+            elim (cases_lt among.0 k) [
+              | inl front ↦ (among.0, omega (arith, long, front), get_or-take k hops among.0 h front ∙ among.2)
+              | inr back ↦
+                  let high = ltb-false (get_or hops among.0 h) n (point.1 among.0 h back among.1) in
+                  let below = both.0 in
+                  let is = among.2 in
+                  absurd (omega (arith, high, below, is))
+            ],
+      );
+    }

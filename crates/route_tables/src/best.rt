@@ -3,7 +3,6 @@ ghost use Rattle.walk_core.specs.BestOffers.{AreInRange, FitsTotal, NoneTotals, 
 ghost use Rattle.walk_core.specs.Reach.{Reach, listed_hops_of};
 ghost use Rattle.walk_core.specs.declared.offers.Offer.{Offer as OfferValue};
 ghost use Rattle.route_tables.specs.BestRoutes.{AreBestHops, IsBestRoute, IsBestTarget};
-ghost use Rattle.route_tables.specs.declared.route.Route.TheVariants.{Towards};
 ghost use Rattle.route_tables.specs.steps.BestSoFar.{IsBestAt, IsBestSoFar, IsBetterOf, LeadAlike};
 
 use crate::OutOfMemory;
@@ -11,17 +10,6 @@ use crate::route::{Route, Target};
 use route_core::Hops;
 use std::alloc::Global;
 use walk_core::{LeastWalks, Offer};
-
-/// Where the best of some offers leads, where one vertex has the first hops of all best offers and at most two offers are
-/// made; also `None` where no offer is reached.
-#[inline(always)]
-pub fn best_target(walks: &LeastWalks, zone: usize, offers: &[Offer]) -> Option<Target>
-    requires { AreInRange walks.now offers.now }
-    ensures { (count : ℕ) → IfSome result (λ target. IsBestRoute walks.now offers.now zone count (Towards target)) }
-{
-    let best = best_of_few(walks, offers)?;
-    target_towards(walks, zone, offers, best)
-}
 
 /// The route to the best of some offers, over the least walks of a zone, and `None` where no offer is reached. The hops
 /// are routers below `count`; where one vertex has the first hops of all best offers, they are those towards it. It takes
@@ -72,22 +60,6 @@ struct BestAt {
     cost: u64,
     at: u32,
     alone: bool,
-}
-
-/// The best of one or two offers, as most prefixes have, by no loop and no call.
-#[inline(always)]
-fn best_of_few(walks: &LeastWalks, offers: &[Offer]) -> Option<BestAt>
-    requires { AreInRange walks.now offers.now }
-    ensures { IfSome result (IsBestAt walks.now offers.now) }
-{
-    if let [offer] = offers {
-        return better(None, total(walks, *offer), offer.at);
-    }
-    if let [one, other] = offers {
-        let first = better(None, total(walks, *one), one.at);
-        return better(first, total(walks, *other), other.at);
-    }
-    None
 }
 
 /// The best of some offers.

@@ -1,8 +1,8 @@
 //! Route tables of all routers: the prefixes and routes that they are made of, and the tables that a protocol gives.
 //!
 //! - `protocol.rt`: what a protocol says of a network: candidates, zones with their least walks, the route of each router
-//!   for each candidate, where it is known at once, lanes of routers, which candidates have the same routes in a lane, and what
-//!   decides them there, neighbors.
+//!   for each candidate, lanes of routers, which candidates have the same routes in a lane, and what decides them there,
+//!   neighbors.
 //! - `route.rt`, `best.rt`: a route before it is an entry, and the route to the best of some offers. One pass finds the best;
 //!   where several are as good, another tells whether all offers have the first hops towards one router: then the route says
 //!   that router and takes no memory.
@@ -13,7 +13,7 @@
 //!   search, and those that each table adds, among which it looks for a list of several hops, in time of these.
 //! - `kinds.rt`: the prefixes of a lane by kinds, which its routers have the same entries for, and what decides for each kind.
 //! - `sharing.rt`, `table.rt`: of each router the number of its entry for each kind of its lane, and the tables; no route is
-//!   asked for where the lane tells the entry, or where it leads is known.
+//!   asked for where the lane tells the entry.
 //! - `candidates.rt`, `distinct.rt`, `lists.rt`: prefixes, in order and each once, and lists that grow.
 //! - `source.rt`, `joined.rt`: tables as a source of tables, with the segments that join neighbors.
 //!
@@ -43,7 +43,7 @@ mod sure;
 mod table;
 
 pub use alike::are_alike;
-pub use best::{best_hops, best_route, best_target};
+pub use best::{best_hops, best_route};
 pub use candidates::{Candidates, DistinctPrefixes, is_all_addresses};
 pub use lane::Decision;
 pub use lists::push_option;

@@ -1,18 +1,10 @@
-ghost use Rattle.std.specs.Prelude.{◌≡◌, ◌<◌, ℕ, None, Some, length, slice_index_or, slice_set, IfOk, IfSome, IsTrue, ◌↔◌, OnOk};
+ghost use Rattle.std.specs.Prelude.{◌≡◌, ◌<◌, length, slice_index_or, IfOk, IfSome, IsTrue, ◌↔◌};
 ghost use Rattle.route_tables.specs.steps.Sharing.{AreOverOne, HasNumber, Keeps};
 ghost use Rattle.route_core.specs.declared.entry.Entry.TheVariants.{Discard, Via};
 
 use crate::OutOfMemory;
-use crate::route::Target;
 use route_core::{Entry, Hops};
 use std::alloc::Global;
-
-/// An entry towards a router that a table keeps: the zone of its target, and its number.
-#[derive(Clone, Copy, Debug)]
-pub(crate) struct Known {
-    zone: usize,
-    number: u32,
-}
 
 /// The entries of all tables: first those over one hop alone, each under the number of its hop, then those that each
 /// table added, one table after another. Hop lists of several hops are hardly ever those of another router, so a table
@@ -21,7 +13,6 @@ pub(crate) struct Known {
 pub(crate) struct Pool {
     pub(crate) entries: Vec<Entry>,
     start: usize,
-    known: Vec<Option<Known>>,
 }
 
 impl Pool {
@@ -33,21 +24,14 @@ impl Pool {
         for hop in 0..routers {
             entries.push(Entry::Via(Hops::from_one(hop)))?;
         }
-        Ok(Pool {
-            entries,
-            start: 0,
-            known: Vec::new(alloc),
-        })
+        Ok(Pool { entries, start: 0 })
     }
 
-    /// Goes on to the next table, of which nothing is known towards any of so many routers.
-    pub(crate) fn begin_table(&mut self, alloc: Global, routers: u32) -> Result<(), OutOfMemory>
-        ensures entries { OnOk result (self.new.entries.items ≡ self.old.entries.items) }
-        ensures known { OnOk result ((at : ℕ) → slice_index_or self.new.known.items at None ≡ None) }
+    /// Goes on to the next table, which has added nothing.
+    pub(crate) fn begin_table(&mut self)
+        ensures { self.new.entries.items ≡ self.old.entries.items }
     {
-        self.known = vec![in alloc; None; routers as usize]?;
         self.start = self.entries.len();
-        Ok(())
     }
 
     /// Keeps an entry of the table, and gives its number.
@@ -67,30 +51,6 @@ impl Pool {
     {
         let place = place_over(self.entries.as_slice(), self.start, hops)?;
         u32::try_from(place).ok()
-    }
-
-    /// The number of the entry towards a target, where that is known.
-    pub(crate) fn known_number(&self, target: Target) -> Option<u32>
-        ensures { IfSome result (λ number. slice_index_or self.now.known.items target.at None ≡ Some (record { zone = target.zone; number = number })) }
-    {
-        match self.known.get(target.at as usize).copied().flatten() {
-            Some(known) if known.zone == target.zone => Some(known.number),
-            _ => None,
-        }
-    }
-
-    /// Notes the number of the entry towards a target.
-    pub(crate) fn remember(&mut self, target: Target, number: u32)
-        ensures entries { self.new.entries.items ≡ self.old.entries.items }
-        ensures known { self.new.known.items ≡ slice_set self.old.known.items target.at (Some (record { zone = target.zone; number = number })) }
-    {
-        let at = target.at as usize;
-        if at < self.known.len() {
-            self.known[at] = Some(Known {
-                zone: target.zone,
-                number,
-            });
-        }
     }
 }
 

@@ -5,11 +5,10 @@ ghost use Rattle.route_tables.specs.Entries.{IsLawful};
 ghost use Rattle.route_tables.specs.Lanes.{DecidesFor};
 ghost use Rattle.route_tables.specs.Prefixes.{AreDistinctPrefixes, prefix_at};
 ghost use Rattle.route_tables.specs.Protocols.{AreAlikeInLane, IsRouteOf, ProtocolRoutes};
-ghost use Rattle.route_tables.specs.declared.route.Route.TheVariants.{Towards};
 
 use crate::OutOfMemory;
 use crate::lane::Decision;
-use crate::route::{Route, Target};
+use crate::route::Route;
 use net_addr::Prefix;
 use std::alloc::Global;
 use walk_core::LeastWalks;
@@ -76,13 +75,6 @@ pub trait Protocol {
         requires lane { lane < lanes self.now }
         requires place { place < length (candidates self.now) }
         ensures { DecidesFor (routes self.now) lane (prefix_at (candidates self.now) place) result };
-
-    /// Where its route for the prefix of this number leads, where that is known at once, without hops of its own.
-    fn target(&self, place: usize, router: u32) -> Option<Target>
-        requires place { place < length (candidates self.now) }
-        requires router { router < (routes self.now).routers }
-        ensures { IfSome result (λ target. IsRouteOf (routes self.now) router
-            (prefix_at (candidates self.now) place) (Towards target)) };
 
     /// The route that it gives a router for the prefix of this number.
     fn route(&self, alloc: Global, place: usize, router: u32) -> Result<Option<Route>, OutOfMemory>

@@ -1,10 +1,9 @@
 ghost use Rattle.std.specs.Prelude.{◌≡◌, ◌<◌, IfOk, IfSome, OnOk, length};
 ghost use Rattle.route_tables.specs.Lanes.{DecidesFor};
 ghost use Rattle.route_tables.specs.Prefixes.{prefix_at};
-ghost use Rattle.route_tables.specs.Routings.{AreHopsTo, HasZoneTarget, IsEntryTo, IsReached, IsZoneTarget, Makes};
-ghost use Rattle.route_tables.specs.steps.Kinds.{IsToldLane, first_prefix_of};
-ghost use Rattle.route_tables.specs.steps.Sharing.{AreOverOne, AreShared, HasNumber, IsNumberOf, IsRouterLane, KeepsMore};
-ghost use Rattle.route_tables.specs.steps.Sure.{IsSure};
+ghost use Rattle.route_tables.specs.Routings.{AreHopsTo, HasZoneTarget, IsEntryTo, Makes};
+ghost use Rattle.route_tables.specs.steps.Kinds.{IsToldLane};
+ghost use Rattle.route_tables.specs.steps.Sharing.{AreOverOne, HasNumber, IsNumberOf, IsRouterLane, KeepsMore, LaneTells};
 ghost use Rattle.route_core.specs.declared.entry.Entry.TheVariants.{Via};
 
 use crate::OutOfMemory;
@@ -12,16 +11,18 @@ use crate::kinds::LaneKinds;
 use crate::lane::Decision;
 use crate::pool::Pool;
 use crate::protocol::Protocol;
-use crate::route::{Route, Target};
+use crate::route::Route;
 use crate::sure::{Sure, only_hop, sure_of};
 use route_core::{Entry, Hops, Number};
 use std::alloc::Global;
-use walk_core::{LeastWalks, Offer};
+use walk_core::LeastWalks;
 
-/// A router's lane: what decides for each kind and the place of its first prefix, and where it is known what decides, the
-/// router's least walks of the lane's zone.
+/// A router's lane: the router, how many there are, what decides for each kind and the place of its first prefix, and where it
+/// is known what decides, the router's least walks of the lane's zone.
 #[derive(Clone, Copy, Debug)]
 pub(crate) struct RouterLane<'a> {
+    pub(crate) router: u32,
+    count: u32,
     walks: Option<&'a LeastWalks>,
     decisions: &'a [Decision],
     pub(crate) firsts: &'a [u32],
@@ -38,10 +39,13 @@ pub(crate) fn router_lane<'a, P: Protocol>(
     requires lane { lane < P.lanes protocol.now }
     requires in_lane { (P.routes protocol.now).in_lane lane router }
     requires told { IsToldLane (DecidesFor (P.routes protocol.now) lane) (P.candidates protocol.now) own.now }
-    ensures lane { IsRouterLane (P.routes protocol.now) router (P.candidates protocol.now) result }
+    ensures lane { IsRouterLane (P.routes protocol.now) (P.candidates protocol.now) result }
+    ensures router { result.router ≡ router }
     ensures firsts { result.firsts.now ≡ own.now.firsts.items }
 {
     RouterLane {
+        router,
+        count: protocol.routers(),
         walks: lane_walks(protocol, router, lane),
         decisions: own.decisions.as_slice(),
         firsts: own.firsts.as_slice(),
@@ -61,28 +65,19 @@ fn lane_walks<P: Protocol>(protocol: &P, router: u32, lane: usize) -> Option<&Le
 
 /// What a router's lane tells at once of its entry for the prefixes of a kind.
 #[inline(always)]
-pub(crate) fn sure_at<P: Protocol>(
-    protocol: &P,
-    router: u32,
-    lane: RouterLane<'_>,
-    kind: usize,
-) -> Sure
-    requires kind { kind < length lane.firsts.now }
-    requires lane { IsRouterLane (P.routes protocol.now) router (P.candidates protocol.now) lane }
-    ensures { IsSure (P.routes protocol.now).routers ((P.routes protocol.now).entry router
-        (first_prefix_of (P.candidates protocol.now) lane.entry.firsts.now kind)) result }
+pub(crate) fn sure_at(lane: RouterLane<'_>, kind: usize) -> Sure
+    ensures { LaneTells lane.entry kind result }
 {
     let Some(walks) = lane.walks else {
         return Sure::Unknown;
     };
     match lane.decisions.get(kind).copied() {
-        Some(decision) => sure_of(walks, protocol.routers(), router, decision),
+        Some(decision) => sure_of(walks, lane.count, lane.router, decision),
         None => Sure::Unknown,
     }
 }
 
-/// The number of the entry for the prefix at a place, where it has one: that towards its target, where one is known, else
-/// that of its route's entry.
+/// The number of the entry for the prefix at a place, where it has one: that of its route's entry.
 #[inline(never)]
 pub(crate) fn number_asked<P: Protocol>(
     alloc: Global,
@@ -93,16 +88,11 @@ pub(crate) fn number_asked<P: Protocol>(
 ) -> Result<Number, OutOfMemory>
     requires router { router < (P.routes protocol.now).routers }
     requires place { place < length (P.candidates protocol.now) }
-    requires known { AreShared (P.routes protocol.now) router pool.old }
-    ensures known { OnOk result (AreShared (P.routes protocol.now) router pool.new) }
+    requires single { AreOverOne (P.routes protocol.now).routers pool.old.entries.items }
     ensures kept { OnOk result (KeepsMore pool.old pool.new) }
     ensures number { IfOk result (IsNumberOf ((P.routes protocol.now).entry router
         (prefix_at (P.candidates protocol.now) place)) pool.new.entries.items) }
 {
-    if let Some(target) = protocol.target(place, router) {
-        let number = number_towards(alloc, protocol, router, pool, target)?;
-        return Number::of(number);
-    }
     match protocol.route(alloc, place, router)? {
         Some(route) => Number::of(number_of(alloc, protocol, router, pool, route)?),
         None => Ok(Number::none()),
@@ -120,106 +110,93 @@ fn number_of<P: Protocol>(
 ) -> Result<u32, OutOfMemory>
     requires router { router < (P.routes protocol.now).routers }
     requires target { HasZoneTarget ((P.routes protocol.now).reach router) (P.routes protocol.now).zones route }
-    requires known { AreShared (P.routes protocol.now) router pool.old }
-    ensures known { OnOk result (AreShared (P.routes protocol.now) router pool.new) }
+    requires single { AreOverOne (P.routes protocol.now).routers pool.old.entries.items }
     ensures kept { OnOk result (KeepsMore pool.old pool.new) }
     ensures number { IfOk result (HasNumber (Makes ((P.routes protocol.now).reach router)
         (P.routes protocol.now).routers route) pool.new.entries.items) }
 {
     match route {
         Route::Drops => pool.keep(Entry::Discard),
-        Route::Towards(target) => number_towards(alloc, protocol, router, pool, target),
-        Route::Through(hops) => number_through(pool, hops, protocol.routers()),
+        Route::Towards(target) => {
+            let walks = protocol.walks(router, target.zone);
+            number_towards(alloc, walks, target.at, protocol.routers(), pool)
+        }
+        Route::Through(hops) => number_through(alloc, hops.as_slice(), protocol.routers(), pool),
     }
 }
 
-/// The number of the entry towards a target: that of its one first hop, where it has one alone, else that over all of them.
+/// The number of the entry towards a router: that of its one first hop, where it has one alone, else that over all of them
+/// below `count`.
 #[inline(always)]
-fn number_towards<P: Protocol>(
+fn number_towards(
     alloc: Global,
-    protocol: &P,
-    router: u32,
+    walks: &LeastWalks,
+    at: u32,
+    count: u32,
     pool: &mut Pool,
-    target: Target,
 ) -> Result<u32, OutOfMemory>
-    requires router { router < (P.routes protocol.now).routers }
-    requires target { IsZoneTarget ((P.routes protocol.now).reach router) (P.routes protocol.now).zones target }
-    requires known { AreShared (P.routes protocol.now) router pool.old }
-    ensures known { OnOk result (AreShared (P.routes protocol.now) router pool.new) }
+    requires { AreOverOne count pool.old.entries.items }
     ensures kept { OnOk result (KeepsMore pool.old pool.new) }
-    ensures number { IfOk result (HasNumber (IsEntryTo ((P.routes protocol.now).reach router target.zone)
-        target.at (P.routes protocol.now).routers) pool.new.entries.items) }
+    ensures number { IfOk result (HasNumber (IsEntryTo walks.now at count) pool.new.entries.items) }
 {
-    match only_hop(protocol.walks(router, target.zone), target.at) {
-        Some(hop) if hop < protocol.routers() => Ok(hop),
-        _ => number_over(alloc, protocol, router, pool, target),
+    match only_hop(walks, at) {
+        Some(hop) if hop < count => Ok(hop),
+        _ => number_over(alloc, walks, at, count, pool),
     }
 }
 
-/// The number of the entry over the hops towards a target: the latest one towards its router, where that is of its zone,
-/// else one over these hops.
+/// The number of the entry over the first hops below `count` towards a router.
 #[inline(never)]
-fn number_over<P: Protocol>(
+fn number_over(
     alloc: Global,
-    protocol: &P,
-    router: u32,
+    walks: &LeastWalks,
+    at: u32,
+    count: u32,
     pool: &mut Pool,
-    target: Target,
 ) -> Result<u32, OutOfMemory>
-    requires router { router < (P.routes protocol.now).routers }
-    requires target { IsZoneTarget ((P.routes protocol.now).reach router) (P.routes protocol.now).zones target }
-    requires known { AreShared (P.routes protocol.now) router pool.old }
-    ensures known { OnOk result (AreShared (P.routes protocol.now) router pool.new) }
+    requires { AreOverOne count pool.old.entries.items }
     ensures kept { OnOk result (KeepsMore pool.old pool.new) }
-    ensures number { IfOk result (HasNumber (IsEntryTo ((P.routes protocol.now).reach router target.zone)
-        target.at (P.routes protocol.now).routers) pool.new.entries.items) }
+    ensures number { IfOk result (HasNumber (IsEntryTo walks.now at count) pool.new.entries.items) }
 {
-    if let Some(number) = pool.known_number(target) {
-        return Ok(number);
-    }
-    let walks = protocol.walks(router, target.zone);
-    let hops = hops_towards(alloc, walks, target.at, protocol.routers())?;
-    let number = number_through(pool, hops, protocol.routers())?;
-    pool.remember(target, number);
-    Ok(number)
+    number_through(alloc, hops_towards(walks, at, count), count, pool)
 }
 
 /// The number of the entry over these hops: that of one that is kept, else that of a new one.
-fn number_through(pool: &mut Pool, hops: Hops, routers: u32) -> Result<u32, OutOfMemory>
-    requires { AreOverOne routers pool.old.entries.items }
-    ensures known { OnOk result (pool.new.known.items ≡ pool.old.known.items) }
+fn number_through(
+    alloc: Global,
+    hops: &[u32],
+    count: u32,
+    pool: &mut Pool,
+) -> Result<u32, OutOfMemory>
+    requires { AreOverOne count pool.old.entries.items }
     ensures kept { OnOk result (KeepsMore pool.old pool.new) }
-    ensures number { IfOk result (HasNumber (λ entry. entry ≡ Via hops) pool.new.entries.items) }
+    ensures number { IfOk result (HasNumber (λ entry. entry ≡ Via hops.now) pool.new.entries.items) }
 {
-    match number_kept(pool, hops.as_slice(), routers) {
+    match number_kept(pool, hops, count) {
         Some(number) => Ok(number),
-        None => pool.keep(Entry::Via(hops)),
+        None => {
+            let hops = Vec::from_slice(alloc, hops)?;
+            pool.keep(Entry::Via(Hops::from_vec(hops)))
+        }
     }
 }
 
 /// The number of an entry over these hops that is kept, where there is one: that of a hop alone is the hop.
-fn number_kept(pool: &Pool, hops: &[u32], routers: u32) -> Option<u32>
-    requires { AreOverOne routers pool.now.entries.items }
+fn number_kept(pool: &Pool, hops: &[u32], count: u32) -> Option<u32>
+    requires { AreOverOne count pool.now.entries.items }
     ensures { IfSome result (HasNumber (λ entry. entry ≡ Via hops.now) pool.now.entries.items) }
 {
     match hops {
-        [hop] if *hop < routers => Some(*hop),
+        [hop] if *hop < count => Some(*hop),
         _ => pool.find(hops),
     }
 }
 
-/// The first hops below `count` towards a router.
-#[inline(never)]
-fn hops_towards(alloc: Global, walks: &LeastWalks, at: u32, count: u32) -> Result<Hops, OutOfMemory>
-    requires { IsReached walks.now at }
-    ensures { IfOk result (AreHopsTo walks.now at count) }
+/// The first hops below `count` towards a router, which come first among all of them.
+fn hops_towards(walks: &LeastWalks, at: u32, count: u32) -> &[u32]
+    ensures { AreHopsTo walks.now at count result.now }
 {
-    match walks.distance(at) {
-        Some(distance) => {
-            let offers = [Offer { at, asks: 0 }];
-            let hops = walks.hops_towards(alloc, &offers, distance, count)?;
-            Ok(Hops::from_vec(hops))
-        }
-        None => unreachable!(),
-    }
+    let hops = walks.hops_to(at);
+    let (below, _) = hops.split_at(hops.partition_point(|hop| *hop < count));
+    below
 }

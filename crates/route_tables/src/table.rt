@@ -4,10 +4,10 @@ ghost use Rattle.route_core.specs.declared.entry.Entry.{Entry as EntryValue};
 ghost use Rattle.route_core.specs.Rows.{IsTable, listed};
 ghost use Rattle.route_tables.specs.Entries.{IsLawful};
 ghost use Rattle.route_tables.specs.steps.Entries.{AreSameEntries, AreTablesBelow};
-ghost use Rattle.route_tables.specs.Lanes.{DecidesFor};
 ghost use Rattle.route_tables.specs.Prefixes.{AreDistinctPrefixes};
-ghost use Rattle.route_tables.specs.steps.Kinds.{AreLaneKinds, IsToldLane, first_prefix_of};
-ghost use Rattle.route_tables.specs.steps.Sharing.{AreNumbers, AreOverOne, AreRouterNumbers, AreShared, IsNumberOf, IsRouterLane, KeepsMore, kept_with};
+ghost use Rattle.route_tables.specs.steps.Kinds.{AreLaneKinds, first_prefix_of};
+ghost use Rattle.route_tables.specs.steps.Sharing.{AreNumbers, AreOverOne, AreRouterNumbers, IsNumberOf, IsRouterLane};
+ghost use Rattle.route_tables.specs.steps.Sharing.{KeepsMore, kept_with};
 
 use crate::OutOfMemory;
 use crate::kinds::{LaneKinds, all_kinds};
@@ -46,7 +46,9 @@ pub(crate) fn all_tables<P: Protocol>(
     let mut all = Vec::with_capacity(alloc, routers as usize)?;
     for router in 0..routers {
         let lane = protocol.lane(router);
-        let numbers = router_numbers(alloc, protocol, router, lane, &lanes[lane], &mut pool)?;
+        let own = &lanes[lane];
+        let lane = router_lane(protocol, router, lane, own);
+        let numbers = router_numbers(alloc, protocol, own, lane, &mut pool)?;
         all.push(numbers)?;
     }
     tables_over(alloc, prefixes, pool.entries, all)
@@ -92,25 +94,21 @@ fn tables_over(
 fn router_numbers<P: Protocol>(
     alloc: Global,
     protocol: &P,
-    router: u32,
-    lane: usize,
     own: &LaneKinds,
+    lane: RouterLane<'_>,
     pool: &mut Pool,
 ) -> Result<RouterNumbers, OutOfMemory>
-    requires router { router < (P.routes protocol.now).routers }
-    requires lane { lane < P.lanes protocol.now }
-    requires in_lane { (P.routes protocol.now).in_lane lane router }
-    requires kinds { AreLaneKinds (AreSameEntries ((P.routes protocol.now).entry router))
+    requires kinds { AreLaneKinds (AreSameEntries ((P.routes protocol.now).entry lane.router))
         (P.candidates protocol.now) own.now }
-    requires told { IsToldLane (DecidesFor (P.routes protocol.now) lane) (P.candidates protocol.now) own.now }
+    requires lane { IsRouterLane (P.routes protocol.now) (P.candidates protocol.now) lane }
+    requires firsts { lane.firsts.now ≡ own.now.firsts.items }
     requires single { AreOverOne (P.routes protocol.now).routers pool.old.entries.items }
     ensures kept { OnOk result (KeepsMore pool.old pool.new) }
-    ensures numbers { IfOk result (AreRouterNumbers ((P.routes protocol.now).entry router)
+    ensures numbers { IfOk result (AreRouterNumbers ((P.routes protocol.now).entry lane.entry.router)
         (P.candidates protocol.now) pool.new.entries.items) }
 {
     let kinds = own.kinds.clone()?;
-    let lane = router_lane(protocol, router, lane, own);
-    let numbers = numbers_at(alloc, protocol, router, lane, pool)?;
+    let numbers = numbers_at(alloc, protocol, lane, pool)?;
     Ok(RouterNumbers { kinds, numbers })
 }
 
@@ -120,23 +118,21 @@ fn router_numbers<P: Protocol>(
 fn numbers_at<P: Protocol>(
     alloc: Global,
     protocol: &P,
-    router: u32,
     lane: RouterLane<'_>,
     pool: &mut Pool,
 ) -> Result<Vec<Number>, OutOfMemory>
-    requires router { router < (P.routes protocol.now).routers }
     requires places { All (λ place. place < length (P.candidates protocol.now)) lane.firsts.now }
-    requires lane { IsRouterLane (P.routes protocol.now) router (P.candidates protocol.now) lane }
+    requires lane { IsRouterLane (P.routes protocol.now) (P.candidates protocol.now) lane }
     requires single { AreOverOne (P.routes protocol.now).routers pool.old.entries.items }
     ensures kept { OnOk result (KeepsMore pool.old pool.new) }
-    ensures numbers { IfOk result (λ numbers. AreNumbers (λ kind. (P.routes protocol.now).entry router
+    ensures numbers { IfOk result (λ numbers. AreNumbers (λ kind. (P.routes protocol.now).entry lane.entry.router
         (first_prefix_of (P.candidates protocol.now) lane.entry.firsts.now kind))
         (length lane.entry.firsts.now) pool.new.entries.items numbers.items) }
 {
-    pool.begin_table(alloc, protocol.routers())?;
+    pool.begin_table();
     let mut numbers = Vec::with_capacity(alloc, lane.firsts.len())?;
     for kind in 0..lane.firsts.len() {
-        let number = number_at(alloc, protocol, router, lane, pool, kind)?;
+        let number = number_at(alloc, protocol, lane, pool, kind)?;
         numbers.push_reserved(number);
     }
     Ok(numbers)
@@ -148,27 +144,24 @@ fn numbers_at<P: Protocol>(
 fn number_at<P: Protocol>(
     alloc: Global,
     protocol: &P,
-    router: u32,
     lane: RouterLane<'_>,
     pool: &mut Pool,
     kind: usize,
 ) -> Result<Number, OutOfMemory>
-    requires router { router < (P.routes protocol.now).routers }
     requires kind { kind < length lane.firsts.now }
     requires places { All (λ place. place < length (P.candidates protocol.now)) lane.firsts.now }
-    requires lane { IsRouterLane (P.routes protocol.now) router (P.candidates protocol.now) lane }
-    requires known { AreShared (P.routes protocol.now) router pool.old }
-    ensures known { OnOk result (AreShared (P.routes protocol.now) router pool.new) }
+    requires lane { IsRouterLane (P.routes protocol.now) (P.candidates protocol.now) lane }
+    requires single { AreOverOne (P.routes protocol.now).routers pool.old.entries.items }
     ensures kept { OnOk result (KeepsMore pool.old pool.new) }
-    ensures number { IfOk result (IsNumberOf ((P.routes protocol.now).entry router
+    ensures number { IfOk result (IsNumberOf ((P.routes protocol.now).entry lane.entry.router
         (first_prefix_of (P.candidates protocol.now) lane.entry.firsts.now kind)) pool.new.entries.items) }
 {
-    match sure_at(protocol, router, lane, kind) {
+    match sure_at(lane, kind) {
         Sure::Nothing => Ok(Number::none()),
         Sure::Over(hop) => Number::of(hop),
         Sure::Unknown => {
             let place = lane.firsts[kind] as usize;
-            number_asked(alloc, protocol, router, pool, place)
+            number_asked(alloc, protocol, lane.router, pool, place)
         }
     }
 }

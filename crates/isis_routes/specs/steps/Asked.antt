@@ -5,8 +5,6 @@ use Rattle.walk_core.specs.declared.offers.Offer.{Offer}
 use Rattle.route_core.specs.declared.entry.Entry.{Entry}
 use Rattle.igp_theory.specs.Isis.{HasDownRoute, IsisEntry}
 use Rattle.route_tables.specs.declared.route.Route.{Route}
-use Rattle.route_tables.specs.declared.route.Route.TheVariants.{Towards}
-use Rattle.route_tables.specs.declared.route.Target.{Target}
 use Rattle.isis_routes.specs.steps.Destinations.{HasAnnouncements}
 use Rattle.isis_routes.specs.steps.Routes.{HasRouteBefore, HasRouteIn, IsIsisRoute, LeadIn, in_level}
 use Rattle.isis_routes.specs.declared.asked.Asked.{Asked}
@@ -50,7 +48,3 @@ HasNoIsisEntry asked = (e : Entry) → IsisEntry asked.domain.now.net asked.rout
 -- this is the route, where there is one, and where there is none, this is so
 abbrev pub IsRouteElse : Asked → Type 0 → Option Route → Type 0
 IsRouteElse asked none found = MatchOption found none (IsIsisRoute asked.domain.now asked.router asked.destination.now.one.dest)
-
--- the route leads to the target
-abbrev pub IsIsisRouteTowards : Asked → Target → Type 0
-IsIsisRouteTowards asked target = IsIsisRoute asked.domain.now asked.router asked.destination.now.one.dest (Towards target)

@@ -7,8 +7,6 @@ use Rattle.route_core.specs.declared.entry.Entry.TheVariants.{Via}
 use Rattle.route_tables.specs.BestRoutes.{AreBestHops}
 use Rattle.route_tables.specs.Routings.{ForwardsBy, IsRouteFor}
 use Rattle.route_tables.specs.declared.route.Route.{Route}
-use Rattle.route_tables.specs.declared.route.Route.TheVariants.{Towards}
-use Rattle.route_tables.specs.declared.route.Target.{Target}
 use Rattle.igp_theory.specs.Ospf.{IsIntraArea, OspfEntry}
 use Rattle.ospf_routes.specs.steps.AreaReach.{area_reach}
 use Rattle.ospf_routes.specs.steps.Areas.{IsListenerAt}
@@ -52,10 +50,6 @@ IsRoute asked = IsRouteFor (area_reach asked.domain.now.areas asked.router) (len
 -- this is the route, and there is no entry where there is none
 abbrev pub IsFoundRoute : Asked → Option Route → Type 0
 IsFoundRoute asked found = MatchOption found (HasNoEntry asked) (IsRoute asked)
-
--- the route leads to the target
-abbrev pub IsRouteTowards : Asked → Target → Type 0
-IsRouteTowards asked target = IsRoute asked (Towards target)
 
 -- these are offers over walks in their area, and the hops towards the best of them are those of the intra-area route
 pub record IsInside (asked : Asked) (d : Deciding) : Type 0 where

@@ -1,18 +1,16 @@
--- Tables in the making: entries that all tables share, of which a table knows the numbers of some.
-use Rattle.std.specs.Prelude.{◌≡◌, ◌<◌, ℕ, List, [], ◌∷◌, ◌++◌, length, Some, None, Option, MatchOption, IfSome, slice_index_or}
+-- Tables in the making: entries that all tables share, and the numbers of a table's own.
+use Rattle.std.specs.Prelude.{◌≡◌, ◌<◌, ℕ, List, [], ◌∷◌, ◌++◌, length, None, Option, MatchOption, slice_index_or}
 use Rattle.net_addr.specs.Addresses.{Block}
-use Rattle.walk_core.specs.Reach.{Reach}
 use Rattle.route_core.specs.Rows.{KeptTable}
 use Rattle.route_core.specs.declared.entry.Entry.{Entry}
 use Rattle.route_core.specs.declared.entry.Entry.TheVariants.{Via, Discard}
 use Rattle.route_tables.specs.steps.Entries.{AreSameEntries}
 use Rattle.route_tables.specs.Protocols.{ProtocolRoutes}
-use Rattle.route_tables.specs.Routings.{IsEntryTo}
 use Rattle.route_tables.specs.declared.lane.Decision.TheVariants.{Unknown}
-use Rattle.route_tables.specs.declared.pool.Known.{Known}
 use Rattle.route_tables.specs.declared.pool.Pool.{Pool}
 use Rattle.route_tables.specs.declared.sharing.RouterLane.{RouterLane}
 use Rattle.route_tables.specs.declared.sure.Sure.{Sure}
+use Rattle.route_tables.specs.declared.sure.Sure.TheVariants.{Unknown as Unsure}
 use Rattle.route_tables.specs.declared.table.RouterNumbers.{RouterNumbers}
 use Rattle.route_tables.specs.steps.Kinds.{AreKinds, first_prefix_of}
 use Rattle.route_tables.specs.steps.Sure.{IsSure, Tells}
@@ -30,16 +28,6 @@ IsNumberOf wanted entries number = MatchOption number ((e : Entry) → wanted e 
 abbrev pub AreOverOne : ℕ → List Entry → Type 0
 AreOverOne n entries = (hop : ℕ) → hop < n → HasNumber (λ entry. entry ≡ Via (hop ∷ [])) entries hop
 
--- what is known towards vertices are the numbers of the entries towards them
-abbrev pub AreKnown : (ℕ → Reach) → ℕ → List Entry → List (Option Known) → Type 0
-AreKnown reach n entries all =
-    (at : ℕ) (known : Known) → slice_index_or all at None ≡ Some known → HasNumber (IsEntryTo (reach known.zone) at n) entries known.number
-
--- the numbers of entries that the table of router u knows, towards vertices and over one hop
-pub record AreShared (routes : ProtocolRoutes) (u : ℕ) (pool : Pool) : Type 0 where
-  pub known : AreKnown (routes.reach u) routes.routers pool.entries.items pool.known.items
-  pub single : AreOverOne routes.routers pool.entries.items
-
 -- these are the numbers of the entries that are wanted for the kinds below k
 pub record AreNumbers (wanted : ℕ → Entry → Type 0) (k : ℕ) (entries : List Entry) (numbers : List (Option ℕ)) : Type 0 where
   pub count : length numbers ≡ k
@@ -54,13 +42,18 @@ pub record KeepsMore (old new : Pool) : Type 0 where
 pub record Keeps (old new : Pool) (entry : Entry) (number : ℕ) : Type 0 where
   pub number_is : number ≡ length old.entries.items
   pub entries : new.entries.items ≡ old.entries.items ++ entry ∷ []
-  pub known : new.known.items ≡ old.known.items
 
--- what the lane tells of router u is so of the router's entries for the first prefix of each kind
-abbrev pub IsRouterLane : ProtocolRoutes → ℕ → List Block → RouterLane → Type 0
-IsRouterLane routes u dests lane = IfSome lane.walks (λ walks. (kind : ℕ) (sure : Sure) → kind < length lane.firsts.now →
-    Tells walks.now routes.routers u (slice_index_or lane.decisions.now kind Unknown) sure →
-    IsSure routes.routers (routes.entry u (first_prefix_of dests lane.firsts.now kind)) sure)
+-- the lane tells this of its router's entry for the prefixes of a kind
+abbrev pub LaneTells : RouterLane → ℕ → Sure → Type 0
+LaneTells lane kind sure = MatchOption lane.walks (sure ≡ Unsure)
+    (λ walks. Tells walks.now lane.count lane.router (slice_index_or lane.decisions.now kind Unknown) sure)
+
+-- what it tells is so of the router's entries for the first prefix of each kind
+pub record IsRouterLane (routes : ProtocolRoutes) (dests : List Block) (lane : RouterLane) : Type 0 where
+  pub router : lane.router < routes.routers
+  pub count : lane.count ≡ routes.routers
+  pub sure : (kind : ℕ) (sure : Sure) → kind < length lane.firsts.now → LaneTells lane kind sure →
+      IsSure routes.routers (routes.entry lane.router (first_prefix_of dests lane.firsts.now kind)) sure
 
 -- these are the numbers of a router's entries, for kinds of prefixes that are alike for it
 pub record AreRouterNumbers (entry : Block → Entry → Type 0) (dests : List Block) (entries : List Entry) (own : RouterNumbers) : Type 0 where

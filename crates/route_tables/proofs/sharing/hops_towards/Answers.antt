@@ -1,10 +1,15 @@
-use Rattle.std.proofs.Common.{◌∙◌, List, ℕ, sym, subst}
-use Rattle.route_tables.proofs.BestSteps.{hops_of_one}
+use Rattle.std.proofs.Common.{ltb, rules, subst, sym}
+use Rattle.std.proofs.lemmas.List.Sorted.{IsPartitionPoint-from_clause, IsPartitionedBy-ltb}
 use Rattle.route_tables.specs.Routings.{AreHopsTo}
+use Rattle.route_tables.proofs.SharingLaws.{hops_below, in_order}
 use Rattle.route_tables.proofs.sharing.hops_towards.Goals as goal
 
 pub returns : goal.returns
 returns c =
-    subst (λ (hops : List ℕ). AreHopsTo c.args.walks.now c.args.at c.args.count hops) (sym c.from_vec.ensures)
-    (hops_of_one c.args.walks.now c.args.at c.in-Some.distance c.args.count c.in_ok-hops-in-Some.hops.items (sym c.distance.ensures ∙ c.in-Some.is)
-    c.in_ok-hops-in-Some.ensures)
+    let all = c.hops_to-hops in
+    let parted = IsPartitionedBy-ltb (λ h. h) all.result.now c.args.count (in_order all.result.now all.ensures.ascending) in
+    let point = IsPartitionPoint-from_clause (λ h. ltb h c.args.count) _ _ c.partition_point.ensures.partitioned parted
+    (λ a r q k. search rules) in
+    subst (AreHopsTo c.args.walks.now c.args.at c.args.count) (sym c.split_at.ensures.front)
+    (hops_below c.args.walks.now c.args.at c.args.count c.partition_point.result all.result.now all.ensures.hops
+    all.ensures.ascending c.partition_point.ensures.bound point)

@@ -4,32 +4,34 @@ use Rattle.std.proofs.lemmas.Result.{IfOk-weaker}
 use Rattle.net_addr.specs.Addresses.{Block}
 use Rattle.route_core.specs.Rows.{IsTable, KeptTable, listed}
 use Rattle.route_core.specs.declared.entry.Entry.{Entry}
-use Rattle.route_tables.specs.steps.Entries.{AreTablesBelow}
+use Rattle.route_tables.specs.steps.Entries.{AreSameEntries, AreTablesBelow}
 use Rattle.route_tables.specs.declared.kinds.LaneKinds.{LaneKinds}
 use Rattle.route_tables.specs.declared.table.RouterNumbers.{RouterNumbers}
 use Rattle.route_tables.specs.Lanes.{DecidesFor}
 use Rattle.route_tables.specs.Protocols.{AreAlikeInLane, ProtocolRoutes}
 use Rattle.route_tables.specs.steps.Kinds.{AreLaneKinds, IsToldLane}
 use Rattle.route_tables.specs.steps.Sharing.{AreOverOne, AreRouterNumbers, AreRouterNumbersBelow, kept_with}
-use Rattle.route_tables.proofs.SharingLaws.{over_one_kept}
+use Rattle.route_tables.proofs.SharingLaws.{single_kept}
 use Rattle.route_tables.proofs.KeptTables.{all_are_tables, are_tables, kinds_for, numbers_below_more}
 use Rattle.route_tables.proofs.table.all_tables.Goals as goal
+
+pub router_lane-lane-requires-clause-told : goal.router_lane-lane-requires-clause-told
+router_lane-lane-requires-clause-told g c =
+    let protocol = c.args.protocol.now in
+    let lane : ℕ = c.lane-lane.result in
+    subst (IsToldLane (DecidesFor (g.P.Protocol.routes protocol) lane) (g.P.Protocol.candidates protocol))
+    (sym c.index-own.ensures) (c.in_ok-lanes.ensures.each lane c.index-own.result.now c.lane-lane.ensures.below).decided
 
 pub router_numbers-requires-clause-kinds : goal.router_numbers-requires-clause-kinds
 router_numbers-requires-clause-kinds g c =
     let routes : ProtocolRoutes = g.P.Protocol.routes c.args.protocol.now in
     let dests : List Block = g.P.Protocol.candidates c.args.protocol.now in
     let lane : ℕ = c.lane-lane.result in
-    let own : LaneKinds = c.index.result.now in
+    let own : LaneKinds = c.index-own.result.now in
     let are = (c.in_ok-lanes.ensures.each lane own c.lane-lane.ensures.below).kinds in
-    kinds_for routes lane dests (length dests) own.kinds.value.items own.firsts.items c.loop-router.router c.lane-lane.ensures.is
-    (subst (AreLaneKinds (AreAlikeInLane routes lane) dests) (sym c.index.ensures) are)
-
-pub router_numbers-requires-clause-told : goal.router_numbers-requires-clause-told
-router_numbers-requires-clause-told g c =
-    let lane : ℕ = c.lane-lane.result in
-    subst (IsToldLane (DecidesFor (g.P.Protocol.routes c.args.protocol.now) lane) (g.P.Protocol.candidates c.args.protocol.now)) (sym c.index.ensures)
-    (c.in_ok-lanes.ensures.each lane c.index.result.now c.lane-lane.ensures.below).decided
+    subst (λ (u : ℕ). AreLaneKinds (AreSameEntries (routes.entry u)) dests own) (sym c.router_lane-lane.ensures.router)
+    (kinds_for routes lane dests (length dests) own.kinds.value.items own.firsts.items c.loop-router.router c.lane-lane.ensures.is
+    (subst (AreLaneKinds (AreAlikeInLane routes lane) dests) (sym c.index-own.ensures) are))
 
 pub loop-router-init : goal.loop-router-init
 loop-router-init g c = record {
@@ -52,8 +54,10 @@ loop-router-preserved g c =
       numbers = subst (AreRouterNumbersBelow entry (router + 1) dests c.router_numbers.new.pool.entries.items) (sym c.in_ok-push.ensures.items)
           (subst (λ (l : List Entry). AreRouterNumbersBelow entry (router + 1) dests l (before.all.items ++ own ∷ [])) (sym kept.entries)
           (numbers_below_more entry router dests old kept.more before.all.items own before.invariant.numbers
-          (subst (λ (l : List Entry). AreRouterNumbers (entry router) dests l own) kept.entries c.in_ok-numbers.ensures.numbers)));
-      single = subst (AreOverOne n) (sym kept.entries) (over_one_kept n old kept.more before.invariant.single);
+          (subst (λ (l : List Entry). AreRouterNumbers (entry router) dests l own) kept.entries
+          (subst (λ (u : ℕ). AreRouterNumbers (entry u) dests c.router_numbers.new.pool.entries.items own)
+          c.router_lane-lane.ensures.router c.in_ok-numbers.ensures.numbers))));
+      single = single_kept n before.pool c.router_numbers.new.pool kept before.invariant.single;
     }
 
 pub tables_over-requires : goal.tables_over-requires

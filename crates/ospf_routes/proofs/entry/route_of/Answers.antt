@@ -10,7 +10,7 @@ use Rattle.route_tables.proofs.BestRoutes.{route_by_discard}
 use Rattle.ospf_routes.specs.steps.AreaReach.{area_reach}
 use Rattle.ospf_routes.specs.steps.Asked.{HasNoIntraRoute, IsFoundRoute, IsRoute, MakesIntraRoute}
 use Rattle.ospf_routes.proofs.EntryFacts.{found_by, home_is, range_is}
-use Rattle.ospf_routes.proofs.entry.full_route.Goals as goal
+use Rattle.ospf_routes.proofs.entry.route_of.Goals as goal
 
 pub returns-then-contains : goal.returns-then-contains
 returns-then-contains c =
