@@ -1,10 +1,10 @@
-ghost use Rattle.std.specs.Prelude.{◌≡◌, ◌<◌, ◌↔◌, IfOk, IsTrue, length, slice_index};
+ghost use Rattle.std.specs.Prelude.{◌≡◌, ◌<◌, ◌↔◌, IfOk, IfSome, IsTrue, length, slice_index};
 ghost use Rattle.std.specs.Bool.{OnTrue};
 ghost use Rattle.net_model.specs.Network.{Connected};
 ghost use Rattle.net_model.specs.Refusals.{IsNetwork};
 ghost use Rattle.igp_theory.specs.Migrations.{migration};
 ghost use Rattle.prefix_atoms.specs.Classes.{AreClasses, IsInClass, SourceEntry};
-ghost use Rattle.rib_mix.specs.Answers.{IsAlikeAt, IsNextAtAnEnd, IsNextOf, ShowsEntry};
+ghost use Rattle.rib_mix.specs.Answers.{AreAlike, IsAlikeAt, IsNextAtAnEnd, IsNextOf, ShowsEntry};
 ghost use Rattle.rib_mix.specs.Mixture.{migration_of};
 ghost use Rattle.rib_mix.specs.Cells.{IsKeptUse};
 ghost use Rattle.rib_mix.specs.steps.Uses.{ShowsUse};
@@ -140,6 +140,16 @@ impl<'a, O: RouteSource, N: RouteSource> Mixed<'a, O, N> {
     {
         let row = &self.rows[router as usize];
         is_same(row.at(atom as usize), row.at(other as usize))
+    }
+
+    /// An earlier class that every router treats alike, where one is known.
+    pub fn earlier_alike(&self, atom: u32) -> Option<u32>
+        requires { atom < length self.now.classes.samples }
+        ensures earlier { IfSome result (λ other. other < atom) }
+        ensures alike { IfSome result (λ other. AreAlike (migration_of O.table N.table self.now) self.now.classes other atom) }
+    {
+        let _atom = atom;
+        None
     }
 }
 
