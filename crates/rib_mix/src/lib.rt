@@ -27,10 +27,17 @@ mod both_tables;
 mod cell;
 mod cells;
 mod marks;
-mod row;
 mod spots;
 mod subnets;
 mod used;
+
+// sorts of prefixes
+mod candidates;
+mod earlier;
+mod features;
+mod homes;
+mod lanes;
+mod sorts;
 
 // laws
 mod law;

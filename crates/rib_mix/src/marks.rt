@@ -1,9 +1,13 @@
-ghost use Rattle.std.specs.Prelude.{◌≡◌, ◌<◌, IfOk, OnOk, length};
+ghost use Rattle.std.specs.Prelude.{◌≡◌, ◌<◌, IfOk, length};
+ghost use Rattle.rib_mix.specs.steps.Sorts.{AreSorts, IsSorting};
+ghost use Rattle.rib_mix.specs.steps.Likeness.{AreLikeAt, placed_of};
 ghost use Rattle.rib_mix.specs.steps.Spots.{HasPlace};
-ghost use Rattle.rib_mix.specs.steps.WayUp.{AreAllCells, AreOwnCells, HavePlaces, IsOwn, IsOwnAmong, has_at};
+ghost use Rattle.rib_mix.specs.steps.WayUp.{AreOwnCells, AreSortCells, IsOwn, IsOwnAmong, has_at};
 
 use crate::both_tables::BothTables;
 use crate::cell::{Cell, Has, cell_at, cell_over};
+use crate::cells::Cells;
+use crate::sorts::Sorts;
 use crate::spots::{PlacedTable, Spots, find_spots};
 use net_addr::Prefix;
 use net_model::{ISIS_DISTANCE, MOST_DISTANCE};
@@ -11,13 +15,15 @@ use prefix_atoms::Atoms;
 use route_core::{Number, OutOfMemory};
 use std::alloc::Global;
 
-/// What a router has for each prefix that occurs, and what it uses by that. One value serves all routers, one after another.
-#[derive(Drop)]
-pub(crate) struct Marks {
-    /// Where the prefixes stand among the connected ones.
-    pub connected: Vec<Number>,
-    /// What it uses for each prefix: for its addresses that are in no longer one.
-    pub cells: Vec<Cell>,
+/// What serves all routers: the classes, where their prefixes stand among those of the tables, and the sorts of these.
+#[derive(Clone, Copy)]
+pub(crate) struct Shared<'a> {
+    /// The classes.
+    pub atoms: &'a Atoms,
+    /// Where their prefixes stand.
+    pub spots: &'a Spots,
+    /// The sorts of the prefixes.
+    pub sorts: &'a Sorts,
 }
 
 /// What a router has: its connected prefixes by the places of those that occur, both tables, and its OSPF distance.
@@ -33,47 +39,34 @@ pub(crate) struct Own<'a> {
     pub ospf: u8,
 }
 
-impl Marks {
-    /// Room for so many prefixes.
-    pub fn with_places(alloc: Global, places: usize) -> Result<Marks, OutOfMemory>
-        ensures { IfOk result (HavePlaces places) }
-    {
-        Ok(Marks {
-            connected: vec![in alloc; Number::none(); places]?,
-            cells: vec![in alloc; Cell::nothing(); places]?,
-        })
-    }
-
-    /// Finds what a router with this OSPF distance uses for each prefix, of these connected ones and both tables.
-    pub fn find(
-        &mut self,
-        atoms: &Atoms,
-        subnets: &[Prefix],
-        spots: &Spots,
-        tables: BothTables<'_>,
-        ospf: u8,
-    ) -> Result<(), OutOfMemory>
-        requires places { HavePlaces (length atoms.now.prefixes) self.old }
-        requires own { IsOwnAmong atoms.now.prefixes subnets.now tables spots.now }
-        ensures places { OnOk result (HavePlaces (length atoms.now.prefixes) self.new) }
-        ensures cells { OnOk result (AreOwnCells atoms.now.prefixes subnets.now tables.entry ospf self.new.cells.items) }
-    {
-        find_spots(&mut self.connected, atoms.prefixes(), subnets)?;
-        let own = Own {
-            connected: self.connected.as_slice(),
-            old: PlacedTable {
-                spots: spots.olds.as_slice(),
-                parts: tables.old,
-            },
-            new: PlacedTable {
-                spots: spots.news.as_slice(),
-                parts: tables.new,
-            },
-            ospf,
-        };
-        find_all(&mut self.cells, atoms, own)?;
-        Ok(())
-    }
+/// What a router with this OSPF distance uses for each sort, of these connected prefixes and both tables.
+pub(crate) fn cells_of(
+    alloc: Global,
+    shared: &Shared<'_>,
+    subnets: &[Prefix],
+    tables: BothTables<'_>,
+    ospf: u8,
+) -> Result<Cells, OutOfMemory>
+    requires own { IsOwnAmong shared.now.atoms.now.prefixes subnets.now tables shared.now.spots.now }
+    requires sorts { AreSorts (AreLikeAt (placed_of shared.now) subnets.now tables) shared.now.atoms.now.parents
+        (length shared.now.atoms.now.parents) shared.now.sorts.now }
+    ensures count { IfOk result (λ cells. length cells ≡ length shared.now.sorts.now.firsts.items) }
+    ensures cells { IfOk result (AreOwnCells shared.now.atoms.now.prefixes shared.now.sorts.now.of_places.items subnets.now tables.entry ospf) }
+{
+    let connected = find_spots(alloc, shared.atoms.prefixes(), subnets)?;
+    let own = Own {
+        connected: connected.as_slice(),
+        old: PlacedTable {
+            spots: shared.spots.olds.as_slice(),
+            parts: tables.old,
+        },
+        new: PlacedTable {
+            spots: shared.spots.news.as_slice(),
+            parts: tables.new,
+        },
+        ospf,
+    };
+    Ok(Cells::from_vec(find_all(alloc, shared, own)?))
 }
 
 impl Own<'_> {
@@ -98,19 +91,22 @@ impl Own<'_> {
     }
 }
 
-/// Finds for each prefix what the router uses, by what it has for the prefix and uses for the parent, which stands before it.
+/// Finds for each sort what the router uses, by what it has for the first prefix and uses for the parent's sort, which has a
+/// lower number.
 #[inline(never)]
-fn find_all(cells: &mut Vec<Cell>, atoms: &Atoms, own: Own<'_>) -> Result<(), OutOfMemory>
-    requires places { length cells.old.items ≡ length atoms.now.prefixes }
-    requires own { IsOwn atoms.now.prefixes own }
-    ensures places { OnOk result (length cells.new.items ≡ length atoms.now.prefixes) }
-    ensures cells { OnOk result (AreAllCells atoms.now.prefixes own.entry (length atoms.now.prefixes) cells.new.items) }
+fn find_all(alloc: Global, shared: &Shared<'_>, own: Own<'_>) -> Result<Vec<Cell>, OutOfMemory>
+    requires own { IsOwn shared.now.atoms.now.prefixes own }
+    requires sorts { IsSorting (length shared.now.atoms.now.prefixes) shared.now.sorts.now }
+    ensures { IfOk result (λ cells. AreSortCells own.entry shared.now.sorts.now (length shared.now.sorts.now.firsts.items) cells.items) }
 {
-    let parents = atoms.parents();
+    let firsts = shared.sorts.firsts.as_slice();
+    let parents = shared.sorts.parents.as_slice();
     let old_first = own.ospf < ISIS_DISTANCE;
-    for place in 0..parents.len() {
-        let parent = cell_at(cells.as_slice(), parents[place]);
-        cells[place] = cell_over(own.at(place), old_first, parent)?;
+    let mut cells = Vec::with_capacity(alloc, firsts.len())?;
+    for sort in 0..firsts.len() {
+        let parent = cell_at(cells.as_slice(), parents[sort]);
+        let cell = cell_over(own.at(firsts[sort] as usize), old_first, parent)?;
+        cells.push_reserved(cell);
     }
-    Ok(())
+    Ok(cells)
 }

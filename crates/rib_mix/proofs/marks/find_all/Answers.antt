@@ -1,77 +1,70 @@
-use Rattle.std.proofs.Common.{◌≡◌, ◌+◌, ◌<◌, ◌∙◌, ℕ, Bool, true, false, List, Option, None, Some, IfSome, ap, arith, get_or, length}
-use Rattle.std.proofs.Common.{refl, set, slice_get, subst, sym}
+use Rattle.std.proofs.Common.{◌≡◌, ◌+◌, ◌<◌, ◌∙◌, ℕ, Bool, List, Option, None, Some, IfSome, ap, arith, get_or, length, refl, slice_get, subst, sym}
 use lib.Dec.{ltb}
-use Rattle.std.proofs.lemmas.Bool.{ltb-true, ltb-false}
-use Rattle.std.proofs.lemmas.List.{length-set}
 use Rattle.std.proofs.lemmas.Option.{slice_get_within}
 use Rattle.net_addr.specs.Addresses.{Block}
-use Rattle.prefix_atoms.specs.Classes.{Classes, IsClassing}
-use Rattle.prefix_atoms.proofs.Pushed.{at_place}
+use Rattle.prefix_atoms.proofs.Pushed.{at_place, count_more}
 use Rattle.rib_mix.specs.declared.cell.Cell.{Cell}
 use Rattle.rib_mix.specs.declared.cell.Has.{Has}
-use Rattle.rib_mix.specs.steps.Uses.{cell_at, cell_over}
-use Rattle.rib_mix.specs.steps.WayUp.{AreAllCells, has_at}
-use Rattle.rib_mix.proofs.CellLaws.{OldFirst}
+use Rattle.rib_mix.specs.declared.sorts.Sorts.{Sorts}
+use Rattle.rib_mix.specs.steps.Sorts.{IsSorting}
+use Rattle.rib_mix.specs.steps.Uses.{cell_at, cell_over, no_cell}
+use Rattle.rib_mix.specs.steps.WayUp.{AreSortCells, has_at}
+use Rattle.rib_mix.proofs.SortLaws.{cells_more}
 use Rattle.rib_mix.proofs.SpotLaws.{place_read}
-use Rattle.rib_mix.proofs.UpLaws.{all_cells_more, earlier_within, parent_of}
 use Rattle.rib_mix.proofs.marks.find_all.Goals as goal
 
--- a prefix stands at each place of the parents that are shown
-prefix_here : (classes : Classes) (shown : List (Option ℕ)) (place : ℕ) → IsClassing classes → shown ≡ classes.parents → place < length shown
-    → (p : Block) × (slice_get classes.prefixes place ≡ Some p)
-prefix_here classes shown place classing is below = at_place classes.prefixes place (omega (arith, below, ap length is, classing.nested.count))
-
--- the one of lower distance comes first
-old_first : (ospf : ℕ) (first : Bool) → ltb ospf 115 ≡ first → OldFirst first ospf
-old_first ospf true is = omega (arith, ltb-true ospf 115 is)
-old_first ospf false is = ltb-false ospf 115 is
+-- a prefix stands at the first place of each sort that is shown
+first_here : (prefixes : List Block) (sorts : Sorts) (shown : List ℕ) (sort : ℕ) → IsSorting (length prefixes) sorts → shown ≡ sorts.firsts.items
+    → sort < length shown → (p : Block) × (slice_get prefixes (get_or shown sort 0) ≡ Some p)
+first_here prefixes sorts shown sort sorting is below =
+    at_place prefixes (get_or shown sort 0)
+    (subst (λ (fs : List ℕ). get_or fs sort 0 < length prefixes) (sym is) (sorting.firsts sort (omega (arith, below, ap length is))))
 
 pub cell_at-parent-requires : goal.cell_at-parent-requires
 cell_at-parent-requires c =
-    let one = prefix_here c.args.atoms.now _ c.loop-place.place c.parents-parents.ensures.classing c.parents-parents.ensures.parents c.loop-place-test.true in
-    let here : c.loop-place.place < length c.as_slice.result.now =
-    omega (
-      arith,
-      slice_get_within c.args.atoms.now.prefixes c.loop-place.place one.0 one.1,
-      ap length c.as_slice.ensures.value,
-      c.loop-place.invariant.places,
-    ) in
-    subst (λ (ps : List (Option ℕ)). IfSome (get_or ps c.loop-place.place None) (λ i. i < length c.as_slice.result.now))
-    (sym c.parents-parents.ensures.parents)
-    (earlier_within (length c.as_slice.result.now) c.loop-place.place (get_or c.args.atoms.now.parents c.loop-place.place None) here
-    (parent_of c.args.atoms.now c.loop-place.place one.0 c.parents-parents.ensures.classing one.1).before)
+    let sort : ℕ = c.loop-sort.sort in
+    let long : length c.as_slice.result.now ≡ sort = ap length c.as_slice.ensures.value ∙ c.loop-sort.invariant.cells.count in
+    subst (λ (ps : List (Option ℕ)). IfSome (get_or ps sort None) (λ i. i < length c.as_slice.result.now)) (sym c.as_slice-parents.ensures.value)
+    (subst (λ (n : ℕ). IfSome (get_or c.args.shared.now.sorts.now.parents.items sort None) (λ i. i < n)) (sym long)
+    (c.requires.sorts.parents sort (omega (arith, c.loop-sort-test.true, ap length c.as_slice-firsts.ensures.value))))
 
 pub at-requires-clause-old : goal.at-requires-clause-old
 at-requires-clause-old c =
-    let one = prefix_here c.args.atoms.now _ c.loop-place.place c.parents-parents.ensures.classing c.parents-parents.ensures.parents c.loop-place-test.true in
-    place_read c.args.atoms.now.prefixes c.args.own.old c.loop-place.place one.0 c.requires.own.old one.1
+    let one = first_here c.args.shared.now.atoms.now.prefixes c.args.shared.now.sorts.now c.as_slice-firsts.result.now c.loop-sort.sort c.requires.sorts
+    c.as_slice-firsts.ensures.value c.loop-sort-test.true in
+    place_read c.args.shared.now.atoms.now.prefixes c.args.own.old (get_or c.as_slice-firsts.result.now c.loop-sort.sort 0) one.0 c.requires.own.old one.1
 
 pub at-requires-clause-new : goal.at-requires-clause-new
 at-requires-clause-new c =
-    let one = prefix_here c.args.atoms.now _ c.loop-place.place c.parents-parents.ensures.classing c.parents-parents.ensures.parents c.loop-place-test.true in
-    place_read c.args.atoms.now.prefixes c.args.own.new c.loop-place.place one.0 c.requires.own.new one.1
+    let one = first_here c.args.shared.now.atoms.now.prefixes c.args.shared.now.sorts.now c.as_slice-firsts.result.now c.loop-sort.sort c.requires.sorts
+    c.as_slice-firsts.ensures.value c.loop-sort-test.true in
+    place_read c.args.shared.now.atoms.now.prefixes c.args.own.new (get_or c.as_slice-firsts.result.now c.loop-sort.sort 0) one.0 c.requires.own.new one.1
 
-pub loop-place-preserved : goal.loop-place-preserved
-loop-place-preserved c =
-    let place : ℕ = c.loop-place.place in
-    let old : List Cell = c.loop-place.cells.items in
-    let one = prefix_here c.args.atoms.now _ place c.parents-parents.ensures.classing c.parents-parents.ensures.parents c.loop-place-test.true in
+pub at-requires-clause-connected : goal.at-requires-clause-connected
+at-requires-clause-connected c =
+    let one = first_here c.args.shared.now.atoms.now.prefixes c.args.shared.now.sorts.now c.as_slice-firsts.result.now c.loop-sort.sort c.requires.sorts
+    c.as_slice-firsts.ensures.value c.loop-sort-test.true in
+    omega (arith, slice_get_within c.args.shared.now.atoms.now.prefixes (get_or c.as_slice-firsts.result.now c.loop-sort.sort 0) one.0 one.1,
+    c.requires.own.connected)
+
+pub loop-sort-preserved : goal.loop-sort-preserved
+loop-sort-preserved c =
+    let sort : ℕ = c.loop-sort.sort in
+    let sorts : Sorts = c.args.shared.now.sorts.now in
+    let cells : List Cell = c.loop-sort.cells.items in
     let first : Bool = ltb c.args.own.ospf 115 in
-    let parent : c.cell_at-parent.result ≡ cell_at old (get_or c.args.atoms.now.parents place None) =
+    let has : c.at.result ≡ has_at c.args.own (get_or sorts.firsts.items sort 0) =
+    c.at.ensures ∙ ap (λ (fs : List ℕ). has_at c.args.own (get_or fs sort 0)) c.as_slice-firsts.ensures.value in
+    let parent : c.cell_at-parent.result ≡ cell_at cells (get_or sorts.parents.items sort None) =
     c.cell_at-parent.ensures
-    ∙ ap (λ (cells : List Cell). cell_at cells (get_or c.parents-parents.result.now place None)) c.as_slice.ensures.value
-    ∙ ap (λ (ps : List (Option ℕ)). cell_at old (get_or ps place None)) c.parents-parents.ensures.parents in
-    let next : c.in_ok-cells.field-0 ≡ cell_over (has_at c.args.own place) first (cell_at old (get_or c.args.atoms.now.parents place None)) =
-    c.in_ok-cells.ensures ∙ ap (λ (has : Has). cell_over has first c.cell_at-parent.result) c.at.ensures
-    ∙ ap (cell_over (has_at c.args.own place) first) parent in
+    ∙ ap (λ (cs : List Cell). cell_at cs (get_or c.as_slice-parents.result.now sort None)) c.as_slice.ensures.value
+    ∙ ap (λ (ps : List (Option ℕ)). cell_at cells (get_or ps sort None)) c.as_slice-parents.ensures.value in
+    let made : c.in_ok-cell.cell ≡ cell_over (has_at c.args.own (get_or sorts.firsts.items sort 0)) first (cell_at cells (get_or sorts.parents.items sort None)) =
+    c.in_ok-cell.ensures ∙ ap (λ (h : Has). cell_over h first c.cell_at-parent.result) has
+    ∙ ap (cell_over (has_at c.args.own (get_or sorts.firsts.items sort 0)) first) parent in
     record {
-      places = length-set old place c.in_ok-cells.field-0 ∙ c.loop-place.invariant.places;
-      cells = subst (λ (cell : Cell). AreAllCells c.args.atoms.now.prefixes c.args.own (place + 1) (set old place cell)) (sym next)
-          (all_cells_more c.args.atoms.now c.args.own place one.0 old first c.parents-parents.ensures.classing (old_first c.args.own.ospf first refl) one.1
-          c.loop-place.invariant.places c.loop-place.invariant.cells);
+      room = omega (arith, c.loop-sort.invariant.room, c.push_reserved.ensures.capacity);
+      cells = cells_more c.args.own sorts sort cells c.push_reserved.new.self.items c.in_ok-cell.cell (length c.args.shared.now.atoms.now.prefixes)
+          c.requires.sorts (omega (arith, c.loop-sort-test.true, ap length c.as_slice-firsts.ensures.value)) made c.push_reserved.ensures.items
+          c.loop-sort.invariant.cells;
     }
-
-pub returns-clause-cells : goal.returns-clause-cells
-returns-clause-cells c = λ place below.
-    c.loop-place.invariant.cells place
-    (omega (arith, below, c.loop-place-test.false, ap length c.parents-parents.ensures.parents, c.parents-parents.ensures.classing.nested.count))
