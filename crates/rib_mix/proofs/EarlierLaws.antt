@@ -70,15 +70,17 @@ pub record IsSorted (old new : ℕ → List (Block × Entry)) (kept : MixedParts
 -- the target of a plain class is its longest prefix
 plain_target : (old new : ℕ → List (Block × Entry)) (kept : MixedParts) (of_places : List ℕ) (sort k : ℕ) → IsForwarding old new kept
     → (plain : IsPlain kept.classes of_places sort k) → (k < length kept.classes.samples)
-        × IsTarget kept.ground.net (get_or kept.classes.samples k 0) plain.prefix
+    × IsTarget kept.ground.net (get_or kept.classes.samples k 0) plain.prefix
 plain_target old new kept of_places sort k is plain =
     let within : k < length kept.classes.samples =
-    omega (arith, slice_get_within kept.classes.targets k (Some plain.prefix) plain.target, is.classes_are.classing.targets) in
-    (within, is.classes_are.target k (get_or kept.classes.samples k 0) (Some plain.prefix) (record {
-      class = within;
-      address = is.classes_are.classing.samples.addresses k 0 within;
-      alike = λ p member. (λ h. h, λ h. h);
-    }) plain.target)
+    omega (arith, slice_get_within kept.classes.targets k (Some plain.prefix) plain.target, is.classes_are.classing.targets) in (
+      within,
+      is.classes_are.target k (get_or kept.classes.samples k 0) (Some plain.prefix) (record {
+        class = within;
+        address = is.classes_are.classing.samples.addresses k 0 within;
+        alike = λ p member. (λ h. h, λ h. h);
+      }) plain.target,
+    )
 
 -- the sort of a plain class is kept
 plain_sort : (old new : ℕ → List (Block × Entry)) (kept : MixedParts) (spots : Spots) (sorts : Sorts) (sort k : ℕ) → IsSorted old new kept spots sorts

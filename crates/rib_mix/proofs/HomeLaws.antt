@@ -29,7 +29,7 @@ no_homes_yet prefixes subnets homes are = record {
 pub no_gain : (prefixes : List Block) (router : ℕ) (homes : List (List ℕ)) → GainHomes prefixes router [] homes homes
 no_gain prefixes router homes = record {
   count = refl;
-  each = λ i v p at. (inl, λ h. elim h [ | inl has ↦ has | inr none ↦ absurd (omega (arith, none.1.1)) ]);
+  each = λ i v p at. (inl, λ h. elim h [ inl has ↦ has | inr none ↦ absurd (omega (arith, none.1.1)) ]);
 }
 
 -- one prefix more is seen
@@ -45,10 +45,10 @@ home_next prefixes seen router p place old mid new up long found missed is gain 
     -- a prefix that isn't the next one gains what it gained
     later : (i v : ℕ) (q : Block) → p ≢ q → slice_get prefixes i ≡ Some q → Has mid i v ↔ (Has old i v ⊎ ((router ≡ v) × Contains (seen ++ p ∷ []) q))
     later i v q apart at = (
-      λ has. elim ((gain.each i v q at).0 has) [ | inl had ↦ inl had | inr own ↦ inr (own.0, Contains-append_left seen (p ∷ []) q own.1) ],
+      λ has. elim ((gain.each i v q at).0 has) [ inl had ↦ inl had | inr own ↦ inr (own.0, Contains-append_left seen (p ∷ []) q own.1) ],
       λ h. (gain.each i v q at).1 (elim h [
         | inl had ↦ inl had
-        | inr own ↦ elim (Contains-push_cases seen p q own.1) [ | inl among ↦ inr (own.0, among) | inr same ↦ absurd (apart same) ]
+        | inr own ↦ elim (Contains-push_cases seen p q own.1) [ inl among ↦ inr (own.0, among) | inr same ↦ absurd (apart same) ]
       ]),
     )
 
@@ -83,7 +83,7 @@ home_next prefixes seen router p place old mid new up long found missed is gain 
             )
           where
             later_here : (v : ℕ) → Has mid j v → Has old j v ⊎ ((router ≡ v) × Contains (seen ++ p ∷ []) p)
-            later_here v had = elim ((gain.each j v p found).0 had) [ | inl old ↦ inl old | inr gained ↦ inr (gained.0, Contains-push seen p) ]
+            later_here v had = elim ((gain.each j v p found).0 had) [ inl old ↦ inl old | inr gained ↦ inr (gained.0, Contains-push seen p) ]
 
         each : (i v : ℕ) (q : Block) → slice_get prefixes i ≡ Some q → Gained i v q
         each i v q at = ⊎_elim

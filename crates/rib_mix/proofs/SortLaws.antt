@@ -19,7 +19,7 @@ use Rattle.rib_mix.specs.declared.both_tables.BothTables.{BothTables}
 use Rattle.rib_mix.specs.declared.cell.Cell.{Cell}
 use Rattle.rib_mix.specs.declared.cell.Cell as cell
 use Rattle.rib_mix.specs.declared.cell.Has.{Has}
-use Rattle.rib_mix.specs.declared.marks.Own.{Own}
+use Rattle.rib_mix.specs.declared.own.Own.{Own}
 use Rattle.rib_mix.specs.declared.sorts.Sorts.{Sorts}
 use Rattle.rib_mix.specs.declared.spots.PlacedTable.{PlacedTable}
 use Rattle.rib_mix.specs.declared.used.Used.TheVariants.{Connected}
@@ -92,7 +92,7 @@ pub sort_cell : (all : PlacedPrefixes) (subnets : List Block) (own : Own) (paren
     → IsOwnOf all subnets own → length parents ≡ length all.prefixes → AreSorts (AreLikeAt all subnets (tables_in own)) parents (length parents) sorts
     → AreSortCells own sorts (length sorts.firsts.items) cells → (i : ℕ) → i < length all.prefixes
     → cell_at cells (sort_at sorts.of_places.items (Some i))
-        ≡ cell_over (has_at own i) (is_old_first own) (cell_at cells (sort_at sorts.of_places.items (get_or parents i None)))
+    ≡ cell_over (has_at own i) (is_old_first own) (cell_at cells (sort_at sorts.of_places.items (get_or parents i None)))
 sort_cell all subnets own parents sorts cells is long are cells_are i within =
     let sort : ℕ = get_or sorts.of_places.items i 0 in
     let j : ℕ = get_or sorts.firsts.items sort 0 in

@@ -73,8 +73,8 @@ sort_taken like parents n old new sort next earlier are is of_is firsts_are pare
       like_first = subst (λ (fs : List ℕ). like k (get_or fs s 0)) (sym firsts_are) of_sort.like_first;
       parent = ap (λ (ps : List (Option ℕ)). get_or ps s None) parents_are ∙ of_sort.parent
           ∙ sort_kept old.of_places.items sort (get_or parents k None)
-              (still_before (length old.of_places.items) k (get_or parents k None) (omega (arith, below, are.count))
-              (earlier k (omega (arith, below, next))))
+          (still_before (length old.of_places.items) k (get_or parents k None) (omega (arith, below, are.count))
+          (earlier k (omega (arith, below, next))))
           ∙ ap (λ (os : List ℕ). sort_at os (get_or parents k None)) (sym of_is);
     }
 

@@ -31,7 +31,7 @@ use Rattle.rib_mix.specs.steps.Sorts.{sort_at}
 use Rattle.rib_mix.specs.steps.Uses.{cell_at, cell_over, no_cell}
 use Rattle.rib_mix.specs.steps.WayUp.{AreAllCells, AreOwnCells, IsBestUse, IsCellFor, IsOwnAmong, IsOwnNumber, IsOwnSite, UpTo, connected_in, has_at, is_old_first, old_in}
 use Rattle.rib_mix.specs.declared.cell.Cell.{Cell}
-use Rattle.rib_mix.specs.declared.marks.Own.{Own}
+use Rattle.rib_mix.specs.declared.own.Own.{Own}
 use Rattle.rib_mix.specs.declared.spots.Spots.{Spots}
 use Rattle.rib_mix.specs.declared.used.Used.{Used}
 use Rattle.rib_mix.specs.declared.used.Used.TheVariants as used
@@ -193,7 +193,7 @@ earlier_cell prefixes own of_places cells n (Some j) before are = are j before
 -- the cell of the next one's sort is what is used there, if it is made of what is had there and used for the parent
 next_cell : (c : Classes) (own : Own) (of_places : List ℕ) (cells : List Cell) (n : ℕ) → IsClassing c → n < length c.prefixes
     → cell_at cells (sort_at of_places (Some n))
-        ≡ cell_over (has_at own n) (is_old_first own) (cell_at cells (sort_at of_places (get_or c.parents n None)))
+    ≡ cell_over (has_at own n) (is_old_first own) (cell_at cells (sort_at of_places (get_or c.parents n None)))
     → AreAllCells c.prefixes own of_places cells n → IsCellFor c.prefixes own (Some n) (cell_at cells (sort_at of_places (Some n)))
 next_cell c own of_places cells n classing within made earlier =
     let p = at_place c.prefixes n within in
@@ -205,7 +205,7 @@ next_cell c own of_places cells n classing within made earlier =
 -- the cells of the sorts of the first places are what is used there, if each is made of what is had there and used for the parent
 pub all_cells : (c : Classes) (own : Own) (of_places : List ℕ) (cells : List Cell) → IsClassing c
     → ((i : ℕ) → i < length c.prefixes → cell_at cells (sort_at of_places (Some i))
-        ≡ cell_over (has_at own i) (is_old_first own) (cell_at cells (sort_at of_places (get_or c.parents i None))))
+    ≡ cell_over (has_at own i) (is_old_first own) (cell_at cells (sort_at of_places (get_or c.parents i None))))
     → (n : ℕ) → n ≤ length c.prefixes → AreAllCells c.prefixes own of_places cells n
 all_cells c own of_places cells classing made zero fits place below = absurd (omega arith)
 all_cells c own of_places cells classing made (suc n) fits place below =

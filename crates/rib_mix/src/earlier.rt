@@ -29,12 +29,7 @@ pub(crate) fn earlier_classes(
 }
 
 /// The first class of the sort of a class, if both are plain. From now on it is this one, where none was.
-fn take_first(
-    firsts: &mut Vec<Option<u32>>,
-    atoms: &Atoms,
-    sorts: &Sorts,
-    atom: u32,
-) -> Option<u32>
+fn take_first(firsts: &mut Vec<Option<u32>>, atoms: &Atoms, sorts: &Sorts, atom: u32) -> Option<u32>
     requires atom { atom < length atoms.now.samples }
     requires firsts { AreFirstClasses atoms.now sorts.now.of_places.items atom firsts.old.items }
     ensures earlier { IfSome result (IsEarlierPlain atoms.now sorts.now.of_places.items atom) }

@@ -110,11 +110,7 @@ fn add_homes(
 }
 
 /// Adds a router to the homes at a place, if there is one.
-fn put_home(
-    homes: &mut Vec<Homes>,
-    place: Option<usize>,
-    router: u32,
-) -> Result<(), OutOfMemory>
+fn put_home(homes: &mut Vec<Homes>, place: Option<usize>, router: u32) -> Result<(), OutOfMemory>
     requires { IfSome place (λ i. i < length homes.old.items) }
     ensures { OnOk result (homes.new.items ≡ with_home place router homes.old.items) }
 {

@@ -3,8 +3,8 @@ ghost use Rattle.std.specs.Bool.{OnTrue};
 ghost use Rattle.rib_mix.specs.steps.Features.{HaveFeatures, HaveSameFeatures};
 ghost use Rattle.rib_mix.specs.steps.Sorts.{AreSorts, AreEarlierPlaces, IsLikeSort, IsOfSort, IsSorting, sort_at};
 
-use crate::candidates::candidates_of;
 use crate::features::Features;
+use crate::proposals::proposals_of;
 use route_core::OutOfMemory;
 use std::alloc::Global;
 
@@ -30,15 +30,15 @@ impl Sorts {
         requires parents { AreEarlierPlaces parents.now }
         ensures { IfOk result (AreSorts (HaveSameFeatures features.now) parents.now (length parents.now)) }
     {
-        let candidates = candidates_of(alloc, features, parents)?;
+        let proposals = proposals_of(alloc, features, parents)?;
         let mut sorts = Sorts {
             of_places: Vec::with_capacity(alloc, parents.len())?,
             firsts: Vec::new(alloc),
             parents: Vec::new(alloc),
         };
         for place in 0..parents.len() {
-            let candidate = named_at(candidates.as_slice(), place);
-            sorts.add(features, parents, candidate)?;
+            let proposal = named_at(proposals.as_slice(), place);
+            sorts.add(features, parents, proposal)?;
         }
         Ok(sorts)
     }
@@ -48,7 +48,7 @@ impl Sorts {
         &mut self,
         features: &Features<'_>,
         parents: &[Option<u32>],
-        candidate: Option<u32>,
+        proposal: Option<u32>,
     ) -> Result<(), OutOfMemory>
         requires next { length self.old.of_places.items < length parents.now }
         requires features { HaveFeatures (length parents.now) features.now }
@@ -56,16 +56,16 @@ impl Sorts {
         requires sorts { AreSorts (HaveSameFeatures features.now) parents.now (length self.old.of_places.items) self.old }
         ensures { OnOk result (AreSorts (HaveSameFeatures features.now) parents.now (length self.old.of_places.items + 1) self.new) }
     {
-        let sort = self.next_sort(features, parents, candidate)?;
+        let sort = self.next_sort(features, parents, proposal)?;
         Ok(self.of_places.push(sort)?)
     }
 
-    /// The sort of the next prefix: that of the candidate where the two are alike, and else a new one.
+    /// The sort of the next prefix: that of the proposal where the two are alike, and else a new one.
     fn next_sort(
         &mut self,
         features: &Features<'_>,
         parents: &[Option<u32>],
-        candidate: Option<u32>,
+        proposal: Option<u32>,
     ) -> Result<u32, OutOfMemory>
         requires next { length self.old.of_places.items < length parents.now }
         requires features { HaveFeatures (length parents.now) features.now }
@@ -76,18 +76,18 @@ impl Sorts {
     {
         let place = self.of_places.len();
         let parent = sort_at(self.of_places.as_slice(), parents[place]);
-        match self.alike_sort(features, parents.len(), candidate, parent) {
+        match self.alike_sort(features, parents.len(), proposal, parent) {
             Some(sort) => Ok(sort),
             None => Ok(self.add_sort(parent)?),
         }
     }
 
-    /// The sort of the candidate, where the next prefix with a parent of this sort is of it too.
+    /// The sort of the proposal, where the next prefix with a parent of this sort is of it too.
     fn alike_sort(
         &self,
         features: &Features<'_>,
         places: usize,
-        candidate: Option<u32>,
+        proposal: Option<u32>,
         parent: Option<u32>,
     ) -> Option<u32>
         requires next { length self.now.of_places.items < places }
@@ -95,7 +95,7 @@ impl Sorts {
         requires sorts { IsSorting places self.now }
         ensures { IfSome result (IsLikeSort features.now self.now parent) }
     {
-        let sort = *self.of_places.as_slice().get(candidate? as usize)?;
+        let sort = *self.of_places.as_slice().get(proposal? as usize)?;
         let first = self.firsts[sort as usize];
         let is_parent = is_same_sort(self.parents[sort as usize], parent);
         if is_parent && features.are_same(self.of_places.len(), first as usize, places) {
@@ -142,7 +142,7 @@ fn is_same_sort(one: Option<u32>, other: Option<u32>) -> bool
     one == other
 }
 
-/// The candidate that is named at a place.
-fn named_at(candidates: &[Option<u32>], place: usize) -> Option<u32> {
-    candidates.get(place).copied().flatten()
+/// The proposal that is named at a place.
+fn named_at(proposals: &[Option<u32>], place: usize) -> Option<u32> {
+    proposals.get(place).copied().flatten()
 }

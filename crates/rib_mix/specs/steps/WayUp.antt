@@ -20,7 +20,7 @@ use Rattle.rib_mix.specs.steps.Sorts.{sort_at}
 use Rattle.rib_mix.specs.declared.both_tables.BothTables.{BothTables}
 use Rattle.rib_mix.specs.declared.cell.Cell.{Cell}
 use Rattle.rib_mix.specs.declared.cell.Has.{Has}
-use Rattle.rib_mix.specs.declared.marks.Own.{Own}
+use Rattle.rib_mix.specs.declared.own.Own.{Own}
 use Rattle.rib_mix.specs.declared.sorts.Sorts.{Sorts}
 use Rattle.rib_mix.specs.declared.spots.Spots.{Spots}
 use Rattle.rib_mix.specs.declared.used.Used.{Used}

@@ -9,13 +9,13 @@ pub loop-atom-init : goal.loop-atom-init
 loop-atom-init c =
     let none : c.in_ok-firsts.firsts.items ≡ replicate (length c.args.sorts.now.firsts.items) None = search rules in
     record {
-  firsts = no_firsts c.args.atoms.now c.args.sorts.now.of_places.items (length c.args.sorts.now.firsts.items) c.in_ok-firsts.firsts.items
-      none;
-  count = ap length c.in_ok-earlier.ensures.items;
-  each = λ k other at.
-      let none : length c.in_ok-earlier.earlier.items ≡ 0 = ap length c.in_ok-earlier.ensures.items in
-      absurd (omega (arith, slice_get_within c.in_ok-earlier.earlier.items k (Some other) at, none));
-}
+      firsts = no_firsts c.args.atoms.now c.args.sorts.now.of_places.items (length c.args.sorts.now.firsts.items) c.in_ok-firsts.firsts.items
+          none;
+      count = ap length c.in_ok-earlier.ensures.items;
+      each = λ k other at.
+          let none : length c.in_ok-earlier.earlier.items ≡ 0 = ap length c.in_ok-earlier.ensures.items in
+          absurd (omega (arith, slice_get_within c.in_ok-earlier.earlier.items k (Some other) at, none));
+    }
 
 -- what holds of each that is one holds of one, if there is one
 each_some : (P : ℕ → Type 0) (o : Option ℕ) → ((other : ℕ) → o ≡ Some other → P other) → IfSome o P

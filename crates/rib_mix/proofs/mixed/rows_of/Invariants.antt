@@ -10,5 +10,5 @@ invariant-loop-router l = record {
   count : length l.rows.items ≡ l.router;
   each : (u : ℕ) (row : List Cell) → slice_get l.rows.items u ≡ Some row → (both : BothTables) → slice_get l.tables u ≡ Some both →
       IsRow (site (record { net = l.net; tables = l.tables }) u both) l.shared.atoms.now.samples
-          (map (sort_at l.shared.sorts.now.of_places.items) l.shared.atoms.now.tops) row;
+      (map (sort_at l.shared.sorts.now.of_places.items) l.shared.atoms.now.tops) row;
 }

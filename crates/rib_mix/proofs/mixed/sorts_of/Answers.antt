@@ -18,7 +18,7 @@ of_features-requires-clause-features c =
 pub of_features-requires-clause-parents : goal.of_features-requires-clause-parents
 of_features-requires-clause-parents c = λ i below.
     let p = at_place c.args.atoms.now.prefixes i
-        (omega (arith, below, ap length c.parents.ensures.parents, c.parents.ensures.classing.nested.count)) in
+    (omega (arith, below, ap length c.parents.ensures.parents, c.parents.ensures.classing.nested.count)) in
     subst (λ (ps : List (Option ℕ)). IfSome (get_or ps i None) (λ j. j < i)) (sym c.parents.ensures.parents)
     (parent_of c.args.atoms.now i p.0 c.parents.ensures.classing p.1).before
 

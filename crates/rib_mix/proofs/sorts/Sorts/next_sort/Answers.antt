@@ -29,7 +29,7 @@ returns-in-Some c =
         like_first = c.in-Some.ensures.like_first;
         parent = c.in-Some.ensures.parent_is
             ∙ parent_read sorts.of_places.items c.as_slice.result.now c.args.parents.now c.len-place.result c.sort_at-parent.result c.as_slice.ensures.value
-                long c.sort_at-parent.ensures;
+            long c.sort_at-parent.ensures;
       };
       sorts = c.requires.sorts;
     }

@@ -2,30 +2,30 @@ use crate::features::Features;
 use route_core::OutOfMemory;
 use std::alloc::Global;
 
-/// For each prefix the first one whose features and whose parents' features make the same number. It is a proposal, which
-/// a comparison has to confirm.
-pub(crate) fn candidates_of(
+/// For each prefix the first one whose features and whose parents' features make the same number. A comparison has
+/// to confirm it.
+pub(crate) fn proposals_of(
     alloc: Global,
     features: &Features<'_>,
     parents: &[Option<u32>],
 ) -> Result<Vec<Option<u32>>, OutOfMemory> {
     let mut pairs = digests_of(alloc, features, parents)?;
     pairs.sort_unstable();
-    let mut candidates = vec![in alloc; None; parents.len()]?;
+    let mut proposals = vec![in alloc; None; parents.len()]?;
     let mut first = (0, 0);
     for pair in pairs.as_slice() {
         if pair.0 != first.0 {
             first = *pair;
         }
-        put_candidate(&mut candidates, pair.1, first.1);
+        put_proposal(&mut proposals, pair.1, first.1);
     }
-    Ok(candidates)
+    Ok(proposals)
 }
 
-/// Puts the candidate of the prefix at a place.
-fn put_candidate(candidates: &mut Vec<Option<u32>>, place: u32, candidate: u32) {
-    if let Some(own) = candidates.get_mut(place as usize) {
-        *own = Some(candidate);
+/// Puts the proposal of the prefix at a place.
+fn put_proposal(proposals: &mut Vec<Option<u32>>, place: u32, proposal: u32) {
+    if let Some(own) = proposals.get_mut(place as usize) {
+        *own = Some(proposal);
     }
 }
 

@@ -1,7 +1,7 @@
 use Rattle.std.proofs.Common.{◌≤◌, length}
 use Rattle.std.specs.Vec.{vec_capacity}
 use Rattle.rib_mix.specs.steps.WayUp.{AreSortCells}
-use Rattle.rib_mix.proofs.marks.find_all.Given as goal
+use Rattle.rib_mix.proofs.own.find_all.Given as goal
 
 abbrev pub invariant-loop-sort : goal.invariant-loop-sort
 invariant-loop-sort l = record {

@@ -1,14 +1,14 @@
 use Rattle.std.proofs.Common.{◌≡◌, ◌∙◌, ℕ, List, arith, length, refl, subst, sym}
 use Rattle.net_addr.specs.Addresses.{Block}
 use Rattle.rib_mix.specs.declared.cell.Cell.{Cell}
-use Rattle.rib_mix.specs.declared.marks.Own.{Own}
+use Rattle.rib_mix.specs.declared.own.Own.{Own}
 use Rattle.rib_mix.specs.declared.sorts.Sorts.{Sorts}
 use Rattle.rib_mix.specs.steps.Likeness.{placed_of}
 use Rattle.rib_mix.specs.steps.Spots.{AreSpots, IsPlaced}
 use Rattle.rib_mix.specs.steps.WayUp.{AreOwnCells}
 use Rattle.rib_mix.proofs.SortLaws.{IsOwnOf, sort_cell}
 use Rattle.rib_mix.proofs.UpLaws.{all_cells, own_cells}
-use Rattle.rib_mix.proofs.marks.cells_of.Goals as goal
+use Rattle.rib_mix.proofs.own.cells_of.Goals as goal
 
 pub returns-clause-cells : goal.returns-clause-cells
 returns-clause-cells c =

@@ -11,7 +11,7 @@ use Rattle.rib_mix.specs.steps.Uses.{cell_at, cell_over, no_cell}
 use Rattle.rib_mix.specs.steps.WayUp.{AreSortCells, has_at}
 use Rattle.rib_mix.proofs.SortLaws.{cells_more}
 use Rattle.rib_mix.proofs.SpotLaws.{place_read}
-use Rattle.rib_mix.proofs.marks.find_all.Goals as goal
+use Rattle.rib_mix.proofs.own.find_all.Goals as goal
 
 -- a prefix stands at the first place of each sort that is shown
 first_here : (prefixes : List Block) (sorts : Sorts) (shown : List ℕ) (sort : ℕ) → IsSorting (length prefixes) sorts → shown ≡ sorts.firsts.items
@@ -44,8 +44,11 @@ pub at-requires-clause-connected : goal.at-requires-clause-connected
 at-requires-clause-connected c =
     let one = first_here c.args.shared.now.atoms.now.prefixes c.args.shared.now.sorts.now c.as_slice-firsts.result.now c.loop-sort.sort c.requires.sorts
     c.as_slice-firsts.ensures.value c.loop-sort-test.true in
-    omega (arith, slice_get_within c.args.shared.now.atoms.now.prefixes (get_or c.as_slice-firsts.result.now c.loop-sort.sort 0) one.0 one.1,
-    c.requires.own.connected)
+    omega (
+      arith,
+      slice_get_within c.args.shared.now.atoms.now.prefixes (get_or c.as_slice-firsts.result.now c.loop-sort.sort 0) one.0 one.1,
+      c.requires.own.connected,
+    )
 
 pub loop-sort-preserved : goal.loop-sort-preserved
 loop-sort-preserved c =
