@@ -1,5 +1,6 @@
 -- Prefixes with the same features are alike at every router.
-use Rattle.std.proofs.Common.{◌≡◌, ℕ, ◌↔◌, List, [], Option, Some, None, All, Contains, map, get_or, slice_get, ap, arith, refl, sym, subst, ◌∙◌}
+use Rattle.std.proofs.Common.{◌≡◌, ℕ, ◌↔◌, List, [], Option, Some, None, All, Contains, map, get_or, slice_get, ap, arith, refl}
+use Rattle.std.proofs.Common.{sym, subst, ◌∙◌}
 use Rattle.std.specs.Option.{option_map}
 use Rattle.std.proofs.lemmas.Option.{get_or_from_slice_get, slice_get-map, slice_get_within}
 use Rattle.net_addr.specs.Addresses.{Block}
@@ -29,15 +30,18 @@ one_kind_numbers lanes (Some one) (Some other) are parts lane =
     ap (λ (kind : ℕ). get_or parts.numbers.now kind None) same
 
 -- prefixes with the same features are alike at every router
-pub features_alike : (prefixes : List Block) (subnets : List (List Block)) (tables : List BothTables) (features : Features) (spots : Spots) (i j : ℕ)
+pub features_alike : (prefixes : List Block) (subnets : List (List Block)) (tables : List BothTables) (features : Features)
+    (spots : Spots) (i j : ℕ)
     → AreFeatures prefixes subnets tables features → features.spots.now ≡ spots → HaveSameFeatures features i j
     → AreLike (record { prefixes = prefixes; spots = spots }) subnets tables i j
 features_alike prefixes subnets tables features spots i j are is same u own both at_own at_both = record {
   olds = subst
-      (λ (ss : Spots). number_at_spot (kept_in both.old) (get_or ss.olds.items i None) ≡ number_at_spot (kept_in both.old) (get_or ss.olds.items j None)) is
+      (λ (ss : Spots). number_at_spot (kept_in both.old) (get_or ss.olds.items i None) ≡ number_at_spot (kept_in both.old)
+      (get_or ss.olds.items j None)) is
       (same.olds both.old (are.olds u (old_lane both) (slice_get-map old_lane tables u ∙ ap (option_map old_lane) at_both)));
   news = subst
-      (λ (ss : Spots). number_at_spot (kept_in both.new) (get_or ss.news.items i None) ≡ number_at_spot (kept_in both.new) (get_or ss.news.items j None)) is
+      (λ (ss : Spots). number_at_spot (kept_in both.new) (get_or ss.news.items i None) ≡ number_at_spot (kept_in both.new)
+      (get_or ss.news.items j None)) is
       (same.news both.new (are.news u (new_lane both) (slice_get-map new_lane tables u ∙ ap (option_map new_lane) at_both)));
   homes = λ p q at_p at_q. (
     λ has. at_home j q at_q (subst (λ (h : List ℕ). Contains h u) same.homes (is_home i p at_p has)),
@@ -50,7 +54,11 @@ features_alike prefixes subnets tables features spots i j are is same u own both
 
     is_home : (k : ℕ) (p : Block) → slice_get prefixes k ≡ Some p → Contains own p → Contains (get_or features.homes.items k []) u
     is_home k p at has =
-        (are.homes.each k u p at).1 (slice_get_within subnets u own at_own, subst (λ (ps : List Block). Contains ps p) (sym own_is) has)
+        (are.homes.each k u p at).1 (
+          slice_get_within subnets u own at_own,
+          subst (λ (ps : List Block). Contains ps p)
+              (sym own_is) has,
+        )
 
     at_home : (k : ℕ) (p : Block) → slice_get prefixes k ≡ Some p → Contains (get_or features.homes.items k []) u → Contains own p
     at_home k p at home = subst (λ (ps : List Block). Contains ps p) own_is ((are.homes.each k u p at).0 home).1

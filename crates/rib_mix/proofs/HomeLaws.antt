@@ -1,6 +1,8 @@
 -- The routers at which prefixes are connected, as they are found.
-use Rattle.std.proofs.Common.{◌≡◌, ◌≢◌, ℕ, ◌+◌, ◌<◌, ◌≤◌, ◌⊎◌, ◌↔◌, inl, inr, List, [], ◌∷◌, ◌++◌, Contains, Option, Some, None, IfNone, IfSome}
-use Rattle.std.proofs.Common.{length, get_or, set, slice_get, replicate, ap, arith, refl, sym, subst, ◌∙◌, ⊎_elim, get_or-set_other, get_or-set_same}
+use Rattle.std.proofs.Common.{◌≡◌, ◌≢◌, ℕ, ◌+◌, ◌<◌, ◌≤◌, ◌⊎◌, ◌↔◌, inl, inr, List, [], ◌∷◌, ◌++◌, Contains, Option, Some, None}
+use Rattle.std.proofs.Common.{IfNone, IfSome}
+use Rattle.std.proofs.Common.{length, get_or, set, slice_get, replicate, ap, arith, refl, sym, subst, ◌∙◌, ⊎_elim}
+use Rattle.std.proofs.Common.{get_or-set_other, get_or-set_same}
 use Rattle.std.proofs.lemmas.Bool.{cases_eq, cases_lt}
 use Rattle.std.proofs.lemmas.List.{get_or-replicate, length-replicate, length-set}
 use Rattle.std.proofs.lemmas.List.Elements.{Contains-append_left, Contains-push, Contains-push_cases}
@@ -13,13 +15,15 @@ use Rattle.prefix_atoms.proofs.NestedLaws.{ascending_apart}
 use Rattle.rib_mix.specs.steps.Homes.{AreHomesBelow, GainHomes, IsHomeBelow, with_home}
 
 -- no prefix has homes before the first router
-pub no_homes_yet : (prefixes : List Block) (subnets : List (List Block)) (homes : List (List ℕ)) → homes ≡ replicate (length prefixes) []
+pub no_homes_yet : (prefixes : List Block) (subnets : List (List Block)) (homes : List (List ℕ))
+    → homes ≡ replicate (length prefixes) []
     → AreHomesBelow prefixes subnets 0 homes
 no_homes_yet prefixes subnets homes are = record {
   count = ap length are ∙ length-replicate (length prefixes) [];
   each = λ i v p at.
       let none : get_or homes i [] ≡ [] =
-      ap (λ (hs : List (List ℕ)). get_or hs i []) are ∙ get_or-replicate (length prefixes) i [] [] (slice_get_within prefixes i p at) in (
+      ap (λ (hs : List (List ℕ)). get_or hs i []) are ∙ get_or-replicate (length prefixes) i [] []
+      (slice_get_within prefixes i p at) in (
         λ has. let k = subst (λ (h : List ℕ). Contains h v) none has in absurd (omega (arith, k.1)),
         λ home. absurd (omega (arith, home.0)),
       );
@@ -33,9 +37,11 @@ no_gain prefixes router homes = record {
 }
 
 -- one prefix more is seen
-pub home_next : (prefixes seen : List Block) (router : ℕ) (p : Block) (place : Option ℕ) (old mid new : List (List ℕ)) → AreAscendingPrefixes prefixes
+pub home_next : (prefixes seen : List Block) (router : ℕ) (p : Block) (place : Option ℕ) (old mid new : List (List ℕ))
+    → AreAscendingPrefixes prefixes
     → length old ≡ length prefixes → IfSome place (λ k. slice_get prefixes k ≡ Some p) → IfNone place (¬ Contains prefixes p)
-    → new ≡ with_home place router mid → GainHomes prefixes router seen old mid → GainHomes prefixes router (seen ++ p ∷ []) old new
+    → new ≡ with_home place router mid → GainHomes prefixes router seen old mid
+    → GainHomes prefixes router (seen ++ p ∷ []) old new
 home_next prefixes seen router p place old mid new up long found missed is gain =
     subst (GainHomes prefixes router (seen ++ p ∷ []) old) (sym is) (by_place place found missed)
   where
@@ -43,9 +49,17 @@ home_next prefixes seen router p place old mid new up long found missed is gain 
     Has homes i v = Contains (get_or homes i []) v
 
     -- a prefix that isn't the next one gains what it gained
-    later : (i v : ℕ) (q : Block) → p ≢ q → slice_get prefixes i ≡ Some q → Has mid i v ↔ (Has old i v ⊎ ((router ≡ v) × Contains (seen ++ p ∷ []) q))
+    later : (i v : ℕ) (q : Block) → p ≢ q → slice_get prefixes i ≡ Some q
+        → Has mid i v ↔ (Has old i v ⊎ ((router ≡ v) × Contains (seen ++ p ∷ []) q))
     later i v q apart at = (
-      λ has. elim ((gain.each i v q at).0 has) [ inl had ↦ inl had | inr own ↦ inr (own.0, Contains-append_left seen (p ∷ []) q own.1) ],
+      λ has. elim ((gain.each i v q at).0 has) [
+        | inl had ↦ inl had
+        | inr own ↦ inr (
+          own.0,
+          Contains-append_left seen
+              (p ∷ []) q own.1,
+        )
+      ],
       λ h. (gain.each i v q at).1 (elim h [
         | inl had ↦ inl had
         | inr own ↦ elim (Contains-push_cases seen p q own.1) [ inl among ↦ inr (own.0, among) | inr same ↦ absurd (apart same) ]
@@ -56,7 +70,8 @@ home_next prefixes seen router p place old mid new up long found missed is gain 
         → GainHomes prefixes router (seen ++ p ∷ []) old (with_home o router mid)
     by_place None found missed = record {
       count = gain.count;
-      each = λ i v q at. later i v q (λ same. missed (subst (Contains prefixes) (sym same) (Contains-from_place prefixes i q at))) at;
+      each = λ i v q at. later i v q (λ same. missed (subst (Contains prefixes) (sym same)
+          (Contains-from_place prefixes i q at))) at;
     }
     by_place (Some j) found missed = record { count = length-set mid j own ∙ gain.count; each = each }
       where
@@ -83,7 +98,11 @@ home_next prefixes seen router p place old mid new up long found missed is gain 
             )
           where
             later_here : (v : ℕ) → Has mid j v → Has old j v ⊎ ((router ≡ v) × Contains (seen ++ p ∷ []) p)
-            later_here v had = elim ((gain.each j v p found).0 had) [ inl old ↦ inl old | inr gained ↦ inr (gained.0, Contains-push seen p) ]
+            later_here v had = elim ((gain.each j v p found).0 had) [
+              | inl old ↦ inl old
+              | inr gained ↦ inr
+                  (gained.0, Contains-push seen p)
+            ]
 
         each : (i v : ℕ) (q : Block) → slice_get prefixes i ≡ Some q → Gained i v q
         each i v q at = ⊎_elim
@@ -99,7 +118,8 @@ home_next prefixes seen router p place old mid new up long found missed is gain 
             (cases_eq i j)
 
 -- one router more is seen
-pub router_next : (prefixes : List Block) (subnets : List (List Block)) (u : ℕ) (old new : List (List ℕ)) → AreHomesBelow prefixes subnets u old
+pub router_next : (prefixes : List Block) (subnets : List (List Block)) (u : ℕ) (old new : List (List ℕ))
+    → AreHomesBelow prefixes subnets u old
     → GainHomes prefixes u (get_or subnets u []) old new → AreHomesBelow prefixes subnets (u + 1) new
 router_next prefixes subnets u old new are gain = record {
   count = gain.count ∙ are.count;

@@ -1,5 +1,6 @@
 -- What mixed forwarding keeps of each router, as it is made and as it is read.
-use Rattle.std.proofs.Common.{◌≡◌, ℕ, ◌<◌, List, [], None, IfSome, length, get_or, Contains, Some, Option, slice_get, ap, arith, refl, sym, subst, ◌∙◌}
+use Rattle.std.proofs.Common.{◌≡◌, ℕ, ◌<◌, List, [], None, IfSome, length, get_or, Contains, Some, Option, slice_get, ap, arith}
+use Rattle.std.proofs.Common.{refl, sym, subst, ◌∙◌}
 use Rattle.std.proofs.lemmas.Option.{slice_get_read, slice_get_within, slice_get-get_or, get_or_from_slice_get}
 use Rattle.net_addr.specs.Addresses.{Block}
 use Rattle.route_core.specs.Tables.{IsListed}
@@ -42,7 +43,8 @@ all_occur old new o n g classes same are tables = record {
         (one.0, subst (λ (t : List (Block × Entry)). IsListed t p one.0) is one.1)
 
 -- what is made of a network and two sources with its routers is what is kept
-pub forwarding_made : (old new : ℕ → List (Block × Entry)) (o n : ℕ) (kept : MixedParts) → o ≡ length kept.ground.net → n ≡ length kept.ground.net
+pub forwarding_made : (old new : ℕ → List (Block × Entry)) (o n : ℕ) (kept : MixedParts) → o ≡ length kept.ground.net
+    → n ≡ length kept.ground.net
     → AreClasses (migration kept.ground.net (SourceEntry o old) (SourceEntry n new)) kept.classes → AreTablesOf old new o kept.ground.tables
     → AreAllSubnets kept.ground.net kept.subnets → length kept.sorts ≡ length kept.classes.samples
     → AreRows kept.ground kept.classes.samples kept.sorts kept.rows → IsForwarding old new kept
@@ -69,13 +71,17 @@ pub record IsHome (p : Place) (cells : ℕ → Cell) : Type 0 where
   pub cells_are : (k : ℕ) → k < length p.classes.samples → IsCell (sample p k) (cells k)
 
 -- the row that is kept of a router
-row_at : (old new : ℕ → List (Block × Entry)) (kept : MixedParts) (u : ℕ) (both : BothTables) → IsForwarding old new kept → u < length kept.ground.net
-    → slice_get kept.ground.tables u ≡ Some both → IsRow (site kept.ground u both) kept.classes.samples kept.sorts (get_or kept.rows u [])
+row_at : (old new : ℕ → List (Block × Entry)) (kept : MixedParts) (u : ℕ) (both : BothTables) → IsForwarding old new kept
+    → u < length kept.ground.net
+    → slice_get kept.ground.tables u ≡ Some both → IsRow (site kept.ground u both) kept.classes.samples kept.sorts
+    (get_or kept.rows u [])
 row_at old new kept u both is router at =
-    is.rows_are.each u (get_or kept.rows u []) (slice_get-get_or kept.rows u [] (omega (arith, is.rows_are.count, router))) both at
+    is.rows_are.each u (get_or kept.rows u []) (slice_get-get_or kept.rows u [] (omega
+    (arith, is.rows_are.count, router))) both at
 
 -- what was read of a router's tables and of its row
-pub home : (old new : ℕ → List (Block × Entry)) (kept : MixedParts) (u : ℕ) (both : BothTables) → IsForwarding old new kept → u < length kept.ground.net
+pub home : (old new : ℕ → List (Block × Entry)) (kept : MixedParts) (u : ℕ) (both : BothTables) → IsForwarding old new kept
+    → u < length kept.ground.net
     → both ≡ get_or kept.ground.tables u both → IsHome (place_of old new kept u both) (kept_cell kept u)
 home old new kept u both is router tables =
     let at = slice_get_read kept.ground.tables (length kept.ground.tables) u both refl (omega (arith, is.tables_are.count, router)) tables in
@@ -85,15 +91,18 @@ home old new kept u both is router tables =
     }
 
 -- what is read of its row alone: it has some tables
-pub some_home : (old new : ℕ → List (Block × Entry)) (kept : MixedParts) (u : ℕ) → IsForwarding old new kept → u < length kept.ground.net
+pub some_home : (old new : ℕ → List (Block × Entry)) (kept : MixedParts) (u : ℕ) → IsForwarding old new kept
+    → u < length kept.ground.net
     → (both : BothTables) × IsHome (place_of old new kept u both) (kept_cell kept u)
 some_home old new kept u is router =
     let both = at_place kept.ground.tables u (omega (arith, is.tables_are.count, router)) in
     (both.0, home old new kept u both.0 is router (sym (get_or_from_slice_get kept.ground.tables u both.0 both.0 both.1)))
 
 -- the cell of a class can be read in what is shown of the rows and sorts
-pub sort_read : (old new : ℕ → List (Block × Entry)) (kept : MixedParts) (rows : List (List Cell)) (sorts : List (Option ℕ)) (u k : ℕ)
-    → IsForwarding old new kept → rows ≡ kept.rows → sorts ≡ kept.sorts → u < length kept.ground.net → k < length kept.classes.samples
+pub sort_read : (old new : ℕ → List (Block × Entry)) (kept : MixedParts) (rows : List (List Cell)) (sorts : List (Option ℕ))
+    (u k : ℕ)
+    → IsForwarding old new kept → rows ≡ kept.rows → sorts ≡ kept.sorts → u < length kept.ground.net
+    → k < length kept.classes.samples
     → IfSome (get_or sorts k None) (λ sort. sort < length (get_or rows u []))
 sort_read old new kept rows sorts u k is rows_are sorts_are router within =
     let both = at_place kept.ground.tables u (omega (arith, is.tables_are.count, router)) in
@@ -102,8 +111,10 @@ sort_read old new kept rows sorts u k is rows_are sorts_are router within =
     ((row_at old new kept u both.0 is router both.1).within k within))
 
 -- so what is read is what is used for the sample of the class
-pub cell_read : (old new : ℕ → List (Block × Entry)) (kept : MixedParts) (p : Place) (rows : List (List Cell)) (sorts : List (Option ℕ)) (u k : ℕ)
-    (cell : Cell) → IsForwarding old new kept → IsHome p (kept_cell kept u) → rows ≡ kept.rows → sorts ≡ kept.sorts → k < length p.classes.samples
+pub cell_read : (old new : ℕ → List (Block × Entry)) (kept : MixedParts) (p : Place) (rows : List (List Cell)) (sorts : List
+    (Option ℕ)) (u k : ℕ)
+    (cell : Cell) → IsForwarding old new kept → IsHome p (kept_cell kept u) → rows ≡ kept.rows → sorts ≡ kept.sorts
+    → k < length p.classes.samples
     → cell ≡ cell_at (get_or rows u []) (get_or sorts k None) → IsCell (sample p k) cell
 cell_read old new kept p rows sorts u k cell _ home rows_are sorts_are within is =
     subst (IsCell (sample p k))

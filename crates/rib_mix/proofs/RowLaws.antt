@@ -1,5 +1,6 @@
 -- What a router has, and what it uses for each class.
-use Rattle.std.proofs.Common.{◌≡◌, ℕ, ◌<◌, List, Option, None, Some, IfSome, length, map, get_or, slice_get, arith, sym, subst, ◌∙◌}
+use Rattle.std.proofs.Common.{◌≡◌, ℕ, ◌<◌, List, Option, None, Some, IfSome, length, map, get_or, slice_get, arith, sym, subst}
+use Rattle.std.proofs.Common.{◌∙◌}
 use Rattle.std.proofs.lemmas.Option.{slice_get_within, slice_get-get_or}
 use Rattle.net_addr.specs.Addresses.{Block}
 use Rattle.net_model.specs.Refusals.{IsNetwork}
@@ -49,9 +50,12 @@ own_among prefixes g u both subnets spots parts occur own at are = record {
 }
 
 -- what is used for the sort of the longest prefix of each class makes the row of a router
-pub row_made : (s : Site) (ospf : ℕ) (subnets : List Block) (classes : Classes) (of_places : List ℕ) (cells : List Cell) → IsNetwork s.net
-    → HasOspfDistance s.net s.u ospf → AreSubnets s.net s.u subnets → IsClassing classes → length of_places ≡ length classes.prefixes
-    → ((i : ℕ) → i < length of_places → get_or of_places i 0 < length cells) → AreOwnCells classes.prefixes of_places subnets s.tables ospf cells
+pub row_made : (s : Site) (ospf : ℕ) (subnets : List Block) (classes : Classes) (of_places : List ℕ) (cells : List Cell)
+    → IsNetwork s.net
+    → HasOspfDistance s.net s.u ospf → AreSubnets s.net s.u subnets → IsClassing classes
+    → length of_places ≡ length classes.prefixes
+    → ((i : ℕ) → i < length of_places → get_or of_places i 0 < length cells)
+    → AreOwnCells classes.prefixes of_places subnets s.tables ospf cells
     → IsRow (λ a. record s { a = a }) classes.samples (map (sort_at of_places) classes.tops) cells
 row_made s ospf subnets classes of_places cells network distance subnets_are classing long below are = record {
   within = λ k in_k.
@@ -62,7 +66,8 @@ row_made s ospf subnets classes of_places cells network distance subnets_are cla
   each = λ k in_k.
       let a : ℕ = get_or classes.samples k 0 in
       let top : Option ℕ = get_or classes.tops k None in
-      let is_top : IsTop classes.prefixes a top = classing.tops.each k top (slice_get-get_or classes.tops k None (omega (arith, in_k, classing.tops.count))) in
+      let is_top : IsTop classes.prefixes a top = classing.tops.each k top (slice_get-get_or classes.tops k None (omega
+      (arith, in_k, classing.tops.count))) in
       subst (λ (o : Option ℕ). IsCell (record s { a = a }) (cell_at cells o)) (sym (sort_is k))
       (are s.net s.u a top network distance subnets_are is_top);
 }

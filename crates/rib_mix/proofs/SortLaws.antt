@@ -1,5 +1,6 @@
 -- Prefixes of one sort: what a router has for one it has for the other, and so the cells of sorts are those of prefixes.
-use Rattle.std.proofs.Common.{◌≡◌, ℕ, ◌+◌, ◌<◌, ◌≤◌, ◌++◌, ◌∷◌, [], IfSome, ⊎_elim, ◌↔◌, ◌==◌, if◌then◌else◌, Bool, List, Option, Some, None, Contains, is_some, length, get_or, slice_get}
+use Rattle.std.proofs.Common.{◌≡◌, ℕ, ◌+◌, ◌<◌, ◌≤◌, ◌++◌, ◌∷◌, [], IfSome, ⊎_elim, ◌↔◌, ◌==◌, if◌then◌else◌, Bool, List, Option}
+use Rattle.std.proofs.Common.{Some, None, Contains, is_some, length, get_or, slice_get}
 use Rattle.std.proofs.Common.{ap, arith, refl, sym, subst, ◌∙◌}
 use Rattle.net_addr.specs.Addresses.{Block}
 use Rattle.route_core.specs.Rows.{kept_in}
@@ -26,7 +27,8 @@ use Rattle.rib_mix.specs.declared.used.Used.TheVariants.{Connected}
 use Rattle.rib_mix.proofs.SpotLaws.{spots_number}
 
 -- sorts by one likeness are sorts by each that follows from it
-pub sorts_along : (like other : ℕ → ℕ → Type 0) (parents : List (Option ℕ)) (n : ℕ) (sorts : Sorts) → ((i j : ℕ) → like i j → other i j)
+pub sorts_along : (like other : ℕ → ℕ → Type 0) (parents : List (Option ℕ)) (n : ℕ) (sorts : Sorts) → ((i j : ℕ) → like i j
+    → other i j)
     → AreSorts like parents n sorts → AreSorts other parents n sorts
 sorts_along like other parents n sorts along are = record {
   count = are.count;
@@ -60,7 +62,8 @@ same_number : (table : PlacedTable) (spots : List (Option ℕ)) (i j : ℕ) → 
     → number_at_spot (kept_in table.parts) (get_or spots i None) ≡ number_at_spot (kept_in table.parts) (get_or spots j None)
     → number_in table i ≡ number_in table j
 same_number table spots i j is same =
-    subst (λ (ss : List (Option ℕ)). number_at_spot (kept_in table.parts) (get_or ss i None) ≡ number_at_spot (kept_in table.parts) (get_or ss j None))
+    subst (λ (ss : List (Option ℕ)). number_at_spot (kept_in table.parts) (get_or ss i None) ≡ number_at_spot
+    (kept_in table.parts) (get_or ss j None))
     (sym is) same
 
 -- for two prefixes that are alike at a router it has the same
@@ -73,7 +76,8 @@ same_has all subnets own i j is in_i in_j like =
     record {
       connected = some_alike subnets p.0 q.0 (connected_in own i) (connected_in own j) (numbers i p.0 p.1) (numbers j q.0 q.1)
           (like.homes p.0 q.0 p.1 q.1);
-      old = ap (λ (n : Option ℕ). if own.ospf == 255 then None else n) (same_number own.old all.spots.olds.items i j is.olds like.olds);
+      old = ap (λ (n : Option ℕ). if own.ospf == 255 then None else n) (same_number own.old all.spots.olds.items i j is.olds
+          like.olds);
       new = same_number own.new all.spots.news.items i j is.news like.news;
     }
 
@@ -88,8 +92,10 @@ same_over one other first up same =
     both = record { middle = Connected; other = Connected }
 
 -- the cell of a prefix's sort is made of what is had for the prefix and used for its parent's sort
-pub sort_cell : (all : PlacedPrefixes) (subnets : List Block) (own : Own) (parents : List (Option ℕ)) (sorts : Sorts) (cells : List Cell)
-    → IsOwnOf all subnets own → length parents ≡ length all.prefixes → AreSorts (AreLikeAt all subnets (tables_in own)) parents (length parents) sorts
+pub sort_cell : (all : PlacedPrefixes) (subnets : List Block) (own : Own) (parents : List (Option ℕ)) (sorts : Sorts)
+    (cells : List Cell)
+    → IsOwnOf all subnets own → length parents ≡ length all.prefixes → AreSorts (AreLikeAt all subnets (tables_in own)) parents
+    (length parents) sorts
     → AreSortCells own sorts (length sorts.firsts.items) cells → (i : ℕ) → i < length all.prefixes
     → cell_at cells (sort_at sorts.of_places.items (Some i))
     ≡ cell_over (has_at own i) (is_old_first own) (cell_at cells (sort_at sorts.of_places.items (get_or parents i None)))
@@ -100,19 +106,22 @@ sort_cell all subnets own parents sorts cells is long are cells_are i within =
     let in_j : j < length all.prefixes = omega (arith, are.sorting.firsts sort of_sort.within, long) in
     let up : Cell = cell_at cells (get_or sorts.parents.items sort None) in
     cells_are.each sort of_sort.within
-    ∙ sym (same_over (has_at own i) (has_at own j) (is_old_first own) up (same_has all subnets own i j is within in_j of_sort.like_first))
+    ∙ sym (same_over (has_at own i) (has_at own j) (is_old_first own) up
+    (same_has all subnets own i j is within in_j of_sort.like_first))
     ∙ ap (λ (o : Option ℕ). cell_over (has_at own i) (is_old_first own) (cell_at cells o)) of_sort.parent
 
 -- one sort more
 pub cells_more : (own : Own) (sorts : Sorts) (n : ℕ) (old new : List Cell) (next : Cell) (places : ℕ) → IsSorting places sorts
     → n < length sorts.firsts.items
-    → next ≡ cell_over (has_at own (get_or sorts.firsts.items n 0)) (is_old_first own) (cell_at old (get_or sorts.parents.items n None))
+    → next ≡ cell_over (has_at own (get_or sorts.firsts.items n 0)) (is_old_first own) (cell_at old
+    (get_or sorts.parents.items n None))
     → new ≡ old ++ next ∷ [] → AreSortCells own sorts n old → AreSortCells own sorts (n + 1) new
 cells_more own sorts n old new next places sorting within made is are = record {
   count = count_more old new next n are.count is;
   each = λ sort below. subst (λ (cells : List Cell). get_or cells sort no_cell ≡ made_of cells sort) (sym is) (⊎_elim
       (λ (l : sort < n).
-      get_or_append_left old (next ∷ []) no_cell sort (omega (arith, l, are.count)) ∙ are.each sort l ∙ sym (kept sort (omega arith)))
+      get_or_append_left old (next ∷ []) no_cell sort (omega (arith, l, are.count)) ∙ are.each sort l
+      ∙ sym (kept sort (omega arith)))
       (λ (l : n ≤ sort).
       let same : n ≡ sort = omega arith in
       subst (λ (s : ℕ). get_or (old ++ next ∷ []) s no_cell ≡ made_of (old ++ next ∷ []) s) same
@@ -122,7 +131,8 @@ cells_more own sorts n old new next places sorting within made is are = record {
   where
     made_of : List Cell → ℕ → Cell
     made_of cells sort =
-        cell_over (has_at own (get_or sorts.firsts.items sort 0)) (is_old_first own) (cell_at cells (get_or sorts.parents.items sort None))
+        cell_over (has_at own (get_or sorts.firsts.items sort 0)) (is_old_first own) (cell_at cells
+        (get_or sorts.parents.items sort None))
 
     same_cell : (o : Option ℕ) → IfSome o (λ up. up < length old) → cell_at (old ++ next ∷ []) o ≡ cell_at old o
     same_cell None before = refl

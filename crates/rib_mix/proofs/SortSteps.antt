@@ -1,5 +1,6 @@
 -- Sorts as they are found, one prefix after another.
-use Rattle.std.proofs.Common.{◌≡◌, ℕ, ◌+◌, ◌<◌, ◌≤◌, ◌++◌, ◌∷◌, [], List, Option, Some, None, IfSome, length, get_or, ap, arith, refl, sym, subst, ◌∙◌}
+use Rattle.std.proofs.Common.{◌≡◌, ℕ, ◌+◌, ◌<◌, ◌≤◌, ◌++◌, ◌∷◌, [], List, Option, Some, None, IfSome, length, get_or, ap, arith}
+use Rattle.std.proofs.Common.{refl, sym, subst, ◌∙◌}
 use Rattle.std.proofs.Common.{⊎_elim, length-append}
 use Rattle.std.proofs.lemmas.Bool.{cases_lt}
 use Rattle.std.proofs.lemmas.List.{get_or_append_left, get_or_push}
@@ -7,7 +8,8 @@ use Rattle.rib_mix.specs.steps.Sorts.{AreEarlierPlaces, AreSorts, IsOfSort, IsSo
 use Rattle.rib_mix.specs.declared.sorts.Sorts.{Sorts}
 
 -- what holds of each element and of one more holds of each
-pushed : {X : Type 0} (P : ℕ → X → Type 0) (xs : List X) (x d : X) → ((k : ℕ) → k < length xs → P k (get_or xs k d)) → P (length xs) x
+pushed : {X : Type 0} (P : ℕ → X → Type 0) (xs : List X) (x d : X) → ((k : ℕ) → k < length xs → P k (get_or xs k d))
+    → P (length xs) x
     → (k : ℕ) → k < length (xs ++ x ∷ []) → P k (get_or (xs ++ x ∷ []) k d)
 pushed P xs x d each here k within = ⊎_elim
     (λ (l : k < length xs). subst (P k) (sym (get_or_append_left xs (x ∷ []) d k l)) (each k l))
@@ -23,7 +25,8 @@ sort_kept of_places sort None before = refl
 sort_kept of_places sort (Some j) before = ap Some (sym (get_or_append_left of_places (sort ∷ []) 0 j before))
 
 -- there are no sorts before the first prefix
-pub no_sorts : (like : ℕ → ℕ → Type 0) (parents : List (Option ℕ)) (sorts : Sorts) → sorts.of_places.items ≡ [] → sorts.firsts.items ≡ []
+pub no_sorts : (like : ℕ → ℕ → Type 0) (parents : List (Option ℕ)) (sorts : Sorts) → sorts.of_places.items ≡ []
+    → sorts.firsts.items ≡ []
     → sorts.parents.items ≡ [] → AreSorts like parents 0 sorts
 no_sorts like parents sorts of_is firsts_are parents_are = record {
   count = ap length of_is;
@@ -42,14 +45,16 @@ still_before n place None within before = tt
 still_before n place (Some j) within before = omega arith
 
 -- a place within has a sort within
-pub sort_inside : (of_places : List ℕ) (sorts : ℕ) (o : Option ℕ) → ((i : ℕ) → i < length of_places → get_or of_places i 0 < sorts)
+pub sort_inside : (of_places : List ℕ) (sorts : ℕ) (o : Option ℕ) → ((i : ℕ) → i < length of_places
+    → get_or of_places i 0 < sorts)
     → IfSome o (λ place. place < length of_places) → IfSome (sort_at of_places o) (λ sort. sort < sorts)
 sort_inside of_places sorts None below within = tt
 sort_inside of_places sorts (Some place) below within = below place within
 
 -- the next prefix takes its sort
 pub sort_taken : (like : ℕ → ℕ → Type 0) (parents : List (Option ℕ)) (n : ℕ) (old new : Sorts) (sort : ℕ) → n < length parents
-    → AreEarlierPlaces parents → AreSorts like parents n old → IsOfSort like parents old n sort → new.of_places.items ≡ old.of_places.items ++ sort ∷ []
+    → AreEarlierPlaces parents → AreSorts like parents n old → IsOfSort like parents old n sort
+    → new.of_places.items ≡ old.of_places.items ++ sort ∷ []
     → new.firsts.items ≡ old.firsts.items → new.parents.items ≡ old.parents.items → AreSorts like parents (n + 1) new
 sort_taken like parents n old new sort next earlier are is of_is firsts_are parents_are = record {
   count = more;
@@ -82,7 +87,8 @@ sort_taken like parents n old new sort next earlier are is of_is firsts_are pare
     grown i below =
         subst (λ (os : List ℕ). IsOfSort like parents new i (get_or os i 0)) (sym of_is)
         (pushed (λ (k s : ℕ). IsOfSort like parents new k s) old.of_places.items sort 0
-        (λ k within. kept k (get_or old.of_places.items k 0) (omega (arith, within, are.count)) (are.each k (omega (arith, within, are.count))))
+        (λ k within. kept k (get_or old.of_places.items k 0) (omega (arith, within, are.count)) (are.each k (omega
+        (arith, within, are.count))))
         (subst (λ (m : ℕ). IsOfSort like parents new m sort) (sym are.count) (kept n sort (omega arith) is)) i
         (omega (arith, below, are.count, length-append old.of_places.items (sort ∷ []))))
 
@@ -93,9 +99,11 @@ pub record IsAdded (like : ℕ → ℕ → Type 0) (parents : List (Option ℕ))
 
 pub sort_added : (like : ℕ → ℕ → Type 0) (parents : List (Option ℕ)) (old new : Sorts) (parent : Option ℕ)
     → ((i : ℕ) → like i i) → length old.of_places.items < length parents → AreEarlierPlaces parents
-    → AreSorts like parents (length old.of_places.items) old → parent ≡ sort_at old.of_places.items (get_or parents (length old.of_places.items) None)
+    → AreSorts like parents (length old.of_places.items) old → parent ≡ sort_at old.of_places.items (get_or parents
+    (length old.of_places.items) None)
     → new.of_places.items ≡ old.of_places.items → new.firsts.items ≡ old.firsts.items ++ length old.of_places.items ∷ []
-    → new.parents.items ≡ old.parents.items ++ parent ∷ [] → IsAdded like parents (length old.of_places.items) (length old.firsts.items) new
+    → new.parents.items ≡ old.parents.items ++ parent ∷ [] → IsAdded like parents (length old.of_places.items)
+    (length old.firsts.items) new
 sort_added like parents old new parent itself next earlier are parent_is of_is firsts_are parents_are = record {
   sorts = record {
     count = ap length of_is;
@@ -147,6 +155,7 @@ sort_added like parents old new parent itself next earlier are parent_is of_is f
           like_first = subst (like i) (sym (ap (λ (fs : List ℕ). get_or fs sort 0) firsts_are
               ∙ get_or_append_left old.firsts.items (n ∷ []) 0 sort within)) of_sort.like_first;
           parent = ap (λ (ps : List (Option ℕ)). get_or ps sort None) parents_are
-              ∙ get_or_append_left old.parents.items (parent ∷ []) None sort (omega (arith, within, are.sorting.count)) ∙ of_sort.parent
+              ∙ get_or_append_left old.parents.items (parent ∷ []) None sort (omega (arith, within, are.sorting.count))
+              ∙ of_sort.parent
               ∙ ap (λ (os : List ℕ). sort_at os (get_or parents i None)) (sym of_is);
         })

@@ -1,6 +1,7 @@
 -- The way up from the longest prefix of an address: what is used there is what is used of all entries.
 use lib.Dec.{ltb}
-use Rattle.std.proofs.Common.{◌≡◌, ℕ, zero, suc, ◌<◌, ◌≤◌, inl, Bool, true, false, List, length, get_or, set, Option, Some, None, Contains, IfSome}
+use Rattle.std.proofs.Common.{◌≡◌, ℕ, zero, suc, ◌<◌, ◌≤◌, inl, Bool, true, false, List, length, get_or, set, Option, Some, None}
+use Rattle.std.proofs.Common.{Contains, IfSome}
 use Rattle.std.proofs.Common.{ap, arith, refl, sym, subst, ◌∙◌, slice_get, ⊎_elim, eqb-true, ◌==◌, if◌then◌else◌}
 use Rattle.std.proofs.lemmas.Bool.{cases_lt, eqb-false, ltb-false, ltb-true}
 use Rattle.std.proofs.lemmas.List.Elements.{All-contains}
@@ -29,7 +30,8 @@ use Rattle.rib_mix.specs.steps.Sites.{CountsAt, HasOspfDistance, HasTableRows, p
 use Rattle.rib_mix.specs.steps.Spots.{AreSpots, IsPlaced, number_in}
 use Rattle.rib_mix.specs.steps.Sorts.{sort_at}
 use Rattle.rib_mix.specs.steps.Uses.{cell_at, cell_over, no_cell}
-use Rattle.rib_mix.specs.steps.WayUp.{AreAllCells, AreOwnCells, IsBestUse, IsCellFor, IsOwnAmong, IsOwnNumber, IsOwnSite, UpTo, connected_in, has_at, is_old_first, old_in}
+use Rattle.rib_mix.specs.steps.WayUp.{AreAllCells, AreOwnCells, IsBestUse, IsCellFor, IsOwnAmong, IsOwnNumber, IsOwnSite, UpTo}
+use Rattle.rib_mix.specs.steps.WayUp.{connected_in, has_at, is_old_first, old_in}
 use Rattle.rib_mix.specs.declared.cell.Cell.{Cell}
 use Rattle.rib_mix.specs.declared.own.Own.{Own}
 use Rattle.rib_mix.specs.declared.spots.Spots.{Spots}
@@ -185,7 +187,8 @@ old_first ospf true is = omega (arith, ltb-true ospf 115 is)
 old_first ospf false is = ltb-false ospf 115 is
 
 -- what is used for the earlier prefixes is used for the parent of the next one
-earlier_cell : (prefixes : List Block) (own : Own) (of_places : List ℕ) (cells : List Cell) (n : ℕ) (o : Option ℕ) → IfSome o (λ j. j < n)
+earlier_cell : (prefixes : List Block) (own : Own) (of_places : List ℕ) (cells : List Cell) (n : ℕ) (o : Option ℕ)
+    → IfSome o (λ j. j < n)
     → AreAllCells prefixes own of_places cells n → IsCellFor prefixes own o (cell_at cells (sort_at of_places o))
 earlier_cell prefixes own of_places cells n None before are = refl
 earlier_cell prefixes own of_places cells n (Some j) before are = are j before
@@ -194,12 +197,14 @@ earlier_cell prefixes own of_places cells n (Some j) before are = are j before
 next_cell : (c : Classes) (own : Own) (of_places : List ℕ) (cells : List Cell) (n : ℕ) → IsClassing c → n < length c.prefixes
     → cell_at cells (sort_at of_places (Some n))
     ≡ cell_over (has_at own n) (is_old_first own) (cell_at cells (sort_at of_places (get_or c.parents n None)))
-    → AreAllCells c.prefixes own of_places cells n → IsCellFor c.prefixes own (Some n) (cell_at cells (sort_at of_places (Some n)))
+    → AreAllCells c.prefixes own of_places cells n → IsCellFor c.prefixes own (Some n) (cell_at cells (sort_at of_places
+    (Some n)))
 next_cell c own of_places cells n classing within made earlier =
     let p = at_place c.prefixes n within in
     let parent : Option ℕ = get_or c.parents n None in
     subst (IsCellFor c.prefixes own (Some n)) (sym made)
-    (cell_more c own n p.0 (cell_at cells (sort_at of_places parent)) (is_old_first own) classing (old_first own.ospf (is_old_first own) refl) p.1
+    (cell_more c own n p.0 (cell_at cells (sort_at of_places parent)) (is_old_first own) classing (old_first own.ospf
+    (is_old_first own) refl) p.1
     (earlier_cell c.prefixes own of_places cells n parent (parent_of c n p.0 classing p.1).before earlier))
 
 -- the cells of the sorts of the first places are what is used there, if each is made of what is had there and used for the parent
@@ -220,12 +225,13 @@ all_cells c own of_places cells classing made (suc n) fits place below =
     (cases_lt place n)
 
 -- so at the place of the longest prefix of an address there is what the router uses for it
-pub own_cells : (c : Classes) (subnets : List Block) (spots : Spots) (own : Own) (of_places : List ℕ) (cells : List Cell) → IsClassing c
+pub own_cells : (c : Classes) (subnets : List Block) (spots : Spots) (own : Own) (of_places : List ℕ) (cells : List Cell)
+    → IsClassing c
     → IsOwnAmong c.prefixes subnets (record { old = own.old.parts; new = own.new.parts }) spots
     → AreSpots c.prefixes subnets (length subnets) own.connected.now → IsPlaced c.prefixes own.old → IsPlaced c.prefixes own.new
     → AreAllCells c.prefixes own of_places cells (length c.prefixes)
     → AreOwnCells c.prefixes of_places subnets (record { old = own.old.parts; new = own.new.parts }) own.ospf cells
-own_cells c subnets spots own of_places cells classing among connected old new are net u a top network distance subnets_are is_top =
+own_cells c subnets spots own of_places cells classing among connected old new are net u a top network distance own_are is_top =
     top_cell c.prefixes own s top (cell_at cells (sort_at of_places top)) site is_top
     (earlier_cell c.prefixes own of_places cells (length c.prefixes) top (top_inside c.prefixes a top is_top) are)
   where
@@ -249,7 +255,7 @@ own_cells c subnets spots own of_places cells classing among connected old new a
       };
       distance = distance;
       subnets = subnets;
-      subnets_are = subnets_are;
+      subnets_are = own_are;
       among = among.connected;
       old_among = among.old;
       new_among = among.new;

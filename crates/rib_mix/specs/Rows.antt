@@ -1,5 +1,6 @@
 -- What the routers of a network use for each of some addresses, and what mixed forwarding keeps.
-use Rattle.std.specs.Prelude.{◌≡◌, ℕ, ◌<◌, ◌↔◌, List, length, slice_get, slice_index, slice_index_or, Option, None, Some, IfSome, Contains}
+use Rattle.std.specs.Prelude.{◌≡◌, ℕ, ◌<◌, ◌↔◌, List, length, slice_get, slice_index, slice_index_or, Option, None, Some, IfSome}
+use Rattle.std.specs.Prelude.{Contains}
 use Rattle.net_addr.specs.Addresses.{Block}
 use Rattle.net_model.specs.Network.{Network, Connected}
 use Rattle.route_core.specs.declared.entry.Entry.{Entry}
@@ -56,8 +57,8 @@ pub record AreEarlierAlike (move : Migration) (classes : Classes) (earlier : Lis
   pub before : (k other : ℕ) → slice_get earlier k ≡ Some (Some other) → other < k
   pub alike : (k other : ℕ) → slice_get earlier k ≡ Some (Some other) → AreAlike move classes other k
 
--- what mixed forwarding keeps of a network and the tables of its routers: their classes with their sorts, the connected prefixes, and
--- what is used for the sorts
+-- what mixed forwarding keeps of a network and the tables of its routers: their classes with their sorts, the connected
+-- prefixes, and what is used for the sorts
 pub record IsForwarding (old new : ℕ → List (Block × Entry)) (kept : MixedParts) : Type 0 where
   pub classes_are : AreClasses (migration kept.ground.net (SourceEntry (length kept.ground.net) old) (SourceEntry (length kept.ground.net) new)) kept.classes
   pub subnets_are : AreAllSubnets kept.ground.net kept.subnets

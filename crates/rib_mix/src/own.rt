@@ -51,7 +51,8 @@ pub(crate) fn cells_of(
     requires sorts { AreSorts (AreLikeAt (placed_of shared.now) subnets.now tables) shared.now.atoms.now.parents
         (length shared.now.atoms.now.parents) shared.now.sorts.now }
     ensures count { IfOk result (λ cells. length cells ≡ length shared.now.sorts.now.firsts.items) }
-    ensures cells { IfOk result (AreOwnCells shared.now.atoms.now.prefixes shared.now.sorts.now.of_places.items subnets.now tables.entry ospf) }
+    ensures cells { IfOk result (AreOwnCells shared.now.atoms.now.prefixes shared.now.sorts.now.of_places.items subnets.now
+        tables.entry ospf) }
 {
     let connected = find_spots(alloc, shared.atoms.prefixes(), subnets)?;
     let own = Own {
@@ -97,7 +98,8 @@ impl Own<'_> {
 fn find_all(alloc: Global, shared: &Shared<'_>, own: Own<'_>) -> Result<Vec<Cell>, OutOfMemory>
     requires own { IsOwn shared.now.atoms.now.prefixes own }
     requires sorts { IsSorting (length shared.now.atoms.now.prefixes) shared.now.sorts.now }
-    ensures { IfOk result (λ cells. AreSortCells own.entry shared.now.sorts.now (length shared.now.sorts.now.firsts.items) cells.items) }
+    ensures { IfOk result (λ cells. AreSortCells own.entry shared.now.sorts.now
+        (length shared.now.sorts.now.firsts.items) cells.items) }
 {
     let firsts = shared.sorts.firsts.as_slice();
     let parents = shared.sorts.parents.as_slice();

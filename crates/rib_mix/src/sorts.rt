@@ -54,7 +54,8 @@ impl Sorts {
         requires features { HaveFeatures (length parents.now) features.now }
         requires parents { AreEarlierPlaces parents.now }
         requires sorts { AreSorts (HaveSameFeatures features.now) parents.now (length self.old.of_places.items) self.old }
-        ensures { OnOk result (AreSorts (HaveSameFeatures features.now) parents.now (length self.old.of_places.items + 1) self.new) }
+        ensures { OnOk result (AreSorts (HaveSameFeatures features.now) parents.now
+            (length self.old.of_places.items + 1) self.new) }
     {
         let sort = self.next_sort(features, parents, proposal)?;
         Ok(self.of_places.push(sort)?)
@@ -71,8 +72,10 @@ impl Sorts {
         requires features { HaveFeatures (length parents.now) features.now }
         requires parents { AreEarlierPlaces parents.now }
         requires sorts { AreSorts (HaveSameFeatures features.now) parents.now (length self.old.of_places.items) self.old }
-        ensures is { IfOk result (IsOfSort (HaveSameFeatures features.now) parents.now self.new (length self.old.of_places.items)) }
-        ensures sorts { OnOk result (AreSorts (HaveSameFeatures features.now) parents.now (length self.old.of_places.items) self.new) }
+        ensures is { IfOk result (IsOfSort (HaveSameFeatures features.now) parents.now self.new
+            (length self.old.of_places.items)) }
+        ensures sorts { OnOk result (AreSorts (HaveSameFeatures features.now) parents.now
+            (length self.old.of_places.items) self.new) }
     {
         let place = self.of_places.len();
         let parent = sort_at(self.of_places.as_slice(), parents[place]);

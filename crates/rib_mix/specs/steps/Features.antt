@@ -43,7 +43,8 @@ pub record HaveFeatures (places : ℕ) (features : Features) : Type 0 where
   pub homes : length features.homes.items ≡ places
 
 -- the features of some prefixes, of which these are connected at each router, by the tables of all routers
-pub record AreFeatures (prefixes : List Block) (subnets : List (List Block)) (tables : List BothTables) (features : Features) : Type 0 where
+pub record AreFeatures (prefixes : List Block) (subnets : List (List Block)) (tables : List BothTables)
+    (features : Features) : Type 0 where
   pub olds : HaveLanes (map old_lane tables) features.olds.items
   pub news : HaveLanes (map new_lane tables) features.news.items
   pub homes : AreHomes prefixes subnets features.homes.items
@@ -51,7 +52,8 @@ pub record AreFeatures (prefixes : List Block) (subnets : List (List Block)) (ta
 -- the tables of these lanes have the same at two spots
 abbrev pub HaveSameNumbers : List Lane → Option ℕ → Option ℕ → Type 0
 HaveSameNumbers lanes one other =
-    (parts : TableParts) → HasLane lanes parts.kinds.now → number_at_spot (kept_in parts) one ≡ number_at_spot (kept_in parts) other
+    (parts : TableParts) → HasLane lanes parts.kinds.now → number_at_spot (kept_in parts) one ≡ number_at_spot
+    (kept_in parts) other
 
 -- the prefixes at two places have the same features
 pub record HaveSameFeatures (features : Features) (one other : ℕ) : Type 0 where

@@ -1,5 +1,6 @@
 -- The routers at which each of some prefixes is connected.
-use Rattle.std.specs.Prelude.{◌≡◌, ℕ, ◌<◌, ◌⊎◌, ◌↔◌, ◌++◌, ◌∷◌, [], List, length, slice_get, slice_index_or, slice_set, Option, Some, None, Contains}
+use Rattle.std.specs.Prelude.{◌≡◌, ℕ, ◌<◌, ◌⊎◌, ◌↔◌, ◌++◌, ◌∷◌, [], List, length, slice_get, slice_index_or, slice_set, Option}
+use Rattle.std.specs.Prelude.{Some, None, Contains}
 use Rattle.net_addr.specs.Addresses.{Block}
 
 -- router v is one of the first n, at which these prefixes are connected, and p is among them
@@ -9,7 +10,8 @@ IsHomeBelow subnets n p v = (v < n) × Contains (slice_index_or subnets v []) p
 -- for each prefix its homes among the first n routers
 pub record AreHomesBelow (prefixes : List Block) (subnets : List (List Block)) (n : ℕ) (homes : List (List ℕ)) : Type 0 where
   pub count : length homes ≡ length prefixes
-  pub each : (i v : ℕ) (p : Block) → slice_get prefixes i ≡ Some p → Contains (slice_index_or homes i []) v ↔ IsHomeBelow subnets n p v
+  pub each : (i v : ℕ) (p : Block) → slice_get prefixes i ≡ Some p → Contains
+      (slice_index_or homes i []) v ↔ IsHomeBelow subnets n p v
 
 -- for each prefix all its homes
 abbrev pub AreHomes : List Block → List (List Block) → List (List ℕ) → Type 0

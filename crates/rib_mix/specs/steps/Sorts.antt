@@ -17,7 +17,8 @@ AreEarlierPlaces parents = (i : ℕ) → i < length parents → IfSome (slice_in
 pub record IsSorting (places : ℕ) (sorts : Sorts) : Type 0 where
   pub count : length sorts.parents.items ≡ length sorts.firsts.items
   pub firsts : (sort : ℕ) → sort < length sorts.firsts.items → slice_index_or sorts.firsts.items sort 0 < places
-  pub parents : (sort : ℕ) → sort < length sorts.firsts.items → IfSome (slice_index_or sorts.parents.items sort None) (λ up. up < sort)
+  pub parents : (sort : ℕ) → sort < length sorts.firsts.items → IfSome (slice_index_or sorts.parents.items sort None)
+      (λ up. up < sort)
   pub within : (i : ℕ) → i < length sorts.of_places.items → slice_index_or sorts.of_places.items i 0 < length sorts.firsts.items
 
 -- the prefix at place i is of this sort: it is like the sort's first prefix, and the parents of both are of one sort

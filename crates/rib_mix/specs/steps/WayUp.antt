@@ -1,6 +1,7 @@
 -- What a router uses for each prefix that occurs, of what it has for the prefix and for those that it lies in.
 use lib.Dec.{ltb}
-use Rattle.std.specs.Prelude.{◌≡◌, ℕ, Bool, ◌<◌, ◌≤◌, ◌⊎◌, ◌==◌, if◌then◌else◌, List, length, slice_get, slice_index_or, Option, Some, None, Contains, MatchOption}
+use Rattle.std.specs.Prelude.{◌≡◌, ℕ, Bool, ◌<◌, ◌≤◌, ◌⊎◌, ◌==◌, if◌then◌else◌, List, length, slice_get, slice_index_or, Option}
+use Rattle.std.specs.Prelude.{Some, None, Contains, MatchOption}
 use Rattle.net_addr.specs.Addresses.{Block, ContainsAddress}
 use Rattle.net_model.specs.Network.{Network}
 use Rattle.net_model.specs.Refusals.{IsNetwork}
@@ -101,7 +102,8 @@ is_old_first own = ltb own.ospf ISIS_DISTANCE
 pub record AreSortCells (own : Own) (sorts : Sorts) (n : ℕ) (cells : List Cell) : Type 0 where
   pub count : length cells ≡ n
   pub each : (sort : ℕ) → sort < n → slice_index_or cells sort no_cell ≡
-      cell_over (has_at own (slice_index_or sorts.firsts.items sort 0)) (is_old_first own) (cell_at cells (slice_index_or sorts.parents.items sort None))
+      cell_over (has_at own (slice_index_or sorts.firsts.items sort 0)) (is_old_first own) (cell_at cells
+      (slice_index_or sorts.parents.items sort None))
 
 -- what a router has, by the places of prefixes
 pub record IsOwn (prefixes : List Block) (own : Own) : Type 0 where
@@ -118,7 +120,8 @@ pub record IsOwnAmong (prefixes subnets : List Block) (both : BothTables) (spots
   pub new_table : IsTable (kept_in both.new)
   pub spots_are : AreTableSpots prefixes both spots
 
--- what a router with these connected prefixes, both tables and OSPF distance uses for an address is the cell of its longest prefix's sort
+-- what a router with these connected prefixes, both tables and OSPF distance uses for an address is the cell of its longest
+-- prefix's sort
 abbrev pub AreOwnCells : List Block → List ℕ → List Block → BothTables → ℕ → List Cell → Type 0
 AreOwnCells prefixes of_places subnets both ospf cells =
     (net : Network) (u a : ℕ) (top : Option ℕ) → IsNetwork net → HasOspfDistance net u ospf → AreSubnets net u subnets → IsTop prefixes a top →

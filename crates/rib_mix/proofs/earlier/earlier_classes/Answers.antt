@@ -1,4 +1,5 @@
-use Rattle.std.proofs.Common.{◌≡◌, ◌∙◌, replicate, ℕ, List, Option, None, Some, IfSome, ap, arith, get_or, length, refl, rules, slice_get, subst, sym}
+use Rattle.std.proofs.Common.{◌≡◌, ◌∙◌, replicate, ℕ, List, Option, None, Some, IfSome, ap, arith, get_or, length, refl, rules}
+use Rattle.std.proofs.Common.{slice_get, subst, sym}
 use Rattle.std.proofs.lemmas.Option.{slice_get_within}
 use Rattle.prefix_atoms.proofs.Pushed.{count_more, each_more}
 use Rattle.rib_mix.specs.steps.Earlier.{IsEarlierPlain}
@@ -9,7 +10,8 @@ pub loop-atom-init : goal.loop-atom-init
 loop-atom-init c =
     let none : c.in_ok-firsts.firsts.items ≡ replicate (length c.args.sorts.now.firsts.items) None = search rules in
     record {
-      firsts = no_firsts c.args.atoms.now c.args.sorts.now.of_places.items (length c.args.sorts.now.firsts.items) c.in_ok-firsts.firsts.items
+      firsts = no_firsts c.args.atoms.now c.args.sorts.now.of_places.items
+          (length c.args.sorts.now.firsts.items) c.in_ok-firsts.firsts.items
           none;
       count = ap length c.in_ok-earlier.ensures.items;
       each = λ k other at.
@@ -27,7 +29,8 @@ loop-atom-preserved c =
     let atom : ℕ = c.loop-atom.atom in
     record {
       firsts = c.take_first-first.ensures.firsts;
-      count = count_more c.loop-atom.earlier.items c.push.new.self.items c.take_first-first.result atom c.loop-atom.invariant.count
+      count = count_more c.loop-atom.earlier.items c.push.new.self.items c.take_first-first.result atom
+          c.loop-atom.invariant.count
           c.in_ok-push.ensures.items;
       each = λ k other at. each_more
           (λ (j : ℕ) (o : Option ℕ). IfSome o (IsEarlierPlain c.args.atoms.now c.args.sorts.now.of_places.items j))
@@ -41,6 +44,12 @@ pub returns : goal.returns
 returns c =
     let many : c.in-Ok.count ≡ c.count.result = search rules in
     record {
-      count = omega (arith, c.loop-atom.invariant.count, c.loop-atom-test.false, c.loop-atom.auto.atom-end, c.count.ensures.count);
+      count = omega (
+        arith,
+        c.loop-atom.invariant.count,
+        c.loop-atom-test.false,
+        c.loop-atom.auto.atom-end,
+        c.count.ensures.count,
+      );
       each = c.loop-atom.invariant.each;
     }

@@ -16,12 +16,15 @@ loop-subnet-preserved c =
     let subnets : List Block = c.args.subnets.now in
     let more : take (i + 1) subnets ≡ take i subnets ++ p ∷ [] =
     take_more subnets i p c.loop-subnet-test.true ∙ ap (λ (q : Block). take i subnets ++ q ∷ []) (sym c.subnet-item.is) in
-    subst (λ (seen : List Block). GainHomes c.args.prefixes.now c.args.router seen c.args.homes.now.items c.put_home.new.homes.items) (sym more)
-    (home_next c.args.prefixes.now (take i subnets) c.args.router p c.place_of_prefix-place.result c.args.homes.now.items c.loop-subnet.homes.items
+    subst (λ (seen : List Block). GainHomes c.args.prefixes.now c.args.router seen c.args.homes.now.items
+    c.put_home.new.homes.items) (sym more)
+    (home_next c.args.prefixes.now (take i subnets) c.args.router p c.place_of_prefix-place.result c.args.homes.now.items
+    c.loop-subnet.homes.items
     c.put_home.new.homes.items c.requires.ascending c.requires.count c.place_of_prefix-place.ensures.found
     (c.place_of_prefix-place.ensures.missed c.requires.ascending) c.in_ok-put_home.ensures c.loop-subnet.invariant)
 
 pub returns : goal.returns
 returns c =
-    subst (λ (seen : List Block). GainHomes c.args.prefixes.now c.args.router seen c.args.homes.now.items c.loop-subnet.homes.items)
+    subst (λ (seen : List Block). GainHomes c.args.prefixes.now c.args.router seen c.args.homes.now.items
+    c.loop-subnet.homes.items)
     (take_all c.loop-subnet.subnet-index c.args.subnets.now c.loop-subnet-test.false) c.loop-subnet.invariant

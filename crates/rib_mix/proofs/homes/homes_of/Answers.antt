@@ -15,12 +15,19 @@ loop-router-preserved c =
     let own : c.as_slice.result.now ≡ get_or c.args.subnets.now c.loop-router.router [] =
     c.as_slice.ensures ∙ c.index-subnets-router.is
     ∙ get_or_default c.args.subnets.now c.loop-router.router c.index-subnets-router.result [] below in
-    router_next c.args.prefixes.now c.args.subnets.now c.loop-router.router c.loop-router.homes.items c.add_homes.new.homes.items c.loop-router.invariant
-    (subst (λ (ps : List Block). GainHomes c.args.prefixes.now c.loop-router.router ps c.loop-router.homes.items c.add_homes.new.homes.items) own
+    router_next c.args.prefixes.now c.args.subnets.now c.loop-router.router c.loop-router.homes.items c.add_homes.new.homes.items
+    c.loop-router.invariant
+    (subst (λ (ps : List Block). GainHomes c.args.prefixes.now c.loop-router.router ps c.loop-router.homes.items
+    c.add_homes.new.homes.items) own
     c.in_ok-add_homes.ensures)
 
 pub returns : goal.returns
 returns c =
     let many : c.in-Ok.routers ≡ length c.args.subnets.now = search rules in
-    let all : c.loop-router.router ≡ length c.args.subnets.now = omega (arith, c.loop-router-test.false, c.loop-router.auto.router-end) in
-    subst (λ (n : ℕ). AreHomesBelow c.args.prefixes.now c.args.subnets.now n c.loop-router.homes.items) all c.loop-router.invariant
+    let all : c.loop-router.router ≡ length c.args.subnets.now = omega (
+      arith,
+      c.loop-router-test.false,
+      c.loop-router.auto.router-end,
+    ) in
+    subst (λ (n : ℕ). AreHomesBelow c.args.prefixes.now c.args.subnets.now n c.loop-router.homes.items) all
+    c.loop-router.invariant

@@ -8,7 +8,8 @@ use Rattle.rib_mix.proofs.lanes.distinct_lanes.Goals as goal
 
 pub loop-lane-preserved : goal.loop-lane-preserved
 loop-lane-preserved c k d below = ⊎_elim
-    (λ (l : k < c.loop-lane.lane-index). c.in_ok-add_lane.ensures.kept (get_or c.args.all.now k d).kinds.now (c.loop-lane.invariant k d l))
+    (λ (l : k < c.loop-lane.lane-index). c.in_ok-add_lane.ensures.kept (get_or c.args.all.now k d).kinds.now
+    (c.loop-lane.invariant k d l))
     (λ (l : c.loop-lane.lane-index ≤ k).
     let same : c.loop-lane.lane-index ≡ k = omega arith in
     subst (λ (j : ℕ). HasLane c.add_lane.new.lanes.items (get_or c.args.all.now j d).kinds.now) same

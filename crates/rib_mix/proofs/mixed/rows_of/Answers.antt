@@ -23,8 +23,10 @@ cells_of-requires-clause-own c =
     let own : AreSubnets c.args.net.now router c.index-subnets-router.result = c.requires.subnets.each router c.index-subnets-router.result
     (slice_get_read c.args.subnets.now (length c.args.subnets.now) router c.index-subnets-router.result refl
     (omega (arith, c.loop-router-test.true, c.requires.subnets.count, c.routers-router-end.ensures.count)) c.index-subnets-router.is) in
-    subst (λ (ps : List Block). IsOwnAmong c.args.shared.now.atoms.now.prefixes ps both c.args.shared.now.spots.now) (sym c.as_slice-subnets.ensures)
-    (own_among c.args.shared.now.atoms.now.prefixes (record { net = c.args.net.now; tables = c.args.tables.now }) router both c.index-subnets-router.result
+    subst (λ (ps : List Block). IsOwnAmong c.args.shared.now.atoms.now.prefixes ps both c.args.shared.now.spots.now)
+    (sym c.as_slice-subnets.ensures)
+    (own_among c.args.shared.now.atoms.now.prefixes
+    (record { net = c.args.net.now; tables = c.args.tables.now }) router both c.index-subnets-router.result
     c.args.shared.now.spots.now c.requires.tables c.requires.occur own here c.requires.spots)
 
 pub cells_of-requires-clause-sorts : goal.cells_of-requires-clause-sorts
@@ -35,13 +37,17 @@ cells_of-requires-clause-sorts c =
     let parents = c.args.shared.now.atoms.now.parents in
     let here : slice_get c.args.tables.now router ≡ Some both =
     slice_get_read c.args.tables.now (length c.args.tables.now) router both refl
-    (omega (arith, c.loop-router-test.true, c.requires.tables.count, c.routers-router-end.ensures.count)) c.index-tables-router.is in
+    (omega (arith, c.loop-router-test.true, c.requires.tables.count, c.routers-router-end.ensures.count)) c.index-tables-router.is
+    in
     let own : slice_get c.args.subnets.now router ≡ Some subnets =
     slice_get_read c.args.subnets.now (length c.args.subnets.now) router subnets refl
-    (omega (arith, c.loop-router-test.true, c.requires.subnets.count, c.routers-router-end.ensures.count)) c.index-subnets-router.is in
-    subst (λ (ps : List Block). AreSorts (AreLikeAt (placed_of c.args.shared.now) ps both) parents (length parents) c.args.shared.now.sorts.now)
+    (omega (arith, c.loop-router-test.true, c.requires.subnets.count, c.routers-router-end.ensures.count))
+    c.index-subnets-router.is in
+    subst (λ (ps : List Block). AreSorts (AreLikeAt (placed_of c.args.shared.now) ps both) parents
+    (length parents) c.args.shared.now.sorts.now)
     (sym c.as_slice-subnets.ensures)
-    (sorts_along (AreLike (placed_of c.args.shared.now) c.args.subnets.now c.args.tables.now) (AreLikeAt (placed_of c.args.shared.now) subnets both) parents
+    (sorts_along (AreLike (placed_of c.args.shared.now) c.args.subnets.now c.args.tables.now) (AreLikeAt
+    (placed_of c.args.shared.now) subnets both) parents
     (length parents) c.args.shared.now.sorts.now (λ i j like. like router subnets both own here) c.requires.sorts)
 
 pub loop-router-preserved : goal.loop-router-preserved
@@ -58,13 +64,17 @@ loop-router-preserved c =
     let own : AreSubnets c.args.net.now router subnets = c.requires.subnets.each router subnets
     (slice_get_read c.args.subnets.now (length c.args.subnets.now) router subnets refl
     (omega (arith, c.loop-router-test.true, c.requires.subnets.count, c.routers-router-end.ensures.count)) c.index-subnets-router.is) in
-    let row : IsRow (site g router both) c.args.shared.now.atoms.now.samples (map (sort_at sorts.of_places.items) c.args.shared.now.atoms.now.tops)
+    let row : IsRow (site g router both) c.args.shared.now.atoms.now.samples (map
+    (sort_at sorts.of_places.items) c.args.shared.now.atoms.now.tops)
     c.in_ok-row.row =
-    row_made (site g router both 0) c.ospf_distance.result subnets c.args.shared.now.atoms.now sorts.of_places.items c.in_ok-row.row
+    row_made (site g router both 0) c.ospf_distance.result subnets c.args.shared.now.atoms.now sorts.of_places.items
+    c.in_ok-row.row
     c.ospf_distance.ensures.network c.ospf_distance.ensures.distance own c.requires.classing
     (c.requires.sorts.count ∙ c.requires.classing.nested.count)
-    (λ i below. subst (λ (n : ℕ). get_or sorts.of_places.items i 0 < n) (sym c.in_ok-row.ensures.count) (c.requires.sorts.sorting.within i below))
-    (subst (λ (ps : List Block). AreOwnCells prefixes sorts.of_places.items ps both c.ospf_distance.result c.in_ok-row.row) c.as_slice-subnets.ensures
+    (λ i below. subst (λ (n : ℕ). get_or sorts.of_places.items i 0 < n) (sym c.in_ok-row.ensures.count)
+    (c.requires.sorts.sorting.within i below))
+    (subst (λ (ps : List Block). AreOwnCells prefixes sorts.of_places.items ps both c.ospf_distance.result c.in_ok-row.row)
+    c.as_slice-subnets.ensures
     c.in_ok-row.ensures.cells) in
     record {
       count = count_more c.loop-router.rows.items c.push.new.self.items c.in_ok-row.row router c.loop-router.invariant.count c.in_ok-push.ensures.items;
@@ -74,5 +84,6 @@ loop-router-preserved c =
           c.loop-router.rows.items c.push.new.self.items c.in_ok-row.row router c.loop-router.invariant.count c.loop-router.invariant.each
           c.in_ok-push.ensures.items
           (λ other at. subst (λ (b : BothTables). IsRow (site g router b) c.args.shared.now.atoms.now.samples
-          (map (sort_at sorts.of_places.items) c.args.shared.now.atoms.now.tops) c.in_ok-row.row) (same_Some both other (sym here ∙ at)) row);
+          (map (sort_at sorts.of_places.items) c.args.shared.now.atoms.now.tops) c.in_ok-row.row) (same_Some both other (sym here
+          ∙ at)) row);
     }

@@ -12,7 +12,8 @@ use Rattle.rib_mix.proofs.mixed.sorts_of.Goals as goal
 pub of_features-requires-clause-features : goal.of_features-requires-clause-features
 of_features-requires-clause-features c =
     let same : length c.prefixes.result.now ≡ length c.parents.result.now =
-    ap length c.prefixes.ensures.prefixes ∙ sym c.parents.ensures.classing.nested.count ∙ sym (ap length c.parents.ensures.parents) in
+    ap length c.prefixes.ensures.prefixes ∙ sym c.parents.ensures.classing.nested.count
+    ∙ sym (ap length c.parents.ensures.parents) in
     subst (λ (n : ℕ). HaveFeatures n c.in_ok-features.features) same c.in_ok-features.ensures.places
 
 pub of_features-requires-clause-parents : goal.of_features-requires-clause-parents
@@ -31,6 +32,7 @@ returns c =
     subst (λ (ps : List (Option ℕ)). AreSorts like ps (length ps) c.in_ok-of_features.field-0) c.parents.ensures.parents
     (sorts_along (HaveSameFeatures features) like c.parents.result.now (length c.parents.result.now) c.in_ok-of_features.field-0
     (λ i j. features_alike c.args.atoms.now.prefixes c.args.subnets.now c.args.tables.now features c.args.spots.now i j
-    (subst (λ (ps : List Block). AreFeatures ps c.args.subnets.now c.args.tables.now features) c.prefixes.ensures.prefixes c.in_ok-features.ensures.are)
+    (subst (λ (ps : List Block). AreFeatures ps c.args.subnets.now c.args.tables.now features) c.prefixes.ensures.prefixes
+    c.in_ok-features.ensures.are)
     c.in_ok-features.ensures.spots)
     c.in_ok-of_features.ensures)

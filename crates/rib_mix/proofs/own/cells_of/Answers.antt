@@ -23,17 +23,20 @@ returns-clause-cells c =
     let cells : List Cell = c.in_ok-find_all.field-0.items in
     let old : IsPlaced prefixes own.old = record {
       kept = c.requires.own.old_table;
-      spots = subst (AreSpots prefixes c.args.tables.old.prefixes.now (length c.args.tables.old.prefixes.now)) (sym c.as_slice-2.ensures.value)
+      spots = subst (AreSpots prefixes c.args.tables.old.prefixes.now (length c.args.tables.old.prefixes.now))
+          (sym c.as_slice-2.ensures.value)
           c.requires.own.spots_are.olds;
     } in
     let new : IsPlaced prefixes own.new = record {
       kept = c.requires.own.new_table;
-      spots = subst (AreSpots prefixes c.args.tables.new.prefixes.now (length c.args.tables.new.prefixes.now)) (sym c.as_slice-3.ensures.value)
+      spots = subst (AreSpots prefixes c.args.tables.new.prefixes.now (length c.args.tables.new.prefixes.now))
+          (sym c.as_slice-3.ensures.value)
           c.requires.own.spots_are.news;
     } in
     let connected : AreSpots prefixes c.args.subnets.now (length c.args.subnets.now) c.as_slice.result.now =
     subst (AreSpots prefixes c.args.subnets.now (length c.args.subnets.now)) (sym c.as_slice.ensures.value)
-    (subst (λ (ps : List Block). AreSpots ps c.args.subnets.now (length c.args.subnets.now) c.in_ok-connected.connected.items) c.prefixes.ensures.prefixes
+    (subst (λ (ps : List Block). AreSpots ps c.args.subnets.now (length c.args.subnets.now) c.in_ok-connected.connected.items)
+    c.prefixes.ensures.prefixes
     c.in_ok-connected.ensures) in
     let is_own : IsOwnOf (placed_of c.args.shared.now) c.args.subnets.now own = record {
       connected = connected;
@@ -41,7 +44,8 @@ returns-clause-cells c =
       news = c.as_slice-3.ensures.value;
     } in
     subst (AreOwnCells prefixes sorts.of_places.items c.args.subnets.now c.args.tables c.args.ospf) (sym c.from_vec.ensures)
-    (own_cells c.args.shared.now.atoms.now c.args.subnets.now c.args.shared.now.spots.now own sorts.of_places.items cells c.prefixes.ensures.classing
+    (own_cells c.args.shared.now.atoms.now c.args.subnets.now c.args.shared.now.spots.now own sorts.of_places.items cells
+    c.prefixes.ensures.classing
     c.requires.own connected old new
     (all_cells c.args.shared.now.atoms.now own sorts.of_places.items cells c.prefixes.ensures.classing
     (sort_cell (placed_of c.args.shared.now) c.args.subnets.now own c.args.shared.now.atoms.now.parents sorts cells is_own

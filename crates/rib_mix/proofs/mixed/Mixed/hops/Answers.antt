@@ -11,7 +11,8 @@ use Rattle.rib_mix.proofs.mixed.Mixed.hops.Goals as goal
 
 pub cell_of-cell-requires-clause-sort : goal.cell_of-cell-requires-clause-sort
 cell_of-cell-requires-clause-sort g c =
-    sort_read _ _ _ c.as_slice.result.now c.as_slice-2.result.now c.args.router c.args.atom c.self.invariant.forwarding c.as_slice.ensures.value
+    sort_read _ _ _ c.as_slice.result.now c.as_slice-2.result.now c.args.router c.args.atom c.self.invariant.forwarding
+    c.as_slice.ensures.value
     c.as_slice-2.ensures.value (router_along _ _ c.args.router c.self.view_is c.requires.router)
     (atom_along _ _ c.args.atom c.self.view_is c.requires.atom)
 
@@ -20,7 +21,8 @@ next_of-requires g c =
     let router = router_along _ _ c.args.router c.self.view_is c.requires.router in
     let atom = atom_along _ _ c.args.atom c.self.view_is c.requires.atom in
     let here = home _ _ _ c.args.router c.index-tables.result.now c.self.invariant.forwarding router c.index-tables.ensures in
-    let cell = cell_read _ _ _ _ c.as_slice.result.now c.as_slice-2.result.now c.args.router c.args.atom c.cell_of-cell.result c.self.invariant.forwarding here
+    let cell = cell_read _ _ _ _ c.as_slice.result.now c.as_slice-2.result.now c.args.router c.args.atom c.cell_of-cell.result
+    c.self.invariant.forwarding here
     c.as_slice.ensures.value
     c.as_slice-2.ensures.value atom c.cell_of-cell.ensures in
     subst (λ (way : Used). IsKeptUse c.index-tables.result.now.old.entries.now c.index-tables.result.now.new.entries.now way) (sym c.used.ensures)
@@ -31,10 +33,12 @@ returns g c =
     let router = router_along _ _ c.args.router c.self.view_is c.requires.router in
     let atom = atom_along _ _ c.args.atom c.self.view_is c.requires.atom in
     let here = home _ _ _ c.args.router c.index-tables.result.now c.self.invariant.forwarding router c.index-tables.ensures in
-    let cell = cell_read _ _ _ _ c.as_slice.result.now c.as_slice-2.result.now c.args.router c.args.atom c.cell_of-cell.result c.self.invariant.forwarding here
+    let cell = cell_read _ _ _ _ c.as_slice.result.now c.as_slice-2.result.now c.args.router c.args.atom c.cell_of-cell.result
+    c.self.invariant.forwarding here
     c.as_slice.ensures.value
     c.as_slice-2.ensures.value atom c.cell_of-cell.ensures in
-    let shows : ShowsUse c.index-tables.result.now.old.entries.now c.index-tables.result.now.new.entries.now (use_in c.cell_of-cell.result c.args.phase)
+    let shows : ShowsUse c.index-tables.result.now.old.entries.now c.index-tables.result.now.new.entries.now
+    (use_in c.cell_of-cell.result c.args.phase)
     c.next_of.result =
     subst (λ (way : Used). ShowsUse c.index-tables.result.now.old.entries.now c.index-tables.result.now.new.entries.now way c.next_of.result)
     c.used.ensures c.next_of.ensures in
@@ -43,7 +47,8 @@ returns g c =
           (λ (x : Mixture g.row.O.Denot g.row.N.Denot). IsNextOf (migration_of g.O.RouteSource.table g.N.RouteSource.table x)
           x.classes c.args.router c.args.atom c.args.phase c.next_of.result)
           c.self.view_is
-          (answer_of _ c.args.atom c.args.phase (use_in c.cell_of-cell.result c.args.phase) c.next_of.result here.place (cell c.args.phase) shows);
+          (answer_of _ c.args.atom c.args.phase (use_in c.cell_of-cell.result c.args.phase) c.next_of.result here.place
+          (cell c.args.phase) shows);
       least = record {
         class = c.requires.atom;
         address = subst (λ (x : Mixture g.row.O.Denot g.row.N.Denot). get_or x.classes.samples c.args.atom 0 < 2 ^ 32) c.self.view_is

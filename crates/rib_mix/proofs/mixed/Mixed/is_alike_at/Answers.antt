@@ -35,4 +35,5 @@ returns g c =
     c.as_slice-rows.ensures.value c.as_slice-sorts.ensures.value atom c.cell_of.ensures)
     (cell_read _ _ _ _ c.as_slice-rows.result.now c.as_slice-sorts.result.now c.args.router c.args.other c.cell_of.result
     c.self.invariant.forwarding here.1
-    c.as_slice-rows.ensures.value c.as_slice-sorts.ensures.value other (OnTrue_at holds c.is_same.ensures ∙ c.cell_of-2.ensures))))
+    c.as_slice-rows.ensures.value c.as_slice-sorts.ensures.value other (OnTrue_at holds c.is_same.ensures
+    ∙ c.cell_of-2.ensures))))

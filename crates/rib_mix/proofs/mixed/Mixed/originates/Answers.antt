@@ -9,7 +9,8 @@ use Rattle.rib_mix.proofs.mixed.Mixed.originates.Goals as goal
 pub returns : goal.returns
 returns g c =
     let router : c.args.router < length c.self.inside.net.now = router_along _ _ c.args.router c.self.view_is c.requires in
-    let within : c.args.router < length c.self.inside.subnets.items = omega (arith, router, c.self.invariant.forwarding.subnets_are.count) in
+    let within : c.args.router < length c.self.inside.subnets.items = omega
+    (arith, router, c.self.invariant.forwarding.subnets_are.count) in
     let at : slice_get c.self.inside.subnets.items c.args.router ≡ Some c.index.result.now =
     slice_get_read c.self.inside.subnets.items (length c.self.inside.subnets.items) c.args.router c.index.result.now refl within c.index.ensures in
     let are : AreSubnets c.self.inside.net.now c.args.router c.index.result.now =

@@ -13,7 +13,8 @@ sort_at-parent-requires c =
     (c.requires.parents c.len-place.result (omega (arith, c.requires.next, same, ap length c.as_slice.ensures.value)))
 
 -- the sort of the parent that was read is that of the parent at the place that comes next
-parent_read : (of_places shown : List ℕ) (parents : List (Option ℕ)) (place : ℕ) (parent : Option ℕ) → shown ≡ of_places → length shown ≡ place
+parent_read : (of_places shown : List ℕ) (parents : List (Option ℕ)) (place : ℕ) (parent : Option ℕ) → shown ≡ of_places
+    → length shown ≡ place
     → parent ≡ sort_at shown (get_or parents place None) → parent ≡ sort_at of_places (get_or parents (length of_places) None)
 parent_read of_places shown parents place parent same long is =
     is ∙ ap (λ (os : List ℕ). sort_at os (get_or parents place None)) same
@@ -28,7 +29,8 @@ returns-in-Some c =
         within = c.in-Some.ensures.within;
         like_first = c.in-Some.ensures.like_first;
         parent = c.in-Some.ensures.parent_is
-            ∙ parent_read sorts.of_places.items c.as_slice.result.now c.args.parents.now c.len-place.result c.sort_at-parent.result c.as_slice.ensures.value
+            ∙ parent_read sorts.of_places.items c.as_slice.result.now c.args.parents.now c.len-place.result
+            c.sort_at-parent.result c.as_slice.ensures.value
             long c.sort_at-parent.ensures;
       };
       sorts = c.requires.sorts;
@@ -38,12 +40,16 @@ pub returns-in_ok-add_sort-in-None : goal.returns-in_ok-add_sort-in-None
 returns-in_ok-add_sort-in-None c =
     let sorts : Sorts = c.args.self.now in
     let long : length c.as_slice.result.now ≡ c.len-place.result = omega (arith, c.as_slice.ensures.len, c.len-place.ensures) in
-    let added = sort_added (HaveSameFeatures c.args.features.now) c.args.parents.now sorts c.add_sort.new.self c.sort_at-parent.result
+    let added = sort_added (HaveSameFeatures c.args.features.now) c.args.parents.now sorts c.add_sort.new.self
+    c.sort_at-parent.result
     (features_itself c.args.features.now) c.requires.next c.requires.parents c.requires.sorts
-    (parent_read sorts.of_places.items c.as_slice.result.now c.args.parents.now c.len-place.result c.sort_at-parent.result c.as_slice.ensures.value long
-    c.sort_at-parent.ensures) c.in_ok-add_sort-in-None.ensures.of_places c.in_ok-add_sort-in-None.ensures.firsts c.in_ok-add_sort-in-None.ensures.parents in
+    (parent_read sorts.of_places.items c.as_slice.result.now c.args.parents.now c.len-place.result c.sort_at-parent.result
+    c.as_slice.ensures.value long
+    c.sort_at-parent.ensures) c.in_ok-add_sort-in-None.ensures.of_places c.in_ok-add_sort-in-None.ensures.firsts
+    c.in_ok-add_sort-in-None.ensures.parents in
     record {
-      is = subst (IsOfSort (HaveSameFeatures c.args.features.now) c.args.parents.now c.add_sort.new.self (length sorts.of_places.items))
+      is = subst (IsOfSort (HaveSameFeatures c.args.features.now) c.args.parents.now c.add_sort.new.self
+          (length sorts.of_places.items))
           (sym c.in_ok-add_sort-in-None.ensures.sort) added.is;
       sorts = added.sorts;
     }

@@ -15,15 +15,19 @@ add-requires-clause-next c = omega (arith, c.loop-place.invariant.count, c.loop-
 
 pub add-requires-clause-sorts : goal.add-requires-clause-sorts
 add-requires-clause-sorts c =
-    subst (λ (n : ℕ). AreSorts (HaveSameFeatures c.args.features.now) c.args.parents.now n c.loop-place.sorts) (sym c.loop-place.invariant.count)
+    subst (λ (n : ℕ). AreSorts (HaveSameFeatures c.args.features.now) c.args.parents.now n c.loop-place.sorts)
+    (sym c.loop-place.invariant.count)
     c.loop-place.invariant
 
 pub loop-place-preserved : goal.loop-place-preserved
 loop-place-preserved c =
-    subst (λ (n : ℕ). AreSorts (HaveSameFeatures c.args.features.now) c.args.parents.now (n + 1) c.add.new.self) c.loop-place.invariant.count
+    subst (λ (n : ℕ). AreSorts (HaveSameFeatures c.args.features.now) c.args.parents.now
+    (n + 1) c.add.new.self) c.loop-place.invariant.count
     c.in_ok-add.ensures
 
 pub returns : goal.returns
 returns c =
-    let all : c.loop-place.place ≡ length c.args.parents.now = omega (arith, c.loop-place-test.false, c.loop-place.auto.place-end) in
-    subst (λ (n : ℕ). AreSorts (HaveSameFeatures c.args.features.now) c.args.parents.now n c.loop-place.sorts) all c.loop-place.invariant
+    let all : c.loop-place.place ≡ length c.args.parents.now = omega (arith, c.loop-place-test.false, c.loop-place.auto.place-end)
+    in
+    subst (λ (n : ℕ). AreSorts (HaveSameFeatures c.args.features.now) c.args.parents.now n c.loop-place.sorts) all
+    c.loop-place.invariant
