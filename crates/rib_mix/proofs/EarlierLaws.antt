@@ -1,7 +1,7 @@
 -- Classes whose targets are their longest prefixes, and these of one sort, are alike.
 use Rattle.std.proofs.Common.{◌≡◌, ℕ, ◌<◌, ◌↔◌, List, [], Option, Some, None, IfSome, Contains, length, map, replicate, get_or}
 use Rattle.std.proofs.Common.{slice_get}
-use Rattle.std.proofs.Common.{ap, arith, refl, sym, subst, ◌∙◌}
+use Rattle.std.proofs.Common.{ap, arith, sym, subst, ◌∙◌}
 use Rattle.std.proofs.Math.ListN.{get_or-map}
 use Rattle.std.proofs.lemmas.List.{get_or-replicate, length-replicate}
 use Rattle.std.proofs.lemmas.Option.{get_or_from_slice_get, none-some, slice_get_within}
@@ -20,7 +20,6 @@ use Rattle.rib_mix.specs.steps.Likeness.{AreLike, PlacedPrefixes}
 use Rattle.rib_mix.specs.steps.Sorts.{AreSorts, sort_at}
 use Rattle.rib_mix.specs.steps.Uses.{cell_at}
 use Rattle.rib_mix.specs.declared.both_tables.BothTables.{BothTables}
-use Rattle.rib_mix.specs.declared.cell.Cell.{Cell}
 use Rattle.rib_mix.specs.declared.sorts.Sorts.{Sorts}
 use Rattle.rib_mix.specs.declared.spots.Spots.{Spots}
 use Rattle.rib_mix.proofs.ClassUses.{alike_cells, sample}

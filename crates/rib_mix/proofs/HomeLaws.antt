@@ -12,7 +12,7 @@ use Rattle.route_core.proofs.TableLaws.{Contains-from_place}
 use Rattle.prefix_atoms.specs.Nested.{AreAscendingPrefixes}
 use Rattle.prefix_atoms.proofs.ClassFacts.{one_place}
 use Rattle.prefix_atoms.proofs.NestedLaws.{ascending_apart}
-use Rattle.rib_mix.specs.steps.Homes.{AreHomesBelow, GainHomes, IsHomeBelow, with_home}
+use Rattle.rib_mix.specs.steps.Homes.{AreHomesBelow, GainHomes, with_home}
 
 -- no prefix has homes before the first router
 pub no_homes_yet : (prefixes : List Block) (subnets : List (List Block)) (homes : List (List ℕ))

@@ -1,12 +1,10 @@
 -- Prefixes of one sort: what a router has for one it has for the other, and so the cells of sorts are those of prefixes.
 use Rattle.std.proofs.Common.{◌≡◌, ℕ, ◌+◌, ◌<◌, ◌≤◌, ◌++◌, ◌∷◌, [], IfSome, ⊎_elim, ◌↔◌, ◌==◌, if◌then◌else◌, Bool, List, Option}
-use Rattle.std.proofs.Common.{Some, None, Contains, is_some, length, get_or, slice_get}
+use Rattle.std.proofs.Common.{Some, None, Contains, is_some, length, get_or}
 use Rattle.std.proofs.Common.{ap, arith, refl, sym, subst, ◌∙◌}
 use Rattle.net_addr.specs.Addresses.{Block}
 use Rattle.route_core.specs.Rows.{kept_in}
-use Rattle.route_core.specs.declared.table.TableParts.{TableParts}
 use Rattle.route_core.proofs.TableLaws.{Contains-from_place}
-use Rattle.prefix_atoms.specs.Classes.{Classes, IsClassing}
 use Rattle.prefix_atoms.proofs.Pushed.{at_place, count_more}
 use Rattle.std.proofs.lemmas.Bool.{cases_lt}
 use Rattle.std.proofs.lemmas.List.{get_or_append_left, get_or_push}
@@ -18,7 +16,6 @@ use Rattle.rib_mix.specs.steps.Uses.{cell_at, cell_of_two, cell_over, no_cell}
 use Rattle.rib_mix.specs.steps.WayUp.{AreSortCells, IsOwnNumber, connected_in, has_at, is_old_first}
 use Rattle.rib_mix.specs.declared.both_tables.BothTables.{BothTables}
 use Rattle.rib_mix.specs.declared.cell.Cell.{Cell}
-use Rattle.rib_mix.specs.declared.cell.Cell as cell
 use Rattle.rib_mix.specs.declared.cell.Has.{Has}
 use Rattle.rib_mix.specs.declared.own.Own.{Own}
 use Rattle.rib_mix.specs.declared.sorts.Sorts.{Sorts}

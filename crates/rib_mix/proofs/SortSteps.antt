@@ -4,7 +4,7 @@ use Rattle.std.proofs.Common.{refl, sym, subst, ◌∙◌}
 use Rattle.std.proofs.Common.{⊎_elim, length-append}
 use Rattle.std.proofs.lemmas.Bool.{cases_lt}
 use Rattle.std.proofs.lemmas.List.{get_or_append_left, get_or_push}
-use Rattle.rib_mix.specs.steps.Sorts.{AreEarlierPlaces, AreSorts, IsOfSort, IsSorting, sort_at}
+use Rattle.rib_mix.specs.steps.Sorts.{AreEarlierPlaces, AreSorts, IsOfSort, sort_at}
 use Rattle.rib_mix.specs.declared.sorts.Sorts.{Sorts}
 
 -- what holds of each element and of one more holds of each

@@ -1,7 +1,7 @@
 ghost use Rattle.std.specs.Prelude.{◌≡◌, ◌++◌, ◌∷◌, [], ◌<◌, IfOk, IfSome, OnOk, length, replicate};
 ghost use Rattle.std.specs.Bool.{OnTrue};
 ghost use Rattle.prefix_atoms.specs.Nested.{AreAscendingPrefixes};
-ghost use Rattle.rib_mix.specs.steps.Homes.{AreHomes, AreHomesBelow, GainHomes, with_home};
+ghost use Rattle.rib_mix.specs.steps.Homes.{AreHomes, GainHomes, with_home};
 
 use crate::subnets::Subnets;
 use net_addr::Prefix;

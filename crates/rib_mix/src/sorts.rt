@@ -1,4 +1,4 @@
-ghost use Rattle.std.specs.Prelude.{◌≡◌, ◌<◌, ◌+◌, ◌++◌, ◌∷◌, [], IfOk, IfSome, OnOk, length, slice_index_or, None};
+ghost use Rattle.std.specs.Prelude.{◌≡◌, ◌<◌, ◌+◌, ◌++◌, ◌∷◌, [], IfOk, IfSome, OnOk, length};
 ghost use Rattle.std.specs.Bool.{OnTrue};
 ghost use Rattle.rib_mix.specs.steps.Features.{HaveFeatures, HaveSameFeatures};
 ghost use Rattle.rib_mix.specs.steps.Sorts.{AreSorts, AreEarlierPlaces, IsLikeSort, IsOfSort, IsSorting, sort_at};

@@ -1,5 +1,4 @@
-use Rattle.std.proofs.Common.{◌≡◌, ◌∙◌, replicate, ℕ, List, Option, None, Some, IfSome, ap, arith, get_or, length, refl, rules}
-use Rattle.std.proofs.Common.{slice_get, subst, sym}
+use Rattle.std.proofs.Common.{◌≡◌, ◌∙◌, replicate, ℕ, Option, None, Some, IfSome, ap, arith, length, refl, rules}
 use Rattle.std.proofs.lemmas.Option.{slice_get_within}
 use Rattle.prefix_atoms.proofs.Pushed.{count_more, each_more}
 use Rattle.rib_mix.specs.steps.Earlier.{IsEarlierPlain}

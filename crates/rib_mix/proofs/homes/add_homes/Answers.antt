@@ -1,6 +1,5 @@
-use Rattle.std.proofs.Common.{◌≡◌, ◌++◌, ◌∷◌, ◌+◌, [], ℕ, List, Some, length, refl, slice_get, sym, subst, take, ap, ◌∙◌}
+use Rattle.std.proofs.Common.{◌≡◌, ◌++◌, ◌∷◌, ◌+◌, [], ℕ, List, sym, subst, take, ap, ◌∙◌}
 use Rattle.std.proofs.lemmas.List.{take_all, take_more}
-use Rattle.std.proofs.lemmas.Option.{slice_get_read}
 use Rattle.net_addr.specs.Addresses.{Block}
 use Rattle.rib_mix.specs.steps.Homes.{GainHomes}
 use Rattle.rib_mix.proofs.HomeLaws.{home_next, no_gain}

@@ -1,4 +1,4 @@
-use Rattle.std.proofs.Common.{◌≡◌, ◌<◌, ◌∙◌, [], ℕ, List, arith, get_or, length, rules, subst, sym}
+use Rattle.std.proofs.Common.{◌≡◌, ◌<◌, ◌∙◌, [], ℕ, List, arith, get_or, length, rules, subst}
 use Rattle.std.proofs.lemmas.List.{get_or_default}
 use Rattle.net_addr.specs.Addresses.{Block}
 use Rattle.rib_mix.specs.steps.Homes.{AreHomesBelow, GainHomes}

@@ -1,4 +1,4 @@
-use Rattle.std.proofs.Common.{◌++◌, ◌∷◌, [], List, refl, subst, sym}
+use Rattle.std.proofs.Common.{◌∷◌, [], List, refl, subst, sym}
 use Rattle.std.proofs.lemmas.List.Elements.{Contains-append_left, Contains-push}
 use Rattle.rib_mix.specs.steps.Features.{HasLane}
 use Rattle.rib_mix.specs.declared.lanes.Lane.{Lane}

@@ -1,4 +1,4 @@
-use Rattle.std.proofs.Common.{◌≡◌, ◌++◌, ◌∷◌, ◌+◌, ◌<◌, ◌∙◌, [], ℕ, List, Option, None, IfSome, ap, arith, get_or, length, map}
+use Rattle.std.proofs.Common.{◌≡◌, ◌++◌, ◌∷◌, ◌<◌, ◌∙◌, [], ℕ, List, Option, None, IfSome, ap, arith, get_or, length, map}
 use Rattle.std.proofs.Common.{subst, sym, take}
 use Rattle.std.proofs.lemmas.List.{map_more, take_all}
 use Rattle.rib_mix.specs.steps.Sorts.{sort_at}

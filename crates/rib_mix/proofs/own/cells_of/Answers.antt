@@ -1,4 +1,4 @@
-use Rattle.std.proofs.Common.{◌≡◌, ◌∙◌, ℕ, List, arith, length, refl, subst, sym}
+use Rattle.std.proofs.Common.{List, arith, length, subst, sym}
 use Rattle.net_addr.specs.Addresses.{Block}
 use Rattle.rib_mix.specs.declared.cell.Cell.{Cell}
 use Rattle.rib_mix.specs.declared.own.Own.{Own}

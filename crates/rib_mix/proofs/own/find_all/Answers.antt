@@ -1,15 +1,15 @@
-use Rattle.std.proofs.Common.{◌≡◌, ◌+◌, ◌<◌, ◌∙◌, ℕ, Bool, List, Option, None, Some, IfSome, ap, arith, get_or, length, refl}
+use Rattle.std.proofs.Common.{◌≡◌, ◌<◌, ◌∙◌, ℕ, Bool, List, Option, None, Some, IfSome, ap, arith, get_or, length}
 use Rattle.std.proofs.Common.{slice_get, subst, sym}
 use lib.Dec.{ltb}
 use Rattle.std.proofs.lemmas.Option.{slice_get_within}
 use Rattle.net_addr.specs.Addresses.{Block}
-use Rattle.prefix_atoms.proofs.Pushed.{at_place, count_more}
+use Rattle.prefix_atoms.proofs.Pushed.{at_place}
 use Rattle.rib_mix.specs.declared.cell.Cell.{Cell}
 use Rattle.rib_mix.specs.declared.cell.Has.{Has}
 use Rattle.rib_mix.specs.declared.sorts.Sorts.{Sorts}
 use Rattle.rib_mix.specs.steps.Sorts.{IsSorting}
-use Rattle.rib_mix.specs.steps.Uses.{cell_at, cell_over, no_cell}
-use Rattle.rib_mix.specs.steps.WayUp.{AreSortCells, has_at}
+use Rattle.rib_mix.specs.steps.Uses.{cell_at, cell_over}
+use Rattle.rib_mix.specs.steps.WayUp.{has_at}
 use Rattle.rib_mix.proofs.SortLaws.{cells_more}
 use Rattle.rib_mix.proofs.SpotLaws.{place_read}
 use Rattle.rib_mix.proofs.own.find_all.Goals as goal

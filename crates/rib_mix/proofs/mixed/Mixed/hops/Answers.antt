@@ -1,4 +1,4 @@
-use Rattle.std.proofs.Common.{◌<◌, ◌^◌, length, get_or, subst, sym}
+use Rattle.std.proofs.Common.{◌<◌, ◌^◌, get_or, subst, sym}
 use Rattle.igp_theory.specs.declared.phase.Phase.{Phase}
 use Rattle.rib_mix.specs.Answers.{IsNextAtAnEnd, IsNextOf}
 use Rattle.rib_mix.specs.Mixture.{Mixture, migration_of}

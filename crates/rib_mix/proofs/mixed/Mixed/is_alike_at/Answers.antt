@@ -1,4 +1,4 @@
-use Rattle.std.proofs.Common.{subst, sym, ◌∙◌}
+use Rattle.std.proofs.Common.{subst, ◌∙◌}
 use Rattle.std.proofs.lemmas.Bool.{OnTrue_at, OnTrue_from}
 use Rattle.rib_mix.specs.Answers.{IsAlikeAt}
 use Rattle.rib_mix.specs.Mixture.{Mixture, migration_of}
