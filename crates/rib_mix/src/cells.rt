@@ -29,6 +29,7 @@ impl Cells {
     }
 
     /// The cell of a sort, and nothing where there is none.
+    #[inline(always)]
     fn of_sort(&self, sort: Option<u32>) -> Cell
         requires { IfSome sort (λ s. s < length self.now) }
         ensures { result ≡ cell_at self.now sort }
