@@ -10,3 +10,4 @@ mod RowLaws
 mod SpotLaws
 mod UpLaws
 mod UseLaws
+mod AnswerLaws
