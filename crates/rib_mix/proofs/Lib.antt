@@ -15,3 +15,4 @@ mod SortSteps
 mod HomeLaws
 mod FeatureLaws
 mod EarlierLaws
+mod AnswerLaws

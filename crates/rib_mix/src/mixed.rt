@@ -12,6 +12,7 @@ ghost use Rattle.rib_mix.specs.Rows.{AreAllSubnets, AreRows};
 ghost use Rattle.rib_mix.specs.steps.Sorts.{AreSorts, sort_at};
 ghost use Rattle.rib_mix.specs.steps.Likeness.{AreLike, placed_of};
 ghost use Rattle.rib_mix.specs.steps.Spots.{AreSharedSpots, HaveSpots};
+ghost use Rattle.rib_mix.specs.Laws.{HaveAnswers};
 ghost use Rattle.rib_mix.specs.steps.Sites.{AreTablesInParts, HasOspfDistance, AllOccur};
 
 use crate::both_tables::{BothTables, tables_of};
@@ -150,6 +151,13 @@ impl<'a, O: RouteSource, N: RouteSource> Mixed<'a, O, N> {
         let old = tables.old.entries;
         let new = tables.new.entries;
         next_of(old, new, cell.used(phase))
+    }
+
+    /// The law that each router has an answer for each class in each phase: what `hops` gives.
+    pub fn have_answers(&self)
+        ensures { HaveAnswers (migration_of O.table N.table self.now) self.now.classes }
+    {
+        let _net = self.net;
     }
 
     /// Whether what a router does is known to be the same, in every phase, for the packets of two classes.
