@@ -201,6 +201,7 @@ fn is_covered<O: RouteSource, N: RouteSource>(
     if none_marked(marks) {
         return true;
     }
+    mixed.have_answers();
     has_earlier(mixed, atom, marks, digest_of(marks), parts)
 }
 
@@ -214,8 +215,9 @@ fn has_earlier<O: RouteSource, N: RouteSource>(
 ) -> bool
     requires atom { atom < length mixed.now.classes.samples }
     requires marks { length marks.now ≡ length mixed.now.net }
-    requires parts { All (λ part. length part.rows ≡ length mixed.now.net) parts.now.items }
-    ensures { OnTrue result (HasEarlierHops (class_in (mix_of O.table N.table mixed.now) atom) marks.now parts.now.items) }
+    requires classes { All (λ part. part.atom < length mixed.now.classes.samples) parts.now.items }
+    requires rows { All (λ part. length part.rows ≡ length mixed.now.net) parts.now.items }
+    ensures { OnTrue result (HasEarlierHops (mix_of O.table N.table mixed.now) marks.now parts.now.items atom) }
 {
     for part in parts {
         if part.has_hops_of(mixed, atom, marks, digest) {
