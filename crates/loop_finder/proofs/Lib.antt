@@ -12,6 +12,7 @@ mod Returning
 mod Levels
 mod Reaching
 mod PartLaws
+mod AlikeLaws
 mod PartLists
 mod PartRows
 mod ClassVerdicts

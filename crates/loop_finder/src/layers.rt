@@ -1,7 +1,7 @@
 use crate::chains::{NO_LAYER, close_chain, number_of, set_number};
 use crate::end_lists::EndLists;
 use crate::ends::Ends;
-use crate::live::none_marked;
+use crate::live::is_marked;
 use rib_mix::OutOfMemory;
 use std::alloc::Global;
 
@@ -74,8 +74,9 @@ impl Layers {
         self.numbers.as_slice()
     }
 
-    /// Chooses the layers of some routers, of those marked, and of all to which steps lead from them; the others have none.
-    /// Takes time of their steps and of all routers, and no memory.
+    /// Chooses the layers of some routers and of all to which steps lead from them, and of those from the marked ones too where
+    /// one of the routers is marked itself; the others have none. Where none is, the strongly connected parts in which routers
+    /// are marked have kept their steps. Takes time of these steps and of all routers, and no memory.
     pub fn choose(&mut self, lists: &EndLists<'_>, roots: &[u32], marks: &[bool]) {
         self.numbers.fill(NO_LAYER);
         self.number = NO_LAYER - 1;
@@ -83,7 +84,7 @@ impl Layers {
         for root in roots {
             self.search_once(lists, *root);
         }
-        if !none_marked(marks) {
+        if has_marked(roots, marks) {
             self.search_marked(lists, marks);
         }
     }
@@ -350,6 +351,16 @@ fn are_layered(routers: &[u32], numbers: &[u32]) -> bool {
         }
     }
     true
+}
+
+/// Whether one of some routers is marked.
+fn has_marked(routers: &[u32], marks: &[bool]) -> bool {
+    for router in routers {
+        if is_marked(marks, *router) {
+            return true;
+        }
+    }
+    false
 }
 
 /// Raises the number of a router to another, where it's lower.

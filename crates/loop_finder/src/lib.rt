@@ -1,10 +1,11 @@
 //! The faults of states, of orders, of wave lists and of timetables: routers without a step, and loops with their rings.
 //!
-//! `Finder::new` looks at each class of addresses once. A class is kept as a *part* where some state may be unsound for it:
-//! its routers to which a walk over the steps of both networks may return, with their hops in each phase. All other classes
-//! are sound in every state, and a class whose hops between such routers an earlier part has needs none, where each of its
-//! routers that has to pass packets on has a step in both networks. A question then looks at parts alone, and at the class of
-//! a part where a router may lack a step or a walk returns, for the fault that the definitions name.
+//! `Finder::new` looks once at each class of addresses that isn't known to be treated like an earlier one. A class is kept as
+//! a *part* where some state may be unsound for it: its routers to which a walk over the steps of both networks may return,
+//! with their hops in each phase. All other classes are sound in every state, and a class whose hops between such routers an
+//! earlier part has needs none, where each of its routers that has to pass packets on has a step in both networks. A question
+//! then looks at parts alone, and at the class of a part where a router may lack a step or a walk returns, for the fault that
+//! the definitions name.
 //!
 //! | File | What it holds |
 //! |---|---|

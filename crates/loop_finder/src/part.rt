@@ -4,7 +4,7 @@ ghost use Rattle.order_core.specs.Marks.{IsMarked};
 ghost use Rattle.loop_finder.specs.steps.Targets.{IsTargetIn};
 ghost use Rattle.igp_theory.specs.declared.phase.Phase.{Phase};
 ghost use Rattle.loop_finder.specs.steps.Cuts.{AreRowsIn};
-ghost use Rattle.loop_finder.specs.steps.PartRows.{AreKept, AreRowsOf, HasHops, HasMarked, HaveHops, IsRowOf};
+ghost use Rattle.loop_finder.specs.steps.PartRows.{ActAlike, ActsAlikeAt, AreKept, AreRowsOf, HasHop, HasHops, HasMarked, HaveHops, IsRowOf, Serves};
 ghost use Rattle.loop_finder.specs.Parts.{AllMove, IsPart, StepsEver, hops_of, no_hops, part_hops};
 ghost use Rattle.loop_finder.specs.steps.Parts.{AddsUnless, AreSteppers, IsBareIn};
 ghost use Rattle.loop_finder.specs.steps.Returns.{MarksReturns, layer_in};
@@ -81,6 +81,16 @@ impl<'m> Row<'m> {
         ensures { OnTrue result ((phase : Phase) (h : ℕ) → ¬ Contains (hops_of self.now phase) h) }
     {
         self.old.is_empty() && self.middle.is_empty() && self.new.is_empty()
+    }
+
+    /// Whether there is a hop in one of the networks.
+    fn has_hop(&self) -> bool
+        ensures { OnTrue result (HasHop self.now) }
+    {
+        if !self.old.is_empty() {
+            return true;
+        }
+        !self.new.is_empty()
     }
 
     /// Whether it has the marked ones of another's hops.
@@ -260,7 +270,8 @@ impl<'m> Part<'m> {
         self.moves && self.rows[router as usize].is_bare()
     }
 
-    /// Whether it has all hops of a class between marked routers, of which this is the digest.
+    /// Whether it has all hops of a class between marked routers, of which this is the digest. Mostly these routers do the same
+    /// for both classes.
     pub fn has_hops_of<O: RouteSource, N: RouteSource>(
         &self,
         mixed: &Mixed<'_, O, N>,
@@ -268,12 +279,20 @@ impl<'m> Part<'m> {
         marks: &[bool],
         digest: u64,
     ) -> bool
+        requires class { self.now.atom < length mixed.now.classes.samples }
         requires rows { length self.now.rows ≡ length mixed.now.net }
         requires atom { atom < length mixed.now.classes.samples }
         requires marks { length marks.now ≡ length mixed.now.net }
-        ensures { OnTrue result (HaveHops (class_in (mix_of O.table N.table mixed.now) atom) marks.now self.now.rows) }
+        ensures { OnTrue result (Serves (mix_of O.table N.table mixed.now) marks.now self.now atom) }
     {
-        self.digest == digest && have_hops(mixed, atom, marks, self.rows.as_slice())
+        if self.digest != digest {
+            return false;
+        }
+        let rows = self.rows.as_slice();
+        if act_alike(mixed, (self.atom, atom), marks, rows) {
+            return true;
+        }
+        have_hops(mixed, atom, marks, rows)
     }
 }
 
@@ -338,6 +357,49 @@ fn has_layer_of(others: &[u32], routers: &[u32], layers: &[u32], layer: u32) -> 
         }
     }
     true
+}
+
+/// Whether each marked router has a hop by its row of a class, and is known to do the same for another one.
+fn act_alike<O: RouteSource, N: RouteSource>(
+    mixed: &Mixed<'_, O, N>,
+    classes: (u32, u32),
+    marks: &[bool],
+    rows: &[Row<'_>],
+) -> bool
+    requires own { classes.0 < length mixed.now.classes.samples }
+    requires other { classes.1 < length mixed.now.classes.samples }
+    requires rows { length rows.now ≡ length mixed.now.net }
+    ensures { OnTrue result (ActAlike (mix_of O.table N.table mixed.now) marks.now rows.now classes.0 classes.1) }
+{
+    for router in 0..mixed.net().routers() {
+        if !acts_alike(mixed, classes, router, marks, &rows[router as usize]) {
+            return false;
+        }
+    }
+    true
+}
+
+/// Whether a router has a hop by its row of a class, and is known to do the same for another one, where it's marked.
+fn acts_alike<O: RouteSource, N: RouteSource>(
+    mixed: &Mixed<'_, O, N>,
+    classes: (u32, u32),
+    router: u32,
+    marks: &[bool],
+    row: &Row<'_>,
+) -> bool
+    requires own { classes.0 < length mixed.now.classes.samples }
+    requires other { classes.1 < length mixed.now.classes.samples }
+    requires router { router < length mixed.now.net }
+    ensures { OnTrue result (IsMarked marks.now router →
+        ActsAlikeAt (mix_of O.table N.table mixed.now) row.now router classes.0 classes.1) }
+{
+    if !is_marked(marks, router) {
+        return true;
+    }
+    if !row.has_hop() {
+        return false;
+    }
+    mixed.is_alike_at(router, classes.0, classes.1)
 }
 
 /// Whether some rows have all hops of a class between marked routers.

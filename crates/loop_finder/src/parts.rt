@@ -94,7 +94,8 @@ pub(crate) fn parts_of<'m, O: RouteSource, N: RouteSource>(
     Ok(parts)
 }
 
-/// Adds the part of the next class, where some state may be unsound for it and no earlier one has its hops.
+/// Adds the part of the next class, where some state may be unsound for it and no earlier one has its hops. A class that every
+/// router treats like an earlier one isn't read.
 fn add_part<'m, O: RouteSource, N: RouteSource>(
     alloc: Global,
     mixed: &'m Mixed<'_, O, N>,
@@ -111,11 +112,34 @@ fn add_part<'m, O: RouteSource, N: RouteSource>(
     ensures known { OnOk result (IsKnownClass (mix_of O.table N.table mixed.now) making.new) }
     ensures parts { OnOk result (AreParts (mix_of O.table N.table mixed.now) parts.new.items (atom + 1)) }
 {
+    if is_alike(mixed, atom, parts) {
+        return Ok(());
+    }
     let Some(target) = class_target(mixed, atom) else {
         return Ok(());
     };
     making.read(mixed, atom)?;
     add_known(alloc, mixed, &ClassTarget { atom, target }, making, parts)
+}
+
+/// Whether every router is known to treat an earlier class alike: the parts of the earlier ones tell of it then.
+fn is_alike<O: RouteSource, N: RouteSource>(
+    mixed: &Mixed<'_, O, N>,
+    atom: u32,
+    parts: &Vec<Part<'_>>,
+) -> bool
+    requires network { IsNetwork mixed.now.net }
+    requires atom { atom < length mixed.now.classes.samples }
+    requires parts { AreParts (mix_of O.table N.table mixed.now) parts.now.items atom }
+    ensures { OnTrue result (IsCovered (mix_of O.table N.table mixed.now) parts.now.items atom) }
+{
+    match mixed.earlier_alike(atom) {
+        Some(_) => {
+            mixed.have_answers();
+            true
+        }
+        None => false,
+    }
 }
 
 /// Adds the part of the class that was read, where some state may be unsound for it and no earlier one has its hops.
@@ -177,6 +201,7 @@ fn is_covered<O: RouteSource, N: RouteSource>(
     if none_marked(marks) {
         return true;
     }
+    mixed.have_answers();
     has_earlier(mixed, atom, marks, digest_of(marks), parts)
 }
 
@@ -190,8 +215,9 @@ fn has_earlier<O: RouteSource, N: RouteSource>(
 ) -> bool
     requires atom { atom < length mixed.now.classes.samples }
     requires marks { length marks.now ≡ length mixed.now.net }
-    requires parts { All (λ part. length part.rows ≡ length mixed.now.net) parts.now.items }
-    ensures { OnTrue result (HasEarlierHops (class_in (mix_of O.table N.table mixed.now) atom) marks.now parts.now.items) }
+    requires classes { All (λ part. part.atom < length mixed.now.classes.samples) parts.now.items }
+    requires rows { All (λ part. length part.rows ≡ length mixed.now.net) parts.now.items }
+    ensures { OnTrue result (HasEarlierHops (mix_of O.table N.table mixed.now) marks.now parts.now.items atom) }
 {
     for part in parts {
         if part.has_hops_of(mixed, atom, marks, digest) {

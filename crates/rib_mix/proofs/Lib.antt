@@ -10,3 +10,9 @@ mod RowLaws
 mod SpotLaws
 mod UpLaws
 mod UseLaws
+mod SortLaws
+mod SortSteps
+mod HomeLaws
+mod FeatureLaws
+mod EarlierLaws
+mod AnswerLaws

@@ -1,6 +1,7 @@
 -- What mixed forwarding keeps of each router, as it is made and as it is read.
-use Rattle.std.proofs.Common.{◌≡◌, ℕ, ◌<◌, List, length, get_or, Contains, Some, slice_get, arith, refl, sym, subst}
-use Rattle.std.proofs.lemmas.Option.{slice_get_read, slice_get_within, get_or_from_slice_get}
+use Rattle.std.proofs.Common.{◌≡◌, ℕ, ◌<◌, List, [], None, IfSome, length, get_or, Contains, Some, Option, slice_get, ap, arith}
+use Rattle.std.proofs.Common.{refl, sym, subst, ◌∙◌}
+use Rattle.std.proofs.lemmas.Option.{slice_get_read, slice_get_within, slice_get-get_or, get_or_from_slice_get}
 use Rattle.net_addr.specs.Addresses.{Block}
 use Rattle.route_core.specs.Tables.{IsListed}
 use Rattle.route_core.specs.declared.entry.Entry.{Entry}
@@ -10,9 +11,10 @@ use Rattle.igp_theory.specs.Migrations.{migration}
 use Rattle.prefix_atoms.specs.Classes.{AreClasses, Classes, SourceEntry, connected_occurs, old_occurs, new_occurs}
 use Rattle.rib_mix.specs.Cells.{IsCell}
 use Rattle.rib_mix.specs.Mixture.{Mixture}
-use Rattle.rib_mix.specs.Rows.{AreAllSubnets, AreRows, Ground, IsMixed, MixedParts}
+use Rattle.rib_mix.specs.Rows.{AreAllSubnets, AreRows, Ground, IsForwarding, IsRow, MixedParts, site}
 use Rattle.rib_mix.specs.Sites.{AreTablesOf, table_of}
 use Rattle.rib_mix.specs.steps.Sites.{prefixes_in, AllOccur}
+use Rattle.rib_mix.specs.steps.Uses.{cell_at}
 use Rattle.rib_mix.specs.declared.both_tables.BothTables.{BothTables}
 use Rattle.rib_mix.specs.declared.cell.Cell.{Cell}
 use Rattle.rib_mix.proofs.FoundFacts.{rows_prefixes}
@@ -40,15 +42,18 @@ all_occur old new o n g classes same are tables = record {
         let one = entry_of_prefix (table_of parts) p (subst (λ (ps : List Block). Contains ps p) (rows_prefixes parts) has) in
         (one.0, subst (λ (t : List (Block × Entry)). IsListed t p one.0) is one.1)
 
--- what is made of a network and two sources with its routers is what mixed forwarding keeps
-pub mixed_made : (old new : ℕ → List (Block × Entry)) (o n : ℕ) (kept : MixedParts) → o ≡ length kept.ground.net → n ≡ length kept.ground.net
+-- what is made of a network and two sources with its routers is what is kept
+pub forwarding_made : (old new : ℕ → List (Block × Entry)) (o n : ℕ) (kept : MixedParts) → o ≡ length kept.ground.net
+    → n ≡ length kept.ground.net
     → AreClasses (migration kept.ground.net (SourceEntry o old) (SourceEntry n new)) kept.classes → AreTablesOf old new o kept.ground.tables
-    → AreAllSubnets kept.ground.net kept.subnets → AreRows kept.ground kept.classes.samples kept.rows → IsMixed old new kept
-mixed_made old new o n kept same_o same_n classes tables subnets rows = record {
+    → AreAllSubnets kept.ground.net kept.subnets → length kept.sorts ≡ length kept.classes.samples
+    → AreRows kept.ground kept.classes.samples kept.sorts kept.rows → IsForwarding old new kept
+forwarding_made old new o n kept same_o same_n classes tables subnets sorts rows = record {
   classes_are = subst (λ (m : ℕ). AreClasses (migration kept.ground.net (SourceEntry m old) (SourceEntry (length kept.ground.net) new)) kept.classes) same_o
       (subst (λ (m : ℕ). AreClasses (migration kept.ground.net (SourceEntry o old) (SourceEntry m new)) kept.classes) same_n classes);
   subnets_are = subnets;
   tables_are = subst (λ (m : ℕ). AreTablesOf old new m kept.ground.tables) same_o tables;
+  sorts_count = sorts;
   rows_are = rows;
 }
 
@@ -56,30 +61,66 @@ mixed_made old new o n kept same_o same_n classes tables subnets rows = record {
 abbrev pub place_of : (ℕ → List (Block × Entry)) → (ℕ → List (Block × Entry)) → MixedParts → ℕ → BothTables → Place
 place_of old new kept u both = record { net = kept.ground.net; old = old; new = new; classes = kept.classes; u = u; tables = both }
 
--- the row of a router: what is used there for the sample of each class
-pub record IsHome (p : Place) (row : List Cell) : Type 0 where
+-- what mixed forwarding keeps for a class at a router
+abbrev pub kept_cell : MixedParts → ℕ → ℕ → Cell
+kept_cell kept u k = cell_at (get_or kept.rows u []) (get_or kept.sorts k None)
+
+-- the cells of a router: what is used there for the sample of each class
+pub record IsHome (p : Place) (cells : ℕ → Cell) : Type 0 where
   pub place : IsPlace p
-  pub count : length row ≡ length p.classes.samples
-  pub cells : (k : ℕ) (cell : Cell) → slice_get row k ≡ Some cell → IsCell (sample p k) cell
+  pub cells_are : (k : ℕ) → k < length p.classes.samples → IsCell (sample p k) (cells k)
+
+-- the row that is kept of a router
+row_at : (old new : ℕ → List (Block × Entry)) (kept : MixedParts) (u : ℕ) (both : BothTables) → IsForwarding old new kept
+    → u < length kept.ground.net
+    → slice_get kept.ground.tables u ≡ Some both → IsRow (site kept.ground u both) kept.classes.samples kept.sorts
+    (get_or kept.rows u [])
+row_at old new kept u both is router at =
+    is.rows_are.each u (get_or kept.rows u []) (slice_get-get_or kept.rows u [] (omega
+    (arith, is.rows_are.count, router))) both at
 
 -- what was read of a router's tables and of its row
-pub home : (old new : ℕ → List (Block × Entry)) (kept : MixedParts) (u : ℕ) (both : BothTables) (row : List Cell) → IsMixed old new kept
-    → u < length kept.ground.net → both ≡ get_or kept.ground.tables u both → row ≡ get_or kept.rows u row → IsHome (place_of old new kept u both) row
-home old new kept u both row is router tables read =
+pub home : (old new : ℕ → List (Block × Entry)) (kept : MixedParts) (u : ℕ) (both : BothTables) → IsForwarding old new kept
+    → u < length kept.ground.net
+    → both ≡ get_or kept.ground.tables u both → IsHome (place_of old new kept u both) (kept_cell kept u)
+home old new kept u both is router tables =
     let at = slice_get_read kept.ground.tables (length kept.ground.tables) u both refl (omega (arith, is.tables_are.count, router)) tables in
-    let here = is.rows_are.each u row (slice_get_read kept.rows (length kept.rows) u row refl (omega (arith, is.rows_are.count, router)) read) both at in
     record {
       place = record { router = router; olds = is.tables_are.olds u both at; news = is.tables_are.news u both at; classes = is.classes_are };
-      count = here.count;
-      cells = here.each;
+      cells_are = (row_at old new kept u both is router at).each;
     }
 
--- what was read of its row alone: it has some tables
-pub some_home : (old new : ℕ → List (Block × Entry)) (kept : MixedParts) (u : ℕ) (row : List Cell) → IsMixed old new kept → u < length kept.ground.net
-    → row ≡ get_or kept.rows u row → (both : BothTables) × IsHome (place_of old new kept u both) row
-some_home old new kept u row is router read =
+-- what is read of its row alone: it has some tables
+pub some_home : (old new : ℕ → List (Block × Entry)) (kept : MixedParts) (u : ℕ) → IsForwarding old new kept
+    → u < length kept.ground.net
+    → (both : BothTables) × IsHome (place_of old new kept u both) (kept_cell kept u)
+some_home old new kept u is router =
     let both = at_place kept.ground.tables u (omega (arith, is.tables_are.count, router)) in
-    (both.0, home old new kept u both.0 row is router (sym (get_or_from_slice_get kept.ground.tables u both.0 both.0 both.1)) read)
+    (both.0, home old new kept u both.0 is router (sym (get_or_from_slice_get kept.ground.tables u both.0 both.0 both.1)))
+
+-- the cell of a class can be read in what is shown of the rows and sorts
+pub sort_read : (old new : ℕ → List (Block × Entry)) (kept : MixedParts) (rows : List (List Cell)) (sorts : List (Option ℕ))
+    (u k : ℕ)
+    → IsForwarding old new kept → rows ≡ kept.rows → sorts ≡ kept.sorts → u < length kept.ground.net
+    → k < length kept.classes.samples
+    → IfSome (get_or sorts k None) (λ sort. sort < length (get_or rows u []))
+sort_read old new kept rows sorts u k is rows_are sorts_are router within =
+    let both = at_place kept.ground.tables u (omega (arith, is.tables_are.count, router)) in
+    subst (λ (rs : List (List Cell)). IfSome (get_or sorts k None) (λ sort. sort < length (get_or rs u []))) (sym rows_are)
+    (subst (λ (ss : List (Option ℕ)). IfSome (get_or ss k None) (λ sort. sort < length (get_or kept.rows u []))) (sym sorts_are)
+    ((row_at old new kept u both.0 is router both.1).within k within))
+
+-- so what is read is what is used for the sample of the class
+pub cell_read : (old new : ℕ → List (Block × Entry)) (kept : MixedParts) (p : Place) (rows : List (List Cell)) (sorts : List
+    (Option ℕ)) (u k : ℕ)
+    (cell : Cell) → IsForwarding old new kept → IsHome p (kept_cell kept u) → rows ≡ kept.rows → sorts ≡ kept.sorts
+    → k < length p.classes.samples
+    → cell ≡ cell_at (get_or rows u []) (get_or sorts k None) → IsCell (sample p k) cell
+cell_read old new kept p rows sorts u k cell _ home rows_are sorts_are within is =
+    subst (IsCell (sample p k))
+    (sym (is ∙ ap (λ (rs : List (List Cell)). cell_at (get_or rs u []) (get_or sorts k None)) rows_are
+    ∙ ap (λ (ss : List (Option ℕ)). cell_at (get_or kept.rows u []) (get_or ss k None)) sorts_are))
+    (home.cells_are k within)
 
 -- Views
 

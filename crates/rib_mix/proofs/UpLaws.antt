@@ -1,7 +1,9 @@
 -- The way up from the longest prefix of an address: what is used there is what is used of all entries.
-use Rattle.std.proofs.Common.{◌≡◌, ◌≢◌, ℕ, ◌+◌, ◌<◌, ◌≤◌, inl, Bool, true, false, List, length, get_or, set, Option, Some, None, Contains, IfSome}
-use Rattle.std.proofs.Common.{ap, arith, refl, sym, subst, ◌∙◌, get_or-set_other, get_or-set_same, slice_get, ⊎_elim, eqb-true, ◌==◌, if◌then◌else◌}
-use Rattle.std.proofs.lemmas.Bool.{cases_lt, eqb-false}
+use lib.Dec.{ltb}
+use Rattle.std.proofs.Common.{◌≡◌, ℕ, zero, suc, ◌<◌, ◌≤◌, inl, Bool, true, false, List, length, get_or, set, Option, Some, None}
+use Rattle.std.proofs.Common.{Contains, IfSome}
+use Rattle.std.proofs.Common.{ap, arith, refl, sym, subst, ◌∙◌, slice_get, ⊎_elim, eqb-true, ◌==◌, if◌then◌else◌}
+use Rattle.std.proofs.lemmas.Bool.{cases_lt, eqb-false, ltb-false, ltb-true}
 use Rattle.std.proofs.lemmas.List.Elements.{All-contains}
 use Rattle.std.proofs.lemmas.Option.{same_Some, slice_get_within, slice_get-get_or}
 use Rattle.net_addr.specs.Addresses.{Block, ContainsAddress, IsBlock}
@@ -21,14 +23,17 @@ use Rattle.prefix_atoms.specs.Classes.{Classes, IsClassing}
 use Rattle.prefix_atoms.specs.Longest.{number_at}
 use Rattle.prefix_atoms.specs.Nested.{IsNextShorter, IsParent, IsTop}
 use Rattle.prefix_atoms.proofs.NestedLaws.{parent_is_next}
+use Rattle.prefix_atoms.proofs.Pushed.{at_place}
 use Rattle.rib_mix.specs.Cells.{IsCell, IsUsable, use_in}
 use Rattle.rib_mix.specs.Sites.{Site, table_of}
 use Rattle.rib_mix.specs.steps.Sites.{CountsAt, HasOspfDistance, HasTableRows, prefixes_in}
 use Rattle.rib_mix.specs.steps.Spots.{AreSpots, IsPlaced, number_in}
+use Rattle.rib_mix.specs.steps.Sorts.{sort_at}
 use Rattle.rib_mix.specs.steps.Uses.{cell_at, cell_over, no_cell}
-use Rattle.rib_mix.specs.steps.WayUp.{AreAllCells, AreOwnCells, IsBestUse, IsCellFor, IsOwnAmong, IsOwnNumber, IsOwnSite, UpTo, connected_in, has_at, old_in}
+use Rattle.rib_mix.specs.steps.WayUp.{AreAllCells, AreOwnCells, IsBestUse, IsCellFor, IsOwnAmong, IsOwnNumber, IsOwnSite, UpTo}
+use Rattle.rib_mix.specs.steps.WayUp.{connected_in, has_at, is_old_first, old_in}
 use Rattle.rib_mix.specs.declared.cell.Cell.{Cell}
-use Rattle.rib_mix.specs.declared.marks.Own.{Own}
+use Rattle.rib_mix.specs.declared.own.Own.{Own}
 use Rattle.rib_mix.specs.declared.spots.Spots.{Spots}
 use Rattle.rib_mix.specs.declared.used.Used.{Used}
 use Rattle.rib_mix.specs.declared.used.Used.TheVariants as used
@@ -176,46 +181,59 @@ top_within c k classing within =
 
 -- What is used for all prefixes, of what a router has
 
+-- the one of lower distance comes first
+old_first : (ospf : ℕ) (first : Bool) → ltb ospf 115 ≡ first → OldFirst first ospf
+old_first ospf true is = omega (arith, ltb-true ospf 115 is)
+old_first ospf false is = ltb-false ospf 115 is
+
 -- what is used for the earlier prefixes is used for the parent of the next one
-earlier_cell : (prefixes : List Block) (own : Own) (n : ℕ) (cells : List Cell) (o : Option ℕ) → IfSome o (λ j. j < n)
-    → AreAllCells prefixes own n cells → IsCellFor prefixes own o (cell_at cells o)
-earlier_cell prefixes own n cells None before are = refl
-earlier_cell prefixes own n cells (Some j) before are = are j before
+earlier_cell : (prefixes : List Block) (own : Own) (of_places : List ℕ) (cells : List Cell) (n : ℕ) (o : Option ℕ)
+    → IfSome o (λ j. j < n)
+    → AreAllCells prefixes own of_places cells n → IsCellFor prefixes own o (cell_at cells (sort_at of_places o))
+earlier_cell prefixes own of_places cells n None before are = refl
+earlier_cell prefixes own of_places cells n (Some j) before are = are j before
 
--- one prefix more
-pub all_cells_more : (c : Classes) (own : Own) (place : ℕ) (p : Block) (old : List Cell) (old_first : Bool) → IsClassing c → OldFirst old_first own.ospf
-    → slice_get c.prefixes place ≡ Some p → length old ≡ length c.prefixes → AreAllCells c.prefixes own place old
-    → AreAllCells c.prefixes own (place + 1) (set old place (cell_over (has_at own place) old_first (cell_at old (get_or c.parents place None))))
-all_cells_more c own place p old old_first classing first at long are k below = ⊎_elim
-    (λ (l : k < place).
-    let apart : k ≢ place = omega arith in
-    subst (IsCellFor c.prefixes own (Some k)) (sym (get_or-set_other old place k next no_cell apart)) (are k l))
-    (λ (l : place ≤ k).
-    let same : place ≡ k = omega arith in
-    subst (λ (j : ℕ). IsCellFor c.prefixes own (Some j) (get_or (set old place next) j no_cell)) same
-    (subst (IsCellFor c.prefixes own (Some place))
-    (sym (get_or-set_same old place next no_cell (omega (arith, slice_get_within c.prefixes place p at, long)))) here))
-    (cases_lt k place)
-  where
-    up : Cell
-    up = cell_at old (get_or c.parents place None)
+-- the cell of the next one's sort is what is used there, if it is made of what is had there and used for the parent
+next_cell : (c : Classes) (own : Own) (of_places : List ℕ) (cells : List Cell) (n : ℕ) → IsClassing c → n < length c.prefixes
+    → cell_at cells (sort_at of_places (Some n))
+    ≡ cell_over (has_at own n) (is_old_first own) (cell_at cells (sort_at of_places (get_or c.parents n None)))
+    → AreAllCells c.prefixes own of_places cells n → IsCellFor c.prefixes own (Some n) (cell_at cells (sort_at of_places
+    (Some n)))
+next_cell c own of_places cells n classing within made earlier =
+    let p = at_place c.prefixes n within in
+    let parent : Option ℕ = get_or c.parents n None in
+    subst (IsCellFor c.prefixes own (Some n)) (sym made)
+    (cell_more c own n p.0 (cell_at cells (sort_at of_places parent)) (is_old_first own) classing (old_first own.ospf
+    (is_old_first own) refl) p.1
+    (earlier_cell c.prefixes own of_places cells n parent (parent_of c n p.0 classing p.1).before earlier))
 
-    next : Cell
-    next = cell_over (has_at own place) old_first up
-
-    here : IsCellFor c.prefixes own (Some place) next
-    here = cell_more c own place p up old_first classing first at
-        (earlier_cell c.prefixes own place old (get_or c.parents place None) (parent_of c place p classing at).before are)
+-- the cells of the sorts of the first places are what is used there, if each is made of what is had there and used for the parent
+pub all_cells : (c : Classes) (own : Own) (of_places : List ℕ) (cells : List Cell) → IsClassing c
+    → ((i : ℕ) → i < length c.prefixes → cell_at cells (sort_at of_places (Some i))
+    ≡ cell_over (has_at own i) (is_old_first own) (cell_at cells (sort_at of_places (get_or c.parents i None))))
+    → (n : ℕ) → n ≤ length c.prefixes → AreAllCells c.prefixes own of_places cells n
+all_cells c own of_places cells classing made zero fits place below = absurd (omega arith)
+all_cells c own of_places cells classing made (suc n) fits place below =
+    let earlier : AreAllCells c.prefixes own of_places cells n = all_cells c own of_places cells classing made n (omega arith) in
+    let within : n < length c.prefixes = omega arith in
+    ⊎_elim
+    (λ (l : place < n). earlier place l)
+    (λ (l : n ≤ place).
+    let same : n ≡ place = omega arith in
+    subst (λ (j : ℕ). IsCellFor c.prefixes own (Some j) (cell_at cells (sort_at of_places (Some j)))) same
+    (next_cell c own of_places cells n classing within (made n within) earlier))
+    (cases_lt place n)
 
 -- so at the place of the longest prefix of an address there is what the router uses for it
-pub own_cells : (c : Classes) (subnets : List Block) (spots : Spots) (own : Own) (cells : List Cell) → IsClassing c
+pub own_cells : (c : Classes) (subnets : List Block) (spots : Spots) (own : Own) (of_places : List ℕ) (cells : List Cell)
+    → IsClassing c
     → IsOwnAmong c.prefixes subnets (record { old = own.old.parts; new = own.new.parts }) spots
     → AreSpots c.prefixes subnets (length subnets) own.connected.now → IsPlaced c.prefixes own.old → IsPlaced c.prefixes own.new
-    → AreAllCells c.prefixes own (length c.prefixes) cells
-    → AreOwnCells c.prefixes subnets (record { old = own.old.parts; new = own.new.parts }) own.ospf cells
-own_cells c subnets spots own cells classing among connected old new are net u a top network distance subnets_are is_top =
-    top_cell c.prefixes own s top (cell_at cells top) site is_top
-    (earlier_cell c.prefixes own (length c.prefixes) cells top (top_inside c.prefixes a top is_top) are)
+    → AreAllCells c.prefixes own of_places cells (length c.prefixes)
+    → AreOwnCells c.prefixes of_places subnets (record { old = own.old.parts; new = own.new.parts }) own.ospf cells
+own_cells c subnets spots own of_places cells classing among connected old new are net u a top network distance own_are is_top =
+    top_cell c.prefixes own s top (cell_at cells (sort_at of_places top)) site is_top
+    (earlier_cell c.prefixes own of_places cells (length c.prefixes) top (top_inside c.prefixes a top is_top) are)
   where
     s : Site
     s = record { net = net; u = u; tables = record { old = own.old.parts; new = own.new.parts }; a = a }
@@ -237,7 +255,7 @@ own_cells c subnets spots own cells classing among connected old new are net u a
       };
       distance = distance;
       subnets = subnets;
-      subnets_are = subnets_are;
+      subnets_are = own_are;
       among = among.connected;
       old_among = among.old;
       new_among = among.new;

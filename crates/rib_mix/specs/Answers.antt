@@ -1,8 +1,10 @@
 -- What a router does with the packets of an address, as an answer.
-use Rattle.std.specs.Prelude.{◌≡◌, ℕ, ◌⊎◌, ◌↔◌, Contains}
+use Rattle.std.specs.Prelude.{◌≡◌, ℕ, ◌<◌, ◌⊎◌, ◌↔◌, Contains, length, slice_index}
+use Rattle.net_addr.specs.Addresses.{Block}
+use Rattle.net_model.specs.Network.{Connected as ConnectedAt}
 use Rattle.route_core.specs.declared.entry.Entry.{Entry}
 use Rattle.route_core.specs.declared.entry.Entry.TheVariants as entry
-use Rattle.igp_theory.specs.Forwarding.{Usable, connected, of_old, of_new, Uses}
+use Rattle.igp_theory.specs.Forwarding.{IsTarget, Usable, connected, of_old, of_new, Uses}
 use Rattle.igp_theory.specs.Migrations.{Migration}
 use Rattle.igp_theory.specs.declared.phase.Phase.{Phase}
 use Rattle.igp_theory.specs.declared.phase.Phase.TheVariants.{Old, New}
@@ -49,3 +51,12 @@ NextLeadsTo Absent h = ⊥
 abbrev pub IsAlikeAt : Migration → Classes → ℕ → ℕ → ℕ → Type 0
 IsAlikeAt move classes u class other =
     (phase : Phase) (next : Next) → IsNextOf move classes u class phase next ↔ IsNextOf move classes u other phase next
+
+-- every router does the same with the packets of two classes, in each phase, and their targets are connected at the same routers
+pub record AreAlike (move : Migration) (classes : Classes) (class other : ℕ) : Type 0 where
+  pub one : Block
+  pub another : Block
+  pub one_is : IsTarget move.net (slice_index classes.samples class) one
+  pub other_is : IsTarget move.net (slice_index classes.samples other) another
+  pub homes : (u : ℕ) → ConnectedAt move.net u one ↔ ConnectedAt move.net u another
+  pub each : (u : ℕ) → u < length move.net → IsAlikeAt move classes u class other

@@ -1,4 +1,4 @@
--- What is kept for each router and class: what is used in each phase.
+-- What is kept for each router and sort of prefixes: what is used in each phase.
 use Rattle.std.specs.Prelude.{◌≡◌, ◌↔◌, ◌<◌, List, length, Some, slice_get}
 use Rattle.route_core.specs.declared.entry.Entry.{Entry}
 use Rattle.igp_theory.specs.Forwarding.{Usable, connected, of_old, of_new}

@@ -3,3 +3,8 @@ pub mod Spots
 pub mod Uses
 pub mod WayUp
 pub mod Sites
+pub mod Sorts
+pub mod Homes
+pub mod Features
+pub mod Likeness
+pub mod Earlier

@@ -6,7 +6,7 @@ use crate::used::{Use, Used};
 use igp_theory::Phase;
 use route_core::OutOfMemory;
 
-/// What a router uses for an address in each phase. It has 8 bytes, since there is one for each router and class.
+/// What a router uses for an address in each phase. It has 8 bytes, since there is one for each router and sort of prefixes.
 #[derive(Clone, Copy, Debug, PartialEq, Eq)]
 pub(crate) struct Cell {
     /// What it uses in Middle, which is what it uses in Old or in New.
@@ -108,14 +108,14 @@ fn cell_between(old: Use, new: Use, old_first: bool) -> Cell
     Cell { middle, other }
 }
 
-/// What a router uses for the addresses of the prefix at a place, and nothing where there is none.
+/// What a router uses for a sort of prefixes, and nothing where there is none.
 #[inline(always)]
-pub(crate) fn cell_at(cells: &[Cell], place: Option<u32>) -> Cell
-    requires { IfSome place (λ i. i < length cells.now) }
-    ensures { result ≡ cell_at cells.now place }
+pub(crate) fn cell_at(cells: &[Cell], sort: Option<u32>) -> Cell
+    requires { IfSome sort (λ s. s < length cells.now) }
+    ensures { result ≡ cell_at cells.now sort }
 {
-    match place {
-        Some(place) => cells[place as usize],
+    match sort {
+        Some(sort) => cells[sort as usize],
         None => Cell::nothing(),
     }
 }

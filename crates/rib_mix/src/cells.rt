@@ -1,10 +1,11 @@
-ghost use Rattle.std.specs.Prelude.{◌≡◌, ◌<◌, length, slice_get, Some};
+ghost use Rattle.std.specs.Prelude.{◌≡◌, ◌<◌, [], length, slice_index_or, None, IfSome};
 ghost use Rattle.std.specs.Bool.{OnTrue};
+ghost use Rattle.rib_mix.specs.steps.Uses.{cell_at};
 
-use crate::cell::Cell;
+use crate::cell::{Cell, cell_at};
 use std::marker::Model;
 
-/// What a router uses for each of some addresses, cell by cell.
+/// What a router uses for each sort of prefixes, cell by cell.
 #[derive(Drop)]
 pub(crate) struct Cells {
     all: Vec<Cell>,
@@ -27,13 +28,25 @@ impl Cells {
         Cells { all }
     }
 
-    /// The cell at a place.
-    pub fn at(&self, place: usize) -> Cell
-        requires { place < length self.now }
-        ensures { slice_get self.now place ≡ Some result }
+    /// The cell of a sort, and nothing where there is none.
+    #[inline(always)]
+    fn of_sort(&self, sort: Option<u32>) -> Cell
+        requires { IfSome sort (λ s. s < length self.now) }
+        ensures { result ≡ cell_at self.now sort }
     {
-        self.all[place]
+        cell_at(self.all.as_slice(), sort)
     }
+}
+
+/// What a router uses for a class, by its cells and the sorts of the classes.
+#[inline(always)]
+pub(crate) fn cell_of(rows: &[Cells], sorts: &[Option<u32>], router: u32, atom: u32) -> Cell
+    requires router { router < length rows.now }
+    requires atom { atom < length sorts.now }
+    requires sort { IfSome (slice_index_or sorts.now atom None) (λ s. s < length (slice_index_or rows.now router [])) }
+    ensures { result ≡ cell_at (slice_index_or rows.now router []) (slice_index_or sorts.now atom None) }
+{
+    rows[router as usize].of_sort(sorts[atom as usize])
 }
 
 /// Whether two cells are the same.

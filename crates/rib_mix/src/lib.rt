@@ -8,14 +8,18 @@
 //! | `mixed`, `next` | mixed forwarding over a network and two sources of tables, and what a router does |
 //! | `both_tables`, `subnets` | of each router: its tables in their parts, and its connected prefixes |
 //! | `spots` | where the prefixes that occur stand among those that the old tables share, and among those of the new ones |
-//! | `marks` | what a router uses for each prefix: what it has for it, and otherwise what it uses for its parent |
+//! | `sorts` | the sorts of prefixes: every router treats those of one sort alike |
+//! | `features`, `lanes`, `homes` | what tells prefixes apart: the kinds that tables have of them, and where they are connected |
+//! | `proposals` | with which earlier prefix each is compared |
+//! | `own` | what a router uses for each sort: what it has for its prefixes, and otherwise what it uses for their parents |
 //! | `cell`, `used` | what a router uses in each phase (in Middle what it does in Old or in New), and in one of them |
-//! | `cells`, `row` | what a router uses for each class |
+//! | `cells` | what a router uses for each sort, and by that for a class |
+//! | `earlier` | for each class an earlier one that every router treats alike |
 //! | `law` | that what a router does is what the definitions call its steps |
 //!
-//! `Mixed::build` takes time of routers times prefixes that occur, for each of which it reads a number of each table and no
-//! entry, and of routers times classes; `hops` looks one cell up, `originates` takes time of the router's subnets. A cell has
-//! 8 bytes; those of a router stand side by side.
+//! `Mixed::build` takes time of routers times sorts, for each of which it reads a number of each table and no entry; of lanes
+//! times prefixes that occur, to find the sorts; and of routers times connected prefixes. `hops` looks one cell up, `originates`
+//! takes time of the router's subnets. A cell has 8 bytes; those of a router stand side by side.
 #![tactic(auto)]
 
 // mixed forwarding
@@ -26,11 +30,18 @@ mod next;
 mod both_tables;
 mod cell;
 mod cells;
-mod marks;
-mod row;
+mod own;
 mod spots;
 mod subnets;
 mod used;
+
+// sorts of prefixes
+mod earlier;
+mod features;
+mod homes;
+mod lanes;
+mod proposals;
+mod sorts;
 
 // laws
 mod law;

@@ -1,21 +1,27 @@
-ghost use Rattle.std.specs.Prelude.{◌≡◌, ◌<◌, ◌↔◌, IfOk, IsTrue, length, slice_index};
+ghost use Rattle.std.specs.Prelude.{◌≡◌, ◌<◌, ◌↔◌, IfOk, IfSome, IsTrue, length, map, slice_index};
 ghost use Rattle.std.specs.Bool.{OnTrue};
 ghost use Rattle.net_model.specs.Network.{Connected};
 ghost use Rattle.net_model.specs.Refusals.{IsNetwork};
 ghost use Rattle.igp_theory.specs.Migrations.{migration};
-ghost use Rattle.prefix_atoms.specs.Classes.{AreClasses, IsInClass, SourceEntry};
-ghost use Rattle.rib_mix.specs.Answers.{IsAlikeAt, IsNextAtAnEnd, IsNextOf, ShowsEntry};
+ghost use Rattle.prefix_atoms.specs.Classes.{AreClasses, IsClassing, IsInClass, SourceEntry};
+ghost use Rattle.rib_mix.specs.Answers.{AreAlike, IsAlikeAt, IsNextAtAnEnd, IsNextOf, ShowsEntry};
 ghost use Rattle.rib_mix.specs.Mixture.{migration_of};
 ghost use Rattle.rib_mix.specs.Cells.{IsKeptUse};
 ghost use Rattle.rib_mix.specs.steps.Uses.{ShowsUse};
 ghost use Rattle.rib_mix.specs.Rows.{AreAllSubnets, AreRows};
+ghost use Rattle.rib_mix.specs.steps.Sorts.{AreSorts, sort_at};
+ghost use Rattle.rib_mix.specs.steps.Likeness.{AreLike, placed_of};
+ghost use Rattle.rib_mix.specs.steps.Spots.{AreSharedSpots, HaveSpots};
+ghost use Rattle.rib_mix.specs.Laws.{HaveAnswers};
 ghost use Rattle.rib_mix.specs.steps.Sites.{AreTablesInParts, HasOspfDistance, AllOccur};
 
 use crate::both_tables::{BothTables, tables_of};
-use crate::cells::{Cells, is_same};
-use crate::marks::Marks;
+use crate::cells::{Cells, cell_of, is_same};
+use crate::earlier::earlier_classes;
+use crate::features::Features;
 use crate::next::Next;
-use crate::row::row_of;
+use crate::own::{Shared, cells_of};
+use crate::sorts::{Sorts, sort_at};
 use crate::spots::Spots;
 use crate::subnets::Subnets;
 use crate::used::Used;
@@ -39,8 +45,12 @@ pub struct Mixed<'a, O: RouteSource, N: RouteSource> {
     subnets: Vec<Subnets>,
     /// Of each router both tables.
     tables: Vec<BothTables<'a>>,
-    /// For each router what it uses for each class.
+    /// For each router what it uses for each sort of prefixes.
     rows: Vec<Cells>,
+    /// For each class the sort of its longest prefix.
+    sorts: Vec<Option<u32>>,
+    /// For each class an earlier one that every router treats alike, where one is known.
+    earlier: Vec<Option<u32>>,
 }
 
 impl<'a, O: RouteSource, N: RouteSource> Model for Mixed<'a, O, N> {
@@ -56,6 +66,8 @@ impl<'a, O: RouteSource, N: RouteSource> Model for Mixed<'a, O, N> {
       classes = x.atoms;
       subnets = x.subnets.items;
       rows = x.rows.items;
+      sorts = x.sorts.items;
+      earlier = x.earlier.items;
     }) };
 }
 
@@ -77,7 +89,16 @@ impl<'a, O: RouteSource, N: RouteSource> Mixed<'a, O, N> {
         let atoms = Atoms::build(alloc, net, old, new)?;
         let subnets = all_subnets(alloc, net)?;
         let tables = tables_of(alloc, old, new)?;
-        let rows = rows_of(alloc, net, subnets.as_slice(), tables.as_slice(), &atoms)?;
+        let spots = Spots::of_tables(alloc, atoms.prefixes(), tables.as_slice())?;
+        let sorts = sorts_of(alloc, &atoms, subnets.as_slice(), tables.as_slice(), &spots)?;
+        let shared = Shared {
+            atoms: &atoms,
+            spots: &spots,
+            sorts: &sorts,
+        };
+        let rows = rows_of(alloc, net, subnets.as_slice(), tables.as_slice(), &shared)?;
+        let class_sorts = class_sorts(alloc, &atoms, &sorts)?;
+        let earlier = earlier_classes(alloc, &atoms, &sorts)?;
         Ok(Mixed {
             net,
             old,
@@ -86,6 +107,8 @@ impl<'a, O: RouteSource, N: RouteSource> Mixed<'a, O, N> {
             subnets,
             tables,
             rows,
+            sorts: class_sorts,
+            earlier,
         })
     }
 
@@ -124,10 +147,17 @@ impl<'a, O: RouteSource, N: RouteSource> Mixed<'a, O, N> {
             → IsNextAtAnEnd (migration_of O.table N.table self.now) self.now.classes router atom result }
     {
         let tables = &self.tables[router as usize];
-        let cell = self.rows[router as usize].at(atom as usize);
+        let cell = cell_of(self.rows.as_slice(), self.sorts.as_slice(), router, atom);
         let old = tables.old.entries;
         let new = tables.new.entries;
         next_of(old, new, cell.used(phase))
+    }
+
+    /// The law that each router has an answer for each class in each phase: what `hops` gives.
+    pub fn have_answers(&self)
+        ensures { HaveAnswers (migration_of O.table N.table self.now) self.now.classes }
+    {
+        let _net = self.net;
     }
 
     /// Whether what a router does is known to be the same, in every phase, for the packets of two classes.
@@ -138,8 +168,21 @@ impl<'a, O: RouteSource, N: RouteSource> Mixed<'a, O, N> {
         ensures { OnTrue result
             (IsAlikeAt (migration_of O.table N.table self.now) self.now.classes router atom other) }
     {
-        let row = &self.rows[router as usize];
-        is_same(row.at(atom as usize), row.at(other as usize))
+        let rows = self.rows.as_slice();
+        let sorts = self.sorts.as_slice();
+        is_same(
+            cell_of(rows, sorts, router, atom),
+            cell_of(rows, sorts, router, other),
+        )
+    }
+
+    /// An earlier class that every router treats alike, where one is known.
+    pub fn earlier_alike(&self, atom: u32) -> Option<u32>
+        requires { atom < length self.now.classes.samples }
+        ensures earlier { IfSome result (λ other. other < atom) }
+        ensures alike { IfSome result (λ other. AreAlike (migration_of O.table N.table self.now) self.now.classes other atom) }
+    {
+        self.earlier[atom as usize]
     }
 }
 
@@ -155,34 +198,59 @@ fn all_subnets(alloc: Global, net: &Net) -> Result<Vec<Subnets>, OutOfMemory>
     Ok(all)
 }
 
-/// What each router of a network uses for each class of addresses.
+/// The sorts of the prefixes that occur.
+fn sorts_of(
+    alloc: Global,
+    atoms: &Atoms,
+    subnets: &[Subnets],
+    tables: &[BothTables<'_>],
+    spots: &Spots,
+) -> Result<Sorts, OutOfMemory>
+    requires { HaveSpots (length atoms.now.prefixes) spots.now }
+    ensures { IfOk result (AreSorts (AreLike (record { prefixes = atoms.now.prefixes; spots = spots.now }) subnets.now tables.now)
+        atoms.now.parents (length atoms.now.parents)) }
+{
+    let features = Features::of_prefixes(alloc, atoms.prefixes(), subnets, tables, spots)?;
+    Ok(Sorts::of_features(alloc, &features, atoms.parents())?)
+}
+
+/// For each class the sort of its longest prefix.
+fn class_sorts(alloc: Global, atoms: &Atoms, sorts: &Sorts) -> Result<Vec<Option<u32>>, OutOfMemory>
+    requires { length sorts.now.of_places.items ≡ length atoms.now.prefixes }
+    ensures { IfOk result (λ classes. classes.items ≡ map (sort_at sorts.now.of_places.items) atoms.now.tops) }
+{
+    let tops = atoms.tops();
+    let of_places = sorts.of_places.as_slice();
+    let mut classes = Vec::with_capacity(alloc, tops.len())?;
+    for top in tops {
+        classes.push(sort_at(of_places, *top))?;
+    }
+    Ok(classes)
+}
+
+/// What each router of a network uses for each sort of prefixes.
 fn rows_of(
     alloc: Global,
     net: &Net,
     subnets: &[Subnets],
     tables: &[BothTables<'_>],
-    atoms: &Atoms,
+    shared: &Shared<'_>,
 ) -> Result<Vec<Cells>, OutOfMemory>
     requires tables { AreTablesInParts (length net.now) tables.now }
     requires subnets { AreAllSubnets net.now subnets.now }
-    requires occur { AllOccur atoms.now.prefixes (record { net = net.now; tables = tables.now }) }
-    ensures { IfOk result (λ rows. AreRows (record { net = net.now; tables = tables.now }) atoms.now.samples rows.items) }
+    requires occur { AllOccur shared.now.atoms.now.prefixes (record { net = net.now; tables = tables.now }) }
+    requires classing { IsClassing shared.now.atoms.now }
+    requires spots { AreSharedSpots shared.now.atoms.now.prefixes tables.now shared.now.spots.now }
+    requires sorts { AreSorts (AreLike (placed_of shared.now) subnets.now tables.now) shared.now.atoms.now.parents
+        (length shared.now.atoms.now.parents) shared.now.sorts.now }
+    ensures { IfOk result (λ rows. AreRows (record { net = net.now; tables = tables.now }) shared.now.atoms.now.samples
+        (map (sort_at shared.now.sorts.now.of_places.items) shared.now.atoms.now.tops) rows.items) }
 {
-    let prefixes = atoms.prefixes();
-    let spots = Spots::of_tables(alloc, prefixes, tables)?;
-    let mut marks = Marks::with_places(alloc, prefixes.len())?;
     let mut rows = Vec::with_capacity(alloc, net.routers() as usize)?;
     for router in 0..net.routers() {
-        let subnets = &subnets[router as usize];
+        let subnets = subnets[router as usize].as_slice();
         let both = tables[router as usize];
-        marks.find(
-            atoms,
-            subnets.as_slice(),
-            &spots,
-            both,
-            ospf_distance(net, router),
-        )?;
-        let row = row_of(alloc, atoms, marks.cells.as_slice())?;
+        let row = cells_of(alloc, shared, subnets, both, ospf_distance(net, router))?;
         rows.push(row)?;
     }
     Ok(rows)

@@ -1,7 +1,6 @@
-ghost use Rattle.std.specs.Prelude.{◌≡◌, ◌<◌, IfOk, IfSome, OnOk, length, slice_get, Some};
+ghost use Rattle.std.specs.Prelude.{◌≡◌, ◌<◌, IfOk, IfSome, OnOk, length};
 ghost use Rattle.prefix_atoms.specs.Nested.{AreAscendingPrefixes};
-ghost use Rattle.rib_mix.specs.declared.both_tables.BothTables.{BothTables};
-ghost use Rattle.rib_mix.specs.steps.Spots.{AreSpots, AreTableSpots, HasPlace, number_in, with_spot};
+ghost use Rattle.rib_mix.specs.steps.Spots.{AreSharedSpots, AreSpots, HasPlace, HaveSpots, number_in, with_spot};
 
 use crate::both_tables::BothTables;
 use net_addr::Prefix;
@@ -49,37 +48,40 @@ impl Spots {
         tables: &[BothTables<'_>],
     ) -> Result<Spots, OutOfMemory>
         requires { AreAscendingPrefixes prefixes.now }
-        ensures { IfOk result (λ spots. (both : BothTables) → slice_get tables.now 0 ≡ Some both → AreTableSpots prefixes.now both spots) }
+        ensures places { IfOk result (HaveSpots (length prefixes.now)) }
+        ensures spots { IfOk result (AreSharedSpots prefixes.now tables.now) }
     {
-        let mut olds = vec![in alloc; Number::none(); prefixes.len()]?;
-        let mut news = vec![in alloc; Number::none(); prefixes.len()]?;
-        if let Some(both) = tables.first() {
-            find_spots(&mut olds, prefixes, both.old.prefixes)?;
-            find_spots(&mut news, prefixes, both.new.prefixes)?;
+        match tables.first() {
+            Some(both) => Ok(Spots {
+                olds: find_spots(alloc, prefixes, both.old.prefixes)?,
+                news: find_spots(alloc, prefixes, both.new.prefixes)?,
+            }),
+            None => Ok(Spots {
+                olds: vec![in alloc; Number::none(); prefixes.len()]?,
+                news: vec![in alloc; Number::none(); prefixes.len()]?,
+            }),
         }
-        Ok(Spots { olds, news })
     }
 }
 
 /// Finds where each of some ascending prefixes stands in a list.
 pub(crate) fn find_spots(
-    spots: &mut Vec<Number>,
+    alloc: Global,
     prefixes: &[Prefix],
     list: &[Prefix],
-) -> Result<(), OutOfMemory>
-    requires count { length spots.old.items ≡ length prefixes.now }
-    requires ascending { AreAscendingPrefixes prefixes.now }
-    ensures { OnOk result (AreSpots prefixes.now list.now (length list.now) spots.new.items) }
+) -> Result<Vec<Number>, OutOfMemory>
+    requires { AreAscendingPrefixes prefixes.now }
+    ensures { IfOk result (λ spots. AreSpots prefixes.now list.now (length list.now) spots.items) }
 {
     let Ok(count) = u32::try_from(list.len()) else {
         return Err(OutOfMemory);
     };
-    spots.fill(Number::none());
+    let mut spots = vec![in alloc; Number::none(); prefixes.len()]?;
     for spot in 0..count {
         let place = place_of_prefix(prefixes, list[spot as usize]);
-        put_spot(spots, place, spot)?;
+        put_spot(&mut spots, place, spot)?;
     }
-    Ok(())
+    Ok(spots)
 }
 
 /// Puts a spot at a place, if there is one.

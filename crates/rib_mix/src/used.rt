@@ -17,7 +17,7 @@ pub(crate) enum Used {
     New(u32),
 }
 
-/// The same in 4 bytes, since there are two for each router and class.
+/// The same in 4 bytes, since there are two for each router and sort of prefixes.
 #[derive(Clone, Copy, Debug, PartialEq, Eq)]
 pub(crate) struct Use {
     /// 0 for nothing, 2 for a connected prefix, 2 n + 4 for entry n of the old table and 2 n + 1 for entry n of the new one.

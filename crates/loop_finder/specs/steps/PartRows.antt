@@ -1,9 +1,10 @@
 -- How the rows of a part are made.
-use Rattle.std.specs.Prelude.{◌≡◌, ℕ, ◌<◌, Bool, List, length, slice_index_or, Contains}
+use Rattle.std.specs.Prelude.{◌≡◌, ℕ, ◌<◌, ◌⊎◌, Bool, List, length, slice_index_or, Contains}
 use Rattle.igp_theory.specs.declared.phase.Phase.{Phase}
 use Rattle.order_core.specs.Marks.{IsMarked}
 use Rattle.loop_finder.specs.Parts.{PhaseHops, ClassPart, StepsOf, hops_of, no_hops}
-use Rattle.loop_finder.specs.Mixes.{ClassIn}
+use Rattle.rib_mix.specs.Answers.{IsAlikeAt}
+use Rattle.loop_finder.specs.Mixes.{ClassIn, Mix, class_in, migration_in}
 
 -- the marked ones of some routers are among others
 abbrev pub HasMarked : List Bool → List ℕ → List ℕ → Type 0
@@ -37,8 +38,26 @@ pub record AreFirstRows (c : ClassIn) (marks : List Bool) (n : ℕ) (rows : List
 abbrev pub AreRowsOf : ClassIn → List Bool → List PhaseHops → Type 0
 AreRowsOf c marks rows = AreFirstRows c marks (length marks) rows
 
--- one of some parts has all hops of a class between marked routers
-pub record HasEarlierHops (c : ClassIn) (marks : List Bool) (parts : List ClassPart) : Type 0 where
+-- a row has a hop in Old or in New
+abbrev pub HasHop : PhaseHops → Type 0
+HasHop row = (0 < length row.old) ⊎ (0 < length row.new)
+
+-- router u has a hop by its row of a class, and does the same for another class
+pub record ActsAlikeAt (m : Mix) (row : PhaseHops) (u own other : ℕ) : Type 0 where
+  pub hop : HasHop row
+  pub alike : IsAlikeAt (migration_in m) m.classes u own other
+
+-- each marked router does so
+abbrev pub ActAlike : Mix → List Bool → List PhaseHops → ℕ → ℕ → Type 0
+ActAlike m marks rows own other = (u : ℕ) → u < length m.net → IsMarked marks u → ActsAlikeAt m (slice_index_or rows u no_hops) u own other
+
+-- a part has the steps of a class between marked routers: its rows have all hops, or these routers do the same for both classes
+pub data Serves (m : Mix) (marks : List Bool) (part : ClassPart) (atom : ℕ) : Type 0 where
+  by_hops : HaveHops (class_in m atom) marks part.rows → Serves m marks part atom
+  by_likeness : ActAlike m marks part.rows part.atom atom → Serves m marks part atom
+
+-- one of some parts has them
+pub record HasEarlierHops (m : Mix) (marks : List Bool) (parts : List ClassPart) (atom : ℕ) : Type 0 where
   pub earlier : ClassPart
   pub among : Contains parts earlier
-  pub hops : HaveHops c marks earlier.rows
+  pub serves : Serves m marks earlier atom

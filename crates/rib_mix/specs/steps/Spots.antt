@@ -25,6 +25,15 @@ pub record AreTableSpots (prefixes : List Block) (both : BothTables) (spots : Sp
   pub olds : AreSpots prefixes both.old.prefixes.now (length both.old.prefixes.now) spots.olds.items
   pub news : AreSpots prefixes both.new.prefixes.now (length both.new.prefixes.now) spots.news.items
 
+-- where some prefixes stand among those of all tables, which are those of the first ones
+abbrev pub AreSharedSpots : List Block → List BothTables → Spots → Type 0
+AreSharedSpots prefixes tables spots = (both : BothTables) → slice_get tables 0 ≡ Some both → AreTableSpots prefixes both spots
+
+-- there is room for the spots of so many prefixes
+pub record HaveSpots (places : ℕ) (spots : Spots) : Type 0 where
+  pub olds : length spots.olds.items ≡ places
+  pub news : length spots.news.items ≡ places
+
 -- a table, with the spots of some prefixes among its own
 pub record IsPlaced (prefixes : List Block) (table : PlacedTable) : Type 0 where
   pub kept : IsTable (kept_in table.parts)

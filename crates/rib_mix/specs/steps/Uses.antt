@@ -45,7 +45,7 @@ abbrev pub cell_over : Has → Bool → Cell → Cell
 cell_over has old_first up =
     if is_some has.connected then record { middle = Connected; other = Connected } else cell_of_two has.old has.new old_first up
 
--- what is used for the prefix at a place, if there is one
+-- what is used for a sort of prefixes, if there is one
 abbrev pub cell_at : List Cell → Option ℕ → Cell
 cell_at cells None = no_cell
-cell_at cells (Some place) = slice_index_or cells place no_cell
+cell_at cells (Some sort) = slice_index_or cells sort no_cell

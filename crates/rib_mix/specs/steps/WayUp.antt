@@ -1,9 +1,11 @@
 -- What a router uses for each prefix that occurs, of what it has for the prefix and for those that it lies in.
-use Rattle.std.specs.Prelude.{◌≡◌, ℕ, ◌<◌, ◌≤◌, ◌⊎◌, ◌==◌, if◌then◌else◌, List, length, slice_get, slice_index_or, Option, Some, None, Contains, MatchOption}
+use lib.Dec.{ltb}
+use Rattle.std.specs.Prelude.{◌≡◌, ℕ, Bool, ◌<◌, ◌≤◌, ◌⊎◌, ◌==◌, if◌then◌else◌, List, length, slice_get, slice_index_or, Option}
+use Rattle.std.specs.Prelude.{Some, None, Contains, MatchOption}
 use Rattle.net_addr.specs.Addresses.{Block, ContainsAddress}
 use Rattle.net_model.specs.Network.{Network}
 use Rattle.net_model.specs.Refusals.{IsNetwork}
-use Rattle.net_model.specs.declared.bounds.TheConstants.{MOST_DISTANCE}
+use Rattle.net_model.specs.declared.bounds.TheConstants.{ISIS_DISTANCE, MOST_DISTANCE}
 use Rattle.route_core.specs.Rows.{IsTable, kept_in, rows_in}
 use Rattle.igp_theory.specs.Forwarding.{Usable, Kind}
 use Rattle.igp_theory.specs.declared.phase.Phase.{Phase}
@@ -14,12 +16,13 @@ use Rattle.rib_mix.specs.Rows.{AreSubnets}
 use Rattle.rib_mix.specs.Sites.{Site}
 use Rattle.rib_mix.specs.steps.Sites.{CountsAt, HasOspfDistance, IsLawfulSite, prefixes_in, AreAmong}
 use Rattle.rib_mix.specs.steps.Spots.{AreTableSpots, IsPlaced, number_in}
-use Rattle.rib_mix.specs.steps.Uses.{cell_at, no_cell}
+use Rattle.rib_mix.specs.steps.Uses.{cell_at, cell_over, no_cell}
+use Rattle.rib_mix.specs.steps.Sorts.{sort_at}
 use Rattle.rib_mix.specs.declared.both_tables.BothTables.{BothTables}
 use Rattle.rib_mix.specs.declared.cell.Cell.{Cell}
 use Rattle.rib_mix.specs.declared.cell.Has.{Has}
-use Rattle.rib_mix.specs.declared.marks.Marks.{Marks}
-use Rattle.rib_mix.specs.declared.marks.Own.{Own}
+use Rattle.rib_mix.specs.declared.own.Own.{Own}
+use Rattle.rib_mix.specs.declared.sorts.Sorts.{Sorts}
 use Rattle.rib_mix.specs.declared.spots.Spots.{Spots}
 use Rattle.rib_mix.specs.declared.used.Used.{Used}
 use Rattle.rib_mix.specs.declared.used.Used.TheVariants as used
@@ -86,20 +89,27 @@ IsCellFor prefixes own None cell = cell ≡ no_cell
 IsCellFor prefixes own (Some place) cell =
     (p : Block) (s : Site) → slice_get prefixes place ≡ Some p → IsOwnSite prefixes own s → ContainsAddress p s.a → IsCellUpTo s p.len cell
 
--- the same for each of the first n prefixes
-abbrev pub AreAllCells : List Block → Own → ℕ → List Cell → Type 0
-AreAllCells prefixes own n cells = (place : ℕ) → place < n → IsCellFor prefixes own (Some place) (slice_index_or cells place no_cell)
+-- the same for each of the first n prefixes, by the cells of their sorts
+abbrev pub AreAllCells : List Block → Own → List ℕ → List Cell → ℕ → Type 0
+AreAllCells prefixes own of_places cells n =
+    (place : ℕ) → place < n → IsCellFor prefixes own (Some place) (cell_at cells (sort_at of_places (Some place)))
+
+-- the entries of the old table come first
+abbrev pub is_old_first : Own → Bool
+is_old_first own = ltb own.ospf ISIS_DISTANCE
+
+-- what is used for each of the first n sorts, of what is had for its first prefix and used for the sort of the parents
+pub record AreSortCells (own : Own) (sorts : Sorts) (n : ℕ) (cells : List Cell) : Type 0 where
+  pub count : length cells ≡ n
+  pub each : (sort : ℕ) → sort < n → slice_index_or cells sort no_cell ≡
+      cell_over (has_at own (slice_index_or sorts.firsts.items sort 0)) (is_old_first own) (cell_at cells
+      (slice_index_or sorts.parents.items sort None))
 
 -- what a router has, by the places of prefixes
 pub record IsOwn (prefixes : List Block) (own : Own) : Type 0 where
   pub connected : length own.connected.now ≡ length prefixes
   pub old : IsPlaced prefixes own.old
   pub new : IsPlaced prefixes own.new
-
--- there is room for so many prefixes
-pub record HavePlaces (places : ℕ) (marks : Marks) : Type 0 where
-  pub connected : length marks.connected.items ≡ places
-  pub cells : length marks.cells.items ≡ places
 
 -- the prefixes of a router are among these, of which the spots in its tables are known
 pub record IsOwnAmong (prefixes subnets : List Block) (both : BothTables) (spots : Spots) : Type 0 where
@@ -110,13 +120,9 @@ pub record IsOwnAmong (prefixes subnets : List Block) (both : BothTables) (spots
   pub new_table : IsTable (kept_in both.new)
   pub spots_are : AreTableSpots prefixes both spots
 
--- what a router with these connected prefixes, both tables and OSPF distance uses for an address stands at the place of its longest prefix
-abbrev pub AreOwnCells : List Block → List Block → BothTables → ℕ → List Cell → Type 0
-AreOwnCells prefixes subnets both ospf cells =
+-- what a router with these connected prefixes, both tables and OSPF distance uses for an address is the cell of its longest
+-- prefix's sort
+abbrev pub AreOwnCells : List Block → List ℕ → List Block → BothTables → ℕ → List Cell → Type 0
+AreOwnCells prefixes of_places subnets both ospf cells =
     (net : Network) (u a : ℕ) (top : Option ℕ) → IsNetwork net → HasOspfDistance net u ospf → AreSubnets net u subnets → IsTop prefixes a top →
-    IsCell (record { net = net; u = u; tables = both; a = a }) (cell_at cells top)
-
--- what a router uses for each class, by what it uses for the longest prefix of each
-pub record IsRowOfTops (tops : List (Option ℕ)) (cells row : List Cell) : Type 0 where
-  pub count : length row ≡ length tops
-  pub each : (k : ℕ) (cell : Cell) → slice_get row k ≡ Some cell → cell ≡ cell_at cells (slice_index_or tops k None)
+    IsCell (record { net = net; u = u; tables = both; a = a }) (cell_at cells (sort_at of_places top))

@@ -16,6 +16,6 @@ returns-then-none_marked g c =
 pub returns : goal.returns
 returns g c = on_true c.has_earlier.result c.has_earlier.ensures
     (earlier_covers (mix_of g.O.RouteSource.table g.N.RouteSource.table c.args.mixed.now) c.args.parts.now.items c.args.atom c.as_slice-marks.result.now
-    c.requires.parts (omega (arith, c.requires.making.marks_many))
+    c.requires.parts c.have_answers.ensures c.requires.read.least.class (omega (arith, c.requires.making.marks_many))
     (returns_known (class_in (mix_of g.O.RouteSource.table g.N.RouteSource.table c.args.mixed.now) c.args.atom) c.args.making.now c.as_slice-marks.result.now
     c.requires.making c.requires.read c.as_slice-marks.ensures.value) c.requires.all)

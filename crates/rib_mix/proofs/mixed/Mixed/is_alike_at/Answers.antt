@@ -1,38 +1,39 @@
-use Rattle.std.proofs.Common.{◌≡◌, ◌<◌, Some, length, slice_get, arith, subst, sym}
+use Rattle.std.proofs.Common.{subst, ◌∙◌}
 use Rattle.std.proofs.lemmas.Bool.{OnTrue_at, OnTrue_from}
 use Rattle.rib_mix.specs.Answers.{IsAlikeAt}
 use Rattle.rib_mix.specs.Mixture.{Mixture, migration_of}
-use Rattle.rib_mix.specs.declared.cell.Cell.{Cell}
 use Rattle.rib_mix.proofs.ClassUses.{alike_cells}
-use Rattle.rib_mix.proofs.MixedLaws.{atom_along, router_along, some_home}
+use Rattle.rib_mix.proofs.MixedLaws.{atom_along, cell_read, router_along, some_home, sort_read}
 use Rattle.rib_mix.proofs.mixed.Mixed.is_alike_at.Goals as goal
 
-pub at-requires : goal.at-requires
-at-requires g c =
-    let atom : c.args.atom < length c.self.inside.atoms.samples = atom_along _ _ c.args.atom c.self.view_is c.requires.atom in
-    let router = router_along _ _ c.args.router c.self.view_is c.requires.router in
-    let here = some_home _ _ _ c.args.router c.index-row.result.now c.self.invariant router c.index-row.ensures in
-    omega (arith, atom, here.1.count)
+pub cell_of-requires-clause-sort : goal.cell_of-requires-clause-sort
+cell_of-requires-clause-sort g c =
+    sort_read _ _ _ c.as_slice-rows.result.now c.as_slice-sorts.result.now c.args.router c.args.atom c.self.invariant.forwarding
+    c.as_slice-rows.ensures.value c.as_slice-sorts.ensures.value (router_along _ _ c.args.router c.self.view_is c.requires.router)
+    (atom_along _ _ c.args.atom c.self.view_is c.requires.atom)
 
-pub at-requires-2 : goal.at-requires-2
-at-requires-2 g c =
-    let other : c.args.other < length c.self.inside.atoms.samples = atom_along _ _ c.args.other c.self.view_is c.requires.other in
-    let router = router_along _ _ c.args.router c.self.view_is c.requires.router in
-    let here = some_home _ _ _ c.args.router c.index-row.result.now c.self.invariant router c.index-row.ensures in
-    omega (arith, other, here.1.count)
+pub cell_of-requires-2-clause-sort : goal.cell_of-requires-2-clause-sort
+cell_of-requires-2-clause-sort g c =
+    sort_read _ _ _ c.as_slice-rows.result.now c.as_slice-sorts.result.now c.args.router c.args.other c.self.invariant.forwarding
+    c.as_slice-rows.ensures.value c.as_slice-sorts.ensures.value (router_along _ _ c.args.router c.self.view_is c.requires.router)
+    (atom_along _ _ c.args.other c.self.view_is c.requires.other)
 
 pub returns : goal.returns
 returns g c =
     OnTrue_from c.is_same.result _ (λ holds.
     let router = router_along _ _ c.args.router c.self.view_is c.requires.router in
-    let here = some_home _ _ _ c.args.router c.index-row.result.now c.self.invariant router c.index-row.ensures in
+    let atom = atom_along _ _ c.args.atom c.self.view_is c.requires.atom in
+    let other = atom_along _ _ c.args.other c.self.view_is c.requires.other in
+    let here = some_home _ _ _ c.args.router c.self.invariant.forwarding router in
     subst
     (λ (x : Mixture g.row.O.Denot g.row.N.Denot). IsAlikeAt (migration_of g.O.RouteSource.table g.N.RouteSource.table x)
     x.classes c.args.router c.args.atom c.args.other)
     c.self.view_is
-    (alike_cells _ c.args.atom c.args.other c.at.result here.1.place (atom_along _ _ c.args.atom c.self.view_is c.requires.atom)
-    (atom_along _ _ c.args.other c.self.view_is c.requires.other)
-    (here.1.cells c.args.atom c.at.result c.at.ensures)
-    (here.1.cells c.args.other c.at.result
-    (subst (λ (cell : Cell). slice_get c.index-row.result.now c.args.other ≡ Some cell) (sym (OnTrue_at holds c.is_same.ensures))
-    c.at-2.ensures))))
+    (alike_cells _ c.args.atom c.args.other c.cell_of.result here.1.place atom other
+    (cell_read _ _ _ _ c.as_slice-rows.result.now c.as_slice-sorts.result.now c.args.router c.args.atom c.cell_of.result
+    c.self.invariant.forwarding here.1
+    c.as_slice-rows.ensures.value c.as_slice-sorts.ensures.value atom c.cell_of.ensures)
+    (cell_read _ _ _ _ c.as_slice-rows.result.now c.as_slice-sorts.result.now c.args.router c.args.other c.cell_of.result
+    c.self.invariant.forwarding here.1
+    c.as_slice-rows.ensures.value c.as_slice-sorts.ensures.value other (OnTrue_at holds c.is_same.ensures
+    ∙ c.cell_of-2.ensures))))

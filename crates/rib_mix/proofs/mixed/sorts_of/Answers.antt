@@ -1,0 +1,38 @@
+use Rattle.std.proofs.Common.{◌≡◌, ap, ◌∙◌, ◌<◌, IfSome, List, None, Option, arith, get_or, length, subst, sym, ℕ}
+use Rattle.net_addr.specs.Addresses.{Block}
+use Rattle.prefix_atoms.proofs.Pushed.{at_place}
+use Rattle.rib_mix.specs.steps.Features.{AreFeatures, HaveFeatures, HaveSameFeatures}
+use Rattle.rib_mix.specs.steps.Likeness.{AreLike}
+use Rattle.rib_mix.specs.steps.Sorts.{AreSorts}
+use Rattle.rib_mix.proofs.FeatureLaws.{features_alike}
+use Rattle.rib_mix.proofs.SortLaws.{sorts_along}
+use Rattle.rib_mix.proofs.UpLaws.{parent_of}
+use Rattle.rib_mix.proofs.mixed.sorts_of.Goals as goal
+
+pub of_features-requires-clause-features : goal.of_features-requires-clause-features
+of_features-requires-clause-features c =
+    let same : length c.prefixes.result.now ≡ length c.parents.result.now =
+    ap length c.prefixes.ensures.prefixes ∙ sym c.parents.ensures.classing.nested.count
+    ∙ sym (ap length c.parents.ensures.parents) in
+    subst (λ (n : ℕ). HaveFeatures n c.in_ok-features.features) same c.in_ok-features.ensures.places
+
+pub of_features-requires-clause-parents : goal.of_features-requires-clause-parents
+of_features-requires-clause-parents c = λ i below.
+    let p = at_place c.args.atoms.now.prefixes i
+    (omega (arith, below, ap length c.parents.ensures.parents, c.parents.ensures.classing.nested.count)) in
+    subst (λ (ps : List (Option ℕ)). IfSome (get_or ps i None) (λ j. j < i)) (sym c.parents.ensures.parents)
+    (parent_of c.args.atoms.now i p.0 c.parents.ensures.classing p.1).before
+
+pub returns : goal.returns
+returns c =
+    let features = c.in_ok-features.features in
+    let parents : List (Option ℕ) = c.args.atoms.now.parents in
+    let like : ℕ → ℕ → Type 0 =
+    AreLike (record { prefixes = c.args.atoms.now.prefixes; spots = c.args.spots.now }) c.args.subnets.now c.args.tables.now in
+    subst (λ (ps : List (Option ℕ)). AreSorts like ps (length ps) c.in_ok-of_features.field-0) c.parents.ensures.parents
+    (sorts_along (HaveSameFeatures features) like c.parents.result.now (length c.parents.result.now) c.in_ok-of_features.field-0
+    (λ i j. features_alike c.args.atoms.now.prefixes c.args.subnets.now c.args.tables.now features c.args.spots.now i j
+    (subst (λ (ps : List Block). AreFeatures ps c.args.subnets.now c.args.tables.now features) c.prefixes.ensures.prefixes
+    c.in_ok-features.ensures.are)
+    c.in_ok-features.ensures.spots)
+    c.in_ok-of_features.ensures)
