@@ -15,6 +15,17 @@ use net_addr::Prefix;
 use route_tables::push_option;
 use std::alloc::Global;
 
+/// The border routers of a network, and the active ranges of all its routers.
+#[derive(Clone, Copy)]
+pub(crate) struct Boundary<'a> {
+    /// The network and its areas.
+    pub domain: &'a Domain<'a>,
+    /// The border routers.
+    pub borders: &'a [u32],
+    /// The active ranges of each router.
+    pub ranges: &'a [ActiveRanges],
+}
+
 /// The subnets and ranges that border routers summarize of a prefix, each as a route of its own area.
 pub(crate) fn summarized(
     alloc: Global,

@@ -11,6 +11,7 @@ ghost use Rattle.ospf_routes.specs.steps.Ranges.{AreActiveRanges, AreRangesBelow
 ghost use Rattle.ospf_routes.specs.steps.Summarized.{IsPassedOn};
 
 use crate::OutOfMemory;
+use crate::area_boundary::Boundary;
 use crate::areas::AreaWalks;
 use crate::domain::Domain;
 use crate::intra_area::{Destination, has_intra};
@@ -24,24 +25,23 @@ use walk_core::Offer;
 /// announced into the backbone.
 pub(crate) fn push_reached(
     offers: &mut Vec<Offer>,
-    domain: &Domain<'_>,
+    boundary: Boundary<'_>,
     area: &AreaWalks,
-    ranges: &[ActiveRanges],
     destination: &Destination,
     backbone: &[Offer],
 ) -> Result<(), OutOfMemory>
-    requires area { IsArea domain.now.net area.now }
-    requires ranges { AreRangesBelow domain.now.net (length domain.now.net) ranges.now }
-    requires destination { IsDestinationIn domain.now destination.now }
-    requires backbone { AreOffers (BackboneSummary domain.now.net destination.now.dest) backbone.now }
-    ensures { OnOk result (Adds offers.old.items offers.new.items (IsPassedOn domain.now.net area.now.number destination.now.dest)) }
+    requires area { IsArea boundary.domain.now.net area.now }
+    requires ranges { AreRangesBelow boundary.domain.now.net (length boundary.domain.now.net) boundary.ranges.now }
+    requires destination { IsDestinationIn boundary.domain.now destination.now }
+    requires backbone { AreOffers (BackboneSummary boundary.domain.now.net destination.now.dest) backbone.now }
+    ensures { OnOk result (Adds offers.old.items offers.new.items
+        (IsPassedOn boundary.entry.domain.now.net area.now.number destination.now.dest)) }
 {
     if backbone.is_empty() {
         return Ok(());
     }
     for b in area.borders.as_slice() {
-        let active = &ranges[*b as usize];
-        let offer = reached_offer(domain, area.number, active, destination, backbone, *b);
+        let offer = reached_offer(boundary, area.number, destination, backbone, *b);
         push_option(offers, offer)?;
     }
     Ok(())
@@ -50,24 +50,26 @@ pub(crate) fn push_reached(
 /// The prefix with its inter-area cost at border router `b`, where it has one and announces more than the default route into
 /// the area.
 fn reached_offer(
-    domain: &Domain<'_>,
+    boundary: Boundary<'_>,
     area: u32,
-    ranges: &ActiveRanges,
     destination: &Destination,
     backbone: &[Offer],
     b: u32,
 ) -> Option<Offer>
-    requires border { IsBorderIn domain.now.net area b }
-    requires router { b < length domain.now.net }
-    requires ranges { AreActiveRanges domain.now.net b ranges.now }
-    requires destination { IsDestinationIn domain.now destination.now }
-    requires backbone { AreOffers (BackboneSummary domain.now.net destination.now.dest) backbone.now }
-    ensures { (o : OfferValue) → (result ≡ Some o) ↔ ((o.at ≡ b) × IsPassedOn domain.now.net area destination.now.dest o) }
+    requires border { IsBorderIn boundary.domain.now.net area b }
+    requires router { b < length boundary.domain.now.net }
+    requires ranges { AreRangesBelow boundary.domain.now.net (length boundary.domain.now.net) boundary.ranges.now }
+    requires destination { IsDestinationIn boundary.domain.now destination.now }
+    requires backbone { AreOffers (BackboneSummary boundary.domain.now.net destination.now.dest) backbone.now }
+    ensures { (o : OfferValue) → (result ≡ Some o) ↔ ((o.at ≡ b) ×
+        IsPassedOn boundary.entry.domain.now.net area destination.now.dest o) }
 {
-    if is_totally_stubby(domain, b, area) {
+    if is_totally_stubby(boundary.domain, b, area) {
         return None;
     }
-    let asks = border_cost(domain, ranges, destination, backbone, b)?;
+    let ranges = boundary.ranges;
+    let active = &ranges[b as usize];
+    let asks = border_cost(boundary.domain, active, destination, backbone, b)?;
     Some(Offer { at: b, asks })
 }
 

@@ -1,7 +1,7 @@
 ghost use Rattle.std.specs.Prelude.{◌≡◌, ◌+◌, ◌<◌, length, IfOk, IfSome, IsTrue};
 ghost use Rattle.ospf_routes.specs.steps.Areas.{AreListeners};
 ghost use Rattle.ospf_routes.specs.steps.Destinations.{AreOspfDestinations, IsDestination, ospf_prefixes};
-ghost use Rattle.ospf_routes.specs.steps.LaneTwins.{AreAllLaneTwins, AreLaneAlike, AreOutsideBelow, IsOutsideLane};
+ghost use Rattle.ospf_routes.specs.steps.LaneTwins.{AreAllLaneTwins, AreLaneAlike, AreOutsideBelow, IsOutsideLane, heard_lane};
 ghost use Rattle.ospf_routes.specs.steps.Heard.{AreSummaries};
 ghost use Rattle.ospf_routes.specs.steps.Twins.{AreEarlierBy, AreTwins, IsEarlierBy};
 
@@ -15,6 +15,19 @@ use route_tables::are_alike;
 use std::alloc::Global;
 use std::marker::Model;
 use walk_core::Offer;
+
+/// The prefixes of a network, whom its routers listen to, and what is announced of each prefix into each area.
+#[derive(Clone, Copy)]
+pub(crate) struct Heard<'a> {
+    /// The network and its areas.
+    pub domain: &'a Domain<'a>,
+    /// The prefixes.
+    pub destinations: &'a [Destination],
+    /// The places of the areas that the routers listen to.
+    pub listens: &'a [Option<usize>],
+    /// What is announced.
+    pub summaries: &'a Summaries,
+}
 
 /// For each prefix an earlier one with the same entries at every router that is in an area and in no other, where one is found.
 #[derive(Debug, Drop)]
@@ -35,34 +48,23 @@ impl LaneTwins {
     /// entries everywhere. They take time of the prefixes, of their homes, and of what is announced of them into the area.
     fn of_area(
         alloc: Global,
-        domain: &Domain<'_>,
-        destinations: &[Destination],
-        listens: &[Option<usize>],
-        summaries: &Summaries,
+        heard: Heard<'_>,
         twins: &[Option<usize>],
         zone: usize,
     ) -> Result<LaneTwins, OutOfMemory>
-        requires zone { zone < length domain.now.areas }
-        requires destinations { AreOspfDestinations domain.now destinations.now }
-        requires listens { AreListeners domain.now.net domain.now.areas (length domain.now.net) listens.now }
-        requires summaries { AreSummaries domain.now destinations.now summaries.now }
-        requires twins { AreTwins domain.now.net (ospf_prefixes destinations.now) twins.now }
-        ensures { IfOk result (AreEarlierBy
-            (AreLaneAlike (record { domain = domain.now; listens = listens.now; zone = zone }))
-            (ospf_prefixes destinations.now) (length destinations.now)) }
+        requires zone { zone < length heard.domain.now.areas }
+        requires destinations { AreOspfDestinations heard.domain.now heard.destinations.now }
+        requires listens { AreListeners heard.domain.now.net heard.domain.now.areas (length heard.domain.now.net)
+            heard.listens.now }
+        requires summaries { AreSummaries heard.domain.now heard.destinations.now heard.summaries.now }
+        requires twins { AreTwins heard.domain.now.net (ospf_prefixes heard.destinations.now) twins.now }
+        ensures { IfOk result (AreEarlierBy (AreLaneAlike (heard_lane heard.entry zone))
+            (ospf_prefixes heard.entry.destinations.now) (length heard.entry.destinations.now)) }
     {
-        let mut latest = Latest::none(alloc, 1 + domain.routers() as usize)?;
-        let mut all = Vec::with_capacity(alloc, destinations.len())?;
-        for place in 0..destinations.len() {
-            let twin = outside_twin(
-                domain,
-                destinations,
-                listens,
-                summaries,
-                zone,
-                &mut latest,
-                place,
-            );
+        let mut latest = Latest::none(alloc, 1 + heard.domain.routers() as usize)?;
+        let mut all = Vec::with_capacity(alloc, heard.destinations.len())?;
+        for place in 0..heard.destinations.len() {
+            let twin = outside_twin(heard, zone, &mut latest, place);
             all.push(twin.or(twins[place]))?;
         }
         Ok(LaneTwins { all })
@@ -80,29 +82,19 @@ impl LaneTwins {
 /// found.
 pub(crate) fn all_lane_twins(
     alloc: Global,
-    domain: &Domain<'_>,
-    destinations: &[Destination],
-    listens: &[Option<usize>],
-    summaries: &Summaries,
+    heard: Heard<'_>,
     twins: &[Option<usize>],
 ) -> Result<Vec<LaneTwins>, OutOfMemory>
-    requires destinations { AreOspfDestinations domain.now destinations.now }
-    requires listens { AreListeners domain.now.net domain.now.areas (length domain.now.net) listens.now }
-    requires summaries { AreSummaries domain.now destinations.now summaries.now }
-    requires twins { AreTwins domain.now.net (ospf_prefixes destinations.now) twins.now }
-    ensures { IfOk result (λ all. AreAllLaneTwins domain.now destinations.now listens.now all.items) }
+    requires destinations { AreOspfDestinations heard.domain.now heard.destinations.now }
+    requires listens { AreListeners heard.domain.now.net heard.domain.now.areas (length heard.domain.now.net) heard.listens.now }
+    requires summaries { AreSummaries heard.domain.now heard.destinations.now heard.summaries.now }
+    requires twins { AreTwins heard.domain.now.net (ospf_prefixes heard.destinations.now) twins.now }
+    ensures { IfOk result (λ all. AreAllLaneTwins heard.entry.domain.now heard.entry.destinations.now
+        heard.entry.listens.now all.items) }
 {
-    let mut all = Vec::with_capacity(alloc, domain.zones())?;
-    for zone in 0..domain.zones() {
-        all.push(LaneTwins::of_area(
-            alloc,
-            domain,
-            destinations,
-            listens,
-            summaries,
-            twins,
-            zone,
-        )?)?;
+    let mut all = Vec::with_capacity(alloc, heard.domain.zones())?;
+    for zone in 0..heard.domain.zones() {
+        all.push(LaneTwins::of_area(alloc, heard, twins, zone)?)?;
     }
     Ok(all)
 }
@@ -110,33 +102,25 @@ pub(crate) fn all_lane_twins(
 /// The latest prefix before that is outside the area too, and has its first announcement from the same router or none either,
 /// where both are announced alike into the area. What such announcements cost differs by a constant, which decides nothing, as
 /// the routers that are in the area alone have no other routes.
-fn outside_twin(
-    domain: &Domain<'_>,
-    destinations: &[Destination],
-    listens: &[Option<usize>],
-    summaries: &Summaries,
-    zone: usize,
-    latest: &mut Latest,
-    place: usize,
-) -> Option<usize>
-    requires zone { zone < length domain.now.areas }
-    requires destinations { AreOspfDestinations domain.now destinations.now }
-    requires listens { AreListeners domain.now.net domain.now.areas (length domain.now.net) listens.now }
-    requires summaries { AreSummaries domain.now destinations.now summaries.now }
-    requires place { place < length destinations.now }
-    requires latest { AreOutsideBelow (record { domain = domain.now; listens = listens.now; zone = zone }) destinations.now place latest.old }
-    ensures latest { AreOutsideBelow (record { domain = domain.now; listens = listens.now; zone = zone }) destinations.now (place + 1) latest.new }
-    ensures twin { IfSome result (IsEarlierBy
-        (AreLaneAlike (record { domain = domain.now; listens = listens.now; zone = zone }))
-        (ospf_prefixes destinations.now) place) }
+fn outside_twin(heard: Heard<'_>, zone: usize, latest: &mut Latest, place: usize) -> Option<usize>
+    requires zone { zone < length heard.domain.now.areas }
+    requires destinations { AreOspfDestinations heard.domain.now heard.destinations.now }
+    requires listens { AreListeners heard.domain.now.net heard.domain.now.areas (length heard.domain.now.net) heard.listens.now }
+    requires summaries { AreSummaries heard.domain.now heard.destinations.now heard.summaries.now }
+    requires place { place < length heard.destinations.now }
+    requires latest { AreOutsideBelow (heard_lane heard zone) heard.destinations.now place latest.old }
+    ensures latest { AreOutsideBelow (heard_lane heard.entry zone) heard.entry.destinations.now (place + 1) latest.new }
+    ensures twin { IfSome result (IsEarlierBy (AreLaneAlike (heard_lane heard.entry zone))
+        (ospf_prefixes heard.entry.destinations.now) place) }
 {
+    let destinations = heard.destinations;
     let near = &destinations[place];
-    if !is_outside(domain, listens, zone, near) {
+    if !is_outside(heard.domain, heard.listens, zone, near) {
         return None;
     }
-    let announced = summaries.into_area(place, zone);
+    let announced = heard.summaries.into_area(place, zone);
     let earlier = latest.replace(number_of_announcer(announced), place)?;
-    if are_alike(summaries.into_area(earlier, zone), announced) {
+    if are_alike(heard.summaries.into_area(earlier, zone), announced) {
         Some(earlier)
     } else {
         None

@@ -1,5 +1,4 @@
 ghost use Rattle.std.specs.Prelude.{◌≡◌, ◌<◌, ◌↔◌, length, Some, All, Any, IfOk, IsTrue, OnOk};
-ghost use Rattle.igp_theory.specs.Ospf.{BackboneSummary};
 ghost use Rattle.walk_core.specs.declared.offers.Offer.{Offer as OfferValue};
 ghost use Rattle.ospf_routes.specs.steps.Areas.{IsArea};
 ghost use Rattle.ospf_routes.specs.steps.Destinations.{AreOspfDestinations, IsDestinationIn};
@@ -7,11 +6,11 @@ ghost use Rattle.net_model.specs.Network.{IsBorderRouter};
 ghost use Rattle.ospf_routes.specs.Lists.{Adds, Exactly};
 ghost use Rattle.ospf_routes.specs.steps.Offered.{AreOffers};
 ghost use Rattle.ospf_routes.specs.steps.Ranges.{AreRangesBelow};
-ghost use Rattle.ospf_routes.specs.steps.Heard.{AddsRow, AreSummaries, IsSummaryRow};
-ghost use Rattle.ospf_routes.specs.steps.Summarized.{Announces, AreSummarized, IsHeard, IsOutgoing};
+ghost use Rattle.ospf_routes.specs.steps.Heard.{AddsRow, AreSummaries, IsLeaving, IsSummaryRow};
+ghost use Rattle.ospf_routes.specs.steps.Summarized.{Announces, IsHeard, IsOutgoing};
 
 use crate::OutOfMemory;
-use crate::area_boundary::summarized;
+use crate::area_boundary::{Boundary, summarized};
 use crate::area_route::{AreaRoute, offers_outside, outside_offer};
 use crate::areas::AreaWalks;
 use crate::backbone_routes::push_reached;
@@ -24,6 +23,14 @@ use net_addr::Prefix;
 use route_tables::push_option;
 use std::alloc::Global;
 use walk_core::Offer;
+
+/// A prefix, what is summarized of it out of areas, and what of it is announced into the backbone.
+#[derive(Clone, Copy)]
+struct Leaving<'a> {
+    destination: &'a Destination,
+    routes: &'a [AreaRoute],
+    backbone: &'a [Offer],
+}
 
 /// What border routers announce of each prefix into each of their areas: the subnets and the ranges of other areas, and into
 /// areas other than the backbone what they reach over the backbone, and the defaults of stub areas.
@@ -40,16 +47,13 @@ pub(crate) fn all_summaries(
     let borders = domain.borders(alloc)?;
     let mut summaries = Summaries::none(alloc, domain.zones());
     let mut offers = Vec::new(alloc);
+    let boundary = Boundary {
+        domain,
+        borders: borders.as_slice(),
+        ranges,
+    };
     for destination in destinations {
-        keep_summaries(
-            alloc,
-            &mut summaries,
-            &mut offers,
-            domain,
-            borders.as_slice(),
-            ranges,
-            destination,
-        )?;
+        keep_summaries(alloc, &mut summaries, &mut offers, boundary, destination)?;
     }
     Ok(summaries)
 }
@@ -59,55 +63,45 @@ fn keep_summaries(
     alloc: Global,
     summaries: &mut Summaries,
     offers: &mut Vec<Offer>,
-    domain: &Domain<'_>,
-    borders: &[u32],
-    ranges: &[ActiveRanges],
+    boundary: Boundary<'_>,
     destination: &Destination,
 ) -> Result<(), OutOfMemory>
-    requires borders { Exactly (IsBorderRouter domain.now.net) borders.now }
-    requires ranges { AreRangesBelow domain.now.net (length domain.now.net) ranges.now }
-    requires destination { IsDestinationIn domain.now destination.now }
-    ensures { OnOk result (AddsRow (IsSummaryRow domain.now destination.now.dest (length domain.now.areas)) summaries.old summaries.new) }
+    requires borders { Exactly (IsBorderRouter boundary.domain.now.net) boundary.borders.now }
+    requires ranges { AreRangesBelow boundary.domain.now.net (length boundary.domain.now.net) boundary.ranges.now }
+    requires destination { IsDestinationIn boundary.domain.now destination.now }
+    ensures { OnOk result (AddsRow (IsSummaryRow boundary.entry.domain.now destination.now.dest
+        (length boundary.entry.domain.now.areas)) summaries.old summaries.new) }
 {
-    let routes = summarized(alloc, domain, borders, ranges, destination)?;
-    let backbone = offers_outside(alloc, routes.as_slice(), 0)?;
-    keep_into_areas(
-        summaries,
-        offers,
-        domain,
-        ranges,
+    let routes = summarized(
+        alloc,
+        boundary.domain,
+        boundary.borders,
+        boundary.ranges,
         destination,
-        routes.as_slice(),
-        backbone.as_slice(),
-    )
+    )?;
+    let backbone = offers_outside(alloc, routes.as_slice(), 0)?;
+    let leaving = Leaving {
+        destination,
+        routes: routes.as_slice(),
+        backbone: backbone.as_slice(),
+    };
+    keep_into_areas(summaries, offers, boundary, leaving)
 }
 
 /// Keeps what is announced of a prefix into each area, by what is summarized of it and what goes into the backbone.
 fn keep_into_areas(
     summaries: &mut Summaries,
     offers: &mut Vec<Offer>,
-    domain: &Domain<'_>,
-    ranges: &[ActiveRanges],
-    destination: &Destination,
-    routes: &[AreaRoute],
-    backbone: &[Offer],
+    boundary: Boundary<'_>,
+    leaving: Leaving<'_>,
 ) -> Result<(), OutOfMemory>
-    requires ranges { AreRangesBelow domain.now.net (length domain.now.net) ranges.now }
-    requires destination { IsDestinationIn domain.now destination.now }
-    requires routes { AreSummarized domain.now.net destination.now.dest routes.now }
-    requires backbone { AreOffers (BackboneSummary domain.now.net destination.now.dest) backbone.now }
-    ensures { OnOk result (AddsRow (IsSummaryRow domain.now destination.now.dest (length domain.now.areas)) summaries.old summaries.new) }
+    requires ranges { AreRangesBelow boundary.domain.now.net (length boundary.domain.now.net) boundary.ranges.now }
+    requires leaving { IsLeaving boundary.domain.now leaving }
+    ensures { OnOk result (AddsRow (IsSummaryRow boundary.entry.domain.now leaving.entry.destination.now.dest
+        (length boundary.entry.domain.now.areas)) summaries.old summaries.new) }
 {
-    for zone in 0..domain.zones() {
-        put_summaries(
-            offers,
-            domain,
-            domain.area(zone),
-            ranges,
-            destination,
-            routes,
-            backbone,
-        )?;
+    for zone in 0..boundary.domain.zones() {
+        put_summaries(offers, boundary, boundary.domain.area(zone), leaving)?;
         summaries.keep(offers.as_slice())?;
     }
     Ok(())
@@ -118,28 +112,30 @@ fn keep_into_areas(
 /// 2328, sections 12.4.3 and 3.6).
 fn put_summaries(
     offers: &mut Vec<Offer>,
-    domain: &Domain<'_>,
+    boundary: Boundary<'_>,
     area: &AreaWalks,
-    ranges: &[ActiveRanges],
-    destination: &Destination,
-    routes: &[AreaRoute],
-    backbone: &[Offer],
+    leaving: Leaving<'_>,
 ) -> Result<(), OutOfMemory>
-    requires area { IsArea domain.now.net area.now }
-    requires ranges { AreRangesBelow domain.now.net (length domain.now.net) ranges.now }
-    requires destination { IsDestinationIn domain.now destination.now }
-    requires routes { AreSummarized domain.now.net destination.now.dest routes.now }
-    requires backbone { AreOffers (BackboneSummary domain.now.net destination.now.dest) backbone.now }
-    ensures { OnOk result (AreOffers (IsHeard domain.now.net destination.now.dest area.now.number) offers.new.items) }
+    requires area { IsArea boundary.domain.now.net area.now }
+    requires ranges { AreRangesBelow boundary.domain.now.net (length boundary.domain.now.net) boundary.ranges.now }
+    requires leaving { IsLeaving boundary.domain.now leaving }
+    ensures { OnOk result (AreOffers (IsHeard boundary.entry.domain.now.net leaving.entry.destination.now.dest
+        area.now.number) offers.new.items) }
 {
     offers.clear();
-    push_announced(offers, domain, area, routes)?;
+    push_announced(offers, boundary.domain, area, leaving.routes)?;
     let is_backbone = area.number == 0;
     if is_backbone {
         return Ok(());
     }
-    push_reached(offers, domain, area, ranges, destination, backbone)?;
-    push_defaults(offers, domain, area, destination.dest)
+    push_reached(
+        offers,
+        boundary,
+        area,
+        leaving.destination,
+        leaving.backbone,
+    )?;
+    push_defaults(offers, boundary.domain, area, leaving.destination.dest)
 }
 
 /// Adds the routes of other areas that their routers announce into this one.

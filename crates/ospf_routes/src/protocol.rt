@@ -13,7 +13,7 @@ use crate::destinations::destinations;
 use crate::domain::Domain;
 use crate::entry::{Asked, route_of};
 use crate::intra_area::Destination;
-use crate::lane_twins::{LaneTwins, all_lane_twins};
+use crate::lane_twins::{Heard, LaneTwins, all_lane_twins};
 use crate::lanes::decision;
 use crate::originating::all_summaries;
 use crate::ranges::{ActiveRanges, all_ranges};
@@ -87,14 +87,13 @@ impl<'a> Ospf<'a> {
         let summaries = all_summaries(alloc, &domain, known, ranges.as_slice())?;
         // Prefixes that have the same entries, at every router and at those of one area.
         let twins = all_twins(alloc, &domain, known, ranges.as_slice(), &summaries)?;
-        let lane_twins = all_lane_twins(
-            alloc,
-            &domain,
-            known,
-            listens.as_slice(),
-            &summaries,
-            twins.as_slice(),
-        )?;
+        let heard = Heard {
+            domain: &domain,
+            destinations: known,
+            listens: listens.as_slice(),
+            summaries: &summaries,
+        };
+        let lane_twins = all_lane_twins(alloc, heard, twins.as_slice())?;
         Ok(Ospf {
             domain,
             destinations,

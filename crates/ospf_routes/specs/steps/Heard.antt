@@ -3,13 +3,15 @@ use Rattle.std.specs.Prelude.{◌≡◌, ◌<◌, ◌*◌, ◌++◌, ℕ, List, 
 use Rattle.net_addr.specs.Addresses.{Block}
 use Rattle.route_tables.specs.Prefixes.{prefix_at}
 use Rattle.walk_core.specs.declared.offers.Offer.{Offer}
+use Rattle.igp_theory.specs.Ospf.{BackboneSummary}
 use Rattle.ospf_routes.specs.steps.Areas.{IsAreaAt}
-use Rattle.ospf_routes.specs.steps.Destinations.{ospf_prefixes}
+use Rattle.ospf_routes.specs.steps.Destinations.{IsDestinationIn, ospf_prefixes}
 use Rattle.ospf_routes.specs.steps.Domain.{OspfDomain}
 use Rattle.ospf_routes.specs.steps.Offered.{AreOffers}
 use Rattle.ospf_routes.specs.steps.OfferLists.{HeardLists, heard_into}
-use Rattle.ospf_routes.specs.steps.Summarized.{IsHeard}
+use Rattle.ospf_routes.specs.steps.Summarized.{AreSummarized, IsHeard}
 use Rattle.ospf_routes.specs.declared.intra_area.Destination.{Destination}
+use Rattle.ospf_routes.specs.declared.originating.Leaving.{Leaving}
 
 -- the offers are what is announced of p into the area at this place
 abbrev pub AreHeardAt : OspfDomain → Block → ℕ → List Offer → Type 0
@@ -35,3 +37,9 @@ pub record AreHeardBelow (domain : OspfDomain) (dests : List Block) (k : ℕ) (h
 -- and of all prefixes
 abbrev pub AreSummaries : OspfDomain → List Destination → HeardLists → Type 0
 AreSummaries domain ds = AreHeardBelow domain (ospf_prefixes ds) (length ds)
+
+-- the routes are what border routers summarize of the prefix, and the offers what of it is announced into the backbone
+pub record IsLeaving (domain : OspfDomain) (leaving : Leaving) : Type 0 where
+  pub destination : IsDestinationIn domain leaving.destination.now
+  pub routes : AreSummarized domain.net leaving.destination.now.dest leaving.routes.now
+  pub backbone : AreOffers (BackboneSummary domain.net leaving.destination.now.dest) leaving.backbone.now

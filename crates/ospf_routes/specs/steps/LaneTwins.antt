@@ -10,10 +10,15 @@ use Rattle.ospf_routes.specs.steps.Domain.{OspfDomain}
 use Rattle.ospf_routes.specs.steps.Lanes.{IsInner, LaneOf}
 use Rattle.ospf_routes.specs.steps.Twins.{AreEarlierBy}
 use Rattle.ospf_routes.specs.declared.intra_area.Destination.{Destination}
+use Rattle.ospf_routes.specs.declared.lane_twins.Heard.{Heard}
 
 -- router u is in the area at this place alone
 abbrev pub IsLaneRouter : LaneOf → ℕ → Type 0
 IsLaneRouter l u = (u < length l.domain.net) × IsInner l.domain.net l.listens l.zone u
+
+-- the lane of the area at a place, by what is known of a network
+abbrev pub heard_lane : Heard → ℕ → LaneOf
+heard_lane heard zone = record { domain = heard.domain.now; listens = heard.listens.now; zone = zone }
 
 -- the routers that are in an area alone have the same entries for both prefixes
 abbrev pub AreLaneAlike : LaneOf → Block → Block → Type 0

@@ -5,22 +5,23 @@ use Rattle.ospf_routes.specs.declared.intra_area.Destination.{Destination}
 use Rattle.ospf_routes.proofs.HeardFacts.{announced_within}
 use Rattle.ospf_routes.proofs.LaneTwinFacts.{announced_at, outside_earlier, outside_later, outside_noted}
 use Rattle.ospf_routes.proofs.TwinFacts.{destination_read}
+use Rattle.ospf_routes.specs.steps.LaneTwins.{heard_lane}
 use Rattle.ospf_routes.proofs.lane_twins.outside_twin.Goals as goal
 
 pub is_outside-requires-clause-destination : goal.is_outside-requires-clause-destination
 is_outside-requires-clause-destination c =
-    (all_at (IsDestinationIn c.args.domain.now) c.args.destinations.now c.args.place c.index-destinations-place.result
+    (all_at (IsDestinationIn c.args.heard.domain.now) c.args.heard.destinations.now c.args.place c.index-destinations-place.result
     c.requires.destinations.each c.requires.place c.index-destinations-place.is).is
 
 pub into_area-requires : goal.into_area-requires
 into_area-requires c =
     let far = c.requires.latest c.number_of_announcer.result c.in_ok-earlier.earlier (sym c.in_ok-earlier.ensures.earlier) in
-    announced_within c.args.domain.now c.args.destinations.now c.args.summaries.now c.in_ok-earlier.earlier c.args.zone c.requires.summaries
-    (omega (arith, far.earlier, c.requires.place)) c.requires.zone
+    announced_within c.args.heard.domain.now c.args.heard.destinations.now c.args.heard.summaries.now c.in_ok-earlier.earlier
+    c.args.zone c.requires.summaries (omega (arith, far.earlier, c.requires.place)) c.requires.zone
 
 pub returns-then-not-is_outside-clause-latest : goal.returns-then-not-is_outside-clause-latest
 returns-then-not-is_outside-clause-latest c =
-    outside_later (record { domain = c.args.domain.now; listens = c.args.listens.now; zone = c.args.zone }) c.args.destinations.now c.args.place
+    outside_later (heard_lane c.args.heard c.args.zone) c.args.heard.destinations.now c.args.place
     c.args.latest.now c.requires.latest
 
 pub returns-in_err-earlier-clause-latest : goal.returns-in_err-earlier-clause-latest
@@ -37,11 +38,11 @@ returns-then-are_alike-clause-latest c =
 
 pub returns-then-are_alike-clause-twin : goal.returns-then-are_alike-clause-twin
 returns-then-are_alike-clause-twin c =
-    let domain = c.args.domain.now in
-    let ds : List Destination = c.args.destinations.now in
-    let listens = c.args.listens.now in
+    let domain = c.args.heard.domain.now in
+    let ds : List Destination = c.args.heard.destinations.now in
+    let listens = c.args.heard.listens.now in
     let zone : ℕ = c.args.zone in
-    let heard = c.args.summaries.now in
+    let heard = c.args.heard.summaries.now in
     let place : ℕ = c.args.place in
     let earlier : ℕ = c.in_ok-earlier.earlier in
     let far = c.requires.latest c.number_of_announcer.result earlier (sym c.in_ok-earlier.ensures.earlier) in

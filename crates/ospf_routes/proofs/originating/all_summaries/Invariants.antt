@@ -5,6 +5,6 @@ use Rattle.ospf_routes.proofs.originating.all_summaries.Given as goal
 
 abbrev pub invariant-loop-destination : goal.invariant-loop-destination
 invariant-loop-destination l = record {
-  heard : AreHeardBelow l.domain (ospf_prefixes l.destinations) l.destination-index l.summaries;
+  heard : AreHeardBelow l.boundary.domain.now (ospf_prefixes l.destinations) l.destination-index l.summaries;
   within : l.destination-index ≤ length l.destinations;
 }

@@ -8,8 +8,8 @@ use Rattle.ospf_routes.proofs.originating.keep_into_areas.Goals as goal
 
 pub loop-zone-preserved : goal.loop-zone-preserved
 loop-zone-preserved c =
-    let domain = c.args.domain.now in
-    let p : Block = c.args.destination.now.dest in
+    let domain = c.args.boundary.domain.now in
+    let p : Block = c.args.leaving.destination.now.dest in
     let k : ℕ = c.loop-zone.zone in
     let a : AreaWalks = c.area.result.now in
     row_more domain p k c.args.summaries.now c.loop-zone.summaries c.keep.new.self c.as_slice.result.now c.loop-zone.invariant c.in_ok-keep.ensures

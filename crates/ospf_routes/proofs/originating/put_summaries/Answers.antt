@@ -6,19 +6,24 @@ use Rattle.ospf_routes.proofs.originating.put_summaries.Goals as goal
 
 pub push_announced-requires-clause-routers : goal.push_announced-requires-clause-routers
 push_announced-requires-clause-routers c =
-    routes_of_routers c.args.domain.now.net (λ (r : AreaRoute). SummarizedFrom c.args.domain.now.net c.args.destination.now.dest r.at r) c.args.routes.now
-    c.requires.routes
-    (λ r from. (summarized_at c.args.domain.now.net c.args.destination.now.dest r.at r from).1)
+    let net = c.args.boundary.domain.now.net in
+    let p = c.args.leaving.destination.now.dest in
+    routes_of_routers net (λ (r : AreaRoute). SummarizedFrom net p r.at r) c.args.leaving.routes.now c.requires.leaving.routes
+    (λ r from. (summarized_at net p r.at r from).1)
 
 pub returns-then-is_backbone : goal.returns-then-is_backbone
 returns-then-is_backbone c =
-    heard_in_backbone c.args.domain.now.net c.args.area.now.number c.args.destination.now.dest c.args.routes.now c.clear.new.self.items
-    c.push_announced.new.offers.items c.if-is_backbone.true c.requires.routes c.clear.ensures.items c.in_ok-push_announced.ensures
+    let leaving = c.args.leaving in
+    heard_in_backbone c.args.boundary.domain.now.net c.args.area.now.number leaving.destination.now.dest leaving.routes.now
+    c.clear.new.self.items c.push_announced.new.offers.items c.if-is_backbone.true c.requires.leaving.routes c.clear.ensures.items
+    c.in_ok-push_announced.ensures
 
 pub returns : goal.returns
 returns c =
+    let leaving = c.args.leaving in
     on_ok_weaker c.push_defaults.result
-    (λ adds. heard_in_area c.args.domain.now.net c.args.area.now.number c.args.destination.now.dest c.args.routes.now c.clear.new.self.items
-    c.push_announced.new.offers.items c.push_reached.new.offers.items c.push_defaults.new.offers.items c.if-is_backbone.false c.requires.routes
-    c.clear.ensures.items c.in_ok-push_announced.ensures c.in_ok-push_reached.ensures adds)
+    (λ adds. heard_in_area c.args.boundary.domain.now.net c.args.area.now.number leaving.destination.now.dest leaving.routes.now
+    c.clear.new.self.items c.push_announced.new.offers.items c.push_reached.new.offers.items c.push_defaults.new.offers.items
+    c.if-is_backbone.false c.requires.leaving.routes c.clear.ensures.items c.in_ok-push_announced.ensures
+    c.in_ok-push_reached.ensures adds)
     c.push_defaults.ensures
