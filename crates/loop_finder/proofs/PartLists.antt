@@ -7,7 +7,8 @@ use Rattle.std.proofs.lemmas.List.Elements.{All-contains, All-push, Contains-app
 use Rattle.std.proofs.lemmas.List.Quantifiers.{all_pairs_push}
 use Rattle.igp_theory.specs.Phases.{State}
 use Rattle.rib_mix.specs.Laws.{HaveAnswers}
-use Rattle.loop_finder.specs.Parts.{ClassPart, AllMove, HaveReturning, IsPart, IsCovered, StepsEver, has_part, never_unsound, as_earlier, AreParts}
+use Rattle.loop_finder.specs.Parts.{ClassPart, AllMove, HaveReturning, IsPart, StepsEver, AreParts}
+use Rattle.loop_finder.specs.Parts.{IsCovered, has_part, never_unsound, as_earlier}
 use Rattle.loop_finder.specs.steps.PartRows.{HasEarlierHops, Serves, by_hops, by_likeness}
 use Rattle.loop_finder.specs.Mixes.{sample_of, Mix, class_in, migration_in}
 use Rattle.loop_finder.specs.Soundness.{ClassesOf, SoundAt}
@@ -87,18 +88,20 @@ still_covered m parts more k (as_earlier part among before with) = as_earlier pa
 serves_returning : (m : Mix) (part : ClassPart) (n : ℕ) (marks : List Bool) → ClassesOf m → HaveAnswers (migration_in m) m.classes
     → n < length m.classes.samples → IsPart m part → length marks ≡ length m.net → MarksReturns (StepsEver (class_in m n)) marks
     → Serves m marks part n → HaveReturning (class_in m n) part.rows
-serves_returning m part n marks classes answers within is many marked (by_hops have) = have_returning (class_in m n) marks part.rows many marked have
+serves_returning m part n marks classes answers within is many marked (by_hops have) =
+    have_returning (class_in m n) marks part.rows many marked have
 serves_returning m part n marks classes answers within is many marked (by_likeness alike) =
     alike_returning m part n marks classes answers within is marked alike
 
 -- a class of which an earlier one's part has all steps between marked routers, where all its routers move
-pub earlier_covers : (m : Mix) (parts : List ClassPart) (n : ℕ) (marks : List Bool) → AreParts m parts n → HaveAnswers (migration_in m) m.classes
-    → n < length m.classes.samples → length marks ≡ length m.net → MarksReturns (StepsEver (class_in m n)) marks → AllMove (class_in m n)
-    → HasEarlierHops m marks parts n → IsCovered m parts n
+pub earlier_covers : (m : Mix) (parts : List ClassPart) (n : ℕ) (marks : List Bool) → AreParts m parts n
+    → HaveAnswers (migration_in m) m.classes → n < length m.classes.samples → length marks ≡ length m.net
+    → MarksReturns (StepsEver (class_in m n)) marks → AllMove (class_in m n) → HasEarlierHops m marks parts n → IsCovered m parts n
 earlier_covers m parts n marks are answers within many marked move has =
     let is : IsPart m has.earlier = All-contains (IsPart m) parts has.earlier are.each has.among in
     as_earlier has.earlier has.among (All-contains (λ x. x.atom < n) parts has.earlier are.below has.among)
-    (sound_with m has.earlier n is (serves_returning m has.earlier n marks are.classes answers within is many marked has.serves) move)
+    (sound_with m has.earlier n is
+    (serves_returning m has.earlier n marks are.classes answers within is many marked has.serves) move)
 
 -- the next class has one
 pub AreParts-push : (m : Mix) (parts : List ClassPart) (part : ClassPart) (n : ℕ) → AreParts m parts n → IsPart m part

@@ -11,9 +11,9 @@ use crate::layers::Layers;
 use crate::live::mark_all;
 
 /// Marks the routers to which a walk over the steps of both networks may return, where it's known which were marked before the
-/// steps of some routers changed: those of strongly connected parts, by the layers of the routers to which steps lead from these, and
-/// from the marked ones too where one of these is marked. The others keep their marks. All routers are marked where some step
-/// leads to a higher layer.
+/// steps of some routers changed: those of strongly connected parts, by the layers of the routers to which steps lead from
+/// these, and from the marked ones too where one of these is marked. The others keep their marks. All routers are marked where
+/// some step leads to a higher layer.
 pub(crate) fn mark_returns(
     lists: &EndLists<'_>,
     changed: &[u32],

@@ -49,7 +49,8 @@ pub record ActsAlikeAt (m : Mix) (row : PhaseHops) (u own other : ℕ) : Type 0 
 
 -- each marked router does so
 abbrev pub ActAlike : Mix → List Bool → List PhaseHops → ℕ → ℕ → Type 0
-ActAlike m marks rows own other = (u : ℕ) → u < length m.net → IsMarked marks u → ActsAlikeAt m (slice_index_or rows u no_hops) u own other
+ActAlike m marks rows own other =
+    (u : ℕ) → u < length m.net → IsMarked marks u → ActsAlikeAt m (slice_index_or rows u no_hops) u own other
 
 -- a part has the steps of a class between marked routers: its rows have all hops, or these routers do the same for both classes
 pub data Serves (m : Mix) (marks : List Bool) (part : ClassPart) (atom : ℕ) : Type 0 where

@@ -10,10 +10,17 @@ use Rattle.loop_finder.proofs.part.act_alike.Goals as goal
 pub loop-router-preserved : goal.loop-router-preserved
 loop-router-preserved g c =
     let m : Mix = mix_of g.O.RouteSource.table g.N.RouteSource.table c.args.mixed.now in
-    below_more (λ (u : ℕ). IsMarked c.args.marks.now u → ActsAlikeAt m (get_or c.args.rows.now u no_hops) u c.args.classes.0 c.args.classes.1)
+    below_more (λ (u : ℕ). IsMarked c.args.marks.now u
+    → ActsAlikeAt m (get_or c.args.rows.now u no_hops) u c.args.classes.0 c.args.classes.1)
     c.loop-router.router c.loop-router.invariant
     (subst (λ (row : PhaseHops). IsMarked c.args.marks.now c.loop-router.router
     → ActsAlikeAt m row c.loop-router.router c.args.classes.0 c.args.classes.1)
     (c.index-rows-router.is ∙ get_or_default c.args.rows.now c.loop-router.router c.index-rows-router.result no_hops
-    (omega (arith, c.requires.rows, c.loop-router-test.true, c.routers-router-end.ensures.count, ap (λ (n : Network). length n) c.net.ensures)))
+    (omega (
+      arith,
+      c.requires.rows,
+      c.loop-router-test.true,
+      c.routers-router-end.ensures.count,
+      ap (λ (n : Network). length n) c.net.ensures,
+    )))
     c.if-not-acts_alike.ensures)

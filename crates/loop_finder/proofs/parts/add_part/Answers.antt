@@ -11,4 +11,5 @@ returns-in_default-clause-parts g c =
 
 pub returns-then-is_alike-clause-parts : goal.returns-then-is_alike-clause-parts
 returns-then-is_alike-clause-parts g c =
-    AreParts-more (mix_of g.O.RouteSource.table g.N.RouteSource.table c.args.mixed.now) c.args.parts.now.items c.args.atom c.requires.parts c.if-is_alike.ensures
+    AreParts-more (mix_of g.O.RouteSource.table g.N.RouteSource.table c.args.mixed.now) c.args.parts.now.items c.args.atom
+    c.requires.parts c.if-is_alike.ensures

@@ -9,5 +9,5 @@ returns-in-Some g c =
     let earlier : c.in-Some.field-0 < c.args.atom = c.in-Some.ensures.earlier in
     let within : c.in-Some.field-0 < length c.args.mixed.now.classes.samples = omega (arith, earlier, c.requires.atom) in
     covered_alike m c.args.parts.now.items c.in-Some.field-0 c.args.atom earlier
-    (sound_alike m c.in-Some.field-0 c.args.atom c.requires.network c.requires.parts.classes c.have_answers.ensures within c.requires.atom
-    c.in-Some.ensures.alike) (c.requires.parts.covered c.in-Some.field-0 earlier)
+    (sound_alike m c.in-Some.field-0 c.args.atom c.requires.network c.requires.parts.classes c.have_answers.ensures within
+    c.requires.atom c.in-Some.ensures.alike) (c.requires.parts.covered c.in-Some.field-0 earlier)

@@ -6,5 +6,7 @@ use Rattle.rib_mix.proofs.mixed.Mixed.have_answers.Goals as goal
 
 pub returns : goal.returns
 returns g c =
-    subst (λ (x : Mixture g.row.O.Denot g.row.N.Denot). HaveAnswers (migration_of g.O.RouteSource.table g.N.RouteSource.table x) x.classes)
+    subst
+    (λ (x : Mixture g.row.O.Denot g.row.N.Denot). HaveAnswers (migration_of g.O.RouteSource.table g.N.RouteSource.table x)
+    x.classes)
     c.self.view_is (have_answers _ _ _ c.self.invariant)
