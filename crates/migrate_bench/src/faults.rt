@@ -30,6 +30,13 @@ pub enum Asked {
     WaveLists,
 }
 
+/// What is asked: of which wave list, as a list or as an order.
+#[derive(Clone, Copy)]
+struct Question<'a> {
+    waves: &'a Waves,
+    asked: Asked,
+}
+
 /// Measures what is found of the wave list that the first file names, over the network of the others, and of lists in
 /// which two routers are exchanged.
 pub fn measure(
@@ -64,7 +71,11 @@ fn measure_net(
         Ok(read) => {
             let old = OspfRoutes::build(alloc, net)?;
             let new = IsisRoutes::build(alloc, net)?;
-            measure_waves(rt, net, &old, &new, &read.waves, asked)
+            let question = Question {
+                waves: &read.waves,
+                asked,
+            };
+            measure_waves(rt, net, &old, &new, &question)
         }
         Err(OrderRefusal::Bad { line, .. }) => { bail!("{} is refused at line {line}", text.name) }
         Err(OrderRefusal::OutOfMemory) => bail!("out of memory"),
@@ -77,32 +88,31 @@ fn measure_waves<O: RouteSource, N: RouteSource>(
     net: &Net,
     old: &O,
     new: &N,
-    waves: &Waves,
-    asked: Asked,
+    question: &Question<'_>,
 ) -> Result<()>
     requires old_routers { O.routers old.now ≡ length net.now }
     requires new_routers { N.routers new.now ≡ length net.now }
-    requires waves { length waves.now ≡ length net.now }
+    requires waves { length question.now.waves.now ≡ length net.now }
 {
     let alloc = rt.alloc();
-    let others = exchanged_lists(alloc, waves.ranks(), TIMES)?;
+    let others = exchanged_lists(alloc, question.waves.ranks(), TIMES)?;
     let start = Instant::now(rt)?;
     let mixed = Mixed::build(alloc, net, old, new)?;
     print_seconds(rt, "mixed forwarding", mixed.atoms().count(), start)?;
-    measure_mixed(rt, &mixed, waves, others.as_slice(), asked)
+    measure_mixed(rt, &mixed, question, others.as_slice())
 }
 
 /// Measures the finder over mixed forwarding, and what it finds of a wave list and of others.
 fn measure_mixed<O: RouteSource, N: RouteSource>(
     rt: &(impl AllocGlobal + Clock + Eprint + Print),
     mixed: &Mixed<'_, O, N>,
-    waves: &Waves,
+    question: &Question<'_>,
     others: &[Waves],
-    asked: Asked,
 ) -> Result<()>
-    requires waves { length waves.now ≡ length mixed.now.net }
+    requires waves { length question.now.waves.now ≡ length mixed.now.net }
     requires others { All (λ waves. length waves ≡ length mixed.now.net) others.now }
 {
+    let Question { waves, asked } = *question;
     let routers = u64::from(mixed.net().routers());
     let start = Instant::now(rt)?;
     let mut finder = Finder::new(rt.alloc(), mixed)?;

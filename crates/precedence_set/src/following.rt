@@ -6,11 +6,7 @@ ghost use Rattle.precedence_set.specs.steps.Walking.{IsKnownUpTo};
 use crate::graph::SuccessorGraph;
 
 /// The lowest-numbered marked router that is assumed after x, if there is one.
-pub(crate) fn lowest_marked_after(
-    graph: &SuccessorGraph<'_>,
-    marks: &[bool],
-    x: u32,
-) -> Option<u32>
+pub(crate) fn lowest_marked_after(graph: &SuccessorGraph<'_>, marks: &[bool], x: u32) -> Option<u32>
     requires x_in { x < length marks.now }
     requires graph { IsGraph (length marks.now) graph.now }
     ensures after { IfSome result (λ w. Contains graph.now.pairs.now (x, w)) }

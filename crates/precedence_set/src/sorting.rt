@@ -7,11 +7,7 @@ use crate::graph::SuccessorGraph;
 
 /// Lists all routers so that each stands after its predecessors, in time of the pairs and routers. The counts
 /// are room to work in.
-pub(crate) fn sort_all(
-    graph: &SuccessorGraph<'_>,
-    counts: &mut [u32],
-    order: &mut [u32],
-)
+pub(crate) fn sort_all(graph: &SuccessorGraph<'_>, counts: &mut [u32], order: &mut [u32])
     requires small { length order.old < 2 ^ 31 }
     requires pairs_small { length graph.now.pairs.now < 2 ^ 31 }
     requires acyclic { HasNoCycle graph.now.pairs.now }

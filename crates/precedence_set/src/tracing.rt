@@ -6,8 +6,8 @@ ghost use Rattle.order_core.specs.Marks.{IsMarked};
 ghost use Rattle.precedence_set.specs.Graphs.{IsGraph};
 
 use crate::following::lowest_marked_after;
-use crate::reaching::{list_reached, prune};
 use crate::graph::SuccessorGraph;
+use crate::reaching::{list_reached, prune};
 
 /// Where the pair (u, v) closes a cycle, writes that cycle and says how long it is. Walks from v along the pairs
 /// and stops at u, in time of the routers that it reaches and the pairs from them. Where that closes a cycle, the
