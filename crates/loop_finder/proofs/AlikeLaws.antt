@@ -17,7 +17,7 @@ use Rattle.rib_mix.proofs.NextLaws.{steps_to_hops}
 use Rattle.loop_finder.specs.Mixes.{Mix, class_in, migration_in, sample_of}
 use Rattle.loop_finder.specs.Parts.{ClassPart, HaveReturning, IsPart, SoundWith, StepsEver, StepsOf, no_hops, part_hops}
 use Rattle.loop_finder.specs.Parts.{IsCovered, as_earlier, has_part, never_unsound}
-use Rattle.loop_finder.specs.steps.PartRows.{ActAlike, HasHop}
+use Rattle.loop_finder.specs.steps.PartRows.{HasRowHop, ServeAlike}
 use Rattle.loop_finder.specs.steps.Returns.{MarksReturns}
 use Rattle.loop_finder.specs.Soundness.{ClassesOf}
 use Rattle.loop_finder.proofs.ClassVerdicts.{one_target, sample_in}
@@ -75,7 +75,7 @@ sound_alike m j k network classes answers in_j in_k alike state sound = record {
 -- the class from which a walk leads back
 pub alike_returning : (m : Mix) (part : ClassPart) (k : ℕ) (marks : List Bool) → ClassesOf m
     → HaveAnswers (migration_in m) m.classes → k < length m.classes.samples → IsPart m part
-    → MarksReturns (StepsEver (class_in m k)) marks → ActAlike m marks part.rows part.atom k
+    → MarksReturns (StepsEver (class_in m k)) marks → ServeAlike m marks part.rows part.atom k
     → HaveReturning (class_in m k) part.rows
 alike_returning m part k marks classes answers within is marked alike u h hops phase steps follows =
     let closed : Follows Ever u (h ∷ hops) u = (old_or_new_step phase steps, follows) in
@@ -91,7 +91,7 @@ alike_returning m part k marks classes answers within is marked alike u h hops p
     home_in : (x : ℕ) (at : Phase) → 0 < length (part_hops part x at) → MustForward m.net (sample_of m.classes part.atom) x
     home_in x at some = (is.steps x (get_or (part_hops part x at) 0 0) at (Contains-get_or (part_hops part x at) 0 0 some)).must
 
-    home : (x : ℕ) → HasHop (get_or part.rows x no_hops) → MustForward m.net (sample_of m.classes part.atom) x
+    home : (x : ℕ) → HasRowHop (get_or part.rows x no_hops) → MustForward m.net (sample_of m.classes part.atom) x
     home x (inl some) = home_in x Old some
     home x (inr some) = home_in x New some
 

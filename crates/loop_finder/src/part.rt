@@ -4,7 +4,7 @@ ghost use Rattle.order_core.specs.Marks.{IsMarked};
 ghost use Rattle.loop_finder.specs.steps.Targets.{IsTargetIn};
 ghost use Rattle.igp_theory.specs.declared.phase.Phase.{Phase};
 ghost use Rattle.loop_finder.specs.steps.Cuts.{AreRowsIn};
-ghost use Rattle.loop_finder.specs.steps.PartRows.{ActAlike, ActsAlikeAt, HasHop, Serves};
+ghost use Rattle.loop_finder.specs.steps.PartRows.{ActsAlikeAt, HasRowHop, ServeAlike, Serves};
 ghost use Rattle.loop_finder.specs.steps.PartRows.{AreKept, AreRowsOf, HasHops, HasMarked, HaveHops, IsRowOf};
 ghost use Rattle.loop_finder.specs.Parts.{AllMove, IsPart, StepsEver, hops_of, no_hops, part_hops};
 ghost use Rattle.loop_finder.specs.steps.Parts.{AddsUnless, AreSteppers, IsBareIn};
@@ -86,7 +86,7 @@ impl<'m> Row<'m> {
 
     /// Whether there is a hop in one of the networks.
     fn has_hop(&self) -> bool
-        ensures { OnTrue result (HasHop self.now) }
+        ensures { OnTrue result (HasRowHop self.now) }
     {
         if !self.old.is_empty() {
             return true;
@@ -370,7 +370,7 @@ fn act_alike<O: RouteSource, N: RouteSource>(
     requires own { classes.0 < length mixed.now.classes.samples }
     requires other { classes.1 < length mixed.now.classes.samples }
     requires rows { length rows.now ≡ length mixed.now.net }
-    ensures { OnTrue result (ActAlike (mix_of O.table N.table mixed.now) marks.now rows.now classes.0 classes.1) }
+    ensures { OnTrue result (ServeAlike (mix_of O.table N.table mixed.now) marks.now rows.now classes.0 classes.1) }
 {
     for router in 0..mixed.net().routers() {
         if !acts_alike(mixed, classes, router, marks, &rows[router as usize]) {

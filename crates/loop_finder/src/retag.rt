@@ -22,7 +22,7 @@ use route_core::RouteSource;
 
 /// Writes the tags of a ring for an address anew: by which of the phase in which it starts, and New, each router steps to the
 /// next one.
-pub(crate) fn tag_from_start<O: RouteSource, N: RouteSource>(
+fn tag_from_start<O: RouteSource, N: RouteSource>(
     mixed: &Mixed<'_, O, N>,
     start: &[Phase],
     address: u32,

@@ -48,7 +48,7 @@ pub(crate) fn plan_network(alloc: Global, budget: u32, net: &Net) -> Result<Plan
 }
 
 /// What is planned of a migration, by the tables before and after, with a budget of so many branches.
-pub(crate) fn plan_move(alloc: Global, budget: u32, of: &Move<'_>) -> Result<Planned, OutOfMemory>
+fn plan_move(alloc: Global, budget: u32, of: &Move<'_>) -> Result<Planned, OutOfMemory>
     requires budget { 1 ≤ budget }
     requires some { 0 < length of.now.net }
     ensures network { IsNetwork of.now.net }

@@ -112,7 +112,7 @@ fn sees_no_peer(ports: &[Port<'_>], zone: Zone, port: &Port<'_>) -> bool
 }
 
 /// Whether one of the ports is of another router and of this port's subnet.
-pub(crate) fn sees_other(ports: &[Port<'_>], port: &Port<'_>) -> bool
+fn sees_other(ports: &[Port<'_>], port: &Port<'_>) -> bool
     ensures { IsTrue result ↔ SeesOther ports.now port.now }
 {
     ports.iter().any(|other| faces(port, other))

@@ -3,7 +3,7 @@ use Rattle.std.proofs.Common.{◌≡◌, ℕ, ◌≤◌, List, length, take, ari
 use Rattle.std.proofs.lemmas.Grind.{common_steps}
 use Rattle.std.proofs.lemmas.List.{length-take-le}
 use Rattle.order_core.specs.Pairs.{Pair, AreBelow}
-use Rattle.precedence_set.specs.Graphs.{IsGraph}
+use Rattle.precedence_set.specs.steps.Graphs.{IsGraph}
 use Rattle.precedence_set.specs.Held.{IsSettled}
 use Rattle.precedence_set.specs.Successors.{AreSuccessors}
 use Rattle.precedence_set.specs.declared.graph.SuccessorGraph.{SuccessorGraph}

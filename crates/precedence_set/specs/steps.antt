@@ -2,3 +2,4 @@ pub mod Sorting
 pub mod Marks
 pub mod Walking
 pub mod Chaining
+pub mod Graphs

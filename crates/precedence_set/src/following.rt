@@ -1,6 +1,6 @@
 ghost use Rattle.std.specs.Prelude.{◌≡◌, ℕ, ◌<◌, ◌≤◌, length, Contains, Some, ◌⊎◌, IfSome, IfNone};
 ghost use Rattle.order_core.specs.Marks.{IsMarked};
-ghost use Rattle.precedence_set.specs.Graphs.{IsGraph};
+ghost use Rattle.precedence_set.specs.steps.Graphs.{IsGraph};
 ghost use Rattle.precedence_set.specs.steps.Walking.{IsKnownUpTo};
 
 use crate::graph::SuccessorGraph;

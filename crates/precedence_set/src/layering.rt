@@ -4,7 +4,7 @@ ghost use Rattle.order_core.specs.Pairs.{Pair, HasNoCycle};
 ghost use Rattle.order_core.specs.Rankings.{IsRanking, rank_of, wave_count};
 ghost use Rattle.precedence_set.specs.Layers.{AreLayers};
 ghost use Rattle.precedence_set.specs.steps.Sorting.{IsTopological};
-ghost use Rattle.precedence_set.specs.Graphs.{IsGraph};
+ghost use Rattle.precedence_set.specs.steps.Graphs.{IsGraph};
 ghost use Rattle.precedence_set.specs.Successors.{AreSuccessors};
 
 use crate::graph::SuccessorGraph;

@@ -2,7 +2,7 @@ ghost use Rattle.std.specs.Prelude.{◌≡◌, ◌≢◌, ℕ, ◌^◌, ◌<◌,
 ghost use Rattle.order_core.specs.Pairs.{Reaches};
 ghost use Rattle.order_core.specs.Marks.{IsMarked};
 ghost use Rattle.precedence_set.specs.steps.Marks.{AreListed};
-ghost use Rattle.precedence_set.specs.Graphs.{IsGraph};
+ghost use Rattle.precedence_set.specs.steps.Graphs.{IsGraph};
 
 use crate::following::lowest_marked_after;
 use crate::graph::SuccessorGraph;

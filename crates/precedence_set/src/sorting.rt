@@ -1,6 +1,6 @@
 ghost use Rattle.std.specs.Prelude.{◌≡◌, ℕ, ◌+◌, ◌-◌, ◌^◌, ◌<◌, ◌≤◌, length, slice_index, slice_set};
 ghost use Rattle.order_core.specs.Pairs.{AreBelow, HasNoCycle};
-ghost use Rattle.precedence_set.specs.Graphs.{IsGraph};
+ghost use Rattle.precedence_set.specs.steps.Graphs.{IsGraph};
 ghost use Rattle.precedence_set.specs.steps.Sorting.{AreFree, AreLeftCounts, IsGone, IsListing, IsTopological, queue};
 
 use crate::graph::SuccessorGraph;

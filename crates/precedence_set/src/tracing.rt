@@ -3,7 +3,7 @@ ghost use Rattle.std.specs.Prelude.{slice_set, IfSome, IfNone, OnSome};
 ghost use Rattle.order_core.specs.Pairs.{HasNoCycle, Reaches};
 ghost use Rattle.precedence_set.specs.LeastCycle.{IsLeastCycle};
 ghost use Rattle.order_core.specs.Marks.{IsMarked};
-ghost use Rattle.precedence_set.specs.Graphs.{IsGraph};
+ghost use Rattle.precedence_set.specs.steps.Graphs.{IsGraph};
 
 use crate::following::lowest_marked_after;
 use crate::graph::SuccessorGraph;

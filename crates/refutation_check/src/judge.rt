@@ -181,7 +181,7 @@ fn wrong(line: u32, kind: WrongKind) -> Verdict
 }
 
 /// The verdict on the lines of nodes, the first of which has this number.
-pub(crate) fn judge_lines<O: RouteSource, N: RouteSource>(
+fn judge_lines<O: RouteSource, N: RouteSource>(
     alloc: Global,
     asked: &Asked<'_, '_, O, N>,
     text: &[u8],
@@ -258,7 +258,7 @@ fn end_verdict(read: Reading, next: u32) -> Verdict
 }
 
 /// The lines after the header, where the first line is the header.
-pub(crate) fn entries_of<'a>(text: &[u8], lines: &'a [Line], header: &[u8]) -> Option<&'a [Line]>
+fn entries_of<'a>(text: &[u8], lines: &'a [Line], header: &[u8]) -> Option<&'a [Line]>
     requires short { length text.now < 2 ^ 26 }
     requires exact { lines.now ≡ text_lines text.now }
     requires inside { All (λ line. LiesIn text.now line.span) lines.now }

@@ -13,12 +13,11 @@ use Rattle.route_core.specs.declared.entry.Entry.{Entry}
 use Rattle.prefix_atoms.specs.Classes.{Classes}
 use Rattle.prefix_atoms.proofs.Pushed.{at_place}
 use Rattle.rib_mix.specs.Answers.{IsAlikeAt}
-use Rattle.rib_mix.specs.Cells.{IsCell}
-use Rattle.rib_mix.specs.Rows.{AreEarlierAlike, IsForwarding, MixedParts}
+use Rattle.rib_mix.specs.Cells.{IsCell, cell_at}
+use Rattle.rib_mix.specs.Rows.{AreEarlierClasses, IsForwarding, MixedParts}
 use Rattle.rib_mix.specs.steps.Earlier.{AreEarlier, AreFirstClasses, IsEarlierPlain, IsPlain}
 use Rattle.rib_mix.specs.steps.Likeness.{AreLike, PlacedPrefixes}
 use Rattle.rib_mix.specs.steps.Sorts.{AreSorts, sort_at}
-use Rattle.rib_mix.specs.steps.Uses.{cell_at}
 use Rattle.rib_mix.specs.declared.both_tables.BothTables.{BothTables}
 use Rattle.rib_mix.specs.declared.sorts.Sorts.{Sorts}
 use Rattle.rib_mix.specs.declared.spots.Spots.{Spots}
@@ -151,7 +150,7 @@ plain_alike old new kept spots sorts sort k j u is one other router =
 pub earlier_alike : (old new : ℕ → List (Block × Entry)) (kept : MixedParts) (spots : Spots) (sorts : Sorts)
     → IsSorted old new kept spots sorts
     → AreEarlier kept.classes sorts.of_places.items kept.earlier
-    → AreEarlierAlike (listed_migration kept.ground.net old new) kept.classes kept.earlier
+    → AreEarlierClasses (listed_migration kept.ground.net old new) kept.classes kept.earlier
 earlier_alike old new kept spots sorts is earlier = record {
   count = earlier.count;
   before = λ k other at. (earlier.each k other at).before;

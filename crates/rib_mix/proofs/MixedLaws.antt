@@ -9,12 +9,11 @@ use Rattle.route_core.specs.declared.table.TableParts.{TableParts}
 use Rattle.route_core.proofs.TableLaws.{entry_of_prefix}
 use Rattle.igp_theory.specs.Migrations.{migration}
 use Rattle.prefix_atoms.specs.Classes.{AreClasses, Classes, SourceEntry, connected_occurs, old_occurs, new_occurs}
-use Rattle.rib_mix.specs.Cells.{IsCell}
+use Rattle.rib_mix.specs.Cells.{IsCell, cell_at}
 use Rattle.rib_mix.specs.Mixture.{Mixture}
 use Rattle.rib_mix.specs.Rows.{AreAllSubnets, AreRows, Ground, IsForwarding, IsRow, MixedParts, site}
 use Rattle.rib_mix.specs.Sites.{AreTablesOf, table_of}
 use Rattle.rib_mix.specs.steps.Sites.{prefixes_in, AllOccur}
-use Rattle.rib_mix.specs.steps.Uses.{cell_at}
 use Rattle.rib_mix.specs.declared.both_tables.BothTables.{BothTables}
 use Rattle.rib_mix.specs.declared.cell.Cell.{Cell}
 use Rattle.rib_mix.proofs.FoundFacts.{rows_prefixes}

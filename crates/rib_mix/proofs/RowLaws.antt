@@ -10,11 +10,10 @@ use Rattle.prefix_atoms.specs.Nested.{IsTop}
 use Rattle.rib_mix.specs.steps.Spots.{AreSharedSpots, AreSpots, AreTableSpots}
 use Rattle.rib_mix.specs.steps.WayUp.{AreOwnCells, IsOwnAmong}
 use Rattle.rib_mix.specs.steps.Sorts.{sort_at}
-use Rattle.rib_mix.specs.steps.Uses.{cell_at}
 use Rattle.std.proofs.Math.ListN.{get_or-map}
 use Rattle.rib_mix.proofs.SortSteps.{sort_inside}
 use Rattle.rib_mix.proofs.UpLaws.{top_within}
-use Rattle.rib_mix.specs.Cells.{IsCell}
+use Rattle.rib_mix.specs.Cells.{IsCell, cell_at}
 use Rattle.rib_mix.specs.Rows.{AreSubnets, Ground, IsRow}
 use Rattle.rib_mix.specs.Sites.{Site}
 use Rattle.rib_mix.specs.steps.Sites.{AreTablesInParts, HasOspfDistance, AllOccur}

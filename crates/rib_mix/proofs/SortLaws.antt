@@ -12,7 +12,8 @@ use Rattle.rib_mix.specs.steps.Likeness.{AreLikeAt, HaveSame, PlacedPrefixes}
 use Rattle.rib_mix.specs.steps.Sorts.{AreSorts, IsSorting, sort_at}
 use Rattle.rib_mix.proofs.SortSteps.{still_before}
 use Rattle.rib_mix.specs.steps.Spots.{AreSpots, number_at_spot, number_in}
-use Rattle.rib_mix.specs.steps.Uses.{cell_at, cell_of_two, cell_over, no_cell}
+use Rattle.rib_mix.specs.Cells.{cell_at, no_cell}
+use Rattle.rib_mix.specs.steps.Uses.{cell_of_two, cell_over}
 use Rattle.rib_mix.specs.steps.WayUp.{AreSortCells, IsOwnNumber, connected_in, has_at, is_old_first}
 use Rattle.rib_mix.specs.declared.both_tables.BothTables.{BothTables}
 use Rattle.rib_mix.specs.declared.cell.Cell.{Cell}

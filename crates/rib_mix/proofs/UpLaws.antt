@@ -24,12 +24,12 @@ use Rattle.prefix_atoms.specs.Longest.{number_at}
 use Rattle.prefix_atoms.specs.Nested.{IsNextShorter, IsParent, IsTop}
 use Rattle.prefix_atoms.proofs.NestedLaws.{parent_is_next}
 use Rattle.prefix_atoms.proofs.Pushed.{at_place}
-use Rattle.rib_mix.specs.Cells.{IsCell, IsUsable, use_in}
+use Rattle.rib_mix.specs.Cells.{IsCell, IsUsable, use_in, cell_at, no_cell}
 use Rattle.rib_mix.specs.Sites.{Site, table_of}
 use Rattle.rib_mix.specs.steps.Sites.{CountsAt, HasOspfDistance, HasTableRows, prefixes_in}
 use Rattle.rib_mix.specs.steps.Spots.{AreSpots, IsPlaced, number_in}
 use Rattle.rib_mix.specs.steps.Sorts.{sort_at}
-use Rattle.rib_mix.specs.steps.Uses.{cell_at, cell_over, no_cell}
+use Rattle.rib_mix.specs.steps.Uses.{cell_over}
 use Rattle.rib_mix.specs.steps.WayUp.{AreAllCells, AreOwnCells, IsBestUse, IsCellFor, IsOwnAmong, IsOwnNumber, IsOwnSite, UpTo}
 use Rattle.rib_mix.specs.steps.WayUp.{connected_in, has_at, is_old_first, old_in}
 use Rattle.rib_mix.specs.declared.cell.Cell.{Cell}

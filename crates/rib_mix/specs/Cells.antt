@@ -1,5 +1,5 @@
 -- What is kept for each router and sort of prefixes: what is used in each phase.
-use Rattle.std.specs.Prelude.{◌≡◌, ◌↔◌, ◌<◌, List, length, Some, slice_get}
+use Rattle.std.specs.Prelude.{◌≡◌, ◌↔◌, ◌<◌, ℕ, List, length, Option, Some, None, slice_get, slice_index_or}
 use Rattle.route_core.specs.declared.entry.Entry.{Entry}
 use Rattle.igp_theory.specs.Forwarding.{Usable, connected, of_old, of_new}
 use Rattle.igp_theory.specs.declared.phase.Phase.{Phase}
@@ -8,6 +8,15 @@ use Rattle.rib_mix.specs.Sites.{Site, UsesAt}
 use Rattle.rib_mix.specs.declared.cell.Cell.{Cell}
 use Rattle.rib_mix.specs.declared.used.Used.{Used}
 use Rattle.rib_mix.specs.declared.used.Used.TheVariants as used
+
+-- nothing is used
+abbrev pub no_cell : Cell
+no_cell = record { middle = used.Nothing; other = used.Nothing }
+
+-- what is used for a sort of prefixes, if there is one
+abbrev pub cell_at : List Cell → Option ℕ → Cell
+cell_at cells None = no_cell
+cell_at cells (Some sort) = slice_index_or cells sort no_cell
 
 -- the first of two uses, and the second where that is of the new table
 abbrev pub first_unless_new : Used → Used → Used

@@ -14,11 +14,11 @@ StepsAreHops move =
     Steps move u phase a h ↔ NextLeadsTo next h
 
 -- router u has an answer for a class in a phase
-pub record HasAnswer (move : Migration) (classes : Classes) (u class : ℕ) (phase : Phase) : Type 0 where
+pub record HasClassAnswer (move : Migration) (classes : Classes) (u class : ℕ) (phase : Phase) : Type 0 where
   pub next : Next
   pub is : IsNextOf move classes u class phase next
 
 -- each router has one for each class in each phase
 abbrev pub HaveAnswers : Migration → Classes → Type 0
 HaveAnswers move classes =
-    (u class : ℕ) (phase : Phase) → u < length move.net → class < length classes.samples → HasAnswer move classes u class phase
+    (u class : ℕ) (phase : Phase) → u < length move.net → class < length classes.samples → HasClassAnswer move classes u class phase

@@ -7,8 +7,7 @@ use Rattle.route_core.specs.declared.entry.Entry.{Entry}
 use Rattle.igp_theory.specs.Migrations.{Migration, listed_migration, migration}
 use Rattle.prefix_atoms.specs.Classes.{Classes, AreClasses, SourceEntry}
 use Rattle.rib_mix.specs.Answers.{AreAlike}
-use Rattle.rib_mix.specs.Cells.{IsCell}
-use Rattle.rib_mix.specs.steps.Uses.{cell_at}
+use Rattle.rib_mix.specs.Cells.{IsCell, cell_at}
 use Rattle.rib_mix.specs.Sites.{AreTablesOf, Site}
 use Rattle.rib_mix.specs.declared.both_tables.BothTables.{BothTables}
 use Rattle.rib_mix.specs.declared.cell.Cell.{Cell}
@@ -52,7 +51,7 @@ pub record MixedParts : Type 0 where
   pub earlier : List (Option ℕ)
 
 -- for each class an earlier one that every router treats alike, where one is known
-pub record AreEarlierAlike (move : Migration) (classes : Classes) (earlier : List (Option ℕ)) : Type 0 where
+pub record AreEarlierClasses (move : Migration) (classes : Classes) (earlier : List (Option ℕ)) : Type 0 where
   pub count : length earlier ≡ length classes.samples
   pub before : (k other : ℕ) → slice_get earlier k ≡ Some (Some other) → other < k
   pub alike : (k other : ℕ) → slice_get earlier k ≡ Some (Some other) → AreAlike move classes other k
@@ -69,4 +68,4 @@ pub record IsForwarding (old new : ℕ → List (Block × Entry)) (kept : MixedP
 -- it keeps the earlier classes alike too
 pub record IsMixed (old new : ℕ → List (Block × Entry)) (kept : MixedParts) : Type 0 where
   pub forwarding : IsForwarding old new kept
-  pub earlier_are : AreEarlierAlike (listed_migration kept.ground.net old new) kept.classes kept.earlier
+  pub earlier_are : AreEarlierClasses (listed_migration kept.ground.net old new) kept.classes kept.earlier

@@ -1,6 +1,6 @@
 ghost use Rattle.std.specs.Prelude.{◌≡◌, ◌<◌, IfOk, IfSome, length};
-ghost use Rattle.rib_mix.specs.Cells.{new_use, old_use, use_in};
-ghost use Rattle.rib_mix.specs.steps.Uses.{cell_at, cell_between, cell_over, no_cell};
+ghost use Rattle.rib_mix.specs.Cells.{new_use, old_use, use_in, cell_at, no_cell};
+ghost use Rattle.rib_mix.specs.steps.Uses.{cell_between, cell_over};
 
 use crate::used::{Use, Used};
 use igp_theory::Phase;
@@ -28,7 +28,7 @@ pub(crate) struct Has {
 
 impl Cell {
     /// It uses nothing.
-    pub fn nothing() -> Cell
+    fn nothing() -> Cell
         ensures { result ≡ no_cell }
     {
         Cell {

@@ -1,6 +1,6 @@
 ghost use Rattle.std.specs.Prelude.{◌≡◌, ◌<◌, [], length, slice_index_or, None, IfSome};
 ghost use Rattle.std.specs.Bool.{OnTrue};
-ghost use Rattle.rib_mix.specs.steps.Uses.{cell_at};
+ghost use Rattle.rib_mix.specs.Cells.{cell_at};
 
 use crate::cell::{Cell, cell_at};
 use std::marker::Model;

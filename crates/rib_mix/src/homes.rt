@@ -1,7 +1,7 @@
 ghost use Rattle.std.specs.Prelude.{◌≡◌, ◌++◌, ◌∷◌, [], ◌<◌, IfOk, IfSome, OnOk, length, replicate};
 ghost use Rattle.std.specs.Bool.{OnTrue};
 ghost use Rattle.prefix_atoms.specs.Nested.{AreAscendingPrefixes};
-ghost use Rattle.rib_mix.specs.steps.Homes.{AreHomes, GainHomes, with_home};
+ghost use Rattle.rib_mix.specs.steps.Homes.{ArePrefixHomes, GainHomes, with_home};
 
 use crate::subnets::Subnets;
 use net_addr::Prefix;
@@ -63,7 +63,7 @@ pub(crate) fn homes_of(
     subnets: &[Subnets],
 ) -> Result<Vec<Homes>, OutOfMemory>
     requires { AreAscendingPrefixes prefixes.now }
-    ensures { IfOk result (λ homes. AreHomes prefixes.now subnets.now homes.items) }
+    ensures { IfOk result (λ homes. ArePrefixHomes prefixes.now subnets.now homes.items) }
 {
     let Ok(routers) = u32::try_from(subnets.len()) else {
         return Err(OutOfMemory);

@@ -10,7 +10,7 @@ ghost use Rattle.rib_mix.specs.Cells.{IsKeptUse};
 ghost use Rattle.rib_mix.specs.steps.Uses.{ShowsUse};
 ghost use Rattle.rib_mix.specs.Rows.{AreAllSubnets, AreRows};
 ghost use Rattle.rib_mix.specs.steps.Sorts.{AreSorts, sort_at};
-ghost use Rattle.rib_mix.specs.steps.Likeness.{AreLike, placed_of};
+ghost use Rattle.rib_mix.specs.steps.Likeness.{AreLike, own_placed};
 ghost use Rattle.rib_mix.specs.steps.Spots.{AreSharedSpots, HaveSpots};
 ghost use Rattle.rib_mix.specs.Laws.{HaveAnswers};
 ghost use Rattle.rib_mix.specs.steps.Sites.{AreTablesInParts, HasOspfDistance, AllOccur};
@@ -241,7 +241,7 @@ fn rows_of(
     requires occur { AllOccur shared.now.atoms.now.prefixes (record { net = net.now; tables = tables.now }) }
     requires classing { IsClassing shared.now.atoms.now }
     requires spots { AreSharedSpots shared.now.atoms.now.prefixes tables.now shared.now.spots.now }
-    requires sorts { AreSorts (AreLike (placed_of shared.now) subnets.now tables.now) shared.now.atoms.now.parents
+    requires sorts { AreSorts (AreLike (own_placed shared.now) subnets.now tables.now) shared.now.atoms.now.parents
         (length shared.now.atoms.now.parents) shared.now.sorts.now }
     ensures { IfOk result (λ rows. AreRows (record { net = net.now; tables = tables.now }) shared.now.atoms.now.samples
         (map (sort_at shared.now.sorts.now.of_places.items) shared.now.atoms.now.tops) rows.items) }

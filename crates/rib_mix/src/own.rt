@@ -1,6 +1,6 @@
 ghost use Rattle.std.specs.Prelude.{◌≡◌, ◌<◌, IfOk, length};
 ghost use Rattle.rib_mix.specs.steps.Sorts.{AreSorts, IsSorting};
-ghost use Rattle.rib_mix.specs.steps.Likeness.{AreLikeAt, placed_of};
+ghost use Rattle.rib_mix.specs.steps.Likeness.{AreLikeAt, own_placed};
 ghost use Rattle.rib_mix.specs.steps.Spots.{HasPlace};
 ghost use Rattle.rib_mix.specs.steps.WayUp.{AreOwnCells, AreSortCells, IsOwn, IsOwnAmong, has_at};
 
@@ -48,7 +48,7 @@ pub(crate) fn cells_of(
     ospf: u8,
 ) -> Result<Cells, OutOfMemory>
     requires own { IsOwnAmong shared.now.atoms.now.prefixes subnets.now tables shared.now.spots.now }
-    requires sorts { AreSorts (AreLikeAt (placed_of shared.now) subnets.now tables) shared.now.atoms.now.parents
+    requires sorts { AreSorts (AreLikeAt (own_placed shared.now) subnets.now tables) shared.now.atoms.now.parents
         (length shared.now.atoms.now.parents) shared.now.sorts.now }
     ensures count { IfOk result (λ cells. length cells ≡ length shared.now.sorts.now.firsts.items) }
     ensures cells { IfOk result (AreOwnCells shared.now.atoms.now.prefixes shared.now.sorts.now.of_places.items subnets.now

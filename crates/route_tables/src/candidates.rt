@@ -35,7 +35,7 @@ impl Candidates {
     }
 
     /// Adds a prefix.
-    pub fn add(&mut self, dest: Prefix) -> Result<(), OutOfMemory>
+    fn add(&mut self, dest: Prefix) -> Result<(), OutOfMemory>
         ensures ok { OnOk result (Adds self.old self.new (λ p. dest ≡ p)) }
         ensures err { OnErr result (self.new ≡ self.old) }
     {

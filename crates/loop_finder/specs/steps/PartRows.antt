@@ -39,23 +39,23 @@ abbrev pub AreRowsOf : ClassIn → List Bool → List PhaseHops → Type 0
 AreRowsOf c marks rows = AreFirstRows c marks (length marks) rows
 
 -- a row has a hop in Old or in New
-abbrev pub HasHop : PhaseHops → Type 0
-HasHop row = (0 < length row.old) ⊎ (0 < length row.new)
+abbrev pub HasRowHop : PhaseHops → Type 0
+HasRowHop row = (0 < length row.old) ⊎ (0 < length row.new)
 
 -- router u has a hop by its row of a class, and does the same for another class
 pub record ActsAlikeAt (m : Mix) (row : PhaseHops) (u own other : ℕ) : Type 0 where
-  pub hop : HasHop row
+  pub hop : HasRowHop row
   pub alike : IsAlikeAt (migration_in m) m.classes u own other
 
 -- each marked router does so
-abbrev pub ActAlike : Mix → List Bool → List PhaseHops → ℕ → ℕ → Type 0
-ActAlike m marks rows own other =
+abbrev pub ServeAlike : Mix → List Bool → List PhaseHops → ℕ → ℕ → Type 0
+ServeAlike m marks rows own other =
     (u : ℕ) → u < length m.net → IsMarked marks u → ActsAlikeAt m (slice_index_or rows u no_hops) u own other
 
 -- a part has the steps of a class between marked routers: its rows have all hops, or these routers do the same for both classes
 pub data Serves (m : Mix) (marks : List Bool) (part : ClassPart) (atom : ℕ) : Type 0 where
   by_hops : HaveHops (class_in m atom) marks part.rows → Serves m marks part atom
-  by_likeness : ActAlike m marks part.rows part.atom atom → Serves m marks part atom
+  by_likeness : ServeAlike m marks part.rows part.atom atom → Serves m marks part atom
 
 -- one of some parts has them
 pub record HasEarlierHops (m : Mix) (marks : List Bool) (parts : List ClassPart) (atom : ℕ) : Type 0 where

@@ -3,7 +3,7 @@ use Rattle.std.specs.Prelude.{◌≡◌, ℕ, [], List, length, map, slice_get, 
 use Rattle.net_addr.specs.Addresses.{Block}
 use Rattle.route_core.specs.Rows.{kept_in}
 use Rattle.route_core.specs.declared.table.TableParts.{TableParts}
-use Rattle.rib_mix.specs.steps.Homes.{AreHomes}
+use Rattle.rib_mix.specs.steps.Homes.{ArePrefixHomes}
 use Rattle.rib_mix.specs.steps.Spots.{HaveSpots, number_at_spot}
 use Rattle.rib_mix.specs.declared.both_tables.BothTables.{BothTables}
 use Rattle.rib_mix.specs.declared.features.Features.{Features}
@@ -47,7 +47,7 @@ pub record AreFeatures (prefixes : List Block) (subnets : List (List Block)) (ta
     (features : Features) : Type 0 where
   pub olds : HaveLanes (map old_lane tables) features.olds.items
   pub news : HaveLanes (map new_lane tables) features.news.items
-  pub homes : AreHomes prefixes subnets features.homes.items
+  pub homes : ArePrefixHomes prefixes subnets features.homes.items
 
 -- the tables of these lanes have the same at two spots
 abbrev pub HaveSameNumbers : List Lane → Option ℕ → Option ℕ → Type 0

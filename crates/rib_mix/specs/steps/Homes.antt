@@ -14,8 +14,8 @@ pub record AreHomesBelow (prefixes : List Block) (subnets : List (List Block)) (
       (slice_index_or homes i []) v ↔ IsHomeBelow subnets n p v
 
 -- for each prefix all its homes
-abbrev pub AreHomes : List Block → List (List Block) → List (List ℕ) → Type 0
-AreHomes prefixes subnets homes = AreHomesBelow prefixes subnets (length subnets) homes
+abbrev pub ArePrefixHomes : List Block → List (List Block) → List (List ℕ) → Type 0
+ArePrefixHomes prefixes subnets homes = AreHomesBelow prefixes subnets (length subnets) homes
 
 -- those of the prefixes that are seen gain a router as a home, and no others
 pub record GainHomes (prefixes : List Block) (router : ℕ) (seen : List Block) (old new : List (List ℕ)) : Type 0 where

@@ -14,8 +14,8 @@ pub record PlacedPrefixes : Type 0 where
   pub spots : Spots
 
 -- those that serve all routers
-abbrev pub placed_of : Shared → PlacedPrefixes
-placed_of shared = record { prefixes = shared.atoms.now.prefixes; spots = shared.spots.now }
+abbrev pub own_placed : Shared → PlacedPrefixes
+own_placed shared = record { prefixes = shared.atoms.now.prefixes; spots = shared.spots.now }
 
 -- the prefixes at two places are alike at a router with these connected prefixes and tables: it has the same entries for
 -- both, and both are connected or neither

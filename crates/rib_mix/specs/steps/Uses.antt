@@ -10,10 +10,6 @@ use Rattle.rib_mix.specs.Answers.{ShowsEntry}
 use Rattle.rib_mix.specs.declared.next.Next.{Next}
 use Rattle.rib_mix.specs.declared.next.Next.TheVariants as next
 
--- nothing is used
-abbrev pub no_cell : Cell
-no_cell = record { middle = Nothing; other = Nothing }
-
 -- the answer is what is used
 abbrev pub ShowsUse : List Entry → List Entry → Used → Next → Type 0
 ShowsUse olds news Nothing answer = answer ≡ next.Absent
@@ -44,8 +40,3 @@ cell_of_two (Some n) (Some m) old_first up = cell_between (Old n) (New m) old_fi
 abbrev pub cell_over : Has → Bool → Cell → Cell
 cell_over has old_first up =
     if is_some has.connected then record { middle = Connected; other = Connected } else cell_of_two has.old has.new old_first up
-
--- what is used for a sort of prefixes, if there is one
-abbrev pub cell_at : List Cell → Option ℕ → Cell
-cell_at cells None = no_cell
-cell_at cells (Some sort) = slice_index_or cells sort no_cell

@@ -11,12 +11,12 @@ use Rattle.igp_theory.specs.Forwarding.{Usable, Kind}
 use Rattle.igp_theory.specs.declared.phase.Phase.{Phase}
 use Rattle.prefix_atoms.specs.Longest.{number_at}
 use Rattle.prefix_atoms.specs.Nested.{IsTop}
-use Rattle.rib_mix.specs.Cells.{IsCell, IsUsable, use_in}
+use Rattle.rib_mix.specs.Cells.{IsCell, IsUsable, use_in, cell_at, no_cell}
 use Rattle.rib_mix.specs.Rows.{AreSubnets}
 use Rattle.rib_mix.specs.Sites.{Site}
 use Rattle.rib_mix.specs.steps.Sites.{CountsAt, HasOspfDistance, IsLawfulSite, prefixes_in, AreAmong}
 use Rattle.rib_mix.specs.steps.Spots.{AreTableSpots, IsPlaced, number_in}
-use Rattle.rib_mix.specs.steps.Uses.{cell_at, cell_over, no_cell}
+use Rattle.rib_mix.specs.steps.Uses.{cell_over}
 use Rattle.rib_mix.specs.steps.Sorts.{sort_at}
 use Rattle.rib_mix.specs.declared.both_tables.BothTables.{BothTables}
 use Rattle.rib_mix.specs.declared.cell.Cell.{Cell}

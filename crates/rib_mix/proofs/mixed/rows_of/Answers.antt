@@ -5,7 +5,7 @@ use Rattle.rib_mix.specs.Rows.{AreSubnets, Ground, IsRow, site}
 use Rattle.rib_mix.specs.declared.both_tables.BothTables.{BothTables}
 use Rattle.rib_mix.specs.declared.cell.Cell.{Cell}
 use Rattle.rib_mix.specs.declared.sorts.Sorts.{Sorts}
-use Rattle.rib_mix.specs.steps.Likeness.{AreLike, AreLikeAt, placed_of}
+use Rattle.rib_mix.specs.steps.Likeness.{AreLike, AreLikeAt, own_placed}
 use Rattle.rib_mix.specs.steps.Sorts.{AreSorts, sort_at}
 use Rattle.rib_mix.specs.steps.WayUp.{AreOwnCells, IsOwnAmong}
 use Rattle.rib_mix.proofs.RowLaws.{own_among, row_made}
@@ -43,11 +43,11 @@ cells_of-requires-clause-sorts c =
     slice_get_read c.args.subnets.now (length c.args.subnets.now) router subnets refl
     (omega (arith, c.loop-router-test.true, c.requires.subnets.count, c.routers-router-end.ensures.count))
     c.index-subnets-router.is in
-    subst (λ (ps : List Block). AreSorts (AreLikeAt (placed_of c.args.shared.now) ps both) parents
+    subst (λ (ps : List Block). AreSorts (AreLikeAt (own_placed c.args.shared.now) ps both) parents
     (length parents) c.args.shared.now.sorts.now)
     (sym c.as_slice-subnets.ensures)
-    (sorts_along (AreLike (placed_of c.args.shared.now) c.args.subnets.now c.args.tables.now) (AreLikeAt
-    (placed_of c.args.shared.now) subnets both) parents
+    (sorts_along (AreLike (own_placed c.args.shared.now) c.args.subnets.now c.args.tables.now) (AreLikeAt
+    (own_placed c.args.shared.now) subnets both) parents
     (length parents) c.args.shared.now.sorts.now (λ i j like. like router subnets both own here) c.requires.sorts)
 
 pub loop-router-preserved : goal.loop-router-preserved

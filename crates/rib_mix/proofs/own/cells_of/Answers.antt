@@ -3,7 +3,7 @@ use Rattle.net_addr.specs.Addresses.{Block}
 use Rattle.rib_mix.specs.declared.cell.Cell.{Cell}
 use Rattle.rib_mix.specs.declared.own.Own.{Own}
 use Rattle.rib_mix.specs.declared.sorts.Sorts.{Sorts}
-use Rattle.rib_mix.specs.steps.Likeness.{placed_of}
+use Rattle.rib_mix.specs.steps.Likeness.{own_placed}
 use Rattle.rib_mix.specs.steps.Spots.{AreSpots, IsPlaced}
 use Rattle.rib_mix.specs.steps.WayUp.{AreOwnCells}
 use Rattle.rib_mix.proofs.SortLaws.{IsOwnOf, sort_cell}
@@ -38,7 +38,7 @@ returns-clause-cells c =
     (subst (λ (ps : List Block). AreSpots ps c.args.subnets.now (length c.args.subnets.now) c.in_ok-connected.connected.items)
     c.prefixes.ensures.prefixes
     c.in_ok-connected.ensures) in
-    let is_own : IsOwnOf (placed_of c.args.shared.now) c.args.subnets.now own = record {
+    let is_own : IsOwnOf (own_placed c.args.shared.now) c.args.subnets.now own = record {
       connected = connected;
       olds = c.as_slice-2.ensures.value;
       news = c.as_slice-3.ensures.value;
@@ -48,6 +48,6 @@ returns-clause-cells c =
     c.prefixes.ensures.classing
     c.requires.own connected old new
     (all_cells c.args.shared.now.atoms.now own sorts.of_places.items cells c.prefixes.ensures.classing
-    (sort_cell (placed_of c.args.shared.now) c.args.subnets.now own c.args.shared.now.atoms.now.parents sorts cells is_own
+    (sort_cell (own_placed c.args.shared.now) c.args.subnets.now own c.args.shared.now.atoms.now.parents sorts cells is_own
     c.prefixes.ensures.classing.nested.count c.requires.sorts c.in_ok-find_all.ensures)
     (length prefixes) (omega arith)))

@@ -8,7 +8,8 @@ use Rattle.rib_mix.specs.declared.cell.Cell.{Cell}
 use Rattle.rib_mix.specs.declared.cell.Has.{Has}
 use Rattle.rib_mix.specs.declared.sorts.Sorts.{Sorts}
 use Rattle.rib_mix.specs.steps.Sorts.{IsSorting}
-use Rattle.rib_mix.specs.steps.Uses.{cell_at, cell_over}
+use Rattle.rib_mix.specs.Cells.{cell_at}
+use Rattle.rib_mix.specs.steps.Uses.{cell_over}
 use Rattle.rib_mix.specs.steps.WayUp.{has_at}
 use Rattle.rib_mix.proofs.SortLaws.{cells_more}
 use Rattle.rib_mix.proofs.SpotLaws.{place_read}
