@@ -6,7 +6,7 @@
 //! | `configurations`, `designs`, `samples` | `ios_reader`, `design_file`, `sample_network` |
 //! | `prepared`, `applied` | `isis_writer`, `applied_changes` |
 //! | `networks`, `zones`, `ospf_tables`, `isis_tables` | `net_model`, `zone_graph`, `ospf_routes`, `isis_routes` |
-//! | `classes`, `mixtures`, `faults` | `prefix_atoms`, `rib_mix`, `loop_finder` |
+//! | `classes`, `mixtures`, `alike`, `faults` | `prefix_atoms`, `rib_mix`, `loop_finder` |
 //! | `orders`, `waves`, `plans`, `trees` | `step_scripts`, `loop_finder`, `wave_oracle`, `refutation_check` |
 #![tactic(auto)]
 
@@ -33,6 +33,8 @@ mod ospf_tables;
 mod zones;
 
 // Mixed forwarding and its faults.
+#[cfg(test)]
+mod alike;
 #[cfg(test)]
 mod classes;
 #[cfg(test)]
