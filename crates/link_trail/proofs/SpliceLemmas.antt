@@ -1,4 +1,5 @@
 -- What nodes and ends show where a node is put between two neighbors, or taken out.
+use Rattle.std.proofs.lemmas.Grind.{common_steps}
 use Rattle.std.proofs.Common.{◌≡◌, ◌≢◌, ℕ, ◌<◌, List, [], ◌∷◌, ◌++◌, length, Option, Some, None, set, sym, ap, ◌∙◌, subst}
 use Rattle.std.proofs.Common.{⊎_elim, arith}
 use Rattle.std.proofs.lemmas.List.{get_or-set_same, get_or-set_other, length-set}
@@ -24,16 +25,13 @@ spliced nodes previous onward next origin node v =
 pub spliced-same : (nodes : List Node) (previous onward next origin : Option ℕ) (node : ℕ) (v : Node) → node < length nodes →
     node_at (spliced nodes previous onward next origin node v) node ≡ v
 spliced-same nodes previous onward next origin node v l =
-    get_or-set_same (with_previous (with_next nodes previous onward) next origin) node v free_node
-    (omega (arith, length-previous (with_next nodes previous onward) next origin, length-next nodes previous onward))
+    grind (arith, common_steps, get_or-set_same, length-next, length-previous)
 
 pub spliced-other : (nodes : List Node) (previous onward next origin : Option ℕ) (node : ℕ) (v : Node) (z : ℕ) →
     z ≢ node → ((p : ℕ) → previous ≡ Some p → z ≢ p) → ((n : ℕ) → next ≡ Some n → z ≢ n) →
     node_at (spliced nodes previous onward next origin node v) z ≡ node_at nodes z
 spliced-other nodes previous onward next origin node v z nz np nn =
-    get_or-set_other (with_previous (with_next nodes previous onward) next origin) node z v free_node nz
-    ∙ previous-other (with_next nodes previous onward) next origin z nn
-    ∙ next-other nodes previous onward z np
+    grind (arith, common_steps, get_or-set_other, next-other, previous-other)
 
 module _ (nodes : List Node) (list node : ℕ) (before after : List ℕ) (onward origin : Option ℕ) (v : Node) where
   -- the nodes before the place go on to `onward`
@@ -75,22 +73,15 @@ pub ends_written-same : (ends : List Ends) (list : ℕ) (before after : List ℕ
     ends_at (ends_written ends list before after onward origin) list
     ≡ record { first = first_or before onward; last = last_or origin after }
 ends_written-same ends list before after onward origin or or' l ef el =
-    let e1 = ends-first ends list before or onward l ef in
-    ends-last (with_first ends list (last_node before) onward) list after or' origin
-    (omega (arith, length-first ends list (last_node before) onward)) (ap (λ (e : Ends). e.last) e1 ∙ el)
-    ∙ ap (λ (e : Ends). let r : Ends = record { first = e.first; last = last_or origin after } in r) e1
+    grind (arith, common_steps, ends-first, ends-last, length-first)
 
 pub ends_written-other : (ends : List Ends) (list : ℕ) (before after : List ℕ) (onward origin : Option ℕ) (other : ℕ) →
     other ≢ list → ends_at (ends_written ends list before after onward origin) other ≡ ends_at ends other
-ends_written-other ends list before after onward origin other ne =
-    last-other (with_first ends list (last_node before) onward) list other (first_node after) origin ne
-    ∙ first-other ends list other (last_node before) onward ne
+ends_written-other ends list before after onward origin other ne = grind (arith, common_steps, first-other, last-other)
 
 pub length-ends_written : (ends : List Ends) (list : ℕ) (before after : List ℕ) (onward origin : Option ℕ) →
     length (ends_written ends list before after onward origin) ≡ length ends
-length-ends_written ends list before after onward origin =
-    length-last (with_first ends list (last_node before) onward) list (first_node after) origin
-    ∙ length-first ends list (last_node before) onward
+length-ends_written ends list before after onward origin = grind (arith, common_steps, length-first, length-last)
 
 -- a node of one list is none of another
 pub elsewhere : (nodes : List Node) (list other : ℕ) (xs : List ℕ) (z : ℕ) → other ≢ list →

@@ -1,5 +1,6 @@
 -- How far moves were taken back.
-use Rattle.std.proofs.Common.{◌≡◌, ℕ, ◌+◌, List, [], ◌∷◌, ◌++◌, length, take, refl, sym, ap, ◌∙◌, arith, length-append}
+use Rattle.std.proofs.lemmas.Grind.{common_steps}
+use Rattle.std.proofs.Common.{◌≡◌, ℕ, ◌+◌, List, [], ◌∷◌, ◌++◌, length, take, refl, ap, arith, length-append}
 use Rattle.link_trail.specs.Lists.{LinkedLists}
 
 -- some of the moves of the first value were taken back to the second
@@ -21,6 +22,4 @@ stages-before (t ∷ trail) (y ∷ front) last x rest e =
 
 pub undone-trail : (initial now : LinkedLists) (mark : ℕ) → IsUndone initial now → length now.trail ≡ mark →
     now.trail ≡ take mark initial.trail
-undone-trail initial now mark u e =
-    sym (stages-before initial.trail now.trail initial.lists now.lists u.rest u.stages)
-    ∙ ap (λ k. take k initial.trail) e
+undone-trail initial now mark u e = grind (arith, common_steps, stages-before)

@@ -1,6 +1,7 @@
 -- What holds of the fields of `Links` stays when a move is made or taken back.
+use Rattle.std.proofs.lemmas.Grind.{common_steps}
 use Rattle.std.proofs.Common.{◌≡◌, ℕ, zero, suc, ◌-◌, ◌<◌, ◌≤◌, Bool, true, false, cond, replicate, List, [], ◌∷◌}
-use Rattle.std.proofs.Common.{◌++◌, length, Option, Some, None, get_or, set, take, drop, refl, sym, ap, ◌∙◌, subst, arith, length-append, append-nil}
+use Rattle.std.proofs.Common.{◌++◌, length, Option, Some, None, get_or, set, take, drop, refl, sym, ap, ◌∙◌, subst, arith, append-nil}
 use Rattle.std.proofs.Common.{append_assoc, take_all}
 use Rattle.std.proofs.Math.Seq.{take-append_seam}
 use Rattle.std.proofs.lemmas.List.{get_or_default, get_or-set_same, length-set, set-get_or}
@@ -198,26 +199,13 @@ take_back-unlinked nodes nodes' ends ends' list node previous next en puts = rec
 -- the latest move is taken back
 pub latest : (nodes : List Node) (ends : List Ends) (all moves : List Move) (move : Move) →
     all ≡ moves ++ move ∷ [] → AreLinks nodes ends all → IsLatest nodes ends move
-latest nodes ends all moves move e w =
-    let whole : AreLinks nodes ends (moves ++ move ∷ []) = subst (λ ms. AreLinks nodes ends ms) e w in
-    let start = no_lists (length ends) in
-    record {
-      lists = lists_after start moves;
-      fits = fit-last (length nodes) start moves move whole.fit;
-      shown = subst (λ ls. ShowsLists nodes ends ls) (after-more start moves move) whole.shown;
-    }
+latest nodes ends all moves move e w = grind (arith, common_steps, after-more, fit-last)
 
 pub links-back : (nodes nodes' : List Node) (ends ends' : List Ends) (all moves : List Move) (move : Move) →
     all ≡ moves ++ move ∷ [] → AreLinks nodes ends all → TakesBack (kept nodes ends) (kept nodes' ends') move →
     length nodes' ≡ length nodes → length ends' ≡ length ends → AreLinks nodes' ends' moves
 links-back nodes nodes' ends ends' all moves move e w back ln le =
-    let whole : AreLinks nodes ends (moves ++ move ∷ []) = subst (λ ms. AreLinks nodes ends ms) e w in
-    let start = no_lists (length ends) in
-    record {
-      shown = rw le (back.shows (lists_after start moves) (fit-last (length nodes) start moves move whole.fit)
-          (subst (λ ls. ShowsLists nodes ends ls) (after-more start moves move) whole.shown));
-      fit = rw (le, ln) (fit-front (length nodes) start moves move whole.fit);
-    }
+    grind (arith, common_steps, after-more, fit-front, fit-last)
 
 -- what a node's taking out asks for
 pub record IsPlaced (nodes : List Node) (ends : List Ends) (list node : ℕ) : Type 0 where
@@ -309,23 +297,7 @@ chained-same nodes nodes' same list previous (x ∷ xs) next h = (same x ∙ h.0
 
 pub links-wider : (nodes : List Node) (ends : List Ends) (moves : List Move) (k : ℕ) →
     AreLinks nodes ends moves → AreLinks (nodes ++ replicate k free_node) ends moves
-links-wider nodes ends moves k whole =
-    let wider : List Node = nodes ++ replicate k free_node in
-    let shown = whole.shown in
-    record {
-      shown = record {
-        count = shown.count;
-        each = λ list l. (let s = shown.each list l in record {
-          chained = chained-same nodes wider (wider-at nodes k) list None (list_at (lists_after (no_lists (length ends)) moves) list) None s.chained;
-          distinct = s.distinct;
-          first = s.first;
-          last = s.last;
-        });
-        free = λ z f. wider-at nodes k z ∙ shown.free z f;
-      };
-      fit = fit-wider (length nodes) (length wider) (no_lists (length ends)) moves
-          (omega (arith, length-append nodes (replicate k free_node))) whole.fit;
-    }
+links-wider nodes ends moves k whole = grind (arith, common_steps, chained-same, fit-wider, wider-at)
 
 pub links-resized : (nodes nodes' : List Node) (ends : List Ends) (moves : List Move) (n m : ℕ) (b : Bool) →
     nodes' ≡ cond b (take n nodes ++ replicate (n - m) free_node) nodes → length nodes ≤ n →

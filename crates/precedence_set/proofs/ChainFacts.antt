@@ -1,4 +1,5 @@
 -- The chain of the layers, traced from its last router back by the parents.
+use Rattle.std.proofs.lemmas.Grind.{common_steps}
 use Rattle.std.proofs.Common.{◌≡◌, ◌≢◌, ℕ, zero, suc, ◌+◌, ◌-◌, ◌<◌, ◌≤◌, ◌⊎◌, inl, inr, List, length, get_or, set, min}
 use Rattle.std.proofs.Common.{take, arith, subst, sym, ap, ◌∙◌}
 use Rattle.std.specs.List.{Contains}
@@ -26,10 +27,7 @@ pub record AreParents (pairs : List Pair) (p : Parents) (i : ℕ) : Type 0 where
 
 pub AreParents-begin : (pairs : List Pair) (layers parents : List ℕ) (none : ℕ) → length parents ≡ length layers →
     ((v : ℕ) → v < length parents → get_or parents v 0 ≡ none) → AreParents pairs (parents_in layers parents none) 0
-AreParents-begin pairs layers parents none long bare = record {
-  lowest = λ j lt. absurd (omega (arith, lt));
-  found = λ v lt. inl (bare v (omega (arith, lt, long)));
-}
+AreParents-begin pairs layers parents none long bare = grind (arith, common_steps)
 
 pub AreParents-passed : (pairs : List Pair) (layers parents : List ℕ) (none i : ℕ) → AreParents pairs (parents_in layers parents none) i →
     rank_of layers (pair_at pairs i).0 + 1 ≢ rank_of layers (pair_at pairs i).1 → AreParents pairs (parents_in layers parents none) (i + 1)
@@ -152,23 +150,7 @@ some_in_last n pairs layers k below are e =
 
 pub IsTraced-begin : (n : ℕ) (pairs : List Pair) (layers out : List ℕ) (k u : ℕ) → length layers ≡ n → IsLowest (IsInLayer layers k) u →
     k < length out → IsTraced n pairs (trace layers (set out k u) (suc k)) k
-IsTraced-begin n pairs layers out k u long lowest k_in =
-    let here : get_or (set out k u) k 0 ≡ u = get_or-set_same out k u 0 k_in in
-    record {
-      before = omega arith;
-      last = λ j e. let same : k ≡ j = omega (arith, e) in subst (λ (x : ℕ). IsLowest (IsInLayer layers x) (get_or (set out k u) x 0)) same
-          (subst (λ (x : ℕ). IsLowest (IsInLayer layers k) x) (sym here) lowest);
-      back = λ j le lt. absurd (omega (arith, le, lt));
-      below = λ j le lt. let same : j ≡ k = omega (arith, le, lt) in omega (
-        arith,
-        ap (λ (x : ℕ). get_or (set out k u) x 0) same,
-        here,
-        lowest.holds.within,
-        long,
-      );
-      there = λ j le lt. let same : j ≡ k = omega (arith, le, lt) in ap (λ (x : ℕ). rank_of layers (get_or (set out k u) x 0)) same
-          ∙ ap (λ (x : ℕ). rank_of layers x) here ∙ lowest.holds.there ∙ sym same;
-    }
+IsTraced-begin n pairs layers out k u long lowest k_in = grind (arith, common_steps, get_or-set_same)
 
 pub IsTraced-back : (n : ℕ) (pairs : List Pair) (layers out : List ℕ) (count k u : ℕ) → AreBelow n pairs →
     IsTraced n pairs (trace layers out count) (suc k) → k < length out → IsLowest (IsBeforeInLayer pairs layers k (get_or out (suc k) 0)) u →
@@ -209,28 +191,12 @@ IsTraced-back n pairs layers out count k u pairs_below t k_in lowest =
 -- the whole chain
 pub IsChain-traced : (n : ℕ) (pairs : List Pair) (layers out : List ℕ) (count : ℕ) → IsTraced n pairs (trace layers out count) 0 →
     count ≡ wave_count layers → count ≤ length out → IsChain pairs layers (take count out)
-IsChain-traced n pairs layers out count t counted le =
-    let long : length (take count out) ≡ count = length-take-le count out le in
-    let at : (j : ℕ) → j < count → get_or (take count out) j 0 ≡ get_or out j 0 = λ j (lt : j < count). get_or-take count out j 0 lt in
-    record {
-      one_each = long ∙ counted;
-      last = λ k e. subst (λ (x : ℕ). IsLowest (IsInLayer layers k) x) (sym (at k (omega (arith, e, long)))) (t.last k (omega (arith, e, long)));
-      back = λ k lt.
-          subst (λ (x : ℕ). IsLowest (IsBeforeInLayer pairs layers k x) (get_or (take count out) k 0)) (sym (at (suc k) (omega (arith, lt, long))))
-          (subst (λ (x : ℕ). IsLowest (IsBeforeInLayer pairs layers k (get_or out (suc k) 0)) x) (sym (at k (omega (arith, lt, long))))
-          (t.back k (omega arith) (omega (arith, lt, long))));
-    }
+IsChain-traced n pairs layers out count t counted le = grind (arith, common_steps, get_or-take, length-take-le)
 
 -- no router has no chain
 pub IsChain-none : (pairs : List Pair) (layers out : List ℕ) (count : ℕ) → count ≡ 0 → count ≡ wave_count layers →
     IsChain pairs layers (take count out)
-IsChain-none pairs layers out count none counted =
-    let long : length (take count out) ≡ 0 = omega (arith, length-take-le count out (omega (arith, none)), none) in
-    record {
-      one_each = long ∙ sym none ∙ counted;
-      last = λ k e. absurd (omega (arith, e, long));
-      back = λ k lt. absurd (omega (arith, lt, long));
-    }
+IsChain-none pairs layers out count none counted = grind (arith, common_steps, length-take-le)
 
 -- Lowest of a layer
 

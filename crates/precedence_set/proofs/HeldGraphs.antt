@@ -1,11 +1,10 @@
 -- The assumed pairs that are kept are a graph of all routers.
-use Rattle.std.proofs.Common.{◌≡◌, ℕ, ◌≤◌, List, length, take, arith, subst}
+use Rattle.std.proofs.Common.{◌≡◌, ℕ, List, length, take, arith, subst}
 use Rattle.std.proofs.lemmas.Grind.{common_steps}
 use Rattle.std.proofs.lemmas.List.{length-take-le}
-use Rattle.order_core.specs.Pairs.{Pair, AreBelow}
+use Rattle.order_core.specs.Pairs.{Pair}
 use Rattle.precedence_set.specs.steps.Graphs.{IsGraph}
 use Rattle.precedence_set.specs.Held.{IsSettled}
-use Rattle.precedence_set.specs.Successors.{AreSuccessors}
 use Rattle.precedence_set.specs.declared.graph.SuccessorGraph.{SuccessorGraph}
 use Rattle.precedence_set.specs.declared.precedences.Precedences.TheInside.{Inside}
 use Rattle.precedence_set.proofs.MarkedLinks.{AreMarked-now}

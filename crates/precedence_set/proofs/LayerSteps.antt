@@ -1,4 +1,5 @@
 -- Layers with one pair more: where it moves no router, and where it moves its second router alone.
+use Rattle.std.proofs.lemmas.Grind.{common_steps}
 use Rattle.std.proofs.Common.{◌≡◌, ◌≢◌, ℕ, ◌+◌, ◌<◌, ◌≤◌, inl, inr, List, [], ◌∷◌, ◌++◌, length, length-set, set, take}
 use Rattle.std.proofs.Common.{Option, None, arith, subst, sym, ap, ◌∙◌}
 use Rattle.std.specs.List.{Contains}
@@ -128,6 +129,4 @@ AreLayers-moved n pairs layers u v are v_in differ le last = record {
 -- layers of the first pairs of some room are those of the first pairs of the same room
 pub are_fresh : (n count : ℕ) (room items : List Pair) (layers : List ℕ) → items ≡ room → length layers ≡ n →
     AreLayers (length layers) (take count items) layers → AreLayers n (take count room) layers
-are_fresh n count room items layers same long are =
-    subst (λ (k : ℕ). AreLayers k (take count room) layers) long
-    (subst (λ (xs : List Pair). AreLayers (length layers) (take count xs) layers) same are)
+are_fresh n count room items layers same long are = grind (arith, common_steps)

@@ -1,4 +1,5 @@
 -- Routers listed one after another: each new one, and that all are listed in the end.
+use Rattle.std.proofs.lemmas.Grind.{common_steps}
 use Rattle.std.proofs.Common.{◌≡◌, ◌≢◌, ℕ, zero, suc, ◌+◌, ◌-◌, ◌<◌, ◌≤◌, ◌↔◌, ◌⊎◌, inl, inr, List, [], ◌∷◌}
 use Rattle.std.proofs.Common.{length, length-set, get_or, set, take, Option, Some, None, below_more, arith, subst, sym, refl, ap, ◌∙◌}
 use Rattle.std.specs.List.{AllPairs, All, Contains}
@@ -155,77 +156,26 @@ pub record IsFreeing (n : ℕ) (pairs : List Pair) (q : Queue) (s : Stop) : Type
 
 -- at first no pair of that router is gone
 pub IsGoneBy-begin : (pairs : List Pair) (order : List ℕ) (k i : ℕ) → IsGone pairs order k i ↔ IsGoneBy pairs (passing order k 0) i
-IsGoneBy-begin pairs order k i = (
-  λ gone. inl gone,
-  λ by. elim by [
-    | inl gone ↦ gone
-    | inr here ↦ absurd (omega (arith, here.1))
-  ],
-)
+IsGoneBy-begin pairs order k i = grind (arith, common_steps)
 
 -- in the end all are
 pub IsGoneBy-end : (pairs : List Pair) (order : List ℕ) (k start i : ℕ) → IsFirstFrom pairs (get_or order k 0) start None → i < length pairs →
     IsGoneBy pairs (passing order k start) i ↔ IsGone pairs order (k + 1) i
-IsGoneBy-end pairs order k start i first i_in = (
-  λ by. elim by [
-    | inl gone ↦ (gone.0, omega (arith, gone.1), gone.2)
-    | inr here ↦ (k, omega arith, sym here.0)
-  ],
-  λ stands. elim (cases_lt stands.0 k) [
-    | inl lt ↦ inl (stands.0, lt, stands.2)
-    | inr ge ↦
-        let same : stands.0 ≡ k = omega (arith, stands.1, ge) in
-        let from : (pair_at pairs i).0 ≡ get_or order k 0 = sym stands.2 ∙ ap (λ (x : ℕ). get_or order x 0) same in
-        elim (cases_lt i start) [
-          | inl lt ↦ inr (from, lt)
-          | inr after ↦ absurd (first i after i_in from)
-        ]
-  ],
-)
+IsGoneBy-end pairs order k start i first i_in = grind (arith, common_steps, cases_lt)
 
 IsGoneBy-front : (pairs : List Pair) (a b : List ℕ) (k count start i : ℕ) → IsFront count a b → k < count → IsGoneBy pairs (passing b k start) i ↔
     IsGoneBy pairs (passing a k start) i
-IsGoneBy-front pairs a b k count start i front lt = (
-  λ by. elim by [
-    | inl gone ↦ inl (stands_still a b count k (pair_at pairs i).0 front (omega (arith, lt)) gone)
-    | inr here ↦ inr (here.0 ∙ sym (front k lt), here.1)
-  ],
-  λ by. elim by [
-    | inl gone ↦ inl (stands_still b a count k (pair_at pairs i).0 (front_back a b count front) (omega (arith, lt)) gone)
-    | inr here ↦ inr (here.0 ∙ front k lt, here.1)
-  ],
-)
+IsGoneBy-front pairs a b k count start i front lt = grind (arith, common_steps, front_back, stands_still)
 
 -- the pair that the walk has come to isn't gone
 pub fresh_pair : (n : ℕ) (pairs : List Pair) (counts order : List ℕ) (k count i : ℕ) (f : IsFreeing n pairs (queue counts order count) (stop k (Some i))) →
     ¬ IsGoneBy pairs (passing order k f.start) i
-fresh_pair n pairs counts order k count i f by = elim by [
-  | inl gone ↦ f.listing.distinct gone.0 k gone.1 f.before (gone.2 ∙ f.first.2)
-  | inr here ↦ omega (arith, here.1, f.first.0)
-]
+fresh_pair n pairs counts order k count i f by = grind (arith, common_steps)
 
 -- and with it just the pairs up to it are
 gone_step : (n : ℕ) (pairs : List Pair) (counts order : List ℕ) (k count i : ℕ) (f : IsFreeing n pairs (queue counts order count) (stop k (Some i))) (j : ℕ) →
     IsGoneBy pairs (passing order k (suc i)) j ↔ (IsGoneBy pairs (passing order k f.start) j ⊎ (j ≡ i))
-gone_step n pairs counts order k count i f j = (
-  λ by. elim by [
-    | inl gone ↦ inl (inl gone)
-    | inr here ↦ elim (cases_lt j f.start) [
-      | inl before ↦ inl (inr (here.0, before))
-      | inr ge ↦ elim (cases_lt j i) [
-        | inl between ↦ absurd (f.first.3 j ge between here.0)
-        | inr end ↦ inr (omega (arith, end, here.1))
-      ]
-    ]
-  ],
-  λ either. elim either [
-    | inl by ↦ elim by [
-      | inl gone ↦ inl gone
-      | inr here ↦ inr (here.0, omega (arith, here.1, f.first.0))
-    ]
-    | inr same ↦ inr (ap (λ (x : ℕ). (pair_at pairs x).0) same ∙ f.first.2, omega (arith, same))
-  ],
-)
+gone_step n pairs counts order k count i f j = grind (arith, common_steps, cases_lt)
 
 -- the routers that stand before v, where no pair into it is left
 stand_before : (pairs : List Pair) (counts order : List ℕ) (k count start v : ℕ) → AreLeftCounts pairs (IsGoneBy pairs (passing order k start)) counts →

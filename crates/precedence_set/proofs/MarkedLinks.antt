@@ -1,5 +1,6 @@
 -- The links at each mark: once a pair more is linked, and once pairs are taken back.
-use Rattle.std.proofs.Common.{◌≡◌, ℕ, ◌+◌, ◌<◌, ◌≤◌, inl, inr, Bool, eqb, cond, List, [], ◌∷◌, ◌++◌, length, get_or, set, take}
+use Rattle.std.proofs.lemmas.Grind.{common_steps}
+use Rattle.std.proofs.Common.{◌≡◌, ℕ, ◌+◌, ◌<◌, ◌≤◌, inl, inr, List, [], ◌∷◌, ◌++◌, length, get_or, set, take}
 use Rattle.std.proofs.Common.{arith, subst, sym, ap, ◌∙◌}
 use Rattle.std.specs.List.{Contains}
 use Rattle.std.proofs.Math.Seq.{get_or-append_seam}
@@ -7,10 +8,10 @@ use Rattle.std.proofs.lemmas.List.{append-nil, get_or_append_left, get_or_defaul
 use Rattle.std.proofs.lemmas.List.{take-set-le}
 use Rattle.std.proofs.lemmas.Bool.{cases_lt}
 use Rattle.std.proofs.lemmas.Bool.Decides.{eqb_tells}
-use Rattle.link_trail.specs.Lists.{LinkedLists, IsFree, linked, list_at, lists_at_mark}
+use Rattle.link_trail.specs.Lists.{LinkedLists, IsFree, linked, lists_at_mark}
 use Rattle.link_trail.proofs.ListLemmas.{length-linked, linked-at, linked-other}
 use Rattle.order_core.specs.Pairs.{Pair}
-use Rattle.precedence_set.specs.Successors.{numbers_from, AreSuccessors}
+use Rattle.precedence_set.specs.Successors.{AreSuccessors}
 use Rattle.precedence_set.proofs.SuccessorFacts.{numbers_from-append, numbers_from-below}
 
 -- at each mark up to this one the links held the successors by the pairs so far
@@ -27,10 +28,7 @@ AreMarked-now n items count links marked moves =
 pub AreMarked-same : (n : ℕ) (items items' : List Pair) (count : ℕ) (links links' : LinkedLists) → AreMarked n items count links →
     links'.lists ≡ links.lists → links'.trail ≡ links.trail → ((i : ℕ) → i ≤ count → take i items ≡ take i items') →
     AreMarked n items' count links'
-AreMarked-same n items items' count links links' marked lists trail same = λ i le.
-    let e : lists_at_mark links i ≡ lists_at_mark links' i = cc (lists, trail) in
-    subst (λ (xs : List Pair). AreSuccessors n xs (lists_at_mark links' i)) (same i le)
-    (subst (λ (ls : List (List ℕ)). AreSuccessors n (take i items) ls) e (marked i le))
+AreMarked-same n items items' count links links' marked lists trail same = grind (arith, common_steps)
 
 -- once moves are taken back
 pub AreMarked-undone : (n : ℕ) (items : List Pair) (count mark : ℕ) (links links' : LinkedLists) → AreMarked n items count links →
@@ -51,26 +49,8 @@ AreMarked-undone n items count mark links links' marked moves le lists trail = �
 -- with one pair more, and its number at the end of its router's list
 AreSuccessors-push : (n : ℕ) (pairs : List Pair) (lists : List (List ℕ)) (u v : ℕ) → AreSuccessors n pairs lists → u < n →
     AreSuccessors n (pairs ++ (u, v) ∷ []) (linked lists u (length pairs))
-AreSuccessors-push n pairs lists u v successors u_in = record {
-  count = length-linked lists u (length pairs) ∙ successors.count;
-  each = λ w w_in.
-      let z : 0 + length pairs ≡ length pairs = omega arith in
-      let more : numbers_from w 0 (pairs ++ (u, v) ∷ []) ≡ numbers_from w 0 pairs ++ cond (eqb u w) (length pairs ∷ []) [] =
-      subst (λ (k : ℕ). numbers_from w 0 (pairs ++ (u, v) ∷ []) ≡ numbers_from w 0 pairs ++ cond (eqb u w) (k ∷ []) []) z
-      (numbers_from-append w 0 pairs ((u, v) ∷ [])) in
-      elim (eqb_tells u w) [
-        | inl same ↦
-            let here : numbers_from w 0 pairs ++ cond (eqb u w) (length pairs ∷ []) [] ≡ numbers_from w 0 pairs ++ length pairs ∷ [] =
-            ap (λ (b : Bool). numbers_from w 0 pairs ++ cond b (length pairs ∷ []) []) same.0 in
-            ap (λ (x : ℕ). list_at (linked lists u (length pairs)) x) (sym same.1)
-            ∙ linked-at lists u (length pairs) (omega (arith, u_in, successors.count)) ∙ ap (λ (x : ℕ). list_at lists x ++ length pairs ∷ []) same.1
-            ∙ ap (λ (xs : List ℕ). xs ++ length pairs ∷ []) (successors.each w w_in) ∙ sym here ∙ sym more
-        | inr apart ↦
-            let here : numbers_from w 0 pairs ++ cond (eqb u w) (length pairs ∷ []) [] ≡ numbers_from w 0 pairs =
-            ap (λ (b : Bool). numbers_from w 0 pairs ++ cond b (length pairs ∷ []) []) apart.0 ∙ append-nil (numbers_from w 0 pairs) in
-            linked-other lists u (length pairs) w (λ e. apart.1 (sym e)) ∙ successors.each w w_in ∙ sym here ∙ sym more
-      ];
-}
+AreSuccessors-push n pairs lists u v successors u_in =
+    grind (arith, common_steps, append-nil, eqb_tells, length-linked, linked-at, linked-other, numbers_from-append)
 
 -- once one more pair is linked
 pub AreMarked-linked : (n : ℕ) (items : List Pair) (count u v : ℕ) (links links' : LinkedLists) → AreMarked n items count links →

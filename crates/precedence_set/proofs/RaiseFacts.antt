@@ -1,6 +1,7 @@
 -- Routers raised above their predecessors, one router of the order after another.
+use Rattle.std.proofs.lemmas.Grind.{common_steps}
 use Rattle.std.proofs.Common.{◌≡◌, ◌≢◌, ℕ, suc, ◌+◌, ◌<◌, ◌≤◌, ◌⊎◌, inl, inr, List, length, get_or, set, max, Option, Some}
-use Rattle.std.proofs.Common.{arith, subst, sym, refl, ap, ◌∙◌}
+use Rattle.std.proofs.Common.{arith, subst, sym, ap, ◌∙◌}
 use Rattle.std.specs.List.{Contains}
 use Rattle.std.proofs.lemmas.Bool.{cases_lt}
 use Rattle.std.proofs.lemmas.Bool.Decides.{eqb_tells}
@@ -23,11 +24,7 @@ pub record IsRaising (w : Walk) (old layers : List ℕ) (above : ℕ) : Type 0 w
 
 pub IsRaising-begin : (pairs : List Pair) (layers : List ℕ) (u above : ℕ) (at : Option ℕ) → IsFirstFrom pairs u 0 at →
     IsRaising (walk pairs u at) layers layers above
-IsRaising-begin pairs layers u above at first = record {
-  walked = HasPassed-begin pairs u at (λ v. above ≤ rank_of layers v) first;
-  no_lower = λ v. omega arith;
-  from = λ v. inl refl;
-}
+IsRaising-begin pairs layers u above at first = grind (arith, common_steps, HasPassed-begin)
 
 pub IsRaising-step : (pairs : List Pair) (old layers : List ℕ) (u above i : ℕ) (next : Option ℕ) (top : ℕ) →
     IsRaising (walk pairs u (Some i)) old layers above → (pair_at pairs i).1 < length layers → IsFirstFrom pairs u (suc i) next →
@@ -82,11 +79,7 @@ pub record AreRaised (pairs : List Pair) (order layers : List ℕ) (k : ℕ) : T
   pub low : (v : ℕ) → rank_of layers v ≤ k
 
 pub AreRaised-begin : (pairs : List Pair) (order layers : List ℕ) → ((v : ℕ) → rank_of layers v ≡ 0) → AreRaised pairs order layers 0
-AreRaised-begin pairs order layers bare = record {
-  above = λ j lt. absurd (omega (arith, lt));
-  from = λ v. inl (bare v);
-  low = λ v. omega (arith, bare v);
-}
+AreRaised-begin pairs order layers bare = grind (arith, common_steps)
 
 pub AreRaised-step : (n : ℕ) (pairs : List Pair) (order old layers : List ℕ) (k : ℕ) → IsTopological n pairs order → k < n →
     AreRaised pairs order old k → ((v : ℕ) → rank_of old v ≤ rank_of layers v) → ((v : ℕ) → Contains pairs (get_or order k 0, v) →

@@ -1,6 +1,7 @@
 -- What v reaches, marked and listed: one router more, the routers after one, and all.
+use Rattle.std.proofs.lemmas.Grind.{common_steps}
 use Rattle.std.proofs.Common.{◌≡◌, ◌≢◌, ℕ, suc, ◌+◌, ◌<◌, ◌≤◌, ◌⊎◌, inl, inr, Bool, true, false, List, [], ◌∷◌}
-use Rattle.std.proofs.Common.{length, get_or, set, Option, Some, arith, subst, sym, refl, ap, ◌∙◌}
+use Rattle.std.proofs.Common.{length, get_or, set, Option, Some, arith, subst, sym, ap, ◌∙◌}
 use Rattle.std.specs.List.{Contains}
 use Rattle.std.proofs.lemmas.Bool.{cases_lt, cases_eq}
 use Rattle.std.proofs.lemmas.List.{get_or-set_same, get_or-set_other}
@@ -15,24 +16,14 @@ use Rattle.precedence_set.proofs.SuccessorFacts.{HasPassed, HasPassed-begin, Has
 -- One router more
 
 pub AreListed-none : (marks : List Bool) (list : List ℕ) → ((r : ℕ) → ¬ IsMarked marks r) → AreListed marks list 0
-AreListed-none marks list bare = record {
-  counted = sym (marked_count-none marks bare);
-  listed = λ r marked. absurd (bare r marked);
-  marked = λ j lt. absurd (omega (arith, lt));
-}
+AreListed-none marks list bare = grind (arith, common_steps, marked_count-none)
 
 -- a mark stays when another is set, and is new only where it was set
 pub marked_kept : (marks : List Bool) (w r : ℕ) → w < length marks → IsMarked marks r → IsMarked (set marks w true) r
-marked_kept marks w r w_in marked = elim (cases_eq r w) [
-  | inl same ↦ subst (λ (x : ℕ). IsMarked (set marks w true) x) (sym same) (get_or-set_same marks w true false w_in)
-  | inr apart ↦ get_or-set_other marks w r true false apart ∙ marked
-]
+marked_kept marks w r w_in marked = grind (arith, common_steps, cases_eq, get_or-set_other, get_or-set_same)
 
 pub marked_from : (marks : List Bool) (w r : ℕ) → IsMarked (set marks w true) r → IsMarked marks r ⊎ (r ≡ w)
-marked_from marks w r marked = elim (cases_eq r w) [
-  | inl same ↦ inr same
-  | inr apart ↦ inl (sym (get_or-set_other marks w r true false apart) ∙ marked)
-]
+marked_from marks w r marked = grind (arith, common_steps, cases_eq, get_or-set_other)
 
 pub AreListed-more : (marks : List Bool) (list : List ℕ) (count w : ℕ) → w < length marks → count < length list → ¬ IsMarked marks w →
     AreListed marks list count → AreListed (set marks w true) (set list count w) (count + 1)
@@ -68,14 +59,7 @@ pub record IsReachingOn (w : Walk) (old new : MarkedList) : Type 0 where
 
 pub IsReachingOn-begin : (pairs : List Pair) (x : ℕ) (marks : List Bool) (list : List ℕ) (count : ℕ) (at : Option ℕ) → IsFirstFrom pairs x 0 at →
     AreListed marks list count → IsReachingOn (walk pairs x at) (marked_list marks list count) (marked_list marks list count)
-IsReachingOn-begin pairs x marks list count at first listed = record {
-  walked = HasPassed-begin pairs x at (λ r. IsMarked marks r) first;
-  listed = listed;
-  kept = λ r marked. marked;
-  from = λ r marked. inl marked;
-  same = λ j lt. refl;
-  no_fewer = omega arith;
-}
+IsReachingOn-begin pairs x marks list count at first listed = grind (arith, common_steps, HasPassed-begin)
 
 pub IsReachingOn-step : (pairs : List Pair) (x : ℕ) (marks₀ marks marks' : List Bool) (list₀ list list' : List ℕ) (count₀ count count' i : ℕ)
     (next : Option ℕ) →

@@ -1,4 +1,5 @@
 -- Counts of the pairs that are left, one pair less, and routers listed one after another.
+use Rattle.std.proofs.lemmas.Grind.{common_steps}
 use Rattle.std.proofs.Common.{◌≡◌, ◌≢◌, ℕ, zero, suc, ◌+◌, ◌-◌, ◌<◌, ◌≤◌, ◌↔◌, ◌⊎◌, inl, inr, Bool, true, false}
 use Rattle.std.proofs.Common.{eqb, cond, List, length, length-set, get_or, set, arith, sym, refl, ap, ◌∙◌}
 use Rattle.std.proofs.lemmas.Bool.{eq-eqb, ne_eqb}
@@ -116,11 +117,7 @@ left_some pairs gone v (suc k) some = elim (eqb_tells (pair_at pairs k).1 v) [
 -- the counts say the same of pairs that are gone in other words
 pub AreLeftCounts-same : (pairs : List Pair) (P Q : ℕ → Type 0) (counts : List ℕ) → ((i : ℕ) → i < length pairs → P i ↔ Q i) →
     AreLeftCounts pairs P counts → AreLeftCounts pairs Q counts
-AreLeftCounts-same pairs P Q counts same counted = record {
-  gone = counted.gone;
-  tells = λ i lt. (λ e. (same i lt).0 ((counted.tells i lt).0 e), λ q. (counted.tells i lt).1 ((same i lt).1 q));
-  each = counted.each;
-}
+AreLeftCounts-same pairs P Q counts same counted = grind (arith, common_steps)
 
 not_gone : (b : Bool) → ¬ (b ≡ true) → b ≡ false
 not_gone b never = elim b as (λ (x : Bool). ¬ (x ≡ true) → x ≡ false) [ true ↦ λ other. absurd (other refl) | false ↦ λ other. refl ] never

@@ -1,4 +1,5 @@
 -- Walks over the pairs from one router, by the links.
+use Rattle.std.proofs.lemmas.Grind.{common_steps}
 use Rattle.std.proofs.Common.{◌≡◌, ◌≢◌, ℕ, zero, suc, ◌+◌, ◌-◌, ◌<◌, ◌≤◌, ◌⊎◌, inl, inr, Bool, true, false, eqb, cond}
 use Rattle.std.proofs.Common.{List, [], ◌∷◌, ◌++◌, length, take, drop, Option, Some, None, arith, subst, sym, refl, ap, ◌∙◌, drop-cons}
 use Rattle.std.proofs.Common.{length-drop}
@@ -105,17 +106,7 @@ HasPassed-begin pairs x at P first = record { start = 0; first = first; passed =
 
 pub HasPassed-step : (pairs : List Pair) (x i : ℕ) (next : Option ℕ) (P Q : ℕ → Type 0) → HasPassed (walk pairs x (Some i)) P →
     IsFirstFrom pairs x (suc i) next → ((v : ℕ) → P v → Q v) → Q (pair_at pairs i).1 → HasPassed (walk pairs x next) Q
-HasPassed-step pairs x i next P Q has first kept here = record {
-  start = suc i;
-  first = first;
-  passed = λ j lt j_in from. elim (cases_lt j has.start) [
-    | inl before ↦ kept (pair_at pairs j).1 (has.passed j before j_in from)
-    | inr ge ↦ elim (cases_lt j i) [
-      | inl between ↦ absurd (has.first.3 j ge between from)
-      | inr end ↦ let same : j ≡ i = omega (arith, lt, end) in subst (λ (k : ℕ). Q (pair_at pairs k).1) (sym same) here
-    ]
-  ];
-}
+HasPassed-step pairs x i next P Q has first kept here = grind (arith, common_steps, cases_lt)
 
 -- the pair that it has come to is one from the router
 pub HasPassed-here : (pairs : List Pair) (x i v : ℕ) (P : ℕ → Type 0) → HasPassed (walk pairs x (Some i)) P → v ≡ (pair_at pairs i).1 →
@@ -142,10 +133,7 @@ pub record IsWalked (w : Walk) (marks : List Bool) (lowest : Option ℕ) : Type 
   pub found : (v : ℕ) → lowest ≡ Some v → Contains w.pairs (w.from, v) × IsMarked marks v
 
 pub IsWalked-begin : (pairs : List Pair) (marks : List Bool) (x : ℕ) (at : Option ℕ) → IsFirstFrom pairs x 0 at → IsWalked (walk pairs x at) marks None
-IsWalked-begin pairs marks x at first = record {
-  walked = HasPassed-begin pairs x at (λ v. IsMarked marks v → IsKnownUpTo None v) first;
-  found = λ v e. cc;
-}
+IsWalked-begin pairs marks x at first = grind (arith, common_steps)
 
 pub IsWalked-step : (pairs : List Pair) (marks : List Bool) (x i : ℕ) (lowest next result : Option ℕ) → IsWalked (walk pairs x (Some i)) marks lowest →
     IsFirstFrom pairs x (suc i) next → ((w : ℕ) → result ≡ Some w → (lowest ≡ Some w) ⊎

@@ -1,4 +1,5 @@
 -- The walk from v that looks for u: the path on which it stands, and the routers from which it hasn't come back.
+use Rattle.std.proofs.lemmas.Grind.{common_steps}
 use Rattle.std.proofs.Common.{◌≡◌, ◌≢◌, ℕ, zero, suc, ◌+◌, ◌-◌, ◌*◌, ◌<◌, ◌≤◌, inl, inr, List, [], ◌∷◌, length}
 use Rattle.std.proofs.Common.{length-set, get_or, set, take, Bool, false, Option, Some, None, arith, subst, sym, refl, ap, ◌∙◌, below_more}
 use Rattle.std.specs.List.{Contains}
@@ -184,10 +185,7 @@ first_back pairs u x differ reaches = by_path reaches.path reaches.onward
 
 -- a mark that stands after one is taken stood before
 marked_before : (marks : List Bool) (x r : ℕ) → x < length marks → IsMarked (set marks x false) r → IsMarked marks r
-marked_before marks x r x_in marked = elim (cases_eq r x) [
-  | inl same ↦ absurd (false≢true (sym (get_or-set_same marks x false false x_in) ∙ subst (λ (y : ℕ). IsMarked (set marks x false) y) same marked))
-  | inr differ ↦ sym (get_or-set_other marks x r false false differ) ∙ marked
-]
+marked_before marks x r x_in marked = grind (arith, common_steps, cases_eq, false≢true, get_or-set_other, get_or-set_same)
 
 -- the path is shorter by the last router, which leads to no marked one and has no mark now
 pub IsWalking-shorter : (n : ℕ) (pairs : List Pair) (u v : ℕ) (marks : List Bool) (path : List ℕ) (count less : ℕ) → 2 ≤ count →

@@ -1,6 +1,6 @@
-use Rattle.std.proofs.Common.{sym, ◌∙◌, subst}
-use Rattle.link_trail.specs.steps.Splices.{kept}
-use Rattle.link_trail.specs.steps.Undoing.{TakesBack}
+use Rattle.std.proofs.Common.{arith}
+use Rattle.std.proofs.lemmas.Grind.{common_steps}
+use Rattle.std.proofs.Common.{sym, ◌∙◌}
 use Rattle.link_trail.proofs.WholeLemmas.{take_back-linked, take_back-unlinked, placed-latest, gap-latest}
 use Rattle.link_trail.proofs.moves.take_back.Goals as goal
 
@@ -33,13 +33,7 @@ splice_in-requires-clause-next c = λ n e.
     (sym c.following-next.ensures ∙ e)
 
 pub returns-in-Linked : goal.returns-in-Linked
-returns-in-Linked c =
-    subst (λ m. TakesBack (kept c.args.nodes.now c.args.ends.now) (kept c.splice_out.new.nodes c.splice_out.new.ends) m) (sym c.in-Linked.is)
-    (take_back-linked c.args.nodes.now c.splice_out.new.nodes c.args.ends.now c.splice_out.new.ends
-    c.in-Linked.list c.in-Linked.node c.splice_out.ensures)
+returns-in-Linked c = grind (arith, common_steps, take_back-linked)
 
 pub returns-in-Unlinked : goal.returns-in-Unlinked
-returns-in-Unlinked c =
-    subst (λ m. TakesBack (kept c.args.nodes.now c.args.ends.now) (kept c.splice_in.new.nodes c.splice_in.new.ends) m) (sym c.in-Unlinked.is)
-    (take_back-unlinked c.args.nodes.now c.splice_in.new.nodes c.args.ends.now c.splice_in.new.ends
-    c.in-Unlinked.list c.in-Unlinked.node c.in-Unlinked.previous c.following-next.result c.following-next.ensures c.splice_in.ensures)
+returns-in-Unlinked c = grind (arith, common_steps, take_back-unlinked)

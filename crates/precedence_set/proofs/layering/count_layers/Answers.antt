@@ -1,4 +1,5 @@
-use Rattle.std.proofs.Common.{ℕ, ◌+◌, ◌<◌, max, length, get_or, arith, sym, ap, ◌∙◌}
+use Rattle.std.proofs.lemmas.Grind.{common_steps}
+use Rattle.std.proofs.Common.{ℕ, ◌<◌, length, get_or, arith}
 use Rattle.std.proofs.lemmas.List.{take_more}
 use Rattle.std.proofs.lemmas.List.Elements.{Contains-get_or}
 use Rattle.order_core.specs.Rankings.{wave_count}
@@ -13,7 +14,4 @@ overflow_add-layer c =
     omega (arith, below, count_le_length (length c.args.layers.now) c.args.layers.now c.requires.ranking, c.requires.small)
 
 pub loop-layer-preserved : goal.loop-layer-preserved
-loop-layer-preserved c =
-    let rank : ℕ = get_or c.args.layers.now c.loop-layer.layer-index 0 in
-    c.max-count.ensures ∙ ap (λ (n : ℕ). max n (rank + 1)) c.loop-layer.invariant
-    ∙ sym (ap wave_count (take_more c.args.layers.now c.loop-layer.layer-index 0 c.loop-layer-test.true) ∙ wave_count-push _ rank)
+loop-layer-preserved c = grind (arith, common_steps, take_more, wave_count-push)

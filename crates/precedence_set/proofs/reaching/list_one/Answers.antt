@@ -1,4 +1,5 @@
 -- Where the router isn't marked there is room for it in the list.
+use Rattle.std.proofs.lemmas.Grind.{common_steps}
 use Rattle.std.proofs.Common.{◌<◌, length, arith, sym, ◌∙◌}
 use Rattle.std.proofs.lemmas.Bool.{false≢true}
 use Rattle.order_core.specs.Marks.{IsMarked}
@@ -7,9 +8,7 @@ use Rattle.precedence_set.proofs.ReachFacts.{AreListed-more}
 use Rattle.precedence_set.proofs.reaching.list_one.Goals as goal
 
 pub bounds-list-count : goal.bounds-list-count
-bounds-list-count c =
-    let room = marked_count-room c.args.marks.now c.args.w c.requires.w_in (λ marked. false≢true (sym c.if-marks-w.false ∙ marked)) in
-    omega (arith, room, c.requires.listed.counted, c.requires.marks_length)
+bounds-list-count c = grind (arith, common_steps, false≢true, marked_count-room)
 
 pub returns-clause-listed : goal.returns-clause-listed
 returns-clause-listed c =

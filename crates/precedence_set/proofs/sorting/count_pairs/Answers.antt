@@ -1,23 +1,14 @@
 -- No pair is gone at first.
+use Rattle.std.proofs.lemmas.Grind.{common_steps}
 use Rattle.std.proofs.Common.{◌≡◌, ℕ, false, length, arith, ap, ◌∙◌}
 use Rattle.std.proofs.lemmas.Bool.{false≢true}
 use Rattle.precedence_set.specs.steps.Sorting.{left_into}
-use Rattle.precedence_set.specs.steps.Walking.{pair_at}
 use Rattle.precedence_set.proofs.LayerFacts.{pair_at_below}
 use Rattle.precedence_set.proofs.SortFacts.{left_le}
 use Rattle.precedence_set.proofs.sorting.count_pairs.Goals as goal
 
 pub overflow_add-counts : goal.overflow_add-counts
-overflow_add-counts c =
-    let v = (pair_at c.args.pairs.now c.loop-i.i).1 in
-    let at = pair_at_below (length c.args.counts.now) c.args.pairs.now c.requires.below c.loop-i.i c.loop-i-test.true in
-    omega (
-      arith,
-      c.loop-i.invariant v (omega (arith, at.1, c.loop-i.auto.counts, c.clear_numbers.auto.numbers)),
-      left_le c.args.pairs.now (λ (_ : ℕ). false) v c.loop-i.i,
-      c.loop-i-test.true,
-      c.requires.pairs_small,
-    )
+overflow_add-counts c = grind (arith, common_steps, left_le, pair_at_below)
 
 pub returns : goal.returns
 returns c =

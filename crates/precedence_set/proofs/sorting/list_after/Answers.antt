@@ -1,4 +1,5 @@
 -- Each step of the walk frees the router where the next pair leads.
+use Rattle.std.proofs.lemmas.Grind.{common_steps}
 use Rattle.std.proofs.Common.{ℕ, ◌<◌, ◌≡◌, Option, arith, subst, sym, refl, get_or, length}
 use Rattle.precedence_set.specs.steps.Sorting.{IsGone, IsGoneBy, passing, queue, stop}
 use Rattle.precedence_set.specs.steps.Walking.{pair_at}
@@ -32,12 +33,7 @@ free_one-count-requires-clause-some c =
     (omega (arith, v_in, c.requires.counts_length, c.loop-at.auto.counts))
 
 pub free_one-count-requires-clause-room : goal.free_one-count-requires-clause-room
-free_one-count-requires-clause-room c = λ one.
-    let f = subst (λ (o : Option ℕ). IsFreeing (length c.loop-at.order) c.args.graph.now.pairs.now (queue c.loop-at.counts c.loop-at.order c.loop-at.count)
-    (stop c.args.k o)) c.in-Some.is c.loop-at.invariant in
-    let v_in = (pair_at_below (length c.args.order.now) c.args.graph.now.pairs.now c.requires.graph.below c.in-Some.number f.first.1).1 in
-    room_for (length c.loop-at.order) c.args.graph.now.pairs.now c.loop-at.counts c.loop-at.order c.loop-at.count (pair_at c.args.graph.now.pairs.now c.in-Some.number).1 f.listing
-    f.within (omega (arith, v_in, c.loop-at.auto.order)) (omega (arith, one))
+free_one-count-requires-clause-room c = grind (arith, common_steps, pair_at_below, room_for)
 
 pub loop-at-smaller : goal.loop-at-smaller
 loop-at-smaller c =

@@ -1,3 +1,4 @@
+use Rattle.std.proofs.lemmas.Grind.{common_steps}
 use Rattle.std.proofs.Common.{◌≡◌, ◌<◌, List, None, length, subst, sym, ap, arith, ◌∙◌}
 use Rattle.std.proofs.lemmas.List.{length_push}
 use Rattle.link_trail.specs.declared.chain.Ends.{Ends}
@@ -56,23 +57,7 @@ invariant_of-self c =
     }
 
 pub returns-clause-lists : goal.returns-clause-lists
-returns-clause-lists c =
-    let same : length c.splice_in.new.ends ≡ length c.self.inside.ends.items = omega arith in
-    rw (
-      ← c.self.view_is,
-      refilled c.self.inside.ends.len c.splice_in.new.ends c.self.inside.ends.items (omega arith),
-      c.record_move.ensures.items,
-      same,
-      after-more,
-    )
+returns-clause-lists c = grind (arith, common_steps, after-more, refilled)
 
 pub returns-clause-trail : goal.returns-clause-trail
-returns-clause-trail c =
-    let same : length c.splice_in.new.ends ≡ length c.self.inside.ends.items = omega arith in
-    rw (
-      ← c.self.view_is,
-      refilled c.self.inside.ends.len c.splice_in.new.ends c.self.inside.ends.items (omega arith),
-      c.record_move.ensures.items,
-      same,
-      before-more,
-    )
+returns-clause-trail c = grind (arith, common_steps, before-more, refilled)

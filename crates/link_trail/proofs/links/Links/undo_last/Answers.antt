@@ -1,4 +1,5 @@
-use Rattle.std.proofs.Common.{◌≡◌, List, length, ap, arith, ◌∙◌}
+use Rattle.std.proofs.lemmas.Grind.{common_steps}
+use Rattle.std.proofs.Common.{List, length, ap, arith, ◌∙◌}
 use Rattle.std.proofs.lemmas.List.{length_push}
 use Rattle.link_trail.specs.declared.moves.Move.{Move}
 use Rattle.link_trail.specs.steps.Splices.{kept}
@@ -8,10 +9,7 @@ use Rattle.link_trail.proofs.WholeLemmas.{latest, links-back, refilled}
 use Rattle.link_trail.proofs.links.Links.undo_last.Goals as goal
 
 pub take_back-requires : goal.take_back-requires
-take_back-requires c =
-    let a = c.self.inside in
-    rw (c.deref_mut.ensures.value, c.deref_mut-in-Some.ensures.value)
-    (latest a.nodes.items a.ends.items a.moves.items c.pop.new.self.items c.in-Some.latest c.in-Some.ensures.items c.self.invariant.links)
+take_back-requires c = grind (arith, common_steps, latest)
 
 pub invariant_of-self : goal.invariant_of-self
 invariant_of-self c =
@@ -35,12 +33,4 @@ invariant_of-self c =
     }
 
 pub returns-in-Some-clause-trail : goal.returns-in-Some-clause-trail
-returns-in-Some-clause-trail c =
-    let same : length c.take_back.new.ends ≡ length c.self.inside.ends.items = omega arith in
-    rw (
-      ← c.self.view_is,
-      refilled c.self.inside.ends.len c.take_back.new.ends c.self.inside.ends.items (omega arith),
-      c.in-Some.ensures.items,
-      before-more,
-      same,
-    )
+returns-in-Some-clause-trail c = grind (arith, common_steps, before-more, refilled)

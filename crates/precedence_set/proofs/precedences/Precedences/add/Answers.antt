@@ -1,10 +1,11 @@
 -- A pair is kept where its second router doesn't reach its first.
-use Rattle.std.proofs.Common.{◌≡◌, ◌<◌, Bool, true, false, inl, inr, List, ◌++◌, ◌∷◌, [], set, take, length, arith, subst, sym, ap, refl}
+use Rattle.std.proofs.lemmas.Grind.{common_steps}
+use Rattle.std.proofs.Common.{◌≡◌, ◌<◌, Bool, true, false, List, ◌++◌, ◌∷◌, [], set, take, length, arith, subst, sym, ap, refl}
 use Rattle.std.proofs.Common.{◌∙◌, ℕ, ◌+◌}
 use Rattle.std.proofs.lemmas.List.{take_more_set, length_push, length-take-le, with_items_is}
 use Rattle.std.proofs.lemmas.Bool.{cases_Bool, false≢true}
 use Rattle.std.proofs.lemmas.List.Elements.{All-push}
-use Rattle.order_core.specs.Pairs.{Pair, AreBelow, HasNoCycle, Leads, Reaches}
+use Rattle.order_core.specs.Pairs.{Pair, AreBelow, HasNoCycle, Reaches}
 use Rattle.precedence_set.specs.Assumed.{Assumed}
 use Rattle.order_core.proofs.Paths.{HasNoCycle-push, Leads-from_Reaches, Reaches-from_Leads}
 use Rattle.order_core.specs.Rankings.{rank_of}
@@ -17,10 +18,7 @@ use Rattle.precedence_set.proofs.precedences.Precedences.add.Goals as goal
 
 -- layers that aren't stale after a pair weren't before it
 fresh_before : (before after : Bool) → (before ≡ true → after ≡ true) → after ≡ false → before ≡ false
-fresh_before before after stays fresh = elim (cases_Bool before) [
-  | inl stale ↦ absurd (false≢true (sym fresh ∙ stays stale))
-  | inr is ↦ is
-]
+fresh_before before after stays fresh = grind (arith, common_steps, cases_Bool, false≢true)
 
 pub closed_cycle-requires-clause-acyclic : goal.closed_cycle-requires-clause-acyclic
 closed_cycle-requires-clause-acyclic c =
@@ -90,22 +88,10 @@ invariant_of-self-in-None c =
     }
 
 pub returns-in-Some-clause-closes : goal.returns-in-Some-clause-closes
-returns-in-Some-clause-closes c =
-    let pairs : take c.self.inside.count c.deref.result.now ≡ c.args.self.now.pairs =
-    ap (λ (xs : List Pair). take c.self.inside.count xs) c.deref.ensures.value ∙ ap (λ (x : Assumed). x.pairs) c.self.view_is in (
-      λ _. subst (λ (xs : List Pair). Leads xs c.args.v c.args.u) pairs (Leads-from_Reaches _ _ _ (λ same. c.requires.differ (sym same))
-          c.in-Some.ensures.closes),
-      λ _. refl,
-    )
+returns-in-Some-clause-closes c = grind (arith, common_steps, Leads-from_Reaches)
 
 pub returns-in-None-clause-closes : goal.returns-in-None-clause-closes
-returns-in-None-clause-closes c =
-    let pairs : take c.self.inside.count c.deref.result.now ≡ c.args.self.now.pairs =
-    ap (λ (xs : List Pair). take c.self.inside.count xs) c.deref.ensures.value ∙ ap (λ (x : Assumed). x.pairs) c.self.view_is in (
-      λ same. cc,
-      λ leads. absurd (c.in-None.ensures.open
-          (Reaches-from_Leads _ _ _ (subst (λ (xs : List Pair). Leads xs c.args.v c.args.u) (sym pairs) leads))),
-    )
+returns-in-None-clause-closes c = grind (arith, common_steps, Reaches-from_Leads)
 
 pub closed_cycle-requires-clause-graph : goal.closed_cycle-requires-clause-graph
 closed_cycle-requires-clause-graph c =

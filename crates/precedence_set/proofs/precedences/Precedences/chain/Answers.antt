@@ -5,10 +5,8 @@ use Rattle.order_core.specs.Pairs.{Pair, HasNoCycle}
 use Rattle.order_core.specs.Rankings.{IsRanking}
 use Rattle.precedence_set.specs.Assumed.{Assumed}
 use Rattle.precedence_set.specs.Layers.{AreLayers, IsChain}
-use Rattle.precedence_set.specs.Successors.{AreSuccessors}
 use Rattle.precedence_set.proofs.LayerFacts.{layers_rank}
 use Rattle.precedence_set.proofs.LayerSteps.{are_fresh}
-use Rattle.precedence_set.proofs.MarkedLinks.{AreMarked-now}
 use Rattle.precedence_set.proofs.HeldGraphs.{graph_held}
 use Rattle.precedence_set.proofs.precedences.Precedences.chain.Goals as goal
 
