@@ -6,12 +6,14 @@ use Rattle.precedence_set.proofs.SuccessorFacts.{left_after-smaller, lowest-afte
 use Rattle.precedence_set.proofs.following.lowest_marked_after.Goals as goal
 
 pub loop-at-init : goal.loop-at-init
-loop-at-init c = IsWalked-begin c.args.graph.now.pairs.now c.args.marks.now c.args.x _ (IsFirstFrom-first _ c.args.graph.now.pairs.now _ c.args.x _ c.requires.graph.successors
+loop-at-init c = IsWalked-begin c.args.graph.now.pairs.now c.args.marks.now c.args.x _
+    (IsFirstFrom-first _ c.args.graph.now.pairs.now _ c.args.x _ c.requires.graph.successors
     c.requires.x_in c.first-at.ensures)
 
 pub loop-at-preserved : goal.loop-at-preserved
 loop-at-preserved c =
-    let walked = subst (λ (o : Option ℕ). IsWalked (walk c.args.graph.now.pairs.now c.args.x o) c.args.marks.now c.loop-at.lowest) c.in-Some.is c.loop-at.invariant in
+    let walked = subst (λ (o : Option ℕ). IsWalked (walk c.args.graph.now.pairs.now c.args.x o) c.args.marks.now
+    c.loop-at.lowest) c.in-Some.is c.loop-at.invariant in
     IsWalked-step c.args.graph.now.pairs.now c.args.marks.now c.args.x c.in-Some.number c.loop-at.lowest _ _ walked
     (IsFirstFrom-next _ c.args.graph.now.pairs.now _ c.args.x c.in-Some.number _ c.requires.graph.successors c.requires.x_in walked.walked.first.1
     walked.walked.first.2 c.next-at.ensures)
@@ -19,7 +21,8 @@ loop-at-preserved c =
 
 pub loop-at-smaller : goal.loop-at-smaller
 loop-at-smaller c =
-    let walked = subst (λ (o : Option ℕ). IsWalked (walk c.args.graph.now.pairs.now c.args.x o) c.args.marks.now c.loop-at.lowest) c.in-Some.is c.loop-at.invariant in
+    let walked = subst (λ (o : Option ℕ). IsWalked (walk c.args.graph.now.pairs.now c.args.x o) c.args.marks.now
+    c.loop-at.lowest) c.in-Some.is c.loop-at.invariant in
     let first = IsFirstFrom-next _ c.args.graph.now.pairs.now _ c.args.x c.in-Some.number _ c.requires.graph.successors c.requires.x_in walked.walked.first.1
     walked.walked.first.2 c.next-at.ensures in
     subst (λ (o : Option ℕ). left_after c.args.graph.now.pairs.now c.next-at.result < left_after c.args.graph.now.pairs.now o) (sym c.in-Some.is)

@@ -19,5 +19,7 @@ returns-clause-ranking c =
     let long : length c.args.layers.now ≡ length c.loop-k.layers = omega (arith, c.loop-k.auto.layers, c.clear_numbers.auto.numbers) in
     let end : c.loop-k.k ≡ length c.args.layers.now = omega (arith, c.loop-k-test.false, c.loop-k.auto.k-end, c.requires.order.whole) in
     let raised = subst (λ (k : ℕ). AreRaised c.args.graph.now.pairs.now c.args.order.now c.loop-k.layers k) end c.loop-k.invariant in
-    subst (λ (n : ℕ). IsRanking n c.loop-k.layers) long (layers_rank (length c.args.layers.now) c.args.graph.now.pairs.now c.loop-k.layers c.requires.graph.below
-    (AreLayers-raised (length c.args.layers.now) c.args.graph.now.pairs.now c.args.order.now c.loop-k.layers c.requires.graph.below c.requires.order raised (sym long)))
+    subst (λ (n : ℕ). IsRanking n c.loop-k.layers) long (layers_rank (length c.args.layers.now) c.args.graph.now.pairs.now
+    c.loop-k.layers c.requires.graph.below
+    (AreLayers-raised (length c.args.layers.now) c.args.graph.now.pairs.now c.args.order.now c.loop-k.layers
+    c.requires.graph.below c.requires.order raised (sym long)))

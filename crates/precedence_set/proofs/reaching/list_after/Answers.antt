@@ -18,7 +18,8 @@ loop-at-init c =
     let x : ℕ = get_or c.args.list.now c.args.queue.next 0 in
     let x_in = listed_in c.args.marks.now c.args.list.now c.args.queue.count c.args.queue.next c.requires.listed c.requires.place c.requires.marks_length in
     IsReachingOn-begin c.args.graph.now.pairs.now x c.args.marks.now c.args.list.now c.args.queue.count c.first-at.result
-    (IsFirstFrom-first (length c.args.list.now) c.args.graph.now.pairs.now c.args.graph.now.successors.now.lists x c.first-at.result c.requires.graph.successors x_in c.first-at.ensures)
+    (IsFirstFrom-first (length c.args.list.now) c.args.graph.now.pairs.now c.args.graph.now.successors.now.lists x
+    c.first-at.result c.requires.graph.successors x_in c.first-at.ensures)
     c.requires.listed
 
 pub loop-at-smaller : goal.loop-at-smaller
@@ -28,7 +29,8 @@ loop-at-smaller c =
     let x_in = listed_in c.args.marks.now c.args.list.now c.args.queue.count c.args.queue.next c.requires.listed c.requires.place c.requires.marks_length in
     let on = subst (λ (o : Option ℕ). IsReachingOn (walk pairs x o) (marked_list c.args.marks.now c.args.list.now c.args.queue.count)
     (marked_list c.loop-at.marks c.loop-at.list c.loop-at.count)) c.in-Some.is c.loop-at.invariant in
-    let first = IsFirstFrom-next (length c.args.list.now) pairs c.args.graph.now.successors.now.lists x c.in-Some.number c.next-at.result c.requires.graph.successors x_in
+    let first = IsFirstFrom-next (length c.args.list.now) pairs c.args.graph.now.successors.now.lists x c.in-Some.number
+    c.next-at.result c.requires.graph.successors x_in
     on.walked.first.1 on.walked.first.2 c.next-at.ensures in
     subst (λ (o : Option ℕ). left_after pairs c.next-at.result < left_after pairs o) (sym c.in-Some.is)
     (left_after-smaller pairs x c.in-Some.number c.next-at.result on.walked.first.1 first)
@@ -40,7 +42,8 @@ loop-at-preserved c =
     let x_in = listed_in c.args.marks.now c.args.list.now c.args.queue.count c.args.queue.next c.requires.listed c.requires.place c.requires.marks_length in
     let on = subst (λ (o : Option ℕ). IsReachingOn (walk pairs x o) (marked_list c.args.marks.now c.args.list.now c.args.queue.count)
     (marked_list c.loop-at.marks c.loop-at.list c.loop-at.count)) c.in-Some.is c.loop-at.invariant in
-    let first = IsFirstFrom-next (length c.args.list.now) pairs c.args.graph.now.successors.now.lists x c.in-Some.number c.next-at.result c.requires.graph.successors x_in
+    let first = IsFirstFrom-next (length c.args.list.now) pairs c.args.graph.now.successors.now.lists x c.in-Some.number
+    c.next-at.result c.requires.graph.successors x_in
     on.walked.first.1 on.walked.first.2 c.next-at.ensures in
     let one = c.list_one-count in
     IsReachingOn-step pairs x c.args.marks.now c.loop-at.marks one.new.marks c.args.list.now c.loop-at.list one.new.list c.args.queue.count c.loop-at.count
@@ -49,5 +52,6 @@ loop-at-preserved c =
 
 pub returns-clause-after : goal.returns-clause-after
 returns-clause-after c = λ differ.
-    HasPassed-end c.args.graph.now.pairs.now (get_or c.args.list.now c.args.queue.next 0) c.loop-at.at (λ w. IsMarked c.loop-at.marks w) c.loop-at.invariant.walked
+    HasPassed-end c.args.graph.now.pairs.now (get_or c.args.list.now c.args.queue.next 0) c.loop-at.at
+    (λ w. IsMarked c.loop-at.marks w) c.loop-at.invariant.walked
     c.in_default.not-Some

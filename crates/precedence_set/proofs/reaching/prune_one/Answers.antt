@@ -15,5 +15,6 @@ returns c = λ r reaches.
     let x = c.args.x in
     let none = none_from_test c.lowest_marked_after.result _ c.if-is_some.ensures c.lowest_marked_after.ensures.none in
     get_or-set_other c.args.marks.now x r false false (λ same.
-    let onward = first_back c.args.graph.now.pairs.now c.args.u x c.if-x-u.false (subst (λ (y : ℕ). Reaches c.args.graph.now.pairs.now y c.args.u) same reaches) in
+    let onward = first_back c.args.graph.now.pairs.now c.args.u x c.if-x-u.false
+    (subst (λ (y : ℕ). Reaches c.args.graph.now.pairs.now y c.args.u) same reaches) in
     none onward.0 onward.1 (c.requires.complete onward.0 onward.2)) ∙ c.requires.complete r reaches

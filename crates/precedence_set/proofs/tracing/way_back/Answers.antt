@@ -17,7 +17,8 @@ returns-then-eq-clause-closes c =
     let next = c.lowest_marked_after-next in
     let ahead = IsLowestAhead-found c.args.graph.now.pairs.now c.loop-count.marks _ c.args.u next.result (some_from_eq next.result c.args.u c.if-eq.ensures)
     next.ensures.after next.ensures.lowest in
-    (IsWalking-end _ c.args.graph.now.pairs.now c.args.u c.args.v c.loop-count.marks c.loop-count.path c.loop-count.count (omega (arith, c.loop-count-test.true))
+    (IsWalking-end _ c.args.graph.now.pairs.now c.args.u c.args.v c.loop-count.marks c.loop-count.path c.loop-count.count
+    (omega (arith, c.loop-count-test.true))
     c.loop-count.invariant ahead).1
 
 pub returns-then-eq-clause-cycle : goal.returns-then-eq-clause-cycle
@@ -25,7 +26,8 @@ returns-then-eq-clause-cycle c =
     let next = c.lowest_marked_after-next in
     let ahead = IsLowestAhead-found c.args.graph.now.pairs.now c.loop-count.marks _ c.args.u next.result (some_from_eq next.result c.args.u c.if-eq.ensures)
     next.ensures.after next.ensures.lowest in
-    (IsWalking-end _ c.args.graph.now.pairs.now c.args.u c.args.v c.loop-count.marks c.loop-count.path c.loop-count.count (omega (arith, c.loop-count-test.true))
+    (IsWalking-end _ c.args.graph.now.pairs.now c.args.u c.args.v c.loop-count.marks c.loop-count.path c.loop-count.count
+    (omega (arith, c.loop-count-test.true))
     c.loop-count.invariant ahead).0
 
 pub step-count-requires-clause-room : goal.step-count-requires-clause-room

@@ -8,13 +8,15 @@ use Rattle.step_scripts.proofs.waves_reading.check_ending.Goals as goal
 
 pub returns-in_default-clause-err : goal.returns-in_default-clause-err
 returns-in_default-clause-err c =
-    not_chain c.args.net.now c.requires.network.ascending c.args.entries.now.version c.args.entries.now.text.now c.args.entries.now.lines.now c.requires.entries c.args.seats.now
+    not_chain c.args.net.now c.requires.network.ascending c.args.entries.now.version c.args.entries.now.text.now
+    c.args.entries.now.lines.now c.requires.entries c.args.seats.now
     c.requires.first c.count-waves.result c.count-waves.ensures _ c.if-waves-entries.false
     (ap (chain_on c.args.entries.now.version) (sym c.bytes_at.ensures) ∙ sym c.in_ok-names.ensures ∙ c.in_default.is)
 
 pub returns-then-not-is_chain-clause-err : goal.returns-then-not-is_chain-clause-err
 returns-then-not-is_chain-clause-err c =
-    wrong_chain c.args.net.now c.requires.network.ascending c.args.entries.now.version c.args.entries.now.text.now c.args.entries.now.lines.now c.requires.entries c.args.seats.now
+    wrong_chain c.args.net.now c.requires.network.ascending c.args.entries.now.version c.args.entries.now.text.now
+    c.args.entries.now.lines.now c.requires.entries c.args.seats.now
     c.requires.first c.count-waves.result c.count-waves.ensures _ c.if-waves-entries.false
     c.in-Some.names (ap (chain_on c.args.entries.now.version) (sym c.bytes_at.ensures) ∙ sym c.in_ok-names.ensures ∙ c.in-Some.is)
     (λ each. false≢true (sym c.if-not-is_chain.true ∙ c.is_chain.ensures.1 (subst (AllZip (NamesOneOf c.args.net.now) c.args.seats.now)
@@ -23,13 +25,17 @@ returns-then-not-is_chain-clause-err c =
 pub returns-then-waves-entries-2-clause-ok : goal.returns-then-waves-entries-2-clause-ok
 returns-then-waves-entries-2-clause-ok c =
     let each = subst (AllZip (NamesOneOf c.args.net.now) c.args.seats.now) c.as_slice.ensures (c.is_chain.ensures.0 c.if-not-is_chain.false) in
-    chain_last c.args.net.now c.requires.network.ascending c.args.entries.now.version c.args.entries.now.text.now c.args.entries.now.lines.now c.requires.entries c.args.seats.now
+    chain_last c.args.net.now c.requires.network.ascending c.args.entries.now.version c.args.entries.now.text.now
+    c.args.entries.now.lines.now c.requires.entries c.args.seats.now
     c.requires.first c.count-waves.result c.count-waves.ensures _ c.if-waves-entries.false
-    c.in-Some.names (ap (chain_on c.args.entries.now.version) (sym c.bytes_at.ensures) ∙ sym c.in_ok-names.ensures ∙ c.in-Some.is) each c.if-waves-entries-2.true
+    c.in-Some.names (ap (chain_on c.args.entries.now.version) (sym c.bytes_at.ensures) ∙ sym c.in_ok-names.ensures ∙
+    c.in-Some.is) each c.if-waves-entries-2.true
 
 pub returns-clause-err : goal.returns-clause-err
 returns-clause-err c =
     let each = subst (AllZip (NamesOneOf c.args.net.now) c.args.seats.now) c.as_slice.ensures (c.is_chain.ensures.0 c.if-not-is_chain.false) in
-    behind_chain c.args.net.now c.requires.network.ascending c.args.entries.now.version c.args.entries.now.text.now c.args.entries.now.lines.now c.requires.entries c.args.seats.now
+    behind_chain c.args.net.now c.requires.network.ascending c.args.entries.now.version c.args.entries.now.text.now
+    c.args.entries.now.lines.now c.requires.entries c.args.seats.now
     c.requires.first c.count-waves.result c.count-waves.ensures _ c.if-waves-entries.false
-    c.in-Some.names (ap (chain_on c.args.entries.now.version) (sym c.bytes_at.ensures) ∙ sym c.in_ok-names.ensures ∙ c.in-Some.is) each _ c.if-waves-entries-2.false
+    c.in-Some.names (ap (chain_on c.args.entries.now.version) (sym c.bytes_at.ensures) ∙ sym c.in_ok-names.ensures ∙
+    c.in-Some.is) each _ c.if-waves-entries-2.false
