@@ -1,4 +1,5 @@
 -- Numbers that come to a list, one thing that leads to some after another.
+use Rattle.std.proofs.lemmas.Grind.{common_steps}
 use Rattle.std.proofs.Common.{◌≡◌, ℕ, ◌+◌, ◌<◌, ◌≤◌, ◌↔◌, List, [], ◌∷◌, ◌++◌, length, take, get_or, refl, sym, ap, subst, ◌∙◌, inl, inr, arith, Contains}
 use Rattle.std.proofs.lemmas.List.{take_more, take_all}
 use Rattle.std.proofs.lemmas.List.Elements.{Contains-append_left, Contains-append_right, Contains-append_cases, Contains-push, Contains-push_cases}
@@ -59,13 +60,7 @@ leads_all {X} Leads things i old new past adds = subst (λ (l : List X). AddsNum
 
 -- what comes to no numbers are all of them
 pub adds_to_none : (P : ℕ → Type 0) (old new : List ℕ) → old ≡ [] → AddsNumbers P old new → (h : ℕ) → Contains new h ↔ P h
-adds_to_none P old new none adds h = (
-  λ has. elim ((adds h).0 has) [
-    | inl earlier ↦ let no : Contains [] h = subst (λ (l : List ℕ). Contains l h) none earlier in absurd (omega (arith, no.1))
-    | inr is ↦ is
-  ],
-  λ is. (adds h).1 (inr is),
-)
+adds_to_none P old new none adds h = grind (arith, common_steps)
 
 -- a list behind another
 pub adds_list : (old list : List ℕ) → AddsNumbers (λ h. Contains list h) old (old ++ list)

@@ -1,4 +1,5 @@
 -- The cheapest of some things, one more at a time.
+use Rattle.std.proofs.lemmas.Grind.{common_steps}
 use Rattle.std.proofs.Common.{◌≡◌, ℕ, ◌⊎◌, ◌+◌, ◌<◌, ◌≤◌, List, [], ◌∷◌, ◌++◌, Option, Some, None, min, inl, inr, refl, sym, ap, subst, ◌∙◌, arith, length}
 use Rattle.std.proofs.Common.{take, get_or}
 use Rattle.std.proofs.lemmas.Bool.{cases_lt}
@@ -19,11 +20,7 @@ has_cost_kept cost_of front x c has = record { thing = has.thing; among = Contai
 -- one of more things is one of the first ones, or that one
 has_cost_cases : {X : Type 0} (cost_of : X → Option ℕ) (front : List X) (x : X) (c : ℕ) → HasCost cost_of (front ++ x ∷ []) c →
     HasCost cost_of front c ⊎ (cost_of x ≡ Some c)
-has_cost_cases {X} cost_of front x c has =
-    elim (Contains-push_cases front x has.thing has.among) [
-      | inl among ↦ inl (record { thing = has.thing; among = among; costs = has.costs })
-      | inr same ↦ inr (subst (λ (y : X). cost_of y ≡ Some c) (sym same) has.costs)
-    ]
+has_cost_cases {X} cost_of front x c has = grind (arith, common_steps, Contains-push_cases)
 
 -- the least of two numbers is one of them
 lesser : (a b : ℕ) → (min a b ≡ a) ⊎ (min a b ≡ b)

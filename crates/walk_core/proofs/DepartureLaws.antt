@@ -1,7 +1,8 @@
 -- Departures and first hops, one more at a time, and what they come to.
-use Rattle.std.proofs.Common.{◌≡◌, ℕ, ◌+◌, ◌<◌, ◌↔◌, List, [], ◌∷◌, ◌++◌, Option, Some, Contains, sym, subst, inl, inr}
+use Rattle.std.proofs.Common.{arith}
+use Rattle.std.proofs.lemmas.Grind.{common_steps}
+use Rattle.std.proofs.Common.{◌≡◌, ℕ, ◌+◌, ◌<◌, ◌↔◌, List, [], ◌∷◌, ◌++◌, Option, Some, Contains, sym, subst}
 use Rattle.std.proofs.lemmas.List.Elements.{Contains-push, Contains-append_left, Contains-push_cases}
-use borrow.Author.Count.{below_more}
 use Rattle.walk_core.specs.declared.hops.Departure.{Departure}
 use Rattle.walk_core.specs.Walks.{Arcs, FirstHop}
 use Rattle.walk_core.specs.Distances.{distance_at}
@@ -11,24 +12,12 @@ use Rattle.walk_core.proofs.HopLaws.{BeginsLeast, begins_least_from_first_hop, f
 
 pub departs_more : (arc : Arcs) (root : ℕ) (ds : List Departure) (d : Departure) →
     ((e : Departure) → Contains ds e → arc root e.to e.cost) → arc root d.to d.cost → (e : Departure) → Contains (ds ++ d ∷ []) e → arc root e.to e.cost
-departs_more arc root ds d each departs e among =
-    elim (Contains-push_cases ds d e among) [
-      | inl before ↦ each e before
-      | inr last ↦ let P : Departure → Type 0 = λ x. arc root x.to x.cost in subst P last departs
-    ]
+departs_more arc root ds d each departs e among = grind (arith, common_steps, Contains-push_cases)
 
 pub leaves_more : (ends : ℕ → ℕ × ℕ) (ds : List Departure) (d : Departure) (i : ℕ) →
     ((j : ℕ) → j < i → LeavesTo ds (ends j).0 (ends j).1) → d.to ≡ (ends i).0 → d.cost ≡ (ends i).1 →
     (j : ℕ) → j < i + 1 → LeavesTo (ds ++ d ∷ []) (ends j).0 (ends j).1
-leaves_more ends ds d i every leads costs =
-    below_more (λ j. LeavesTo (ds ++ d ∷ []) (ends j).0 (ends j).1) i
-    (λ j below. let there = every j below in record {
-      departure = there.departure;
-      among = Contains-append_left ds (d ∷ []) there.departure there.among;
-      leads = there.leads;
-      costs = there.costs;
-    })
-    (record { departure = d; among = Contains-push ds d; leads = leads; costs = costs })
+leaves_more ends ds d i every leads costs = grind (arith, common_steps, Contains-append_left, Contains-push)
 
 -- the first hops are the ends of departures that begin
 pub begins_at_is_first_hop : (arc : Arcs) (root : ℕ) (ds : List Departure) (rows : List (List (Option ℕ))) (distances : List (Option ℕ))

@@ -1,4 +1,5 @@
 -- First hops from a root of two links are those to which its exits lead.
+use Rattle.std.proofs.lemmas.Grind.{common_steps}
 use Rattle.std.proofs.Common.{◌≡◌, ℕ, ◌+◌, ◌<◌, ◌↔◌, ◌⊎◌, List, [], ◌∷◌, ◌++◌, Option, Some, None, Contains, MatchOption, get_or, refl, sym, ap, subst}
 use Rattle.std.proofs.Common.{◌∙◌, inl, inr, arith}
 use Rattle.std.proofs.lemmas.Option.{none-some, same_Some}
@@ -140,23 +141,12 @@ exits_lead mesh v h exits is below has = (
 
 -- one more arc leads from what is known of an exit's end to a cost of 64 bits
 pub exit_fits : (mesh : Mesh) (outlets : List Outlet) (exit : Exit) → IsMesh mesh → mesh.count < 2 ^ 32 → HasExit mesh.rows outlets exit → FitsOver exit
-exit_fits mesh outlets exit is few has v d far =
-    let at : distance_between mesh.rows exit.to v ≡ Some d = subst (λ (l : List (Option ℕ)). distance_at l v ≡ Some d) has.is.row far in
-    elim (cases_lt exit.to mesh.count) [
-      | inl below ↦ omega (arith, few, (is.rows.each exit.to below).near v d at)
-      | inr past ↦
-          let none : get_or mesh.rows exit.to [] ≡ [] = get_or-eq_default mesh.rows [] (omega (arith, past, is.rows.long)) in
-          let no : None ≡ Some d = subst (λ (l : List (Option ℕ)). distance_at l v ≡ Some d) none at in
-          absurd (cc no)
-    ]
+exit_fits mesh outlets exit is few has v d far = grind (arith, common_steps, cases_lt, get_or-eq_default)
 
 -- The list of two numbers
 
 in_one : (a h : ℕ) → Contains (a ∷ []) h ↔ (Some a ≡ Some h)
-in_one a h = (
-  λ has. elim (Contains-push_cases [] a h has) [ inl none ↦ absurd (omega (arith, none.1)) | inr same ↦ ap (λ (n : ℕ). Some n) same ],
-  λ same. subst (λ (n : ℕ). Contains (a ∷ []) n) (same_Some a h same) (Contains-push [] a),
-)
+in_one a h = grind (arith, common_steps, Contains-push, Contains-push_cases, same_Some)
 
 in_two : (one other : Option ℕ) (h : ℕ) → Contains (list_of_two one other) h ↔ ((one ≡ Some h) ⊎ (other ≡ Some h))
 in_two None None h =
@@ -195,9 +185,4 @@ two_added exits v one other old new apart first second added = record {
 
 -- towards the root it is empty
 pub none_added : (exits : TwoExits) (v : ℕ) (old new : List (List ℕ)) → v ≡ exits.root → new ≡ old ++ [] ∷ [] → AddsHops exits v old new
-none_added exits v old new home added = record {
-  list = [];
-  added = added;
-  exact = λ h. (λ has. absurd (omega (arith, has.1)), λ out. absurd (out.apart home));
-  ascending = λ less k short. absurd (omega (arith, short));
-}
+none_added exits v old new home added = grind (arith, common_steps)

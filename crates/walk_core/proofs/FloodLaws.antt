@@ -1,4 +1,5 @@
 -- Relaxing all arcs of a segment at once.
+use Rattle.std.proofs.lemmas.Grind.{common_steps}
 use Rattle.std.proofs.Common.{◌≡◌, ℕ, ◌+◌, ◌<◌, ◌≤◌, Bool, cond, IsTrue, ◌↔◌, List, [], Option, Some, None, length, set, get_or, refl, sym}
 use Rattle.std.proofs.Common.{ap, subst, ◌∙◌, arith, Contains, MatchOption, inl, inr}
 use Rattle.std.proofs.lemmas.List.{get_or_default}
@@ -41,11 +42,7 @@ falls_none room = record { room = room; walked = λ root walked. walked; lower =
 
 -- more falls
 pub falls_on : {arc : Arcs} {before now after : List (Option ℕ)} → Fall arc before now → Fall arc now after → Fall arc before after
-falls_on one other = record {
-  room = other.room;
-  walked = λ root walked. other.walked root (one.walked root walked);
-  lower = λ v most is. other.lower v most (one.lower v most is);
-}
+falls_on one other = grind (arith, common_steps)
 
 -- what one step of lowering leaves
 pub record IsLowered (arc : Arcs) (ports : List Port) (now after : List (Option ℕ)) (v found : ℕ) : Type 0 where
@@ -98,10 +95,7 @@ at_most_more distance most more is less = record { value = is.value; is = is.is;
 
 -- the arcs of segments, with those from a vertex to itself
 pub sends_loops : (segments : List (List Port)) → AddsLoops (SendsAcross segments) (Sends segments)
-sends_loops segments = record {
-  kept = λ u v c arc. arc.over;
-  others = λ u v c arc apart. record { apart = apart; over = arc };
-}
+sends_loops segments = grind (arith, common_steps)
 
 -- an arc of segments ends at a vertex
 pub sends_below : (segments : List (List Port)) (count u v c : ℕ) → AreSegments count segments → Sends segments u v c → v < count
@@ -110,9 +104,7 @@ sends_below segments count u v c are over = subst (λ (n : ℕ). n < count) over
 -- an arc of segments is one over the segment of some place
 pub sends_at_place : (segments : List (List Port)) (u v c : ℕ) → Sends segments u v c →
     (place : ℕ) × (place < length segments) × SendsOn (segment_at segments place) u v c
-sends_at_place segments u v c arc =
-    let at : segment_at segments arc.among.0 ≡ arc.segment = get_or_default segments arc.among.0 [] arc.segment arc.among.1 ∙ arc.among.2 in
-    (arc.among.0, arc.among.1, subst (λ (s : List Port). SendsOn s u v c) (sym at) arc.over)
+sends_at_place segments u v c arc = grind (arith, common_steps, get_or_default)
 
 -- distances that are costs of walks and that no arc undercuts are a row
 pub row_of_tight : (segments : List (List Port)) (count root : ℕ) (ds : List (Option ℕ)) → root < count → AreSegments count segments → length ds ≡ count →
@@ -132,12 +124,7 @@ row_of_tight segments count root ds below are long room walked tight = record {
 -- the port of an outlet is one from which its segment is entered
 pub entry_of_outlet : (segments : List (List Port)) (u : ℕ) (outlet : Outlet) (ds : List (Option ℕ)) (near : ℕ) → IsOutlet segments u outlet →
     distance_at ds u ≡ Some near → HasCost (cost_onto ds) (segment_at segments outlet.place) (near + outlet.cost)
-entry_of_outlet segments u outlet ds near is here = record {
-  thing = is.port;
-  among = is.among;
-  costs = ap (λ (n : ℕ). total_with (distance_at ds n) is.port.cost) is.vertex ∙ ap (λ (o : Option ℕ). total_with o is.port.cost) here
-      ∙ ap (λ (n : ℕ). Some (near + n)) is.costs;
-}
+entry_of_outlet segments u outlet ds near is here = grind (arith, common_steps)
 
 -- over a link the other end alone may be further
 pub last_above : (segments : List (List Port)) (u : ℕ) (outlet : Outlet) (ds : List (Option ℕ)) (near found : ℕ) → IsOutlet segments u outlet →

@@ -1,4 +1,5 @@
 -- First hops from a root whose only port is on a LAN: those of the walks that begin there.
+use Rattle.std.proofs.lemmas.Grind.{common_steps}
 use Rattle.std.proofs.Common.{◌≡◌, ◌≢◌, ◌↔◌, ℕ, ◌<◌, List, [], ◌∷◌, Option, Some, None, Contains, length, get_or, refl, sym, subst, arith, inl, inr}
 use Rattle.std.proofs.Common.{set, get_or-set_other}
 use Rattle.std.proofs.Math.ListN.{get_or-eq_default}
@@ -29,10 +30,7 @@ pub record IsOnLan (mesh : Mesh) (root : ℕ) (outlet : Outlet) (reach : Reach) 
 
 -- what goes out goes over the only port
 goes_over : (mesh : Mesh) (aim : Aim) (outlet : Outlet) (h : ℕ) → GoesOut mesh (outlet ∷ []) aim h → GoesOver mesh aim outlet h
-goes_over mesh aim outlet h goes = elim (Contains-push_cases [] outlet goes.thing goes.among) [
-  | inl none ↦ absurd (omega (arith, none.1))
-  | inr same ↦ subst (λ (o : Outlet). GoesOver mesh aim o h) (sym same) goes.leads
-]
+goes_over mesh aim outlet h goes = grind (arith, common_steps, Contains-push_cases)
 
 -- towards another vertex the hops are those of the walks from the LAN
 same_hops : (mesh : Mesh) (root v d h : ℕ) (outlet : Outlet) (reach : Reach) → IsOnLan mesh root outlet reach → v < mesh.count →

@@ -1,5 +1,6 @@
 -- Spans of one list of numbers as lists, and lists of one number or more.
-use Rattle.std.proofs.Common.{◌≡◌, ℕ, ◌-◌, ◌≤◌, List, [], ◌∷◌, ◌++◌, length, length-append, take, drop, map, set, All, refl, sym, ap, ◌∙◌, arith}
+use Rattle.std.proofs.lemmas.Grind.{common_steps}
+use Rattle.std.proofs.Common.{◌≡◌, ℕ, List, [], ◌∷◌, ◌++◌, length, map, set, All, refl, ap, ◌∙◌, arith}
 use Rattle.std.proofs.lemmas.List.{drop-append-le, drop_at, take-append-le, take_all, map-append, map-set, length-drop}
 use Rattle.std.proofs.lemmas.List.Elements.{All-head, All-tail}
 use Rattle.walk_core.specs.steps.NumberLists.{part_of, lists_of, list_of, IsWithin, AreSpansWithin, IsLongListKept, Grows}
@@ -9,11 +10,7 @@ use Rattle.walk_core.specs.declared.number_lists.Numbers.TheVariants.{Nothing, O
 
 -- more numbers behind the others change no span
 pub part_stays : (numbers more : List ℕ) (span : Span) → IsWithin numbers span → part_of (numbers ++ more) span ≡ part_of numbers span
-part_stays numbers more span is =
-    let inside : span.start ≤ length numbers = omega (arith, is.ordered, is.within) in
-    let left : drop span.start (numbers ++ more) ≡ drop span.start numbers ++ more = drop-append-le span.start numbers more inside in
-    let long : span.end - span.start ≤ length (drop span.start numbers) = omega (arith, length-drop span.start numbers, is.ordered, is.within) in
-    ap (take (span.end - span.start)) left ∙ take-append-le (span.end - span.start) (drop span.start numbers) more long
+part_stays numbers more span is = grind (arith, common_steps, drop-append-le, length-drop, take-append-le)
 
 pub lists_stay : (numbers more : List ℕ) (spans : List Span) → AreSpansWithin numbers spans → lists_of (numbers ++ more) spans ≡ lists_of numbers spans
 lists_stay numbers more [] are = refl
@@ -24,17 +21,11 @@ lists_stay numbers more (span ∷ spans) are =
 -- the span of the last numbers is the list that came
 pub part_behind : (numbers more : List ℕ) (span : Span) → span.start ≡ length numbers → span.end ≡ length (numbers ++ more) →
     part_of (numbers ++ more) span ≡ more
-part_behind numbers more span starts ends =
-    let rest : drop span.start (numbers ++ more) ≡ more = drop_at numbers more span.start (sym starts) in
-    let long : length more ≤ span.end - span.start = omega (arith, starts, ends, length-append numbers more) in
-    ap (take (span.end - span.start)) rest ∙ take_all (span.end - span.start) more long
+part_behind numbers more span starts ends = grind (arith, common_steps, drop_at, take_all)
 
 pub lists_more : (numbers more : List ℕ) (spans : List Span) (span : Span) → AreSpansWithin numbers spans → span.start ≡ length numbers →
     span.end ≡ length (numbers ++ more) → lists_of (numbers ++ more) (spans ++ span ∷ []) ≡ lists_of numbers spans ++ more ∷ []
-lists_more numbers more spans span are starts ends =
-    map-append (part_of (numbers ++ more)) spans (span ∷ [])
-    ∙ ap (λ (l : List (List ℕ)). l ++ part_of (numbers ++ more) span ∷ []) (lists_stay numbers more spans are)
-    ∙ ap (λ (l : List ℕ). lists_of numbers spans ++ l ∷ []) (part_behind numbers more span starts ends)
+lists_more numbers more spans span are starts ends = grind (arith, common_steps, lists_stay, map-append, part_behind)
 
 -- a list stays as it is where long ones come behind the others
 list_stays : (old new : List (List ℕ)) (numbers : Numbers) → Grows old new → IsLongListKept old numbers → list_of new numbers ≡ list_of old numbers
@@ -58,7 +49,4 @@ all_more old new all numbers list grows kept is =
 -- a copy with an empty list at a place
 pub copied_without : (old new : List (List ℕ)) (all copy : List Numbers) (place : ℕ) → new ≡ old → copy ≡ set all place Nothing →
     map (list_of new) copy ≡ set (map (list_of old) all) place []
-copied_without old new all copy place long same =
-    ap (λ (l : List Numbers). map (list_of new) l) same
-    ∙ ap (λ (n : List (List ℕ)). map (list_of n) (set all place Nothing)) long
-    ∙ map-set (list_of old) all place Nothing
+copied_without old new all copy place long same = grind (arith, common_steps, map-set)

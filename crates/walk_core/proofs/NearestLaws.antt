@@ -1,4 +1,5 @@
 -- The nearest vertices of a segment, one port after another.
+use Rattle.std.proofs.lemmas.Grind.{common_steps}
 use Rattle.std.proofs.Common.{◌≡◌, ℕ, ◌+◌, ◌<◌, ◌≤◌, ◌↔◌, ◌⊎◌, List, [], ◌∷◌, ◌++◌, Option, Some, None, Contains, length, take, get_or, min, inl, inr}
 use Rattle.std.proofs.Common.{refl, sym, ap, subst, ◌∙◌, arith}
 use Rattle.std.proofs.lemmas.List.{get_or_default, take_more, take_all}
@@ -17,22 +18,13 @@ pub record AreNearest (rows : List (List (Option ℕ))) (ports : List Port) (v :
 
 -- of no ports
 pub none_nearest : (rows : List (List (Option ℕ))) (v : ℕ) (nearest : Nearest) → nearest.distance ≡ None → nearest.ends ≡ [] → AreNearest rows [] v nearest
-none_nearest rows v nearest nothing empty = record {
-  cheapest = subst (λ (d : Option ℕ). IsCheapestCost (beyond_port rows v) [] d) (sym nothing) (nothing_costs (beyond_port rows v));
-  ends = record { some = λ d h is. absurd (none-some d (sym nothing ∙ is)); none = λ is. empty };
-}
+none_nearest rows v nearest nothing empty = grind (arith, common_steps, none-some, nothing_costs)
 
 -- an end of more ports is one of the first ones, or that of the last one
 end_cases : (rows : List (List (Option ℕ))) (ports : List Port) (port : Port) (v d h : ℕ) →
     IsEndAt rows (ports ++ port ∷ []) (record { vertex = v; distance = d }) h →
     IsEndAt rows ports (record { vertex = v; distance = d }) h ⊎ ((beyond_port rows v port ≡ Some d) × (port.vertex ≡ h))
-end_cases rows ports port v d h end = elim (Contains-push_cases ports port end.thing end.among) [
-  | inl earlier ↦ inl (record { thing = end.thing; among = earlier; leads = end.leads })
-  | inr same ↦ inr (
-    subst (λ (p : Port). beyond_port rows v p ≡ Some d) (sym same) end.leads.far,
-    subst (λ (p : Port). p.vertex ≡ h) (sym same) end.leads.vertex,
-  )
-]
+end_cases rows ports port v d h end = grind (arith, common_steps, Contains-push_cases)
 
 end_kept : (rows : List (List (Option ℕ))) (ports : List Port) (port : Port) (v d h : ℕ) → IsEndAt rows ports (record { vertex = v; distance = d }) h →
     IsEndAt rows (ports ++ port ∷ []) (record { vertex = v; distance = d }) h

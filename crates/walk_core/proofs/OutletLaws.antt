@@ -1,6 +1,7 @@
 -- The outlets of all vertices, one port after another.
-use Rattle.std.proofs.Common.{◌≡◌, ◌≢◌, ℕ, ◌+◌, ◌<◌, ◌≤◌, Any, List, [], ◌∷◌, ◌++◌, length, length-set, get_or}
-use Rattle.std.proofs.Common.{get_or-set_same, get_or-set_other, replicate, set, sym, ap, subst, refl, ◌∙◌, arith, inl, inr, Contains}
+use Rattle.std.proofs.lemmas.Grind.{common_steps}
+use Rattle.std.proofs.Common.{◌≡◌, ℕ, ◌+◌, ◌<◌, ◌≤◌, Any, List, [], ◌∷◌, ◌++◌, length, length-set, get_or}
+use Rattle.std.proofs.Common.{get_or-set_same, get_or-set_other, replicate, set, sym, ap, subst, ◌∙◌, arith, inl, inr, Contains}
 use Rattle.std.proofs.lemmas.Bool.{cases_eq}
 use Rattle.std.proofs.lemmas.List.{get_or_default, get_or-replicate, length-replicate}
 use Rattle.std.proofs.lemmas.List.Elements.{Contains-append_left, Contains-push, Contains-push_cases}
@@ -12,19 +13,11 @@ use Rattle.walk_core.specs.steps.SegmentWalks.{IsFarEnd, IsOutlet, HasOutlet, Li
 
 -- before the first segment there are none
 pub no_outlets : (segments : List (List Port)) (count : ℕ) → AreOutletsBefore segments 0 (replicate count [])
-no_outlets segments count u below =
-    subst (λ (l : List Outlet). AreOutlets segments u 0 l)
-    (sym (get_or-replicate {A = List Outlet} count u [] [] (omega (arith, below, length-replicate {A = List Outlet} count []))))
-    (record { each = λ outlet among. absurd (omega (arith, among.1)); every = λ i before. absurd (omega (arith, before)) })
+no_outlets segments count u below = grind (arith, common_steps, get_or-replicate, length-replicate)
 
 -- outlets that are listed stay so
 outlet_kept : (outlets : List Outlet) (outlet : Outlet) (place cost : ℕ) → HasOutlet outlets place cost → HasOutlet (outlets ++ outlet ∷ []) place cost
-outlet_kept outlets outlet place cost has = record {
-  outlet = has.outlet;
-  among = Contains-append_left outlets (outlet ∷ []) has.outlet has.among;
-  leads = has.leads;
-  costs = has.costs;
-}
+outlet_kept outlets outlet place cost has = grind (arith, common_steps, Contains-append_left)
 
 -- what is known of the outlets in the middle of a segment
 pub record AreOutletsTo (segments : List (List Port)) (root place i : ℕ) (outlets : List Outlet) : Type 0 where
@@ -55,12 +48,7 @@ outlets_yes segments root place i outlets outlet port are at is place_is cost_is
 -- one more port, which isn't
 outlets_no : (segments : List (List Port)) (root place i : ℕ) (outlets : List Outlet) (port : Port) → AreOutletsTo segments root place i outlets →
     ((q : Port) → get_or (segment_at segments place) i q ≡ port) → (port.vertex ≡ root → ⊥) → AreOutletsTo segments root place (i + 1) outlets
-outlets_no segments root place i outlets port are at isnt = record {
-  each = are.each;
-  before = are.before;
-  here = below_more (λ k. (p : Port) → get_or (segment_at segments place) k p ≡ p → p.vertex ≡ root → HasOutlet outlets place p.cost) i are.here
-      (λ p p_at is. absurd (isnt (ap (λ (q : Port). q.vertex) (sym (at p) ∙ p_at) ∙ is)));
-}
+outlets_no segments root place i outlets port are at isnt = grind (arith, common_steps)
 
 -- what is known of those of all vertices in the middle of a segment
 abbrev pub AreOutletsOnto : List (List Port) → ℕ → ℕ → List (List Outlet) → Type 0
@@ -98,14 +86,5 @@ same_at ports i j p q same within at_p at_q = sym at_p ∙ get_or_default ports 
 -- of two ports one is another vertex's
 pub far_end_at : (ports : List Port) (vertex i : ℕ) (port : Port) → length ports ≤ 2 → Any (λ p. p.vertex ≡ vertex) ports → i < length ports →
     get_or ports i port ≡ port → (port.vertex ≡ vertex → ⊥) → IsFarEnd ports vertex port.vertex
-far_end_at ports vertex i port few (k, own, in_ports, at_own, is_own) within at other = record {
-  few = few;
-  port = (i, port, within, at, refl);
-  only = λ p among. elim (cases_eq among.0 i) [
-    | inl here ↦ inr (ap (λ (q : Port). q.vertex) (same_at ports among.0 i p port here among.1 among.2 at))
-    | inr elsewhere ↦
-        let apart : k ≢ i = λ same. other (ap (λ (q : Port). q.vertex) (sym (same_at ports k i own port same in_ports at_own at)) ∙ is_own) in
-        let same : among.0 ≡ k = omega (arith, elsewhere, apart, few, within, in_ports, among.1) in
-        inl (ap (λ (q : Port). q.vertex) (same_at ports among.0 k p own same among.1 among.2 at_own) ∙ is_own)
-  ];
-}
+far_end_at ports vertex i port few (k, own, in_ports, at_own, is_own) within at other =
+    grind (arith, common_steps, cases_eq, same_at)

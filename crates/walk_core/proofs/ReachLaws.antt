@@ -1,6 +1,7 @@
 -- The rows of first hops, one vertex after another, and what they come to with the distances.
+use Rattle.std.proofs.lemmas.Grind.{common_steps}
 use Rattle.std.proofs.Common.{◌≡◌, ℕ, ◌+◌, ◌<◌, ◌≤◌, ◌↔◌, ◌⊎◌, List, [], ◌∷◌, ◌++◌, Option, Some, None, length, length-append, get_or, set, get_or-set_same}
-use Rattle.std.proofs.Common.{get_or-set_other, length-set, Contains, refl, sym, ap, subst, ◌∙◌, arith, inl, inr}
+use Rattle.std.proofs.Common.{get_or-set_other, Contains, sym, ap, subst, ◌∙◌, arith, inl, inr}
 use Rattle.std.specs.List.{slice_get}
 use Rattle.std.specs.List.Sorted.{IsStrictlyIncreasing}
 use Rattle.std.proofs.Math.ListN.{get_or-eq_default}
@@ -19,12 +20,7 @@ use Rattle.walk_core.proofs.WalkLaws.{first_hop_has_least_cost}
 -- what holds of each element so far and of one more holds of all of them
 pub each_at_more : {X : Type 0} (d : X) (P : ℕ → X → Type 0) (xs : List X) (n : ℕ) (x : X) → length xs ≡ n →
     ((w : ℕ) → w < n → P w (get_or xs w d)) → P n x → (w : ℕ) → w < n + 1 → P w (get_or (xs ++ x ∷ []) w d)
-each_at_more {X} d P xs n x long before last =
-    below_more (λ w. P w (get_or (xs ++ x ∷ []) w d)) n
-    (λ w below.
-    let near : w < length xs = omega (arith, long, below) in
-    subst (λ (y : X). P w y) (sym (get_or_append_left xs (x ∷ []) d w near)) (before w below))
-    (subst (λ (y : X). P n y) (sym (get_or_push xs x d n long)) last)
+each_at_more {X} d P xs n x long before last = grind (arith, common_steps, get_or_append_left, get_or_push)
 
 -- the rows of the first ends, and of one more
 pub known_more : (arc : Arcs) (ends : ℕ → ℕ × ℕ) (rows : List (List (Option ℕ))) (i to : ℕ) (row : List (Option ℕ)) → to < length rows → to ≡ (ends i).0 →
@@ -48,37 +44,18 @@ known_more arc ends rows i to row within is before here = below_more (λ j. AreL
 -- one more list that ascends
 pub ascending_more : (lists : List (List ℕ)) (list : List ℕ) → AreAscending lists → IsStrictlyIncreasing list → AreAscending (lists ++ list ∷ [])
 ascending_more lists list are is v =
-    elim (cases_lt v (length lists)) [
-      | inl earlier ↦ subst IsStrictlyIncreasing (sym (get_or_append_left lists (list ∷ []) [] v earlier)) (are v)
-      | inr later ↦ elim (cases_eq v (length lists)) [
-        | inl here ↦ subst IsStrictlyIncreasing (sym (get_or_push lists list [] v (sym here))) is
-        | inr past ↦
-            let none : get_or (lists ++ list ∷ []) v [] ≡ [] = get_or-eq_default (lists ++ list ∷ []) [] (omega (arith, length-append lists (list ∷ []))) in
-            subst IsStrictlyIncreasing (sym none) (λ k short. absurd (omega arith))
-      ]
-    ]
+    grind (arith, common_steps, cases_eq, cases_lt, get_or-eq_default, get_or_append_left, get_or_push)
 
 -- an empty list that is put at a place is there, and lists that ascend still do
 pub none_at : (lists : List (List ℕ)) (i : ℕ) → get_or (set lists i []) i [] ≡ []
-none_at lists i = elim (cases_lt i (length lists)) [
-  | inl within ↦ get_or-set_same lists i [] [] within
-  | inr past ↦ get_or-eq_default (set lists i []) [] (omega (arith, past, length-set lists i []))
-]
+none_at lists i = grind (arith, common_steps, cases_lt, get_or-eq_default)
 
 pub ascending_without : (lists : List (List ℕ)) (i : ℕ) → AreAscending lists → AreAscending (set lists i [])
-ascending_without lists i are v = elim (cases_eq v i) [
-  | inl same ↦ subst IsStrictlyIncreasing (sym (subst (λ (n : ℕ). get_or (set lists i []) n [] ≡ []) (sym same) (none_at lists i)))
-      (λ k short. absurd (omega (arith, short)))
-  | inr other ↦ subst IsStrictlyIncreasing (sym (get_or-set_other lists i v [] [] other)) (are v)
-]
+ascending_without lists i are v = grind (arith, common_steps, cases_eq, none_at)
 
 -- no hops of the vertices below 0
 pub no_hops_listed : (arc : Arcs) (root : ℕ) → AreFirstHops arc root 0 []
-no_hops_listed arc root = record {
-  long = refl;
-  exact = λ v below. absurd (omega (arith, below));
-  ascending = λ v k short. absurd (omega (arith, short));
-}
+no_hops_listed arc root = grind (arith, common_steps)
 
 -- the hops of one more vertex
 pub hops_more : (arc : Arcs) (root n : ℕ) (lists : List (List ℕ)) (list : List ℕ) → AreFirstHops arc root n lists →

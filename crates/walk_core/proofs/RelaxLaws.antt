@@ -1,4 +1,5 @@
 -- Relaxing keeps what is known of distances, and ends at the least costs.
+use Rattle.std.proofs.lemmas.Grind.{common_steps}
 use Rattle.std.proofs.Common.{◌≡◌, ◌≢◌, ℕ, ◌+◌, ◌^◌, ◌<◌, ◌≤◌, zero, suc, Bool, true, false, ◌||◌, cond, IsTrue, ◌↔◌, List, [], ◌∷◌, ◌++◌, Option, Some, None}
 use Rattle.std.proofs.Common.{length, length-set, set, replicate, get_or-set_same, get_or-set_other, refl, sym, ◌∙◌, ap, subst, arith, inl, inr, ◌⊎◌}
 use Rattle.std.specs.Bool.{OnFalse}
@@ -58,14 +59,7 @@ missing_changed (Some d ∷ ds) (suc v) x y in_range some = missing_changed ds v
 -- of the distances after v got one, one is v's or it was there before
 pub distance_after : (ds : List (Option ℕ)) (v x w d : ℕ) → v < length ds → distance_at (set ds v (Some x)) w ≡ Some d →
     ((w ≡ v) × (d ≡ x)) ⊎ ((w ≢ v) × (distance_at ds w ≡ Some d))
-distance_after ds v x w d in_range is =
-    elim (cases_eq w v) [
-      | inl same ↦
-          let at_v : distance_at (set ds v (Some x)) v ≡ Some x = get_or-set_same ds v (Some x) None in_range in
-          let at_w : distance_at (set ds v (Some x)) v ≡ Some d = rw same at is in
-          inl (same, cc)
-      | inr other ↦ inr (other, sym (get_or-set_other ds v w (Some x) None other) ∙ is)
-    ]
+distance_after ds v x w d in_range is = grind (arith, common_steps, cases_eq)
 
 -- a distance that was not lower than what an arc offers is at most that
 pub is_at_most : (distance : Option ℕ) (most : ℕ) → (most < weight_of distance → ⊥) → most < 2 ^ 64 → IsAtMost distance most
@@ -75,24 +69,11 @@ is_at_most (Some d) most no_less fits = record { value = d; is = refl; below = o
 -- what was at most this is so when a distance fell
 pub at_most_after : (ds : List (Option ℕ)) (v x w most : ℕ) → v < length ds → x < weight_of (distance_at ds v) →
     IsAtMost (distance_at ds w) most → IsAtMost (distance_at (set ds v (Some x)) w) most
-at_most_after ds v x w most in_range falls is =
-    elim (cases_eq w v) [
-      | inl same ↦
-          let was : distance_at ds v ≡ Some is.value = rw (sym same) is.is in
-          let less : x < is.value = rw was at falls in
-          let now : distance_at (set ds v (Some x)) w ≡ Some x = rw same (get_or-set_same ds v (Some x) None in_range) in
-          record { value = x; is = now; below = omega (arith, less, is.below) }
-      | inr other ↦ record { value = is.value; is = get_or-set_other ds v w (Some x) None other ∙ is.is; below = is.below }
-    ]
+at_most_after ds v x w most in_range falls is = grind (arith, common_steps, cases_eq)
 
 -- nothing is relaxed
 pub relaxes_none : {arc : Arcs} {ds : List (Option ℕ)} → HaveRoom ds → Relaxes arc ds ds false
-relaxes_none room = record {
-  room = room;
-  walked = λ root walked. walked;
-  falls = tt;
-  same = refl;
-}
+relaxes_none room = grind (arith, common_steps)
 
 -- a distance is missing or it is there
 pub distance_cases : (distance : Option ℕ) → (distance ≡ None) ⊎ ((y : ℕ) × (distance ≡ Some y))
@@ -101,11 +82,7 @@ distance_cases (Some y) = inr (y, refl)
 
 -- no more are missing than before
 pub missing_after : (ds : List (Option ℕ)) (v x : ℕ) → v < length ds → missing (set ds v (Some x)) ≤ missing ds
-missing_after ds v x in_range =
-    elim (distance_cases (distance_at ds v)) [
-      | inl none ↦ omega (arith, missing_found ds v x in_range none)
-      | inr some ↦ omega (arith, missing_changed ds v x some.0 in_range some.1)
-    ]
+missing_after ds v x in_range = grind (arith, common_steps, distance_cases, missing_changed, missing_found)
 
 -- the cost over one more arc is less than the greatest number of 64 bits
 pub sum_fits : (ds : List (Option ℕ)) (u d c : ℕ) → HaveRoom ds → distance_at ds u ≡ Some d → c < 2 ^ 32 → d + c + 1 < 2 ^ 64
@@ -172,12 +149,7 @@ relaxes_arc arc ds u v c d room over small in_range near falls = record {
 -- the distance of u stays when an arc from u is relaxed
 pub near_after : (ds : List (Option ℕ)) (u v c d : ℕ) → v < length ds → distance_at ds u ≡ Some d → d + c < weight_of (distance_at ds v) →
     distance_at (set ds v (Some (d + c))) u ≡ Some d
-near_after ds u v c d in_range near falls =
-    let apart : u ≢ v = λ same.
-    let at_v : distance_at ds v ≡ Some d = rw same at near in
-    let lower : d + c < d = rw at_v at falls in
-    omega arith in
-    get_or-set_other ds v u (Some (d + c)) None apart ∙ near
+near_after ds u v c d in_range near falls = grind (arith, common_steps)
 
 -- relaxing goes on
 pub relaxes_on : {arc : Arcs} {before now after : List (Option ℕ)} (fell more : Bool) →
@@ -281,36 +253,16 @@ missing_at_first zero = refl
 missing_at_first (suc n) = omega (arith, missing_at_first n)
 
 pub only_at_root : (n root v d : ℕ) → root < n → distance_at (set (replicate n None) root (Some 0)) v ≡ Some d → (v ≡ root) × (d ≡ 0)
-only_at_root n root v d in_range is =
-    let long : root < length (replicate {A = Option ℕ} n None) = simp length-replicate in_range in
-    elim (distance_after (replicate n None) root 0 v d long is) [
-      | inl found ↦ found
-      | inr other ↦ let none = none_at_first n v in let some = other.1 in cc
-    ]
+only_at_root n root v d in_range is = grind (arith, common_steps, distance_after, length-replicate, none_at_first)
 
 -- at first the root has room for the costs of all arcs
 pub room_at_first : (n root : ℕ) → root < n → n < 2 ^ 32 → HaveRoom (set (replicate n None) root (Some 0))
-room_at_first n root in_range small = record {
-  few = simp (length-set, length-replicate) small;
-  room = λ v d is.
-      let as_long : length (set (replicate {A = Option ℕ} n None) root (Some 0)) ≡ n = simp (length-set, length-replicate) refl in
-      let zero_cost : d ≡ 0 = (only_at_root n root v d in_range is).1 in
-      let long : root < length (replicate {A = Option ℕ} n None) = simp length-replicate in_range in
-      let one_less = missing_found (replicate n None) root 0 long (none_at_first n root) in
-      let all = missing_at_first n in
-      omega arith;
-}
+room_at_first n root in_range small =
+    grind (arith, common_steps, length-replicate, missing_at_first, missing_found, none_at_first, only_at_root)
 
 -- at first only the walk of no leg is known
 pub walked_at_first : (arc : Arcs) (n root : ℕ) → root < n → AreWalked arc root (set (replicate n None) root (Some 0))
-walked_at_first arc n root in_range = record {
-  start =
-      let long : root < length (replicate {A = Option ℕ} n None) = simp length-replicate in_range in
-      get_or-set_same (replicate n None) root (Some 0) None long;
-  walked = λ v d is.
-      let at = only_at_root n root v d in_range is in
-      record { legs = []; leads = sym (at.0); costs = sym (at.1) };
-}
+walked_at_first arc n root in_range = grind (arith, common_steps, length-replicate, only_at_root)
 
 -- where no arc undercuts a distance, no walk does
 pub no_walk_undercuts : (arc : Arcs) (count : ℕ) (ds : List (Option ℕ)) → ((u v c : ℕ) → u < count → arc u v c → v < count) →

@@ -1,4 +1,5 @@
 -- First hops over segments: the vertices of the segments that the root sends on from which a least walk goes on.
+use Rattle.std.proofs.lemmas.Grind.{common_steps}
 use Rattle.std.proofs.Common.{◌≡◌, ◌≢◌, ◌↔◌, MatchOption, None, ℕ, ◌+◌, ◌<◌, ◌≤◌, List, ◌∷◌, Option, Some, length, refl, sym, ap, subst, ◌∙◌, arith, inl}
 use Rattle.std.proofs.Common.{inr, Contains, [], get_or}
 use Rattle.std.proofs.lemmas.Bool.{cases_eq}
@@ -48,14 +49,7 @@ cost_from mesh u v d is below away = ((is.rows.each u below).least.least v d).0 
 -- the arc over an outlet to another vertex of its segment
 pub arc_over : (segments : List (List Port)) (root : ℕ) (outlet : Outlet) (port : Port) → IsOutlet segments root outlet →
     Contains (segment_at segments outlet.place) port → root ≢ port.vertex → SendsAcross segments root port.vertex outlet.cost
-arc_over segments root outlet port is among apart = record {
-  apart = apart;
-  over = record {
-    segment = segment_at segments outlet.place;
-    among = segment_among segments outlet.place is.within;
-    over = record { near = is.port; far = port; near_among = is.among; far_among = among; from = is.vertex; to = refl; costs = is.costs };
-  };
-}
+arc_over segments root outlet port is among apart = grind (arith, common_steps, segment_among)
 
 -- a way out over an outlet begins a least walk
 pub hop_from_outlet : (mesh : Mesh) (root : ℕ) (outlets : List Outlet) (aim : Aim) (h : ℕ) → IsWanted mesh root outlets aim → GoesOut mesh outlets aim h →

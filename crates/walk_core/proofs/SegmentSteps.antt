@@ -1,5 +1,6 @@
 -- Walks over segments, one vertex or segment after another.
-use Rattle.std.proofs.Common.{◌≡◌, ℕ, ◌+◌, ◌<◌, ◌≤◌, List, [], ◌∷◌, ◌++◌, Option, Some, None, length, length-append, get_or, sym, ap, subst, ◌∙◌, arith}
+use Rattle.std.proofs.lemmas.Grind.{common_steps}
+use Rattle.std.proofs.Common.{◌≡◌, ℕ, ◌+◌, ◌<◌, ◌≤◌, List, [], ◌∷◌, ◌++◌, Option, Some, None, length, length-append, get_or, sym, ap, subst, arith}
 use Rattle.std.proofs.lemmas.List.{get_or_append_left, get_or_push}
 use Rattle.std.specs.List.Sorted.{IsStrictlyIncreasing}
 use Rattle.walk_core.specs.declared.ways.Aim.{Aim}
@@ -51,10 +52,7 @@ knows_segment mesh n reach knows from = record {
 
 -- one thing alone is left behind a cost
 pub same_rest : (aim : Aim) (cost : ℕ) (one other : Aim) → IsBehind aim cost one → IsBehind aim cost other → one ≡ other
-same_rest aim cost one other is too =
-    let vertex : one.vertex ≡ other.vertex = is.vertex ∙ sym too.vertex in
-    let distance : one.distance ≡ other.distance = omega (arith, is.sum, too.sum) in
-    ap (λ (n : ℕ). record { vertex = n; distance = one.distance }) vertex ∙ ap (λ (n : ℕ). record { vertex = other.vertex; distance = n }) distance
+same_rest aim cost one other is too = grind (arith, common_steps)
 
 -- a vertex of a segment that is as far as this, where none is nearer, is as far as the nearest
 pub end_is_nearest : (mesh : Mesh) (place : ℕ) (rest : Aim) (reach : Reach) → AreWalksFrom mesh.rows (segment_at mesh.segments place) mesh.count reach →

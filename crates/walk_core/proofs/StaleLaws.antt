@@ -1,4 +1,5 @@
 -- Vertices that are stale, since their distance fell after their arcs were relaxed.
+use Rattle.std.proofs.lemmas.Grind.{common_steps}
 use Rattle.std.proofs.Common.{◌≡◌, ◌≢◌, ℕ, ◌+◌, ◌<◌, ◌≤◌, zero, suc, Bool, true, false, cond, IsTrue, ◌↔◌, List, [], ◌∷◌, Option, Some, None, length}
 use Rattle.std.proofs.Common.{length-set, get_or, set, get_or-set_same, get_or-set_other, replicate, refl, sym, subst, ◌∙◌, arith, inl, inr}
 use Rattle.std.proofs.lemmas.Bool.{cases_eq}
@@ -83,20 +84,12 @@ lowers_one found v ds after stale new true in_range marked falls after_is new_is
 pub settled_on : (segments : List (List Port)) (found : ℕ) (before after : Marked) → AreSettled segments before.distances before.stale →
     Lowers found before after → ((v most : ℕ) → IsAtMost (distance_at before.distances v) most → IsAtMost (distance_at after.distances v) most) →
     length after.stale ≡ length after.distances → AreSettled segments after.distances after.stale
-settled_on segments found before after settled lowers lower long = record {
-  long = long;
-  tight = λ u unmarked v c d over is.
-      let was = lowers.marks u unmarked in
-      lower v (d + c) (settled.tight u was.0 v c d over (sym was.1 ∙ is));
-}
+settled_on segments found before after settled lowers lower long = grind (arith, common_steps)
 
 -- distances that fell are no more than what segments were entered at
 pub entered_on : (segments : List (List Port)) (before after entries : List (Option ℕ)) → AreEntered segments before entries →
     ((v most : ℕ) → IsAtMost (distance_at before v) most → IsAtMost (distance_at after v) most) → AreEntered segments after entries
-entered_on segments before after entries entered lower = record {
-  long = entered.long;
-  each = λ i most is port among. lower port.vertex most (entered.each i most is port among);
-}
+entered_on segments before after entries entered lower = grind (arith, common_steps)
 
 -- a segment is entered
 pub entered_at : (segments : List (List Port)) (place found : ℕ) (before after entries : List (Option ℕ)) → place < length segments →
@@ -118,22 +111,9 @@ entered_at segments place found before after entries within entered lower all = 
 -- a vertex whose arcs were relaxed needs no mark
 pub settled_there : (segments : List (List Port)) (u : ℕ) (distances : List (Option ℕ)) (stale : List Bool) → AreSettled segments distances stale →
     IsTightFrom (Sends segments) u distances → AreSettled segments distances (set stale u false)
-settled_there segments u distances stale settled here = record {
-  long = length-set stale u false ∙ settled.long;
-  tight = λ v unmarked. elim (cases_eq v u) [
-    | inl same ↦ subst (λ (n : ℕ). IsTightFrom (Sends segments) n distances) (sym same) here
-    | inr other ↦ settled.tight v (sym (get_or-set_other stale u v false true other) ∙ unmarked)
-  ];
-}
+settled_there segments u distances stale settled here = grind (arith, common_steps, cases_eq)
 
 -- at first the root alone has a distance, and is marked
 pub settled_at_first : (segments : List (List Port)) (count root : ℕ) (stale : List Bool) → root < count → length stale ≡ count →
     AreSettled segments (set (replicate count None) root (Some 0)) (set stale root true)
-settled_at_first segments count root stale below long = record {
-  long = simp (length-set, length-replicate) long;
-  tight = λ u unmarked v c d over is.
-      let same : u ≡ root = (only_at_root count root u d below is).0 in
-      let no : get_or (set stale root true) root true ≡ false = rw same at unmarked in
-      let yes : get_or (set stale root true) root true ≡ true = get_or-set_same stale root true true (omega (arith, below, long)) in
-      absurd (let k : true ≡ false = sym yes ∙ no in cc);
-}
+settled_at_first segments count root stale below long = grind (arith, common_steps, length-replicate, only_at_root)

@@ -1,34 +1,22 @@
 -- Laws of walks, least costs, first hops and best offers, over any arc relation.
-use Rattle.std.proofs.Common.{◌≡◌, ℕ, ◌≤◌, ◌↔◌, List, [], ◌∷◌, refl, subst, arith}
+use Rattle.std.proofs.lemmas.Grind.{common_steps}
+use Rattle.std.proofs.Common.{◌≡◌, ℕ, ◌≤◌, ◌↔◌, List, [], ◌∷◌, refl, arith}
 use Rattle.walk_core.specs.Walks.{Arcs, Leg, Walks, walk_cost, LeastWalk, LeastCost, FirstHop}
 use Rattle.walk_core.specs.Reach.{Reach, AreLeastWalks}
 use Rattle.walk_core.specs.Offers.{Offers, OfferCosts, BestCost, BestHop}
 
 -- a least cost is at most what each walk costs
 pub least_cost_at_most : {arc : Arcs} {u v d : ℕ} → LeastCost arc u v d → (legs : List Leg) → Walks arc u legs v → d ≤ walk_cost legs
-least_cost_at_most {arc} {u} {v} {d} least legs leads =
-    let below : walk_cost least.legs ≤ walk_cost legs = least.walk.least legs leads in
-    let P : ℕ → Type 0 = λ n. n ≤ walk_cost legs in
-    subst P least.costs below
+least_cost_at_most {arc} {u} {v} {d} least legs leads = grind (arith, common_steps)
 
 -- a walk of this cost that no walk undercuts makes it the least cost
 pub least_cost_from : {arc : Arcs} {u v : ℕ} (d : ℕ) (legs : List Leg) → Walks arc u legs v → walk_cost legs ≡ d →
     ((others : List Leg) → Walks arc u others v → d ≤ walk_cost others) → LeastCost arc u v d
-least_cost_from {arc} {u} {v} d legs leads costs below = record {
-  legs = legs;
-  walk = record {
-    leads = leads;
-    least = λ others other. let under : d ≤ walk_cost others = below others other in omega arith;
-  };
-  costs = costs;
-}
+least_cost_from {arc} {u} {v} d legs leads costs below = grind (arith, common_steps)
 
 -- there is one least cost
 pub least_cost_unique : {arc : Arcs} {u v d e : ℕ} → LeastCost arc u v d → LeastCost arc u v e → d ≡ e
-least_cost_unique {arc} {u} {v} {d} {e} one other =
-    let down : d ≤ walk_cost other.legs = least_cost_at_most one other.legs other.walk.leads in
-    let up : e ≤ walk_cost one.legs = least_cost_at_most other one.legs one.walk.leads in
-    omega arith
+least_cost_unique {arc} {u} {v} {d} {e} one other = grind (arith, common_steps, least_cost_at_most)
 
 -- a least walk has the least cost
 pub least_walk_has_least_cost : {arc : Arcs} {u v : ℕ} {legs : List Leg} → LeastWalk arc u legs v → LeastCost arc u v (walk_cost legs)
@@ -40,9 +28,7 @@ first_hop_has_least_cost hop = least_walk_has_least_cost hop.walk
 
 -- a first hop is the end of an arc
 pub first_hop_is_arc : {arc : Arcs} {u v h : ℕ} → FirstHop arc u v h → (c : ℕ) × arc u h c
-first_hop_is_arc {arc} {u} {v} {h} hop =
-    let P : ℕ → Type 0 = λ n. arc u n hop.leg.cost in
-    (hop.leg.cost, subst P hop.begins (hop.walk.leads.0))
+first_hop_is_arc {arc} {u} {v} {h} hop = grind (arith, common_steps)
 
 -- there is one best cost
 pub best_cost_unique : {arc : Arcs} {offer : Offers} {u c d : ℕ} → BestCost arc offer u c → BestCost arc offer u d → c ≡ d
@@ -76,10 +62,7 @@ walks_over over u [] v leads = leads
 walks_over over u (leg ∷ legs) v leads = (over u leg.to leg.cost (leads.0), walks_over over leg.to legs v (leads.1))
 
 pub least_walk_over : {arc other : Arcs} {u v : ℕ} {legs : List Leg} → SameArcs arc other → LeastWalk arc u legs v → LeastWalk other u legs v
-least_walk_over {arc} {other} {u} {v} {legs} same walk = record {
-  leads = walks_over (λ a b c. (same a b c).0) u legs v walk.leads;
-  least = λ others leads. walk.least others (walks_over (λ a b c. (same a b c).1) u others v leads);
-}
+least_walk_over {arc} {other} {u} {v} {legs} same walk = grind (arith, common_steps, walks_over)
 
 -- least costs are the same over the same arcs
 pub least_cost_over : {arc other : Arcs} {u v d : ℕ} → SameArcs arc other → LeastCost arc u v d → LeastCost other u v d

@@ -1,7 +1,7 @@
 use Rattle.std.proofs.Common.{◌≡◌, ◌∙◌, ◌++◌, ℕ, List, Option, Some, None, set, replicate, length, take, drop, ap, sym, subst, arith}
 use Rattle.std.proofs.lemmas.Grind.{common_steps}
 use Rattle.walk_core.specs.steps.Ends.{IsShortRow}
-use Rattle.walk_core.specs.steps.Relaxing.{AreWalked, HaveRoom}
+use Rattle.walk_core.specs.steps.Relaxing.{AreWalked}
 use Rattle.walk_core.specs.Segments.{AreSegments, Sends, SendsAcross}
 use Rattle.walk_core.specs.declared.segment.Port.{Port}
 use Rattle.walk_core.proofs.FloodLaws.{row_of_tight}
@@ -18,12 +18,7 @@ pub settle-requires-clause-segments : goal.settle-requires-clause-segments
 settle-requires-clause-segments c = subst (λ (n : ℕ). AreSegments n c.args.segments.now) (sym c.requires.outlets.long) c.requires.segments
 
 pub settle-requires-clause-room : goal.settle-requires-clause-room
-settle-requires-clause-room c =
-    let first : c.in_ok-distances.distances.items ≡ replicate c.args.count None =
-    c.in_ok-distances.ensures.items_if_clones_equal (λ y is. is) ∙ ap (λ (d : Option ℕ). replicate c.args.count d) c.none.ensures in
-    let begins = begun _ c.deref_mut-3.result.now c.args.count c.args.root c.of.result first c.of.ensures c.deref_mut-3.ensures.value in
-    subst (λ (l : List (Option ℕ)). HaveRoom l) (sym begins)
-    (room_at_first c.args.count c.args.root c.requires.root (omega (arith, c.ranges.count.fits)))
+settle-requires-clause-room c = grind (arith, common_steps, begun, room_at_first)
 
 pub returns : goal.returns
 returns c =

@@ -1,3 +1,4 @@
+use Rattle.std.proofs.lemmas.Grind.{common_steps}
 use Rattle.std.proofs.Common.{◌≡◌, ℕ, Bool, List, Option, Contains, length, get_or, sym, ap, subst, arith}
 use Rattle.std.proofs.lemmas.List.Elements.{Contains-get_or}
 use borrow.Author.Count.{below_more}
@@ -22,12 +23,7 @@ lower_vertex-requires c =
     }
 
 pub loop-port-init : goal.loop-port-init
-loop-port-init c = record {
-  falls = falls_none c.requires.room;
-  lowers = lowers_none c.args.found (record { distances = c.args.distances.now; stale = c.args.stale.now });
-  entry = c.requires.entry;
-  lowered = λ j below. absurd (omega (arith, below));
-}
+loop-port-init c = grind (arith, common_steps, falls_none, lowered, lowers_none)
 
 pub loop-port-preserved : goal.loop-port-preserved
 loop-port-preserved c =

@@ -1,3 +1,4 @@
+use Rattle.std.proofs.lemmas.Grind.{common_steps}
 use Rattle.std.proofs.Common.{◌≡◌, ℕ, ◌+◌, ◌<◌, List, None, Option, Some, get_or, length, sym, subst, ◌∙◌, arith}
 use Rattle.std.proofs.lemmas.List.{get_or_default}
 use Rattle.std.proofs.lemmas.List.Elements.{Contains-get_or}
@@ -46,12 +47,7 @@ cross-requires c =
     }
 
 pub loop-outlet-init : goal.loop-outlet-init
-loop-outlet-init c = record {
-  falls = falls_none c.requires.room;
-  lowers = lowers_none c.in-Some.near (record { distances = c.args.distances.now; stale = c.args.stale.now });
-  entered = c.requires.entered;
-  reached = λ j below. absurd (omega (arith, below));
-}
+loop-outlet-init c = grind (arith, common_steps, falls_none, lowers_none)
 
 pub loop-outlet-preserved : goal.loop-outlet-preserved
 loop-outlet-preserved c =
@@ -72,9 +68,7 @@ loop-outlet-preserved c =
     }
 
 pub returns-clause-settled : goal.returns-clause-settled
-returns-clause-settled c =
-    settled_on c.args.segments.now c.in-Some.near _ _ c.requires.settled c.loop-outlet.invariant.lowers c.loop-outlet.invariant.falls.lower
-    (omega (arith, c.loop-outlet.auto.distances, c.loop-outlet.auto.stale, c.requires.settled.long))
+returns-clause-settled c = grind (arith, common_steps, settled_on)
 
 pub returns-clause-tight : goal.returns-clause-tight
 returns-clause-tight c =

@@ -1,3 +1,5 @@
+use Rattle.std.proofs.Common.{arith}
+use Rattle.std.proofs.lemmas.Grind.{common_steps}
 use Rattle.std.proofs.Common.{◌≡◌, ℕ, [], List, Vec, Global, get_or, refl, sym, ap, subst, ◌∙◌}
 use Rattle.std.proofs.lemmas.List.{get_or_default}
 use Rattle.walk_core.specs.declared.hops.Departure.{Departure}
@@ -8,10 +10,7 @@ use Rattle.walk_core.proofs.hops.find_first_hops.Goals as goal
 use Rattle.walk_core.proofs.hops.find_first_hops.Goals.{then-begins+in_ok-push, else-begins}
 
 pub loop-departure-init : goal.loop-departure-init
-loop-departure-init c =
-    let Leads : Departure → ℕ → Type 0 = λ d n. Begins c.args.rows.now d c.args.v c.args.distance × (d.to ≡ n) in
-    subst (λ (l : List ℕ). AddsNumbers (BeginsAt [] c.args.rows.now c.args.v c.args.distance) [] l) (sym c.clear.ensures.items)
-    (leads_nowhere Leads c.args.departures.now [])
+loop-departure-init c = grind (arith, common_steps, leads_nowhere)
 
 pub loop-departure-preserved : goal.loop-departure-preserved
 loop-departure-preserved c =

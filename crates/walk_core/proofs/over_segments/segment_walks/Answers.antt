@@ -1,9 +1,10 @@
-use Rattle.std.proofs.Common.{ℕ, ◌≤◌, ◌+◌, ◌++◌, ◌∷◌, [], List, length, ap, get_or, sym, subst, ◌∙◌, arith, take}
+use Rattle.std.proofs.lemmas.Grind.{common_steps}
+use Rattle.std.proofs.Common.{ℕ, ◌≤◌, ◌+◌, ◌++◌, ◌∷◌, [], List, ap, get_or, sym, subst, ◌∙◌, arith, take}
 use Rattle.walk_core.specs.Reach.{Reach, AreWalksBelow}
 use Rattle.walk_core.specs.Segments.{SendsAcross}
 use Rattle.walk_core.specs.Walks.{Arcs}
 use Rattle.walk_core.specs.declared.outlets.Outlet.{Outlet}
-use Rattle.walk_core.specs.steps.SegmentWalks.{IsJoined, IsJoinedEnd, Joined}
+use Rattle.walk_core.specs.steps.SegmentWalks.{IsJoined, IsJoinedEnd}
 use Rattle.walk_core.proofs.RowLaws.{joined_below, lone_more}
 use Rattle.walk_core.proofs.over_segments.segment_walks.Goals as goal
 
@@ -15,15 +16,7 @@ new-graph-requires c =
     (subst (λ (l : List (List Outlet)). IsJoinedEnd l end) c.as_slice.ensures.value c.joined_end-end.ensures))
 
 pub loop-root-init : goal.loop-root-init
-loop-root-init c =
-    let end : ℕ = c.joined_end-end.result in
-    let arc : Arcs = SendsAcross c.args.segments.now in
-    let within : end ≤ c.args.count =
-    omega (arith, c.joined_end-end.ensures.within, c.in_ok-outlets.ensures.long, ap (λ (l : List (List Outlet)). length l) c.as_slice.ensures.value) in
-    let are : AreWalksBelow arc end end c.in_ok-all.all.items =
-    subst (λ (g : Joined). AreWalksBelow (SendsAcross g.segments) g.count g.count c.in_ok-all.all.items) c.new-graph.ensures c.in_ok-all.ensures in
-    subst (λ (l : List Reach). AreWalksBelow arc c.args.count end l) (sym c.in_ok-reserve.ensures.items)
-    (record { long = are.long; least = are.least; near = λ u reach at v d is. omega (arith, within, are.near u reach at v d is) })
+loop-root-init c = grind (arith, common_steps)
 
 pub loop-root-preserved : goal.loop-root-preserved
 loop-root-preserved c =

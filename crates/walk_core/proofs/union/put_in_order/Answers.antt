@@ -1,3 +1,4 @@
+use Rattle.std.proofs.lemmas.Grind.{common_steps}
 use Rattle.std.proofs.Common.{arith}
 use Rattle.std.proofs.lemmas.List.Filters.{dedup_is}
 use Rattle.std.proofs.lemmas.List.Kept.{Contains-dedup_nat, Contains-from_dedup}
@@ -18,7 +19,4 @@ returns c =
     }
 
 pub returns-then-len-lt2 : goal.returns-then-len-lt2
-returns-then-len-lt2 c = record {
-  ascending = λ k within. absurd (omega (arith, c.len.ensures, c.if-len-lt2.true));
-  kept = λ x. (λ h. h, λ h. h);
-}
+returns-then-len-lt2 c = grind (arith, common_steps)

@@ -1,15 +1,14 @@
-use Rattle.std.proofs.Common.{ℕ, List, [], get_or, sym, subst}
+use Rattle.std.proofs.Common.{arith}
+use Rattle.std.proofs.lemmas.Grind.{common_steps}
+use Rattle.std.proofs.Common.{ℕ, [], get_or}
 use Rattle.std.proofs.lemmas.List.{get_or_default}
 use Rattle.walk_core.specs.declared.offers.Offer.{Offer}
-use Rattle.walk_core.specs.steps.Adding.{AddsNumbers, SomeLeadsTo}
 use Rattle.walk_core.proofs.AddingLaws.{leads_nowhere, leads_more, leads_all}
 use Rattle.walk_core.proofs.OfferLaws.{IsHopBelow, hops_in_order}
 use Rattle.walk_core.proofs.walks.LeastWalks.hops_towards.Goals as goal
 
 pub loop-offer-init : goal.loop-offer-init
-loop-offer-init c =
-    subst (λ (l : List ℕ). AddsNumbers (SomeLeadsTo (IsHopBelow c.args.self.now c.args.cost c.args.count) []) [] l) (sym c.new-hops.ensures.items)
-    (leads_nowhere (IsHopBelow c.args.self.now c.args.cost c.args.count) c.args.offers.now [])
+loop-offer-init c = grind (arith, common_steps, leads_nowhere)
 
 pub loop-offer-preserved : goal.loop-offer-preserved
 loop-offer-preserved c =

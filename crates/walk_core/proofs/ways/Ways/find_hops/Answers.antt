@@ -1,3 +1,4 @@
+use Rattle.std.proofs.lemmas.Grind.{common_steps}
 use Rattle.std.proofs.Common.{[], ◌∷◌, ℕ, List, Contains, None, get_or, refl, sym, subst, ◌∙◌, arith}
 use Rattle.std.proofs.lemmas.List.{get_or_default}
 use Rattle.std.proofs.lemmas.List.Elements.{Contains-get_or}
@@ -12,10 +13,7 @@ use Rattle.walk_core.proofs.WalkLaws.{first_hop_has_least_cost}
 use Rattle.walk_core.proofs.ways.Ways.find_hops.Goals as goal
 
 pub loop-outlet-init : goal.loop-outlet-init
-loop-outlet-init c =
-    let aim : Aim = record { vertex = c.args.v; distance = c.in-Some.distance } in
-    subst (λ (l : List ℕ). AddsNumbers (GoesOut c.args.self.now [] aim) [] l) (sym c.clear.ensures.items)
-    (leads_nowhere (GoesOver c.args.self.now aim) c.args.outlets.now [])
+loop-outlet-init c = grind (arith, common_steps, leads_nowhere)
 
 pub add_hops-requires : goal.add_hops-requires
 add_hops-requires c =

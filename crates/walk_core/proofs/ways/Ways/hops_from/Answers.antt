@@ -1,18 +1,14 @@
-use Rattle.std.proofs.Common.{◌≡◌, ◌++◌, ◌∷◌, [], ◌+◌, ℕ, List, get_or, length, inl, inr, ap, sym, subst, ◌∙◌, arith}
+use Rattle.std.proofs.lemmas.Grind.{common_steps}
+use Rattle.std.proofs.Common.{◌≡◌, ◌++◌, ◌∷◌, [], ◌+◌, ℕ, List, get_or, inl, inr, ap, sym, subst, ◌∙◌, arith}
 use Rattle.walk_core.specs.Segments.{SendsAcross}
 use Rattle.walk_core.specs.Walks.{Arcs}
-use Rattle.walk_core.specs.declared.outlets.Outlet.{Outlet}
-use Rattle.walk_core.specs.declared.segment.Port.{Port}
-use Rattle.walk_core.specs.steps.SegmentWalks.{AreOutlets}
 use Rattle.walk_core.specs.steps.FirstHops.{AreFirstHops, ListFirstHops}
 use Rattle.walk_core.proofs.ReachLaws.{hops_more, lists_of_all, no_hops_listed}
 use Rattle.walk_core.proofs.RowLaws.{no_arc}
 use Rattle.walk_core.proofs.ways.Ways.hops_from.Goals as goal
 
 pub hops_over_lan-requires-clause-outlets : goal.hops_over_lan-requires-clause-outlets
-hops_over_lan-requires-clause-outlets c =
-    let segments : List (List Port) = c.args.self.now.segments in
-    subst (λ (l : List Outlet). AreOutlets segments c.args.root (length segments) l) c.in-Some.ensures.0 c.requires.outlets
+hops_over_lan-requires-clause-outlets c = grind (arith, common_steps)
 
 pub loop-v-init : goal.loop-v-init
 loop-v-init c = subst (λ (l : List (List ℕ)). AreFirstHops (SendsAcross c.args.self.now.segments) c.args.root 0 l) (sym c.in_ok-hops.ensures)

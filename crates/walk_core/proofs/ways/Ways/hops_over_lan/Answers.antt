@@ -1,8 +1,9 @@
+use Rattle.std.proofs.Common.{arith}
+use Rattle.std.proofs.lemmas.Grind.{common_steps}
 use Rattle.std.proofs.Common.{[], ℕ, List, MatchOption, Option, sym, subst}
 use Rattle.std.proofs.lemmas.List.Elements.{Contains-push}
 use Rattle.std.proofs.lemmas.Result.{IfOk-weaker}
 use Rattle.walk_core.specs.Reach.{Reach}
-use Rattle.walk_core.specs.steps.Ascending.{AreAscending}
 use Rattle.walk_core.specs.Segments.{SendsAcross}
 use Rattle.walk_core.specs.steps.FirstHops.{ListFirstHops}
 use Rattle.walk_core.specs.steps.Flooding.{segment_at}
@@ -32,8 +33,4 @@ returns-clause-exact c =
     c.hops_without.ensures.lists
 
 pub returns-clause-ascending : goal.returns-clause-ascending
-returns-clause-ascending c =
-    IfOk-weaker c.hops_without.result _ _
-    (λ (lists : List (List ℕ)) same. subst AreAscending (sym same)
-    (ascending_without c.walks-walks.result.now.hops c.args.root c.hops_without.ensures.ascending))
-    c.hops_without.ensures.lists
+returns-clause-ascending c = grind (arith, common_steps, IfOk-weaker, ascending_without)
