@@ -1,9 +1,11 @@
--- First hops from a root of two links are those to which its exits lead.
+-- First hops from a root of links are those to which its exits lead.
 use Rattle.std.proofs.lemmas.Grind.{common_steps}
 use Rattle.std.proofs.Common.{◌≡◌, ℕ, ◌+◌, ◌<◌, ◌↔◌, ◌⊎◌, List, [], ◌∷◌, ◌++◌, Option, Some, None, Contains, MatchOption, get_or, refl, sym, ap, subst}
 use Rattle.std.proofs.Common.{◌∙◌, inl, inr, arith}
 use Rattle.std.proofs.lemmas.Option.{none-some, same_Some}
-use Rattle.std.proofs.lemmas.List.Elements.{Contains-append_left, Contains-push, Contains-push_cases}
+use Rattle.std.proofs.lemmas.List.{get_or_default}
+use Rattle.std.proofs.lemmas.List.Elements.{Contains-append_left, Contains-get_or, Contains-push, Contains-push_cases}
+use borrow.Author.Count.{below_more}
 use Rattle.std.specs.List.Sorted.{IsStrictlyIncreasing}
 use Rattle.walk_core.specs.Distances.{distance_at}
 use Rattle.walk_core.specs.steps.Rows.{distance_between}
@@ -14,7 +16,7 @@ use Rattle.walk_core.specs.declared.exits.Exit.{Exit}
 use Rattle.walk_core.specs.declared.exits.TwoExits.{TwoExits}
 use Rattle.walk_core.specs.declared.outlets.Outlet.{Outlet}
 use Rattle.walk_core.specs.declared.segment.Port.{Port}
-use Rattle.walk_core.specs.steps.Exits.{AddsHops, HasExit, HasTwoExits, IsExit, LeadsOut, LeadsOver, list_of_two, cost_over, FitsOver, IsNoFarther}
+use Rattle.walk_core.specs.steps.Exits.{AddsHops, AreExits, HasExit, HasTwoExits, IsExit, IsOverOne, LeadsOut, LeadsOver, OneLeadsAsFar, list_of_two, cost_over, FitsOver, IsNoFarther}
 use Rattle.walk_core.specs.steps.Flooding.{segment_at}
 use Rattle.walk_core.specs.steps.SegmentWalks.{GoesOut, GoesOver, IsBehind, IsEndAt, IsLan, IsLinkEnd, IsMesh, Mesh, AreOutlets, IsOutlet}
 use Rattle.walk_core.proofs.SegmentHopLaws.{IsWanted, ends_alone, hop_from_outlet, outlet_from_hop}
@@ -142,6 +144,67 @@ exits_lead mesh v h exits is below has = (
 -- one more arc leads from what is known of an exit's end to a cost of 64 bits
 pub exit_fits : (mesh : Mesh) (outlets : List Outlet) (exit : Exit) → IsMesh mesh → mesh.count < 2 ^ 32 → HasExit mesh.rows outlets exit → FitsOver exit
 exit_fits mesh outlets exit is few has v d far = grind (arith, common_steps, cases_lt, get_or-eq_default)
+
+-- where the exits are over all ports of the root, those that lead as far as v is lead to the first hops
+pub ends_are_hops : (mesh : Mesh) (root v h : ℕ) (outlets : List Outlet) (exits : List Exit) → IsMesh mesh → root < mesh.count →
+    AreOutlets mesh.segments root (length mesh.segments) outlets → AreExits mesh.rows outlets exits →
+    OneLeadsAsFar exits v (distance_between mesh.rows root v) h ↔ FirstHop (SendsAcross mesh.segments) root v h
+ends_are_hops mesh root v h outlets exits is below listed are = (
+  λ one.
+      let as_far = one.leads.0 in
+      let aim : Aim = record { vertex = v; distance = as_far.value } in
+      let has : HasExit mesh.rows outlets one.thing = are.each one.thing one.among in
+      hop_from_outlet mesh root outlets aim h (wanted as_far.value as_far.is) (record {
+        thing = has.outlet;
+        among = has.among;
+        leads = (over_exit mesh root outlets aim has.outlet one.thing h (wanted as_far.value as_far.is) has.among has.is).0
+            (as_far.total, one.leads.1);
+      }),
+  λ hop.
+      let cost : ℕ = walk_cost (hop.leg ∷ hop.legs) in
+      let away : distance_between mesh.rows root v ≡ Some cost = ((is.rows.each root below).least.least v cost).1 (first_hop_has_least_cost hop) in
+      let aim : Aim = record { vertex = v; distance = cost } in
+      let goes : GoesOut mesh outlets aim h = outlet_from_hop mesh root outlets aim h (wanted cost away) hop in
+      let over : IsOverOne mesh.rows exits goes.thing = are.every goes.thing goes.among in
+      let leads = (over_exit mesh root outlets aim goes.thing over.exit h (wanted cost away) goes.among over.is).1 goes.leads in
+      record { thing = over.exit; among = over.among; leads = (record { value = cost; is = away; total = leads.0 }, leads.1) },
+)
+  where
+    wanted : (d : ℕ) → distance_between mesh.rows root v ≡ Some d → IsWanted mesh root outlets (record { vertex = v; distance = d })
+    wanted d away = record { mesh_is = is; root_is = below; outlets_are = listed; away = away }
+
+-- the exits are over ports of these, the first i of which each have one
+pub record AreExitsBefore (rows : List (List (Option ℕ))) (outlets : List Outlet) (i : ℕ) (exits : List Exit) : Type 0 where
+  pub each : (exit : Exit) → Contains exits exit → HasExit rows outlets exit
+  pub every : (j : ℕ) → j < i → IsOverOne rows exits (get_or outlets j (record { place = 0; cost = 0; to = None }))
+
+-- one more
+pub exits_more : (rows : List (List (Option ℕ))) (outlets : List Outlet) (i : ℕ) (exits : List Exit) (exit : Exit) → i < length outlets →
+    IsExit rows (get_or outlets i (record { place = 0; cost = 0; to = None })) exit → AreExitsBefore rows outlets i exits →
+    AreExitsBefore rows outlets (i + 1) (exits ++ exit ∷ [])
+exits_more rows outlets i exits exit within is before = record {
+  each = λ e among. elim (Contains-push_cases exits exit e among) [
+    | inl earlier ↦ before.each e earlier
+    | inr same ↦ subst (λ (x : Exit). HasExit rows outlets x) same (record { outlet = get_or outlets i none; among = Contains-get_or outlets i none within; is = is })
+  ];
+  every = below_more (λ j. IsOverOne rows (exits ++ exit ∷ []) (get_or outlets j none)) i
+      (λ j less. let one = before.every j less in
+      record { exit = one.exit; among = Contains-append_left exits (exit ∷ []) one.exit one.among; is = one.is })
+      (record { exit = exit; among = Contains-push exits exit; is = is });
+}
+  where
+    none : Outlet
+    none = record { place = 0; cost = 0; to = None }
+
+-- all of them
+pub exits_all : (rows : List (List (Option ℕ))) (outlets : List Outlet) (i : ℕ) (exits : List Exit) → length outlets ≤ i →
+    AreExitsBefore rows outlets i exits → AreExits rows outlets exits
+exits_all rows outlets i exits past before = record {
+  each = before.each;
+  every = λ outlet among. subst (λ (o : Outlet). IsOverOne rows exits o)
+      (get_or_default outlets among.0 (record { place = 0; cost = 0; to = None }) outlet among.1 ∙ among.2)
+      (before.every among.0 (omega (arith, among.1)));
+}
 
 -- The list of two numbers
 

@@ -17,4 +17,5 @@ mod AddingLaws
 mod OutletLaws
 pub mod RowLaws
 pub mod StaleLaws
+mod FloodSteps
 mod EndLaws

@@ -8,6 +8,7 @@ pub mod Flooding
 pub mod Adding
 pub mod FirstHops
 pub mod SegmentWalks
+pub mod Floods
 pub mod Exits
 pub mod Ends
 pub mod Ascending

@@ -1,11 +1,11 @@
-ghost use Rattle.std.specs.Prelude.{◌≡◌, ◌+◌, ◌^◌, ◌<◌, ℕ, Some};
+ghost use Rattle.std.specs.Prelude.{◌≡◌, ◌↔◌, ◌+◌, ◌^◌, ◌<◌, ℕ, Some, IsTrue};
 ghost use Rattle.walk_core.specs.BestOffers.{total_with};
-ghost use Rattle.walk_core.specs.steps.BestOver.{least_cost_of};
+ghost use Rattle.walk_core.specs.steps.BestOver.{least_cost_of, IsTotal};
 
 use std::marker::Model;
 
 /// How far a vertex is, or that no walk leads there, in 8 bytes: one more than the cost, or 0.
-#[derive(Clone, Copy, Debug)]
+#[derive(Clone, Copy, Debug, PartialEq)]
 pub(crate) struct Distance {
     code: u64,
 }
@@ -67,6 +67,18 @@ pub(crate) fn nearer_over(known: Distance, far: Distance, cost: u32) -> Distance
     match known.get() {
         Some(distance) if distance <= found => known,
         _ => Distance::of(found),
+    }
+}
+
+/// Whether a distance is that over an arc of this cost, from whose end it is `far`.
+#[inline(always)]
+pub(crate) fn is_over(distance: Distance, far: Distance, cost: u32) -> bool
+    requires { (d : ℕ) → far ≡ Some d → d + 2 ^ 32 < 2 ^ 64 }
+    ensures { IsTrue result ↔ IsTotal far cost distance }
+{
+    match far.get() {
+        Some(rest) => distance == Distance::of(rest + u64::from(cost)),
+        None => false,
     }
 }
 

@@ -60,7 +60,7 @@ pub(crate) fn row_by_ends(
     ensures { IfOk result (λ found. IfSome found (IsDistanceRow (SendsAcross graph.now.segments) graph.now.count root)) }
 {
     let mut row = vec![in alloc; Distance::none(); graph.count() as usize]?;
-    let outlets = graph.ports(root);
+    let outlets = graph.ports(root as usize);
     for outlet in outlets {
         let Some(far) = end_row(rows, by_ends, *outlet) else {
             return Ok(None);

@@ -1,13 +1,17 @@
-ghost use Rattle.std.specs.Prelude.{◌≡◌, ◌↔◌, ◌∷◌, ◌++◌, ◌+◌, ◌<◌, ℕ, [], Some, slice_index_or, IfSome, OnOk};
+ghost use Rattle.std.specs.Prelude.{◌≡◌, ◌↔◌, ◌∷◌, ◌++◌, ◌+◌, ◌<◌, ℕ, [], Some, slice_index_or, Contains, IfOk, IfSome, OnOk};
+ghost use Rattle.std.specs.List.Sorted.{IsStrictlyIncreasing};
 ghost use Rattle.walk_core.specs.Distances.{distance_at};
-ghost use Rattle.walk_core.specs.steps.Exits.{AddsHops, AreTwoExits, FitsOver, IsExit, IsNoFarther, cost_over, list_of_two};
+ghost use Rattle.walk_core.specs.declared.exits.Exit.{Exit};
+ghost use Rattle.walk_core.specs.steps.Exits.{AddsHops, AreExits, AreTwoExits, FitsOver, IsExit, IsNoFarther, OneLeadsAsFar, cost_over, list_of_two};
 
 use crate::OutOfMemory;
-use crate::distance::Distance;
+use crate::distance::{Distance, is_over};
 use crate::number_lists::NumberLists;
 use crate::outlets::Outlet;
-use crate::relax::distance_at;
+use crate::relax::{distance_at, distance_in};
 use crate::rows::Distances;
+use crate::union::put_in_order;
+use std::alloc::Global;
 
 /// A link of a root: where it leads, what it costs, and how far the vertices are from its end.
 #[derive(Clone, Copy)]
@@ -49,6 +53,24 @@ pub(crate) fn two_exits<'a>(
         });
     }
     None
+}
+
+/// The exits over these ports, if all are on links.
+pub(crate) fn exits_over<'a>(
+    alloc: Global,
+    rows: &'a [Distances],
+    outlets: &[Outlet],
+) -> Result<Option<Vec<Exit<'a>>>, OutOfMemory>
+    ensures { IfOk result (λ exits. IfSome exits (λ all. AreExits rows.now outlets.now all.items)) }
+{
+    let mut exits = Vec::with_capacity(alloc, outlets.len())?;
+    for outlet in outlets {
+        let Some(exit) = exit_of(rows, *outlet) else {
+            return Ok(None);
+        };
+        exits.push(exit)?;
+    }
+    Ok(Some(exits))
 }
 
 /// The exit over a port, if it is on a link.
@@ -128,4 +150,29 @@ fn push_two(hops: &mut NumberLists, one: Option<u32>, other: Option<u32>) -> Res
         (None, Some(other)) => hops.push(&[other]),
         (None, None) => hops.push(&[]),
     }
+}
+
+/// Finds the ends of the exits over which it is as far to v as this, in ascending order.
+#[inline(always)]
+pub(crate) fn find_far_ends(
+    found: &mut Vec<u32>,
+    exits: &[Exit<'_>],
+    v: u32,
+    distance: Distance,
+) -> Result<(), OutOfMemory>
+    requires { (exit : Exit) → Contains exits.now exit → FitsOver exit }
+    ensures exact { OnOk result ((h : ℕ) → Contains found.new.items h ↔ OneLeadsAsFar exits.now v distance h) }
+    ensures ascending { OnOk result (IsStrictlyIncreasing found.new.items) }
+{
+    found.clear();
+    if distance.get().is_none() {
+        return Ok(());
+    }
+    for exit in exits {
+        if is_over(distance, distance_in(exit.row, v), exit.cost) {
+            found.push(exit.to)?;
+        }
+    }
+    put_in_order(found);
+    Ok(())
 }

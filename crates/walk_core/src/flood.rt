@@ -4,66 +4,69 @@ ghost use Rattle.std.specs.Bool.{OnTrue};
 ghost use Rattle.walk_core.specs.steps.Cheapest.{HasCost};
 ghost use Rattle.walk_core.specs.Distances.{distance_at};
 ghost use Rattle.walk_core.specs.steps.Ends.{IsShortRow};
-ghost use Rattle.walk_core.specs.steps.Flooding.{cost_onto, segment_at, what_is_left, AreAllAtMost, AreEntered, AreSettled, IsLastAbove, IsNextStale, Lowers};
-ghost use Rattle.walk_core.specs.steps.Relaxing.{AreWalked, Fall, HaveRoom, IsAtMost, IsTightFrom, weight_of};
-ghost use Rattle.walk_core.specs.steps.SegmentWalks.{AreAllOutlets, AreOutlets, IsLan};
-ghost use Rattle.walk_core.specs.Segments.{AreSegments, Sends, SendsAcross};
+ghost use Rattle.walk_core.specs.steps.Flooding.{cost_onto, segment_at, what_is_left, AreAllAtMost, AreSettled, IsLastAbove, IsNextStale, Lowers};
+ghost use Rattle.walk_core.specs.steps.Floods.{marked_in, IsFlood};
+ghost use Rattle.walk_core.specs.steps.Relaxing.{AreWalked, Fall, IsAtMost, IsTightFrom, weight_of};
+ghost use Rattle.walk_core.specs.steps.SegmentWalks.{IsLan};
+ghost use Rattle.walk_core.specs.Segments.{Sends, SendsAcross};
 
 use crate::OutOfMemory;
 use crate::distance::Distance;
-use crate::outlets::{Outlet, Outlets};
+use crate::outlets::Outlet;
 use crate::relax::relax;
 use crate::rows::Distances;
-use crate::segment::{Segment, ports_at};
+use crate::segment::ports_at;
+use crate::segment_graph::SegmentGraph;
 use std::alloc::Global;
 
-/// The distances from a root over segments that join so many vertices, by their ports.
+/// How far a flood has come: how far the vertices are by the walks that were found, which of them are stale, and at what
+/// cost each segment was entered.
+#[derive(Debug, Drop)]
+pub(crate) struct Flood {
+    distances: Vec<Distance>,
+    stale: Vec<bool>,
+    entries: Vec<Option<u64>>,
+}
+
+/// The distances from a root of a graph of segments.
 pub(crate) fn distances_over(
     alloc: Global,
-    segments: &[Segment],
-    outlets: &[Outlets],
-    count: u32,
+    graph: &SegmentGraph<'_>,
     root: u32,
 ) -> Result<Distances, OutOfMemory>
-    requires root { root < count }
-    requires segments { AreSegments count segments.now }
-    requires outlets { AreAllOutlets segments.now count outlets.now }
-    ensures { IfOk result (IsShortRow (SendsAcross segments.now) count root) }
+    requires { root < graph.now.count }
+    ensures { IfOk result (IsShortRow (SendsAcross graph.now.segments) graph.now.count root) }
 {
-    let mut distances = vec![in alloc; Distance::none(); count as usize]?;
+    let count = graph.count() as usize;
+    let mut distances = vec![in alloc; Distance::none(); count]?;
     distances[root as usize] = Distance::of(0);
-    let mut stale = vec![in alloc; false; count as usize]?;
+    let mut stale = vec![in alloc; false; count]?;
     stale[root as usize] = true;
-    let mut entries = vec![in alloc; None; segments.len()]?;
-    settle(segments, outlets, &mut entries, &mut stale, &mut distances);
-    Ok(Distances::from_vec(distances))
+    let entries = vec![in alloc; None; graph.segments().len()]?;
+    let mut flood = Flood {
+        distances,
+        stale,
+        entries,
+    };
+    settle(graph, &mut flood);
+    Ok(Distances::from_vec(flood.distances))
 }
 
 /// Lets distances fall to the costs of walks until no vertex is stale. The next one lies ahead, as long as one does, so
 /// that distances spread along a row of vertices whichever way they are numbered.
-fn settle(
-    segments: &[Segment],
-    outlets: &[Outlets],
-    entries: &mut [Option<u64>],
-    stale: &mut [bool],
-    distances: &mut [Distance],
-)
-    requires segments { AreSegments (length outlets.now) segments.now }
-    requires outlets { AreAllOutlets segments.now (length outlets.now) outlets.now }
-    requires long { length distances.old ≡ length outlets.now }
-    requires room { HaveRoom distances.old }
-    requires settled { AreSettled segments.now distances.old stale.old }
-    requires entered { AreEntered segments.now distances.old entries.old }
-    ensures room { HaveRoom distances.new }
-    ensures walked { (root : ℕ) → AreWalked (Sends segments.now) root distances.old →
-        AreWalked (Sends segments.now) root distances.new }
-    ensures tight { (u : ℕ) → u < length outlets.now → IsTightFrom (Sends segments.now) u distances.new }
+fn settle(graph: &SegmentGraph<'_>, flood: &mut Flood)
+    requires flood { IsFlood graph.now flood.old }
+    requires settled { AreSettled graph.now.segments flood.old.distances.items flood.old.stale.items }
+    ensures flood { IsFlood graph.now flood.new }
+    ensures walked { (root : ℕ) → AreWalked (Sends graph.now.segments) root flood.old.distances.items →
+        AreWalked (Sends graph.now.segments) root flood.new.distances.items }
+    ensures tight { (u : ℕ) → u < graph.now.count → IsTightFrom (Sends graph.now.segments) u flood.new.distances.items }
 {
     let mut up = true;
-    let mut u = next_stale(stale, 0, up);
-    while u < stale.len() {
-        spread_stale(segments, outlets, u, entries, stale, distances);
-        let next = next_stale(stale, u, up);
+    let mut u = next_stale(flood.stale.as_slice(), 0, up);
+    while u < flood.stale.len() {
+        spread_stale(graph, u, flood);
+        let next = next_stale(flood.stale.as_slice(), u, up);
         up = u < next;
         u = next;
     }
@@ -118,122 +121,88 @@ fn stale_below(stale: &[bool], below: usize) -> usize
 }
 
 /// Relaxes the arcs from a stale vertex, which then isn't stale.
-fn spread_stale(
-    segments: &[Segment],
-    outlets: &[Outlets],
-    u: usize,
-    entries: &mut [Option<u64>],
-    stale: &mut [bool],
-    distances: &mut [Distance],
-)
-    requires vertex { u < length outlets.now }
-    requires stale { slice_index_or stale.old u false ≡ true }
-    requires segments { AreSegments (length outlets.now) segments.now }
-    requires outlets { AreAllOutlets segments.now (length outlets.now) outlets.now }
-    requires long { length distances.old ≡ length outlets.now }
-    requires room { HaveRoom distances.old }
-    requires settled { AreSettled segments.now distances.old stale.old }
-    requires entered { AreEntered segments.now distances.old entries.old }
-    ensures room { HaveRoom distances.new }
-    ensures walked { (root : ℕ) → AreWalked (Sends segments.now) root distances.old →
-        AreWalked (Sends segments.now) root distances.new }
-    ensures settled { AreSettled segments.now distances.new stale.new }
-    ensures entered { AreEntered segments.now distances.new entries.new }
-    ensures less { what_is_left distances.new stale.new < what_is_left distances.old stale.old }
+fn spread_stale(graph: &SegmentGraph<'_>, u: usize, flood: &mut Flood)
+    requires vertex { u < graph.now.count }
+    requires stale { slice_index_or flood.old.stale.items u false ≡ true }
+    requires flood { IsFlood graph.now flood.old }
+    requires settled { AreSettled graph.now.segments flood.old.distances.items flood.old.stale.items }
+    ensures flood { IsFlood graph.now flood.new }
+    ensures walked { (root : ℕ) → AreWalked (Sends graph.now.segments) root flood.old.distances.items →
+        AreWalked (Sends graph.now.segments) root flood.new.distances.items }
+    ensures settled { AreSettled graph.now.segments flood.new.distances.items flood.new.stale.items }
+    ensures less { what_is_left flood.new.distances.items flood.new.stale.items < what_is_left flood.old.distances.items flood.old.stale.items }
 {
-    let ports = outlets[u].as_slice();
-    spread_from(segments, ports, u, entries, stale, distances);
-    stale[u] = false;
+    spread_from(graph, u, flood);
+    flood.stale[u] = false;
 }
 
-/// Relaxes the arcs from a vertex with these ports, and marks the vertices whose distances fell.
-fn spread_from(
-    segments: &[Segment],
-    outlets: &[Outlet],
-    u: usize,
-    entries: &mut [Option<u64>],
-    stale: &mut [bool],
-    distances: &mut [Distance],
-)
-    requires vertex { u < length distances.old }
-    requires segments { AreSegments (length distances.old) segments.now }
-    requires outlets { AreOutlets segments.now u (length segments.now) outlets.now }
-    requires room { HaveRoom distances.old }
-    requires settled { AreSettled segments.now distances.old stale.old }
-    requires entered { AreEntered segments.now distances.old entries.old }
-    ensures falls { Fall (Sends segments.now) distances.old distances.new }
-    ensures settled { AreSettled segments.now distances.new stale.new }
-    ensures entered { AreEntered segments.now distances.new entries.new }
-    ensures tight { IsTightFrom (Sends segments.now) u distances.new }
-    ensures marked { slice_index_or stale.old u false ≡ true → slice_index_or stale.new u false ≡ true }
-    ensures left { what_is_left distances.new stale.new ≤ what_is_left distances.old stale.old }
+/// Relaxes the arcs from a vertex, and marks the vertices whose distances fell.
+fn spread_from(graph: &SegmentGraph<'_>, u: usize, flood: &mut Flood)
+    requires vertex { u < graph.now.count }
+    requires flood { IsFlood graph.now flood.old }
+    requires settled { AreSettled graph.now.segments flood.old.distances.items flood.old.stale.items }
+    ensures flood { IsFlood graph.now flood.new }
+    ensures falls { Fall (Sends graph.now.segments) flood.old.distances.items flood.new.distances.items }
+    ensures settled { AreSettled graph.now.segments flood.new.distances.items flood.new.stale.items }
+    ensures tight { IsTightFrom (Sends graph.now.segments) u flood.new.distances.items }
+    ensures marked { slice_index_or flood.old.stale.items u false ≡ true → slice_index_or flood.new.stale.items u false ≡ true }
+    ensures left { what_is_left flood.new.distances.items flood.new.stale.items ≤ what_is_left flood.old.distances.items flood.old.stale.items }
 {
-    let Some(near) = distances[u].get() else {
+    let Some(near) = flood.distances[u].get() else {
         return;
     };
-    for outlet in outlets {
+    let ports = graph.ports(u);
+    for outlet in ports {
         let found = near + u64::from(outlet.cost);
-        cross(segments, *outlet, found, entries, stale, distances);
+        cross(graph, *outlet, found, flood);
     }
 }
 
 /// Lets the vertices behind an outlet fall to `found`, what it costs to come there.
-fn cross(
-    segments: &[Segment],
-    outlet: Outlet,
-    found: u64,
-    entries: &mut [Option<u64>],
-    stale: &mut [bool],
-    distances: &mut [Distance],
-)
-    requires place { outlet.place < length segments.now }
+fn cross(graph: &SegmentGraph<'_>, outlet: Outlet, found: u64, flood: &mut Flood)
+    requires place { outlet.place < length graph.now.segments }
     requires fits { found + 1 < 2 ^ 64 }
-    requires segments { AreSegments (length distances.old) segments.now }
-    requires room { HaveRoom distances.old }
-    requires marks { length stale.old ≡ length distances.old }
-    requires entered { AreEntered segments.now distances.old entries.old }
-    requires entry { HasCost (cost_onto distances.old) (segment_at segments.now outlet.place) found }
-    requires others { MatchOption outlet.to (IsLan (segment_at segments.now outlet.place))
-        (IsLastAbove distances.old (segment_at segments.now outlet.place) found) }
-    ensures falls { Fall (Sends segments.now) distances.old distances.new }
-    ensures lowers { Lowers found (record { distances = distances.old; stale = stale.old }) (record { distances = distances.new; stale = stale.new }) }
-    ensures entered { AreEntered segments.now distances.new entries.new }
-    ensures all { AreAllAtMost distances.new (segment_at segments.now outlet.place) found }
+    requires flood { IsFlood graph.now flood.old }
+    requires entry { HasCost (cost_onto flood.old.distances.items) (segment_at graph.now.segments outlet.place) found }
+    requires others { MatchOption outlet.to (IsLan (segment_at graph.now.segments outlet.place))
+        (IsLastAbove flood.old.distances.items (segment_at graph.now.segments outlet.place) found) }
+    ensures flood { IsFlood graph.now flood.new }
+    ensures falls { Fall (Sends graph.now.segments) flood.old.distances.items flood.new.distances.items }
+    ensures lowers { Lowers found (marked_in flood.old) (marked_in flood.new) }
+    ensures all { AreAllAtMost flood.new.distances.items (segment_at graph.now.segments outlet.place) found }
 {
     match outlet.to {
         Some(to) => {
-            lower_vertex(to, found, stale, distances);
+            lower_vertex(to, found, flood);
         }
-        None => enter(segments, outlet.place, found, entries, stale, distances),
+        None => enter(graph, outlet.place, found, flood),
     }
 }
 
 /// Lets the vertices of a segment fall to `found`, unless it was entered at as little before.
-fn enter(
-    segments: &[Segment],
-    place: usize,
-    found: u64,
-    entries: &mut [Option<u64>],
-    stale: &mut [bool],
-    distances: &mut [Distance],
-)
-    requires place { place < length segments.now }
+fn enter(graph: &SegmentGraph<'_>, place: usize, found: u64, flood: &mut Flood)
+    requires place { place < length graph.now.segments }
     requires fits { found + 1 < 2 ^ 64 }
-    requires segments { AreSegments (length distances.old) segments.now }
-    requires room { HaveRoom distances.old }
-    requires marks { length stale.old ≡ length distances.old }
-    requires entered { AreEntered segments.now distances.old entries.old }
-    requires entry { HasCost (cost_onto distances.old) (segment_at segments.now place) found }
-    ensures falls { Fall (Sends segments.now) distances.old distances.new }
-    ensures lowers { Lowers found (record { distances = distances.old; stale = stale.old }) (record { distances = distances.new; stale = stale.new }) }
-    ensures entered { AreEntered segments.now distances.new entries.new }
-    ensures all { AreAllAtMost distances.new (segment_at segments.now place) found }
+    requires flood { IsFlood graph.now flood.old }
+    requires entry { HasCost (cost_onto flood.old.distances.items) (segment_at graph.now.segments place) found }
+    ensures flood { IsFlood graph.now flood.new }
+    ensures falls { Fall (Sends graph.now.segments) flood.old.distances.items flood.new.distances.items }
+    ensures lowers { Lowers found (marked_in flood.old) (marked_in flood.new) }
+    ensures all { AreAllAtMost flood.new.distances.items (segment_at graph.now.segments place) found }
 {
-    if is_at_most(entries[place], found) {
+    if is_at_most(flood.entries[place], found) {
         return;
     }
+    lower(graph, place, found, flood);
+    note_entry(&mut flood.entries, place, found);
+}
+
+/// Notes at what cost a segment was entered.
+fn note_entry(entries: &mut Vec<Option<u64>>, place: usize, found: u64)
+    requires { place < length entries.old.items }
+    ensures { entries.new.items ≡ slice_set entries.old.items place (Some found) }
+{
     entries[place] = Some(found);
-    lower(segments, place, found, stale, distances)
 }
 
 /// Whether something is known to cost at most this.
@@ -248,41 +217,35 @@ fn is_at_most(known: Option<u64>, most: u64) -> bool
 
 /// Lets the vertices of a segment fall to `found`, what it costs to come onto the segment from one of them, and marks
 /// those that did.
-fn lower(
-    segments: &[Segment],
-    place: usize,
-    found: u64,
-    stale: &mut [bool],
-    distances: &mut [Distance],
-)
-    requires place { place < length segments.now }
+fn lower(graph: &SegmentGraph<'_>, place: usize, found: u64, flood: &mut Flood)
+    requires place { place < length graph.now.segments }
     requires fits { found + 1 < 2 ^ 64 }
-    requires segments { AreSegments (length distances.old) segments.now }
-    requires room { HaveRoom distances.old }
-    requires marks { length stale.old ≡ length distances.old }
-    requires entry { HasCost (cost_onto distances.old) (segment_at segments.now place) found }
-    ensures falls { Fall (Sends segments.now) distances.old distances.new }
-    ensures lowers { Lowers found (record { distances = distances.old; stale = stale.old }) (record { distances = distances.new; stale = stale.new }) }
-    ensures all { AreAllAtMost distances.new (segment_at segments.now place) found }
+    requires flood { IsFlood graph.now flood.old }
+    requires entry { HasCost (cost_onto flood.old.distances.items) (segment_at graph.now.segments place) found }
+    ensures flood { IsFlood graph.now flood.new }
+    ensures falls { Fall (Sends graph.now.segments) flood.old.distances.items flood.new.distances.items }
+    ensures lowers { Lowers found (marked_in flood.old) (marked_in flood.new) }
+    ensures all { AreAllAtMost flood.new.distances.items (segment_at graph.now.segments place) found }
 {
-    for port in ports_at(segments, place) {
-        lower_vertex(port.vertex, found, stale, distances);
+    for port in ports_at(graph.segments(), place) {
+        lower_vertex(port.vertex, found, flood);
     }
 }
 
 /// Notes that some walk to a vertex costs `found`, and marks it where none that was known cost as little: whether none
 /// did.
-fn lower_vertex(vertex: u32, found: u64, stale: &mut [bool], distances: &mut [Distance]) -> bool
-    requires vertex { vertex < length distances.old }
+fn lower_vertex(vertex: u32, found: u64, flood: &mut Flood) -> bool
+    requires vertex { vertex < length flood.old.distances.items }
     requires fits { found + 1 < 2 ^ 64 }
-    requires marks { vertex < length stale.old }
-    ensures falls { IsTrue result ↔ (found < weight_of (distance_at distances.old vertex)) }
-    ensures after { distances.new ≡
-        (if result then slice_set distances.old vertex (Some found) else distances.old) }
-    ensures stale { stale.new ≡ (if result then slice_set stale.old vertex true else stale.old) }
+    requires marks { vertex < length flood.old.stale.items }
+    ensures falls { IsTrue result ↔ (found < weight_of (distance_at flood.old.distances.items vertex)) }
+    ensures after { flood.new.distances.items ≡
+        (if result then slice_set flood.old.distances.items vertex (Some found) else flood.old.distances.items) }
+    ensures stale { flood.new.stale.items ≡ (if result then slice_set flood.old.stale.items vertex true else flood.old.stale.items) }
+    ensures entries { flood.new.entries.items ≡ flood.old.entries.items }
 {
-    if relax(distances, vertex, found) {
-        stale[vertex as usize] = true;
+    if relax(&mut flood.distances, vertex, found) {
+        flood.stale[vertex as usize] = true;
         return true;
     }
     false

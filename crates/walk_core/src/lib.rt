@@ -16,7 +16,7 @@
 //! | `flood` | distances over segments, from stale vertices, and onto a LAN at once |
 //! | `ends` | the distances from a root of one or two links, by those from the far ends |
 //! | `beyond`, `ways` | the walks that begin on a LAN, once for all roots, and first hops by these and by the distances from the ends of links |
-//! | `exits` | first hops from a root of two links, as most have, in one pass over the rows of their two ends |
+//! | `exits` | first hops from a root of links, by the rows of their ends: of two, as most have, and of any number |
 //! | `union` | numbers below a bound, and in order |
 //!
 //! Over arcs all are relaxed until no distance falls. Over segments a vertex relaxes again only once it is stale, when its

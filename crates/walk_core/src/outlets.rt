@@ -1,4 +1,4 @@
-ghost use Rattle.std.specs.Prelude.{◌≡◌, ◌+◌, ◌<◌, ◌≤◌, ◌↔◌, ◌∷◌, [], None, length, replicate, Any, IfOk, IfSome, OnOk, IsTrue, MatchOption};
+ghost use Rattle.std.specs.Prelude.{◌≡◌, ◌+◌, ◌<◌, ◌≤◌, ◌↔◌, ◌∷◌, [], None, length, replicate, slice_index_or, Any, IfOk, IfSome, OnOk, IsTrue, MatchOption};
 ghost use Rattle.walk_core.specs.declared.segment.Port.{Port};
 ghost use Rattle.walk_core.specs.steps.SegmentWalks.{AreAllOutlets, AreOutletsBefore, IsFarEnd, IsLan};
 ghost use Rattle.walk_core.specs.Segments.{AreSegments};
@@ -57,6 +57,14 @@ impl Outlets {
     {
         self.all.as_slice()
     }
+}
+
+/// The ports of the vertex of this number.
+pub(crate) fn outlets_of(all: &[Outlets], vertex: usize) -> &[Outlet]
+    requires { vertex < length all.now }
+    ensures { result.now ≡ slice_index_or all.now vertex [] }
+{
+    all[vertex].as_slice()
 }
 
 /// Whether a vertex has no port, so that it reaches itself alone.

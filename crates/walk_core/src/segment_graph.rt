@@ -4,7 +4,7 @@ use crate::beyond::all_beyond;
 use crate::ends::{roots_by_ends, row_by_ends};
 use crate::flood::distances_over;
 use crate::number_lists::NumberLists;
-use crate::outlets::{Outlet, Outlets, is_lone};
+use crate::outlets::{Outlet, Outlets, is_lone, outlets_of};
 use crate::rows::Distances;
 use crate::segment::Segment;
 use crate::ways::Ways;
@@ -32,7 +32,7 @@ impl<'a> Model for SegmentGraph<'a> {
 }
 
 impl<'a> SegmentGraph<'a> {
-    ghost use Rattle.std.specs.Prelude.{◌≡◌, ◌+◌, ◌<◌, false, true, length, slice_index_or, IfOk, OnOk};
+    ghost use Rattle.std.specs.Prelude.{◌≡◌, ◌+◌, ◌^◌, ◌<◌, false, true, length, slice_index_or, IfOk, OnOk};
     ghost use Rattle.walk_core.specs.Reach.{AreWalksBelow};
     ghost use Rattle.walk_core.specs.Segments.{SendsAcross};
     ghost use Rattle.walk_core.specs.steps.Ends.{AreRowsFound, AreSearched, IsShortRow};
@@ -55,18 +55,27 @@ impl<'a> SegmentGraph<'a> {
     /// How many vertices there are.
     pub fn count(&self) -> u32
         ensures value { result ≡ self.now.count }
+        ensures few { self.now.count < 2 ^ 32 }
         ensures joined { IsJoined self.now }
     {
         self.count
     }
 
+    /// The segments.
+    pub fn segments(&self) -> &[Segment]
+        ensures value { result.now ≡ self.now.segments }
+        ensures joined { IsJoined self.now }
+    {
+        self.segments
+    }
+
     /// The ports of a vertex.
-    pub fn ports(&self, vertex: u32) -> &[Outlet]
+    pub fn ports(&self, vertex: usize) -> &[Outlet]
         requires { vertex < self.now.count }
         ensures ports { AreOutlets self.now.segments vertex (length self.now.segments) result.now }
         ensures joined { IsJoined self.now }
     {
-        self.outlets[vertex as usize].as_slice()
+        outlets_of(self.outlets, vertex)
     }
 
     /// The least-cost walks from every vertex.
@@ -97,7 +106,7 @@ impl<'a> SegmentGraph<'a> {
         let count = self.count();
         let mut lists = Vec::with_capacity(alloc, count as usize)?;
         for root in 0..count {
-            let hops = ways.hops_from(alloc, self.ports(root), root)?;
+            let hops = ways.hops_from(alloc, self.ports(root as usize), root)?;
             lists.push(hops)?;
         }
         Ok(lists)
@@ -169,7 +178,7 @@ impl<'a> SegmentGraph<'a> {
     {
         match row_by_ends(alloc, self, rows, by_ends, root)? {
             Some(row) => Ok(row),
-            None => Ok(distances_over(alloc, self.segments, self.outlets, self.count, root)?),
+            None => Ok(distances_over(alloc, self, root)?),
         }
     }
 
@@ -178,10 +187,10 @@ impl<'a> SegmentGraph<'a> {
         requires { root < self.now.count }
         ensures { IfOk result (IsShortRow (SendsAcross self.now.segments) self.now.count root) }
     {
-        if is_lone(self.ports(root)) {
+        if is_lone(self.ports(root as usize)) {
             return Ok(Distances::of_lone(root));
         }
-        distances_over(alloc, self.segments, self.outlets, self.count, root)
+        distances_over(alloc, self, root)
     }
 }
 

@@ -3,10 +3,11 @@ ghost use Rattle.walk_core.specs.steps.SegmentWalks.{IsBehind};
 
 use crate::OutOfMemory;
 use crate::beyond::walks_at;
-use crate::exits::{TwoExits, push_exits, two_exits};
+use crate::exits::{TwoExits, exits_over, find_far_ends, push_exits, two_exits, whole_row};
 use crate::found_walks::FoundWalks;
 use crate::number_lists::NumberLists;
 use crate::outlets::{Outlet, is_lone, only_lan};
+use crate::relax::distance_in;
 use crate::rows::{Distances, distance_between};
 use crate::segment::Segment;
 use crate::union::{add_behind, put_in_order};
@@ -40,7 +41,7 @@ impl<'a> Model for Ways<'a> {
 }
 
 impl<'a> Ways<'a> {
-    ghost use Rattle.std.specs.Prelude.{◌≡◌, ◌<◌, ◌↔◌, ◌∷◌, ℕ, [], None, length, IfOk, OnOk, Contains};
+    ghost use Rattle.std.specs.Prelude.{◌≡◌, ◌^◌, ◌<◌, ◌↔◌, ◌∷◌, ℕ, [], None, length, IfOk, IfSome, OnOk, Contains};
     ghost use Rattle.std.specs.List.Sorted.{IsStrictlyIncreasing};
     ghost use Rattle.walk_core.specs.steps.Rows.{distance_between};
     ghost use Rattle.walk_core.specs.steps.Ascending.{AreAscending};
@@ -73,6 +74,7 @@ impl<'a> Ways<'a> {
     /// How many vertices there are.
     fn count(&self) -> u32
         ensures value { result ≡ self.now.count }
+        ensures few { self.now.count < 2 ^ 32 }
         ensures mesh { IsMesh self.now }
     {
         self.count
@@ -116,6 +118,9 @@ impl<'a> Ways<'a> {
         }
         if let Some(exits) = two_exits(self.rows, outlets, root) {
             return self.hops_over_exits(alloc, exits);
+        }
+        if let Some(hops) = self.hops_over_links(alloc, outlets, root)? {
+            return Ok(hops);
         }
         let mut hops = NumberLists::with_room(alloc, count as usize)?;
         let mut found = Vec::new(alloc);
@@ -162,6 +167,35 @@ impl<'a> Ways<'a> {
             push_exits(&mut hops, exits, v)?;
         }
         Ok(hops)
+    }
+
+    /// The first hops from the root, which has these ports, if all are on links.
+    fn hops_over_links(
+        &self,
+        alloc: Global,
+        outlets: &[Outlet],
+        root: u32,
+    ) -> Result<Option<NumberLists>, OutOfMemory>
+        requires mesh { IsMesh self.now }
+        requires root { root < self.now.count }
+        requires outlets { AreOutlets self.now.segments root (length self.now.segments) outlets.now }
+        ensures exact { IfOk result (λ found. IfSome found (ListFirstHops (SendsAcross self.now.segments) root)) }
+        ensures ascending { IfOk result (λ found. IfSome found AreAscending) }
+    {
+        let count = self.count();
+        let Some(row) = whole_row(self.rows, root) else {
+            return Ok(None);
+        };
+        let Some(exits) = exits_over(alloc, self.rows, outlets)? else {
+            return Ok(None);
+        };
+        let mut hops = NumberLists::with_room(alloc, count as usize)?;
+        let mut found = Vec::new(alloc);
+        for v in 0..count {
+            find_far_ends(&mut found, exits.as_slice(), v, distance_in(row, v))?;
+            hops.push(found.as_slice())?;
+        }
+        Ok(Some(hops))
     }
 
     /// Finds the first hops from the root, which has these ports, towards v, in ascending order.

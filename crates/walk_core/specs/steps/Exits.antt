@@ -1,4 +1,4 @@
--- First hops from a root of two links, by the distances from their ends.
+-- First hops from a root of links, by the distances from their ends.
 use Rattle.std.specs.Prelude.{◌≡◌, ℕ, ◌+◌, ◌^◌, ◌<◌, ◌≤◌, ◌≢◌, ◌↔◌, ◌⊎◌, ◌∷◌, ◌++◌, List, [], Option, Some, None, Contains, length, slice_index_or}
 use Rattle.std.specs.List.Sorted.{IsStrictlyIncreasing}
 use Rattle.walk_core.specs.BestOffers.{total_with}
@@ -6,6 +6,8 @@ use Rattle.walk_core.specs.Distances.{distance_at}
 use Rattle.walk_core.specs.declared.exits.Exit.{Exit}
 use Rattle.walk_core.specs.declared.exits.TwoExits.{TwoExits}
 use Rattle.walk_core.specs.declared.outlets.Outlet.{Outlet}
+use Rattle.walk_core.specs.steps.Adding.{SomeLeadsTo}
+use Rattle.walk_core.specs.steps.BestOver.{IsTotal}
 use Rattle.walk_core.specs.steps.SegmentWalks.{AreOutlets, Mesh}
 
 -- the exit is over this port, by the rows of distances
@@ -19,6 +21,17 @@ pub record HasExit (rows : List (List (Option ℕ))) (outlets : List Outlet) (ex
   pub outlet : Outlet
   pub among : Contains outlets outlet
   pub is : IsExit rows outlet exit
+
+-- one of the exits is over this port
+pub record IsOverOne (rows : List (List (Option ℕ))) (exits : List Exit) (outlet : Outlet) : Type 0 where
+  pub exit : Exit
+  pub among : Contains exits exit
+  pub is : IsExit rows outlet exit
+
+-- the exits are over these ports, each of them
+pub record AreExits (rows : List (List (Option ℕ))) (outlets : List Outlet) (exits : List Exit) : Type 0 where
+  pub each : (exit : Exit) → Contains exits exit → HasExit rows outlets exit
+  pub every : (outlet : Outlet) → Contains outlets outlet → IsOverOne rows exits outlet
 
 -- the exits are over the ports of the root, each of them
 pub record AreTwoExits (rows : List (List (Option ℕ))) (outlets : List Outlet) (root : ℕ) (exits : TwoExits) : Type 0 where
@@ -41,6 +54,14 @@ cost_over exit v = total_with (distance_at exit.row.now v) exit.cost
 -- the distances from the end of an exit leave room for one more arc
 abbrev pub FitsOver : Exit → Type 0
 FitsOver exit = (v d : ℕ) → distance_at exit.row.now v ≡ Some d → d + 2 ^ 32 < 2 ^ 64
+
+-- the exit leads to h, and v is as far as over it
+abbrev pub LeadsAsFar : ℕ → Option ℕ → Exit → ℕ → Type 0
+LeadsAsFar v distance exit h = IsTotal (distance_at exit.row.now v) exit.cost distance × (exit.to ≡ h)
+
+-- one of the exits does
+abbrev pub OneLeadsAsFar : List Exit → ℕ → Option ℕ → ℕ → Type 0
+OneLeadsAsFar exits v distance h = SomeLeadsTo (LeadsAsFar v distance) exits h
 
 -- there is a cost, and where there is another, it is no less
 pub record IsNoFarther (cost rival : Option ℕ) : Type 0 where

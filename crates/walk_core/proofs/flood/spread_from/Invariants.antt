@@ -1,6 +1,7 @@
 use Rattle.std.proofs.Common.{◌<◌, ◌+◌, ℕ, List, None, get_or}
 use Rattle.walk_core.specs.declared.outlets.Outlet.{Outlet}
-use Rattle.walk_core.specs.steps.Flooding.{AreAllAtMost, AreEntered, Lowers, segment_at}
+use Rattle.walk_core.specs.steps.Flooding.{AreAllAtMost, Lowers, segment_at}
+use Rattle.walk_core.specs.steps.Floods.{IsFlood, marked_in}
 use Rattle.walk_core.specs.steps.Relaxing.{Fall}
 use Rattle.walk_core.specs.Segments.{Sends}
 use Rattle.walk_core.proofs.flood.spread_from.Given as goal
@@ -11,9 +12,9 @@ outlet_at outlets j = get_or outlets j (record { place = 0; cost = 0; to = None 
 
 abbrev pub invariant-loop-outlet : goal.invariant-loop-outlet
 invariant-loop-outlet l = record {
-  falls : Fall (Sends l.segments) l.initial.distances l.distances;
-  lowers : Lowers l.near (record { distances = l.initial.distances; stale = l.initial.stale }) (record { distances = l.distances; stale = l.stale });
-  entered : AreEntered l.segments l.distances l.entries;
+  flood : IsFlood l.graph l.flood;
+  falls : Fall (Sends l.graph.segments) l.initial.flood.distances.items l.flood.distances.items;
+  lowers : Lowers l.near (marked_in l.initial.flood) (marked_in l.flood);
   reached : (j : ℕ) → j < l.outlet-index →
-      AreAllAtMost l.distances (segment_at l.segments (outlet_at l.outlets j).place) (l.near + (outlet_at l.outlets j).cost);
+      AreAllAtMost l.flood.distances.items (segment_at l.graph.segments (outlet_at l.ports j).place) (l.near + (outlet_at l.ports j).cost);
 }

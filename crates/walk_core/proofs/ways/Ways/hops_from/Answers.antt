@@ -11,7 +11,7 @@ pub hops_over_lan-requires-clause-outlets : goal.hops_over_lan-requires-clause-o
 hops_over_lan-requires-clause-outlets c = grind (arith, common_steps)
 
 pub loop-v-init : goal.loop-v-init
-loop-v-init c = subst (λ (l : List (List ℕ)). AreFirstHops (SendsAcross c.args.self.now.segments) c.args.root 0 l) (sym c.in_ok-hops.ensures)
+loop-v-init c = subst (λ (l : List (List ℕ)). AreFirstHops (SendsAcross c.args.self.now.segments) c.args.root 0 l) (sym c.in_ok-hops-2.ensures)
     (no_hops_listed (SendsAcross c.args.self.now.segments) c.args.root)
 
 pub loop-v-preserved : goal.loop-v-preserved

@@ -1,0 +1,18 @@
+-- A flood over a graph of segments, as far as it has come.
+use Rattle.std.specs.Prelude.{◌≡◌, length}
+use Rattle.walk_core.specs.declared.flood.Flood.{Flood}
+use Rattle.walk_core.specs.steps.Flooding.{AreEntered, Marked}
+use Rattle.walk_core.specs.steps.Relaxing.{HaveRoom}
+use Rattle.walk_core.specs.steps.SegmentWalks.{IsJoined, Joined}
+
+-- the distances of a flood, and its marks
+abbrev pub marked_in : Flood → Marked
+marked_in flood = record { distances = flood.distances.items; stale = flood.stale.items }
+
+-- each vertex has a distance with room for one arc more, and a mark, and no vertex of a segment is farther than this was entered at
+pub record IsFlood (graph : Joined) (flood : Flood) : Type 0 where
+  pub joined : IsJoined graph
+  pub long : length flood.distances.items ≡ graph.count
+  pub marks : length flood.stale.items ≡ graph.count
+  pub room : HaveRoom flood.distances.items
+  pub entered : AreEntered graph.segments flood.distances.items flood.entries.items
