@@ -1,3 +1,5 @@
+use Rattle.std.proofs.Common.{arith}
+use Rattle.std.proofs.lemmas.Grind.{common_steps}
 use Rattle.std.proofs.Common.{◌≡◌, ◌↔◌, ℕ, [], IsTrue, List, Option, Vec, Global, refl, sym, ap, subst, ◌∙◌}
 use Rattle.walk_core.specs.Distances.{distance_at}
 use Rattle.walk_core.specs.declared.exits.Exit.{Exit}
@@ -9,9 +11,7 @@ use Rattle.walk_core.proofs.exits.find_far_ends.Goals as goal
 use Rattle.walk_core.proofs.exits.find_far_ends.Goals.{then-is_over+in_ok-push, else-is_over}
 
 pub loop-exit-init : goal.loop-exit-init
-loop-exit-init c =
-    subst (λ (l : List ℕ). AddsNumbers (OneLeadsAsFar [] c.args.v c.args.distance) [] l) (sym c.clear.ensures.items)
-    (leads_nowhere (LeadsAsFar c.args.v c.args.distance) c.args.exits.now [])
+loop-exit-init c = grind (arith, common_steps, leads_nowhere)
 
 pub returns-clause-exact : goal.returns-clause-exact
 returns-clause-exact c h =

@@ -2,7 +2,6 @@ use Rattle.std.proofs.Common.{◌≡◌, ◌∙◌, ℕ, Bool, List, Option, Som
 use Rattle.std.proofs.lemmas.Grind.{common_steps}
 use Rattle.std.proofs.lemmas.List.{length-replicate}
 use Rattle.walk_core.specs.steps.Ends.{IsShortRow}
-use Rattle.walk_core.specs.steps.Flooding.{AreSettled}
 use Rattle.walk_core.specs.steps.Relaxing.{AreWalked, HaveRoom}
 use Rattle.walk_core.specs.Segments.{Sends, SendsAcross}
 use Rattle.walk_core.specs.declared.segment.Port.{Port}
@@ -14,9 +13,7 @@ use Rattle.walk_core.proofs.flood.distances_over.Goals as goal
 -- what a vector of distances was made with, and the root's own
 begun : (ds : List (Option ℕ)) (n count root : ℕ) (none own : Option ℕ) → ds ≡ replicate n none → n ≡ count → none ≡ None → own ≡ Some 0 →
     set ds root own ≡ set (replicate count None) root (Some 0)
-begun ds n count root none own first same is_none is_zero =
-    ap (λ (l : List (Option ℕ)). set l root own) first ∙ ap (λ (k : ℕ). set (replicate k none) root own) same
-    ∙ ap (λ (d : Option ℕ). set (replicate count d) root own) is_none ∙ ap (λ (d : Option ℕ). set (replicate count None) root d) is_zero
+begun ds n count root none own first same is_none is_zero = grind (arith, common_steps)
 
 -- a vector of marks has so many
 many_marks : (marks : List Bool) (n count root : ℕ) → marks ≡ replicate n false → n ≡ count → length (set marks root true) ≡ count
@@ -37,17 +34,7 @@ settle-requires-clause-flood c =
     }
 
 pub settle-requires-clause-settled : goal.settle-requires-clause-settled
-settle-requires-clause-settled c =
-    let count : ℕ = c.args.graph.now.count in
-    let marks : List Bool = set c.in_ok-stale.stale.items c.args.root true in
-    let begins = begun _ c.count-count.result count c.args.root c.none.result c.of.result
-    (c.in_ok-distances.ensures.items_if_clones_equal (λ y is. is)) c.count-count.ensures.value c.none.ensures c.of.ensures in
-    let stale = c.in_ok-stale.stale.items in
-    let long : length stale ≡ count =
-    ap (λ (l : List Bool). length l) (c.in_ok-stale.ensures.items_if_clones_equal (λ y is. is)) ∙ length-replicate c.count-count.result false
-    ∙ c.count-count.ensures.value in
-    subst (λ (l : List (Option ℕ)). AreSettled c.args.graph.now.segments l marks) (sym begins)
-    (settled_at_first c.args.graph.now.segments count c.args.root stale c.requires long)
+settle-requires-clause-settled c = grind (arith, common_steps, begun, length-replicate, settled_at_first)
 
 pub returns : goal.returns
 returns c =

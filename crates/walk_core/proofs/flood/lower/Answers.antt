@@ -1,3 +1,4 @@
+use Rattle.std.proofs.lemmas.Grind.{common_steps}
 use Rattle.std.proofs.Common.{◌≡◌, ◌∙◌, ◌<◌, ℕ, List, Contains, length, get_or, sym, ap, subst, arith}
 use Rattle.std.proofs.lemmas.List.Elements.{Contains-get_or}
 use borrow.Author.Count.{below_more}
@@ -5,7 +6,6 @@ use Rattle.walk_core.specs.Distances.{distance_at}
 use Rattle.walk_core.specs.declared.flood.Flood.{Flood}
 use Rattle.walk_core.specs.declared.segment.Port.{Port}
 use Rattle.walk_core.specs.steps.Flooding.{segment_at}
-use Rattle.walk_core.specs.steps.Floods.{marked_in}
 use Rattle.walk_core.specs.steps.Relaxing.{IsAtMost}
 use Rattle.walk_core.specs.steps.SegmentWalks.{Joined}
 use Rattle.walk_core.proofs.FloodLaws.{all_at_most, falls_none, falls_on, vertex_below}
@@ -30,13 +30,7 @@ lower_vertex-requires c =
     }
 
 pub loop-port-init : goal.loop-port-init
-loop-port-init c = record {
-  flood = c.requires.flood;
-  falls = falls_none c.requires.flood.room;
-  lowers = lowers_none c.args.found (marked_in c.args.flood.now);
-  entry = c.requires.entry;
-  lowered = λ j below. absurd (omega (arith, below));
-}
+loop-port-init c = grind (arith, common_steps, falls_none, lowers_none)
 
 pub loop-port-preserved : goal.loop-port-preserved
 loop-port-preserved c =

@@ -1,3 +1,4 @@
+use Rattle.std.proofs.lemmas.Grind.{common_steps}
 use Rattle.std.proofs.Common.{◌≡◌, ℕ, ◌+◌, ◌<◌, List, None, Option, Some, get_or, length, sym, subst, ◌∙◌, arith}
 use Rattle.std.proofs.lemmas.List.{get_or_default}
 use Rattle.std.proofs.lemmas.List.Elements.{Contains-get_or}
@@ -7,7 +8,6 @@ use Rattle.walk_core.specs.declared.segment.Port.{Port}
 use Rattle.walk_core.specs.Distances.{distance_at}
 use Rattle.walk_core.specs.steps.Cheapest.{HasCost}
 use Rattle.walk_core.specs.steps.Flooding.{AreAllAtMost, cost_onto, segment_at}
-use Rattle.walk_core.specs.steps.Floods.{marked_in}
 use Rattle.walk_core.specs.steps.SegmentWalks.{IsOutlet}
 use Rattle.walk_core.proofs.FloodLaws.{entry_of_outlet, falls_none, falls_on, last_above, tight_over}
 use Rattle.walk_core.proofs.RelaxLaws.{sum_fits}
@@ -44,12 +44,7 @@ cross-requires c =
     }
 
 pub loop-outlet-init : goal.loop-outlet-init
-loop-outlet-init c = record {
-  flood = c.requires.flood;
-  falls = falls_none c.requires.flood.room;
-  lowers = lowers_none c.in-Some.near (marked_in c.args.flood.now);
-  reached = λ j below. absurd (omega (arith, below));
-}
+loop-outlet-init c = grind (arith, common_steps, falls_none, lowers_none)
 
 pub loop-outlet-preserved : goal.loop-outlet-preserved
 loop-outlet-preserved c =
