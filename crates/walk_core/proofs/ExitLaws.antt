@@ -16,7 +16,8 @@ use Rattle.walk_core.specs.declared.exits.Exit.{Exit}
 use Rattle.walk_core.specs.declared.exits.TwoExits.{TwoExits}
 use Rattle.walk_core.specs.declared.outlets.Outlet.{Outlet}
 use Rattle.walk_core.specs.declared.segment.Port.{Port}
-use Rattle.walk_core.specs.steps.Exits.{AddsHops, AreExits, HasExit, HasTwoExits, IsExit, IsOverOne, LeadsOut, LeadsOver, OneLeadsAsFar, list_of_two, cost_over, FitsOver, IsNoFarther}
+use Rattle.walk_core.specs.steps.Exits.{AddsHops, AreExits, FitsOver, HasExit, HasTwoExits, IsExit, IsNoFarther, IsOverOne}
+use Rattle.walk_core.specs.steps.Exits.{LeadsOut, LeadsOver, OneLeadsAsFar, cost_over, list_of_two}
 use Rattle.walk_core.specs.steps.Flooding.{segment_at}
 use Rattle.walk_core.specs.steps.SegmentWalks.{GoesOut, GoesOver, IsBehind, IsEndAt, IsLan, IsLinkEnd, IsMesh, Mesh, AreOutlets, IsOutlet}
 use Rattle.walk_core.proofs.SegmentHopLaws.{IsWanted, ends_alone, hop_from_outlet, outlet_from_hop}

@@ -1,5 +1,6 @@
 -- A flood goes on over one vertex of a segment.
-use Rattle.std.proofs.Common.{◌≡◌, ◌∙◌, ◌<◌, ◌↔◌, ℕ, Bool, true, false, IsTrue, List, Option, Some, Contains, cond, length, length-set, set, refl, sym, ap, subst, arith}
+use Rattle.std.proofs.Common.{◌≡◌, ◌∙◌, ◌<◌, ◌↔◌, ℕ, Bool, true, false, IsTrue, List, Option, Some, Contains, cond, length, length-set, set}
+use Rattle.std.proofs.Common.{refl, sym, ap, subst, arith}
 use Rattle.walk_core.specs.Distances.{distance_at}
 use Rattle.walk_core.specs.Segments.{AreSegments, Sends}
 use Rattle.walk_core.specs.declared.flood.Flood.{Flood}

@@ -9,7 +9,7 @@ use Rattle.walk_core.specs.steps.SegmentWalks.{IsJoined, Joined}
 abbrev pub marked_in : Flood → Marked
 marked_in flood = record { distances = flood.distances.items; stale = flood.stale.items }
 
--- each vertex has a distance with room for one arc more, and a mark, and no vertex of a segment is farther than this was entered at
+-- distances leave room for one arc more, each vertex has a mark, and no vertex of a segment is farther than it was entered at
 pub record IsFlood (graph : Joined) (flood : Flood) : Type 0 where
   pub joined : IsJoined graph
   pub long : length flood.distances.items ≡ graph.count

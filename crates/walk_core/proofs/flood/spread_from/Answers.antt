@@ -74,7 +74,8 @@ returns-clause-tight c =
     let begun : distance_at c.args.flood.now.distances.items c.args.u ≡ Some c.in-Some.near =
     near_at c.args.flood.now.distances.items c.args.u c.in-Some.near c.index.result.now c.get.result
     (omega (arith, c.requires.vertex, c.requires.flood.long)) c.index.ensures c.get.ensures.value c.in-Some.is in
-    tight_over c.args.graph.now.segments c.args.u c.in-Some.near c.loop-outlet.outlet-index c.ports-ports.result.now (record { place = 0; cost = 0; to = None })
+    tight_over c.args.graph.now.segments c.args.u c.in-Some.near c.loop-outlet.outlet-index c.ports-ports.result.now
+    (record { place = 0; cost = 0; to = None })
     c.loop-outlet.flood.distances.items c.loop-outlet-test.false c.ports-ports.ensures.ports
     (c.loop-outlet.invariant.lowers.near c.args.u c.in-Some.near begun (omega arith)) c.loop-outlet.invariant.reached
 
