@@ -41,7 +41,7 @@ impl Model for KnownWalks {
 impl KnownWalks {
     ghost use Rattle.std.specs.Prelude.{◌≡◌, [], Contains, IfOk, IfSome, length};
     ghost use Rattle.walk_core.specs.Segments.{AreSegments};
-    ghost use Rattle.zone_graph.specs.Walks.{AreWalksOver};
+    ghost use Rattle.zone_graph.specs.Walks.{AreLeastOver, AreWalksOver};
     ghost use Rattle.net_model.specs.declared.zone.Zone.{Zone as ZoneValue};
     ghost use Rattle.zone_graph.specs.KnownWalks.{KnowsZone};
 
@@ -79,15 +79,34 @@ impl KnownWalks {
         match self.known_over(net.routers() as usize, segments) {
             Some(walks) => Ok(walks.clone()?),
             None => {
-                let walks = ZoneWalks::over(alloc, net, segments)?;
+                let walks = self.walks_without(alloc, net.routers(), segments)?;
                 Ok(Rc::new(alloc, walks)?)
             }
         }
     }
 
+    /// The least walks over segments, from each of so many routers: by those of a known zone that has these segments and some more,
+    /// where there is one.
+    fn walks_without(
+        &self,
+        alloc: Global,
+        routers: u32,
+        segments: &[Segment],
+    ) -> Result<ZoneWalks, OutOfMemory>
+        requires { AreSegments routers segments.now }
+        ensures { IfOk result (AreLeastOver routers segments.now) }
+    {
+        for zone in self.zones.as_slice() {
+            if let Some(walks) = zone.without(alloc, routers, segments)? {
+                return Ok(walks);
+            }
+        }
+        ZoneWalks::least_over(alloc, segments, routers)
+    }
+
     /// The walks that are known over these segments, from so many routers.
     fn known_over(&self, routers: usize, segments: &[Segment]) -> Option<&Rc<ZoneWalks>>
-        ensures { IfSome result (λ walks. AreWalksOver routers segments.now walks.now.value) }
+        ensures { IfSome result (λ walks. AreLeastOver routers segments.now walks.now.value) }
     {
         for zone in self.zones.as_slice() {
             if zone.is_over(routers, segments) {
@@ -100,6 +119,10 @@ impl KnownWalks {
 
 impl KnownZone {
     ghost use Rattle.std.specs.Prelude.{◌≡◌, ◌↔◌, IsTrue};
+    ghost use Rattle.std.specs.Prelude.{IfOk, IfSome};
+    ghost use Rattle.walk_core.specs.Segments.{AreSegments};
+    ghost use Rattle.zone_graph.specs.KnownWalks.{IsKnownZone};
+    ghost use Rattle.zone_graph.specs.Walks.{AreLeastOver};
     ghost use Rattle.zone_graph.specs.steps.Known.{IsOverThese};
 
     /// Whether these are its segments, and its walks those from so many routers.
@@ -107,6 +130,24 @@ impl KnownZone {
         ensures { IsTrue result ↔ IsOverThese self.now routers segments.now }
     {
         self.walks.len() == routers && are_same_segments(self.segments.as_slice(), segments)
+    }
+
+    /// The least walks over segments, where it has these and some more, and walks from so many routers.
+    fn without(
+        &self,
+        alloc: Global,
+        routers: u32,
+        segments: &[Segment],
+    ) -> Result<Option<ZoneWalks>, OutOfMemory>
+        requires known { IsKnownZone self.now }
+        requires segments { AreSegments routers segments.now }
+        ensures { IfOk result (λ found. IfSome found (AreLeastOver routers segments.now)) }
+    {
+        if self.walks.len() != routers as usize {
+            return Ok(None);
+        }
+        self.walks
+            .without(alloc, routers, self.segments.as_slice(), segments)
     }
 }
 
@@ -116,7 +157,7 @@ fn known_zone(alloc: Global, net: &Net, zone: Zone) -> Result<KnownZone, OutOfMe
     ensures segments { IfOk result (λ known. AreZoneSegments net.now zone known.segments.items) }
 {
     let segments = zone_segments(alloc, net, zone)?;
-    let walks = ZoneWalks::over(alloc, net, segments.as_slice())?;
+    let walks = ZoneWalks::least_over(alloc, segments.as_slice(), net.routers())?;
     let walks = Rc::new(alloc, walks)?;
     Ok(KnownZone { segments, walks })
 }
