@@ -1,4 +1,6 @@
 pub mod WalkLaws
+pub mod KeptLaws
+pub mod LostLaws
 pub mod RelaxLaws
 pub mod HopLaws
 pub mod DepartureLaws

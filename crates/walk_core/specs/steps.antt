@@ -13,3 +13,4 @@ pub mod Exits
 pub mod Ends
 pub mod Ascending
 pub mod BestOver
+pub mod Kept

@@ -17,6 +17,7 @@
 //! | `ends` | the distances from a root of one or two links, by those from the far ends |
 //! | `beyond`, `ways` | the walks that begin on a LAN, once for all roots, and first hops by these and by the distances from the ends of links |
 //! | `exits` | first hops from a root of links, by the rows of their ends: of two, as most have, and of any number |
+//! | `kept`, `lost` | the walks that stay what they are without segments that went, and which went |
 //! | `union` | numbers below a bound, and in order |
 //!
 //! Over arcs all are relaxed until no distance falls. Over segments a vertex relaxes again only once it is stale, when its
@@ -26,7 +27,8 @@
 //! read, not searched. Nor are the distances from every root searched: from one of one or two links they are the least of
 //! what each costs and how far it is from the far end, one pass over a row a link, where those rows were searched before.
 //! Along a chain every second root is such a one. A root without a port takes no
-//! time of its own and no row, and the rows of the others end with the last vertex that has a port. A caller that is
+//! time of its own and no row, and the rows of the others end with the last vertex that has a port. Where the walks over
+//! more segments are known, roots keep those that take none of the segments that went (`segment_walks_without`). A caller that is
 //! proved: `ZoneWalks::over` of `zone_graph`.
 #![tactic(auto)]
 
@@ -52,6 +54,8 @@ mod beyond;
 mod ends;
 mod exits;
 mod flood;
+mod kept;
+mod lost;
 mod outlets;
 mod over_segments;
 mod segment_graph;
@@ -61,6 +65,7 @@ mod ways;
 mod union;
 
 pub use graph::CostGraph;
+pub use kept::{WalksOver, segment_walks_without};
 pub use offers::Offer;
 pub use over_segments::segment_walks;
 pub use segment::{Port, Segment};

@@ -77,6 +77,15 @@ impl NumberLists {
         Ok(())
     }
 
+    /// A copy of these lists.
+    pub fn copy(&self, alloc: Global) -> Result<NumberLists, OutOfMemory>
+        ensures { IfOk result (λ lists. lists ≡ self.now) }
+    {
+        let all = Vec::from_slice(alloc, self.all.as_slice())?;
+        let long = self.long.copy(alloc)?;
+        Ok(NumberLists { all, long })
+    }
+
     /// A copy of these lists, but for an empty one at a place.
     pub fn copy_without(&self, alloc: Global, place: usize) -> Result<NumberLists, OutOfMemory>
         ensures { IfOk result (λ lists. lists ≡ slice_set self.now place []) }

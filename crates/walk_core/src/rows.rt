@@ -35,7 +35,8 @@ impl Model for Distances {
 }
 
 impl Distances {
-    ghost use Rattle.std.specs.Prelude.{◌≡◌, [], IfSome};
+    ghost use Rattle.std.specs.Prelude.{◌≡◌, ◌≤◌, [], length, IfOk, IfSome};
+    ghost use Rattle.std.specs.Bool.{OnTrue};
     ghost use Rattle.walk_core.specs.Distances.{distance_at};
     ghost use Rattle.walk_core.specs.KeptWalks.{lone_row};
 
@@ -81,6 +82,26 @@ impl Distances {
         match &self.kept {
             Kept::Lone(_) => None,
             Kept::Row(all) => Some(all.as_slice()),
+        }
+    }
+
+    /// A copy of these distances.
+    pub fn copy(&self, alloc: Global) -> Result<Distances, OutOfMemory>
+        ensures { IfOk result (λ copy. copy ≡ self.now) }
+    {
+        match &self.kept {
+            Kept::Lone(root) => Ok(Distances::of_lone(*root)),
+            Kept::Row(all) => Ok(Distances::from_vec(Vec::from_slice(alloc, all.as_slice())?)),
+        }
+    }
+
+    /// Whether they are those of so many vertices at most.
+    pub fn are_within(&self, count: u32) -> bool
+        ensures { OnTrue result (length self.now ≤ count) }
+    {
+        match &self.kept {
+            Kept::Lone(root) => *root < count,
+            Kept::Row(all) => all.len() <= count as usize,
         }
     }
 

@@ -1,8 +1,14 @@
-ghost use Rattle.std.specs.Prelude.{◌≡◌, ◌<◌, [], length, slice_index_or, slice_set};
+ghost use Rattle.std.specs.Prelude.{◌≡◌, ◌<◌, [], IfOk, length, slice_index_or, slice_set};
+ghost use Rattle.walk_core.specs.Segments.{SendsAcross};
+ghost use Rattle.walk_core.specs.steps.Ascending.{AreAscending};
+ghost use Rattle.walk_core.specs.steps.FirstHops.{ListFirstHops};
+ghost use Rattle.walk_core.specs.steps.Kept.{AreKept};
+ghost use Rattle.walk_core.specs.steps.SegmentWalks.{AreOutlets};
 
 use crate::beyond::all_beyond;
 use crate::ends::{roots_by_ends, row_by_ends};
 use crate::flood::distances_over;
+use crate::kept::Kept;
 use crate::number_lists::NumberLists;
 use crate::outlets::{Outlet, Outlets, is_lone, outlets_of};
 use crate::rows::Distances;
@@ -37,6 +43,7 @@ impl<'a> SegmentGraph<'a> {
     ghost use Rattle.walk_core.specs.Segments.{SendsAcross};
     ghost use Rattle.walk_core.specs.steps.Ends.{AreRowsFound, AreSearched, IsShortRow};
     ghost use Rattle.walk_core.specs.steps.FirstHops.{AreAllHops};
+    ghost use Rattle.walk_core.specs.steps.Kept.{AreKept};
     ghost use Rattle.walk_core.specs.steps.Rows.{AreDistanceRows, IsDistanceRow};
     ghost use Rattle.walk_core.specs.steps.SegmentWalks.{AreOutlets, IsJoined};
 
@@ -83,10 +90,43 @@ impl<'a> SegmentGraph<'a> {
         ensures { IfOk result (λ all. AreWalksBelow (SendsAcross self.now.segments) self.now.count self.now.count all.items) }
     {
         let count = self.count();
-        let mut rows = self.rows(alloc)?;
+        let rows = self.rows(alloc)?;
         let beyond = all_beyond(alloc, self.segments, rows.as_slice(), count)?;
         let ways = Ways::new(count, self.segments, rows.as_slice(), beyond.as_slice());
-        let mut lists = self.all_hops(alloc, &ways)?;
+        let lists = self.all_hops(alloc, &ways)?;
+        self.joined(alloc, rows, lists)
+    }
+
+    /// The least-cost walks from every vertex, where some of them are kept.
+    pub fn walks_keeping(
+        &self,
+        alloc: Global,
+        kept: Kept<'_>,
+    ) -> Result<Vec<LeastWalks>, OutOfMemory>
+        requires { AreKept (SendsAcross self.now.segments) self.now.count kept.roots.now kept.walks.now }
+        ensures { IfOk result (λ all. AreWalksBelow (SendsAcross self.now.segments) self.now.count self.now.count all.items) }
+    {
+        let count = self.count();
+        let rows = self.rows_keeping(alloc, kept)?;
+        let beyond = all_beyond(alloc, self.segments, rows.as_slice(), count)?;
+        let ways = Ways::new(count, self.segments, rows.as_slice(), beyond.as_slice());
+        let lists = self.all_hops_keeping(alloc, &ways, kept)?;
+        self.joined(alloc, rows, lists)
+    }
+
+    /// The least-cost walks from every vertex, by their distances and first hops.
+    fn joined(
+        &self,
+        alloc: Global,
+        rows: Vec<Distances>,
+        lists: Vec<NumberLists>,
+    ) -> Result<Vec<LeastWalks>, OutOfMemory>
+        requires rows { AreDistanceRows (SendsAcross self.now.segments) self.now.count self.now.count rows.items }
+        requires lists { AreAllHops (SendsAcross self.now.segments) self.now.count lists.items }
+        ensures { IfOk result (λ all. AreWalksBelow (SendsAcross self.now.segments) self.now.count self.now.count all.items) }
+    {
+        let count = self.count();
+        let (mut rows, mut lists) = (rows, lists);
         let mut all = Vec::with_capacity(alloc, count as usize)?;
         for root in 0..count {
             let hops = take_hops(alloc, &mut lists, root);
@@ -95,6 +135,59 @@ impl<'a> SegmentGraph<'a> {
             all.push(walks)?;
         }
         Ok(all)
+    }
+
+    /// The distances from every vertex, those of kept walks copied.
+    fn rows_keeping(&self, alloc: Global, kept: Kept<'_>) -> Result<Vec<Distances>, OutOfMemory>
+        requires { AreKept (SendsAcross self.now.segments) self.now.count kept.roots.now kept.walks.now }
+        ensures { IfOk result (λ rows. AreDistanceRows (SendsAcross self.now.segments) self.now.count self.now.count rows.items) }
+    {
+        let count = self.count();
+        let mut rows = Vec::with_capacity(alloc, count as usize)?;
+        for root in 0..count {
+            let row = self.row_keeping(alloc, kept, root)?;
+            rows.push(row)?;
+        }
+        Ok(rows)
+    }
+
+    /// The distances from a root, copied where its walks are kept.
+    fn row_keeping(
+        &self,
+        alloc: Global,
+        kept: Kept<'_>,
+        root: u32,
+    ) -> Result<Distances, OutOfMemory>
+        requires root { root < self.now.count }
+        requires kept { AreKept (SendsAcross self.now.segments) self.now.count kept.roots.now kept.walks.now }
+        ensures { IfOk result (IsDistanceRow (SendsAcross self.now.segments) self.now.count root) }
+    {
+        let Some(walks) = kept.walks_from(root) else {
+            return self.searched_row(alloc, root);
+        };
+        let row = walks.copy_distances(alloc)?;
+        Ok(row)
+    }
+
+    /// The first hops from every vertex, those of kept walks copied, and the others by the ways over the segments.
+    fn all_hops_keeping(
+        &self,
+        alloc: Global,
+        ways: &Ways<'_>,
+        kept: Kept<'_>,
+    ) -> Result<Vec<NumberLists>, OutOfMemory>
+        requires count { ways.now.count ≡ self.now.count }
+        requires segments { ways.now.segments ≡ self.now.segments }
+        requires kept { AreKept (SendsAcross self.now.segments) self.now.count kept.roots.now kept.walks.now }
+        ensures { IfOk result (λ lists. AreAllHops (SendsAcross self.now.segments) self.now.count lists.items) }
+    {
+        let count = self.count();
+        let mut lists = Vec::with_capacity(alloc, count as usize)?;
+        for root in 0..count {
+            let hops = hops_keeping(alloc, ways, kept, self.ports(root as usize), root)?;
+            lists.push(hops)?;
+        }
+        Ok(lists)
     }
 
     /// The first hops from every vertex, by the ways over the segments.
@@ -192,6 +285,27 @@ impl<'a> SegmentGraph<'a> {
         }
         distances_over(alloc, self, root)
     }
+}
+
+/// The first hops from a root, which has these ports, copied where its walks are kept.
+fn hops_keeping(
+    alloc: Global,
+    ways: &Ways<'_>,
+    kept: Kept<'_>,
+    outlets: &[Outlet],
+    root: u32,
+) -> Result<NumberLists, OutOfMemory>
+    requires root { root < ways.now.count }
+    requires outlets { AreOutlets ways.now.segments root (length ways.now.segments) outlets.now }
+    requires kept { AreKept (SendsAcross ways.now.segments) ways.now.count kept.roots.now kept.walks.now }
+    ensures exact { IfOk result (ListFirstHops (SendsAcross ways.now.segments) root) }
+    ensures ascending { IfOk result AreAscending }
+{
+    let Some(walks) = kept.walks_from(root) else {
+        return ways.hops_from(alloc, outlets, root);
+    };
+    let hops = walks.copy_hops(alloc)?;
+    Ok(hops)
 }
 
 /// Puts the distances from a vertex among those of all.

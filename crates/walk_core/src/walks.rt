@@ -94,7 +94,8 @@ fn most_ends(departures: &[Departure], vertices: u32) -> u32
 }
 
 impl LeastWalks {
-    ghost use Rattle.std.specs.Prelude.{◌≡◌, ◌↔◌, [], IfOk, IsTrue};
+    ghost use Rattle.std.specs.Prelude.{◌≡◌, ◌≤◌, ◌↔◌, [], length, IfOk, IsTrue};
+    ghost use Rattle.std.specs.Bool.{OnTrue};
     ghost use Rattle.std.specs.List.Sorted.{IsStrictlyIncreasing};
     ghost use Rattle.walk_core.specs.Reach.{distance_of, listed_hops_of, HasHop};
     ghost use Rattle.walk_core.specs.steps.Ascending.{AreAscending};
@@ -126,6 +127,37 @@ impl LeastWalks {
     {
         LeastWalks {
             known: KeptWalks::Lone(root),
+        }
+    }
+
+    /// A copy of the distances.
+    pub(crate) fn copy_distances(&self, alloc: Global) -> Result<Distances, OutOfMemory>
+        ensures { IfOk result (λ copy. copy ≡ self.now.distances) }
+    {
+        match &self.known {
+            KeptWalks::Lone(root) => Ok(Distances::of_lone(*root)),
+            KeptWalks::Far(found) => found.distances().copy(alloc),
+        }
+    }
+
+    /// A copy of the lists of first hops.
+    pub(crate) fn copy_hops(&self, alloc: Global) -> Result<NumberLists, OutOfMemory>
+        ensures lists { IfOk result (λ copy. copy ≡ self.now.hops) }
+        ensures ascending { AreAscending self.now.hops }
+    {
+        match &self.known {
+            KeptWalks::Lone(_) => Ok(NumberLists::none(alloc)),
+            KeptWalks::Far(found) => found.copy_hops(alloc),
+        }
+    }
+
+    /// Whether distances are known of so many vertices at most.
+    pub(crate) fn are_within(&self, count: u32) -> bool
+        ensures { OnTrue result (length self.now.distances ≤ count) }
+    {
+        match &self.known {
+            KeptWalks::Lone(root) => *root < count,
+            KeptWalks::Far(found) => found.distances().are_within(count),
         }
     }
 

@@ -1,15 +1,13 @@
-ghost use Rattle.std.specs.Prelude.{◌≡◌, ◌<◌, length, IfOk, slice_get, Some};
-ghost use Rattle.net_model.specs.declared.zone.Zone.{Zone as ZoneValue};
+ghost use Rattle.std.specs.Prelude.{◌≡◌, ◌<◌, length, IfOk, IfSome, slice_get, Some};
 ghost use Rattle.walk_core.specs.Segments.{AreSegments};
-ghost use Rattle.zone_graph.specs.Segments.{AreZoneSegments};
-ghost use Rattle.zone_graph.specs.Walks.{AreZoneWalks};
+ghost use Rattle.zone_graph.specs.Walks.{AreLeastOver, AreWalksOver, AreZoneWalks};
 
 use crate::OutOfMemory;
 use crate::segments::zone_segments;
 use net_model::{Net, Zone};
 use std::alloc::Global;
 use std::marker::Model;
-use walk_core::{LeastWalks, Segment, segment_walks};
+use walk_core::{LeastWalks, Segment, WalksOver, segment_walks, segment_walks_without};
 
 /// The least walks of one zone of a network, from every router.
 #[derive(Debug, Drop)]
@@ -36,14 +34,50 @@ impl ZoneWalks {
         ZoneWalks::over(alloc, net, segments.as_slice())
     }
 
-    /// The least walks of a zone, over its segments. Of segments that are no zone's nothing is said.
+    /// The least walks of a zone, over its segments: of this network, and of every other one with as many routers where some
+    /// zone has the same segments. Of segments that are no zone's nothing is said.
     pub fn over(alloc: Global, net: &Net, segments: &[Segment]) -> Result<ZoneWalks, OutOfMemory>
         requires { AreSegments (length net.now) segments.now }
-        ensures { IfOk result (λ walks. (zone : ZoneValue) → AreZoneSegments net.now zone segments.now →
-            AreZoneWalks net.now zone walks) }
+        ensures { IfOk result (AreWalksOver (length net.now) segments.now) }
     {
-        let all = segment_walks(alloc, segments, net.routers())?;
+        let walks = ZoneWalks::least_over(alloc, segments, net.routers())?;
+        Ok(walks)
+    }
+
+    /// The least walks over segments, from each of so many routers.
+    pub(crate) fn least_over(
+        alloc: Global,
+        segments: &[Segment],
+        routers: u32,
+    ) -> Result<ZoneWalks, OutOfMemory>
+        requires { AreSegments routers segments.now }
+        ensures { IfOk result (AreLeastOver routers segments.now) }
+    {
+        let all = segment_walks(alloc, segments, routers)?;
         Ok(ZoneWalks { all })
+    }
+
+    /// The least walks over segments, by these from so many routers, which are those over the same segments and some more, in the
+    /// same order; none where they aren't. Routers keep the walks that take none of those that went.
+    pub(crate) fn without(
+        &self,
+        alloc: Global,
+        routers: u32,
+        more: &[Segment],
+        segments: &[Segment],
+    ) -> Result<Option<ZoneWalks>, OutOfMemory>
+        requires segments { AreSegments routers segments.now }
+        requires more { AreLeastOver routers more.now self.now }
+        ensures { IfOk result (λ found. IfSome found (AreLeastOver routers segments.now)) }
+    {
+        let known = WalksOver {
+            segments: more,
+            walks: self.all.as_slice(),
+        };
+        match segment_walks_without(alloc, segments, routers, known)? {
+            Some(all) => Ok(Some(ZoneWalks { all })),
+            None => Ok(None),
+        }
     }
 
     /// How many routers there are.

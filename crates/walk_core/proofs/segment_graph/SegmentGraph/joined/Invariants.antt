@@ -4,7 +4,7 @@ use Rattle.walk_core.specs.Reach.{AreWalksBelow}
 use Rattle.walk_core.specs.steps.Ascending.{AreAscending}
 use Rattle.walk_core.specs.Segments.{SendsAcross}
 use Rattle.walk_core.specs.steps.FirstHops.{ListFirstHops}
-use Rattle.walk_core.proofs.segment_graph.SegmentGraph.walks.Given as goal
+use Rattle.walk_core.proofs.segment_graph.SegmentGraph.joined.Given as goal
 
 -- the walks so far, and what the others are made of
 abbrev pub invariant-loop-root : goal.invariant-loop-root

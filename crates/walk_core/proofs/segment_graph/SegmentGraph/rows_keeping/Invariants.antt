@@ -1,0 +1,6 @@
+use Rattle.walk_core.specs.Segments.{SendsAcross}
+use Rattle.walk_core.specs.steps.Rows.{AreDistanceRows}
+use Rattle.walk_core.proofs.segment_graph.SegmentGraph.rows_keeping.Given as goal
+
+abbrev pub invariant-loop-root : goal.invariant-loop-root
+invariant-loop-root l = AreDistanceRows (SendsAcross l.self.segments) l.self.count l.root l.rows.items
