@@ -1,3 +1,4 @@
 pub mod Segments
 pub mod Walks
+pub mod KnownWalks
 pub mod steps

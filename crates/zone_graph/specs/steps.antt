@@ -1,3 +1,4 @@
 pub mod LinkLists
 pub mod Attachments
 pub mod Runs
+pub mod Known

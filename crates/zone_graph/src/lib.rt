@@ -16,9 +16,11 @@
 //! | `attachments` | those of all routers, in the order of their subnets; level 1 joins the routers of one IS-IS area |
 //! | `segments` | the segments that they make, which stand for the adjacencies (`AreZoneSegments`) |
 //! | `zone_walks` | the least walks over them |
+//! | `known_walks`, `same_segments` | walks that are kept with their segments, for networks in which a zone has the same ones |
 //!
 //! The segments of a zone take the time of sorting the network's interfaces that are in it, and the walks that of
-//! `segment_walks`: routers times ports.
+//! `segment_walks`: routers times ports. Where one network differs from another in some zones alone, as without one of its
+//! links, `KnownWalks` of the other spare the walks of all zones that are as there: those take the time of their segments.
 #![tactic(auto)]
 
 // adjacencies
@@ -27,8 +29,11 @@ mod links;
 mod segments;
 
 // walks over them
+mod known_walks;
+mod same_segments;
 mod zone_walks;
 
+pub use known_walks::KnownWalks;
 pub use segments::zone_segments;
 pub use std::alloc::AllocError as OutOfMemory;
 pub use zone_walks::ZoneWalks;

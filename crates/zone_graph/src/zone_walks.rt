@@ -1,8 +1,6 @@
 ghost use Rattle.std.specs.Prelude.{◌≡◌, ◌<◌, length, IfOk, slice_get, Some};
-ghost use Rattle.net_model.specs.declared.zone.Zone.{Zone as ZoneValue};
 ghost use Rattle.walk_core.specs.Segments.{AreSegments};
-ghost use Rattle.zone_graph.specs.Segments.{AreZoneSegments};
-ghost use Rattle.zone_graph.specs.Walks.{AreZoneWalks};
+ghost use Rattle.zone_graph.specs.Walks.{AreWalksOver, AreZoneWalks};
 
 use crate::OutOfMemory;
 use crate::segments::zone_segments;
@@ -36,11 +34,11 @@ impl ZoneWalks {
         ZoneWalks::over(alloc, net, segments.as_slice())
     }
 
-    /// The least walks of a zone, over its segments. Of segments that are no zone's nothing is said.
+    /// The least walks of a zone, over its segments: of this network, and of every other one with as many routers where some
+    /// zone has the same segments. Of segments that are no zone's nothing is said.
     pub fn over(alloc: Global, net: &Net, segments: &[Segment]) -> Result<ZoneWalks, OutOfMemory>
         requires { AreSegments (length net.now) segments.now }
-        ensures { IfOk result (λ walks. (zone : ZoneValue) → AreZoneSegments net.now zone segments.now →
-            AreZoneWalks net.now zone walks) }
+        ensures { IfOk result (AreWalksOver (length net.now) segments.now) }
     {
         let all = segment_walks(alloc, segments, net.routers())?;
         Ok(ZoneWalks { all })
