@@ -90,7 +90,7 @@ two_leads domain u d given known has within away no_one runs good =
     let p : Block = d.one.dest in
     leads domain Two u p (OfOthers (LevelTwoAnnouncement net p) u) given d.two.items (HasLevelTwoRoute net p u → ⊥) known within
     (others_hold (LevelTwoAnnouncement net p) d.two.items u has.two (λ k announces. announces_nothing net p u k away no_one announces))
-    (announced_small net p domain.walks.one d.two.items d.two.items known.network known.walks.one has.two refl) good
+    (announced_small net p domain.walks.one.value d.two.items d.two.items known.network known.walks.one has.two refl) good
     (λ none route. none (record { cost = route.cost; best = route.costs.best })) (λ hops. entry_by_two net u p hops away no_one runs)
 
 pub down_leads : (domain : IsisDomain) (u : ℕ) (d : Destination) (given : List Offer) → IsKnown domain → HasAnnouncements domain.net d →

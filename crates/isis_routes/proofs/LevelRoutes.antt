@@ -42,8 +42,8 @@ reach_of net part walks u are within =
 
 reach_in : (net : Network) (level : Level) (walks : LevelWalks) (u : ℕ) → AreLevelWalks net walks → u < length net →
     IsReachIn net (zone_in level) u (level_reach walks u (zone_number level))
-reach_in net One walks u are within = reach_of net ZoneOne walks.one u are.one within
-reach_in net Two walks u are within = reach_of net ZoneTwo walks.two u are.two within
+reach_in net One walks u are within = reach_of net ZoneOne walks.one.value u are.one within
+reach_in net Two walks u are within = reach_of net ZoneTwo walks.two.value u are.two within
 
 below_two : (level : Level) → zone_number level < 2
 below_two One = omega arith

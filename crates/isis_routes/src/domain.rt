@@ -22,6 +22,7 @@ use route_tables::{Route, best_route};
 use std::alloc::Global;
 use std::marker::Model;
 use walk_core::{LeastWalks, Offer};
+use zone_graph::KnownWalks;
 
 /// A network, and what its routers know by IS-IS before any prefix.
 #[derive(Drop)]
@@ -45,16 +46,17 @@ impl<'a> Model for Domain<'a> {
 }
 
 impl<'a> Domain<'a> {
-    /// What the routers of the network know, which has these segments.
+    /// What the routers of the network know, which has these segments, by walks that are known of other networks.
     pub fn build(
         alloc: Global,
         net: &'a Net,
+        known: &KnownWalks,
         segments: &LevelSegments,
     ) -> Result<Domain<'a>, OutOfMemory>
         requires { AreLevelSegments net.now segments.now }
         ensures { IfOk result (λ domain. domain.net ≡ net.now) }
     {
-        let walks = LevelWalks::over(alloc, net, segments.one.as_slice(), segments.two.as_slice())?;
+        let walks = LevelWalks::over(alloc, net, known, segments)?;
         let both = routers_of_both_levels(alloc, net)?;
         let leaking = leaking_routers(alloc, net)?;
         let attached = attached_routers(alloc, net, &walks.two, both.as_slice())?;

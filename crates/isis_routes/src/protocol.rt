@@ -19,6 +19,7 @@ use route_tables::{Decision, Protocol, Route};
 use std::alloc::Global;
 use std::marker::Model;
 use walk_core::LeastWalks;
+use zone_graph::KnownWalks;
 
 /// IS-IS on a network: what its routers know, also of each prefix that may have entries, and for each an earlier one with the
 /// same routes, where one is known.
@@ -40,17 +41,18 @@ impl<'a> Model for Isis<'a> {
 }
 
 impl<'a> Isis<'a> {
-    /// IS-IS on this network, which has these segments.
+    /// IS-IS on this network, which has these segments, by walks that are known of other networks.
     pub fn build(
         alloc: Global,
         net: &'a Net,
+        known: &KnownWalks,
         segments: &LevelSegments,
     ) -> Result<Isis<'a>, OutOfMemory>
         requires { AreLevelSegments net.now segments.now }
         ensures { IfOk result (λ isis. isis.domain.net ≡ net.now) }
     {
         // 1. Least walks of both levels, and attached routers (RFC 1195, section 3.2).
-        let domain = Domain::build(alloc, net, segments)?;
+        let domain = Domain::build(alloc, net, known, segments)?;
         // 2 to 5. Prefixes, and what is offered and announced of each in both levels (RFC 1195, section 3.2; RFC 5302).
         let destinations = destinations(alloc, &domain)?;
         // 6. Prefixes with the same routes.

@@ -9,6 +9,7 @@ use route_core::{RouteSource, Table};
 use route_tables::RouteTables;
 use std::alloc::Global;
 use std::marker::Model;
+use zone_graph::KnownWalks;
 
 /// The route tables that IS-IS gives the routers of a network (RFC 1195, RFC 5302).
 ///
@@ -34,8 +35,20 @@ impl IsisRoutes {
     pub fn build(alloc: Global, net: &Net) -> Result<IsisRoutes, OutOfMemory>
         ensures { IfOk result (AreIsisRoutes net.now) }
     {
+        IsisRoutes::build_over(alloc, net, &KnownWalks::none(alloc))
+    }
+
+    /// The same, where least walks of levels may be known of another network: they are taken for each level that has the same
+    /// segments here, or some of them alone.
+    pub fn build_over(
+        alloc: Global,
+        net: &Net,
+        known: &KnownWalks,
+    ) -> Result<IsisRoutes, OutOfMemory>
+        ensures { IfOk result (AreIsisRoutes net.now) }
+    {
         let segments = LevelSegments::build(alloc, net)?;
-        let isis = Isis::build(alloc, net, &segments)?;
+        let isis = Isis::build(alloc, net, known, &segments)?;
         let all = RouteTables::build(alloc, &isis, segments.joined()?)?;
         Ok(IsisRoutes { all })
     }

@@ -1,10 +1,10 @@
 -- Areas: which there are, who is in them, who is a border router and who listens to whom.
 use Rattle.std.proofs.Common.{◌≡◌, ◌≢◌, ℕ, ◌+◌, ◌<◌, ◌↔◌, inl, inr, ⊎_elim, List, [], ◌∷◌, ◌++◌, length, Option, Some, None, MatchOption, Bool, true, false}
 use Rattle.std.proofs.Common.{not, ◌==◌, IsTrue, refl, sym, ap, subst, ◌∙◌, arith, get_or}
-use Rattle.std.proofs.lemmas.List.{get_or_default}
+use Rattle.std.proofs.lemmas.List.{get_or_default, get_or-map}
 use Rattle.std.specs.List.{Contains, Any}
 use Rattle.std.proofs.lemmas.Bool.{eqb-true, eqb-false, cases_eq, cases_lt, false≢true}
-use Rattle.std.proofs.lemmas.Option.{none-some, same_Some}
+use Rattle.std.proofs.lemmas.Option.{none-some, same_Some, slice_get-get_or}
 use Rattle.std.proofs.lemmas.List.Elements.{All-push, Contains-append_left, Contains-push, Contains-push_cases}
 use Rattle.net_model.proofs.Adjacency.{UpInterface-among}
 use Rattle.net_model.proofs.NetworkFacts.{InArea-within}
@@ -12,17 +12,21 @@ use Rattle.net_model.specs.Configuration.{Configuration}
 use Rattle.net_model.specs.Network.{Network, HasConfiguration, InArea, IsBorderRouter, RunsArea}
 use Rattle.net_model.specs.Refusals.{IsNetwork}
 use Rattle.net_model.specs.declared.interface.Interface.{Interface}
+use Rattle.net_model.specs.declared.zone.Zone.{Zone}
 use Rattle.net_model.specs.declared.zone.Zone.TheVariants.{Area}
 use Rattle.walk_core.specs.Reach.{Reach}
 use Rattle.walk_core.specs.declared.segment.Port.{Port}
 use Rattle.zone_graph.specs.Segments.{AreZoneSegments}
 use Rattle.zone_graph.specs.Walks.{AreZoneWalks}
 use Rattle.igp_theory.specs.Ospf.{ListensTo, backbone, one_area}
+use Rattle.ospf_routes.specs.steps.AreaReach.{all_walks, area_reach}
 use Rattle.ospf_routes.specs.steps.Areas.{RunsOther, HasArea, IsAreaAt, AreAreas, AreJoinedAreas, IsArea, IsListener, IsListenerAt, IsReach}
 use Rattle.ospf_routes.specs.steps.Members.{IsMember}
-use Rattle.ospf_routes.specs.Lists.{Adds}
+use Rattle.ospf_routes.specs.AreaZones.{AreAreaZones, IsAreaOf, IsAreaZone}
+use Rattle.ospf_routes.specs.Lists.{Adds, Exactly}
 use Rattle.ospf_routes.specs.declared.areas.AreaWalks.{AreaWalks}
 use Rattle.net_addr.proofs.SomeElement.{any_of, any_in}
+use Rattle.route_tables.proofs.ListFacts.{exactly_same}
 use Rattle.ospf_routes.proofs.SegmentFacts.{joined_more}
 use Rattle.std.specs.List.{slice_get}
 use Rattle.std.specs.Option.{IfNone, IfSome}
@@ -61,12 +65,12 @@ areas_more net numbers areas a segments own before is are = record {
 }
 
 pub areas_of_numbers : (net : Network) (numbers given : List ℕ) (areas : List AreaWalks) (segments : List (List Port)) → IsNetwork net → given ≡ numbers →
-    Contains numbers 0 → ((u n : ℕ) → InArea net u n → Contains numbers n) → AreJoinedAreas net given areas segments → AreAreas net areas
-areas_of_numbers net numbers given areas segments network same zero every are = record {
+    Exactly (IsAreaOf net) numbers → AreJoinedAreas net given areas segments → AreAreas net areas
+areas_of_numbers net numbers given areas segments network same exact are = record {
   network = network;
   each = are.each;
-  backbone = are.every 0 (subst (λ (l : List ℕ). Contains l 0) (sym same) zero);
-  every = λ u n inside. are.every n (subst (λ (l : List ℕ). Contains l n) (sym same) (every u n inside));
+  backbone = are.every 0 (subst (λ (l : List ℕ). Contains l 0) (sym same) ((exact 0).1 (inl refl)));
+  every = λ u n inside. are.every n (subst (λ (l : List ℕ). Contains l n) (sym same) ((exact n).1 (inr (u, inside))));
 }
 
 -- The numbers of areas, router by router
@@ -74,11 +78,13 @@ areas_of_numbers net numbers given areas segments network same zero every are = 
 pub record HaveNumbers (net : Network) (m : ℕ) (numbers : List ℕ) : Type 0 where
   pub backbone : Contains numbers 0
   pub every : (u n : ℕ) → u < m → InArea net u n → Contains numbers n
+  pub only : (n : ℕ) → Contains numbers n → IsAreaOf net n
 
-pub numbers_start : (net : Network) (numbers : List ℕ) (zero : ℕ) → zero ≡ 0 → HaveNumbers net 0 (numbers ++ zero ∷ [])
-numbers_start net numbers z is = record {
-  backbone = subst (λ (k : ℕ). Contains (numbers ++ z ∷ []) k) is (Contains-push numbers z);
+pub numbers_start : (net : Network) → HaveNumbers net 0 (0 ∷ [])
+numbers_start net = record {
+  backbone = Contains-push [] 0;
   every = λ u n below. absurd (omega arith);
+  only = λ n has. inl (⊎_elim (λ none. absurd (omega (arith, none.1))) (λ same. sym same) (Contains-push_cases [] 0 n has));
 }
 
 pub numbers_more : (net : Network) (m : ℕ) (config : Configuration) (given : List Interface) (old new : List ℕ) → HasConfiguration net m config →
@@ -92,11 +98,28 @@ numbers_more net m config given old new router are before adds = record {
         let same : u ≡ m = omega arith in
         (adds n).1 (inr ((inside_is net m n config given router are).1 (subst (λ (k : ℕ). InArea net k n) same inside)))
   ];
+  only = λ n has. ⊎_elim (before.only n) (λ here. inr (m, (inside_is net m n config given router are).0 here)) ((adds n).0 has);
 }
 
-pub numbers_all : (net : Network) (m : ℕ) (numbers : List ℕ) → length net ≡ m → HaveNumbers net m numbers → (u n : ℕ) → InArea net u n → Contains numbers n
-numbers_all net m numbers count have u n inside =
-    let within : u < length net = InArea-within net u n inside in have.every u n (omega arith) inside
+pub numbers_all : (net : Network) (m : ℕ) (numbers : List ℕ) → length net ≡ m → HaveNumbers net m numbers → Exactly (IsAreaOf net) numbers
+numbers_all net m numbers count have n = (
+  have.only n,
+  ⊎_elim
+      (λ zero. subst (λ (k : ℕ). Contains numbers k) (sym zero) have.backbone)
+      (λ some. let within : some.0 < length net = InArea-within net some.0 n some.1 in have.every some.0 n (omega arith) some.1),
+)
+
+-- the zones of these areas are those of the network's
+pub zones_are : (net : Network) (numbers given : List ℕ) (zones : List Zone) → given ≡ numbers → Exactly (IsAreaOf net) numbers →
+    Exactly (λ (z : Zone). Any (λ (n : ℕ). Area n ≡ z) given) zones → AreAreaZones net zones
+zones_are net numbers given zones same exact are =
+    exactly_same zones (λ (z : Zone). Any (λ (n : ℕ). Area n ≡ z) given) (IsAreaZone net) are (λ z. (
+      λ any.
+          let f = any_in (λ (n : ℕ). Area n ≡ z) given any in
+          record { number = f.item; is = sym f.holds; area = (exact f.item).0 (subst (λ (l : List ℕ). Contains l f.item) same f.among) },
+      λ is. any_of (λ (n : ℕ). Area n ≡ z) given is.number
+          (subst (λ (l : List ℕ). Contains l is.number) (sym same) ((exact is.number).1 is.area)) (sym is.is),
+    ))
 
 -- Border routers
 
@@ -165,14 +188,23 @@ area_is net areas zone a are within here = subst (IsArea net) (sym here) (are.ea
 
 -- as many walks as routers
 pub reach_within : (net : Network) (areas : List AreaWalks) (u zone : ℕ) (a : AreaWalks) → AreAreas net areas → zone < length areas →
-    a ≡ get_or areas zone a → u < length net → u < length a.walks
+    a ≡ get_or areas zone a → u < length net → u < length a.walks.value
 reach_within net areas u zone a are within here below = let walks = (area_is net areas zone a are within here).walks in omega (arith, walks.routers)
 
+-- the walks from a router in the area at a place, as they are read
+pub area_reach_read : (areas : List AreaWalks) (u zone : ℕ) (a : AreaWalks) → zone < length areas → a ≡ get_or areas zone a → u < length a.walks.value →
+    slice_get a.walks.value u ≡ Some (area_reach areas u zone)
+area_reach_read areas u zone a within here below =
+    let none : Reach = record { distances = []; hops = [] } in
+    let walks_of : AreaWalks → List Reach = λ x. x.walks.value in
+    let there : a.walks.value ≡ get_or (all_walks areas) zone [] = ap walks_of here ∙ sym (get_or-map walks_of areas zone a [] within) in
+    subst (λ (l : List Reach). slice_get a.walks.value u ≡ Some (get_or l u none)) there (slice_get-get_or a.walks.value u none below)
+
 pub reach_is : (net : Network) (areas : List AreaWalks) (n u zone : ℕ) (a : AreaWalks) (reach : Reach) → AreAreas net areas → IsAreaAt areas n zone →
-    a ≡ get_or areas zone a → slice_get a.walks u ≡ Some reach → IsReach net n u reach
+    a ≡ get_or areas zone a → slice_get a.walks.value u ≡ Some reach → IsReach net n u reach
 reach_is net areas n u zone a reach are at here read =
-    let walks : AreZoneWalks net (Area n) a.walks =
-    subst (λ (m : ℕ). AreZoneWalks net (Area m) a.walks) (number_at areas n zone a at here) (area_is net areas zone a are at.within here).walks in
+    let walks : AreZoneWalks net (Area n) a.walks.value =
+    subst (λ (m : ℕ). AreZoneWalks net (Area m) a.walks.value) (number_at areas n zone a at here) (area_is net areas zone a are at.within here).walks in
     record { least = walks.least u reach read; near = walks.near u reach read }
 
 pub member_at : (net : Network) (areas : List AreaWalks) (n u zone : ℕ) (a : AreaWalks) → AreAreas net areas → IsAreaAt areas n zone →

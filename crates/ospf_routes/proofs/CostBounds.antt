@@ -45,11 +45,11 @@ no_walks = record { distances = []; hops = [] }
 pub walk_is_near : (net : Network) (areas : List AreaWalks) (n u v d : ℕ) → AreAreas net areas → HasArea areas n → u < length net →
     LeastCost (Adjacent net (Area n)) u v d → d < 200 * 2 ^ 32
 walk_is_near net areas n u v d are has within far =
-    let of_n : AreZoneWalks net (Area n) has.area.walks =
-    subst (λ (m : ℕ). AreZoneWalks net (Area m) has.area.walks) has.number (All-contains (IsArea net) areas has.area are.each has.among).walks in
-    let inside : u < length has.area.walks = omega (arith, of_n.routers) in
-    let reach : Reach = get_or has.area.walks u no_walks in
-    let here = slice_get-get_or has.area.walks u no_walks inside in
+    let of_n : AreZoneWalks net (Area n) has.area.walks.value =
+    subst (λ (m : ℕ). AreZoneWalks net (Area m) has.area.walks.value) has.number (All-contains (IsArea net) areas has.area are.each has.among).walks in
+    let inside : u < length has.area.walks.value = omega (arith, of_n.routers) in
+    let reach : Reach = get_or has.area.walks.value u no_walks in
+    let here = slice_get-get_or has.area.walks.value u no_walks inside in
     of_n.near u reach here v d (((of_n.least u reach here).distances v d).1 far)
 
 pub subnet_is_small : (net : Network) (n : ℕ) (p : Block) (w cost : ℕ) → IsNetwork net → OffersSubnet net n p w cost → cost < 2 ^ 24

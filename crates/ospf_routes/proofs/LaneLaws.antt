@@ -2,8 +2,7 @@
 use Rattle.std.proofs.Common.{◌≡◌, ℕ, zero, suc, ◌+◌, ◌^◌, ◌<◌, ◌≤◌, ◌⊎◌, ⊎_elim, List, [], ◌∷◌, length, get_or, Option, Some, None}
 use Rattle.std.proofs.Common.{refl, sym, ap, subst, arith}
 use Rattle.std.specs.List.{All, Any, Contains}
-use Rattle.std.proofs.lemmas.List.{get_or_default}
-use Rattle.std.proofs.lemmas.Option.{none-some, same_Some, slice_get-get_or, slice_get_within}
+use Rattle.std.proofs.lemmas.Option.{none-some, same_Some, slice_get_within}
 use Rattle.std.proofs.lemmas.List.Elements.{Contains-get_or, Contains-push}
 use Rattle.net_addr.specs.Addresses.{Block}
 use Rattle.net_model.specs.Network.{Network, Connected, InArea, IsBorderRouter}
@@ -31,7 +30,7 @@ use Rattle.ospf_routes.specs.steps.Lanes.{IsInner, IsOfFew, LaneOf, LeadsLane}
 use Rattle.ospf_routes.specs.declared.areas.AreaWalks.{AreaWalks}
 use Rattle.ospf_routes.specs.declared.intra_area.AreaOffers.{AreaOffers}
 use Rattle.ospf_routes.specs.declared.intra_area.Destination.{Destination}
-use Rattle.ospf_routes.proofs.AreaFacts.{number_at, reach_is, reach_within}
+use Rattle.ospf_routes.proofs.AreaFacts.{area_reach_read, number_at, reach_is, reach_within}
 use Rattle.ospf_routes.proofs.IntraFacts.{no_intra_given, part_for, part_in_range}
 use Rattle.ospf_routes.proofs.EntryFacts.{heard_in_range, listened_entry, no_route_no_entry}
 use Rattle.ospf_routes.proofs.RouteFacts.{area_route_is, listened_route_is}
@@ -43,11 +42,8 @@ use Rattle.ospf_routes.proofs.ZoneRoutes.{route_of_area}
 pub reach_at : (net : Network) (areas : List AreaWalks) (n u zone : ℕ) → AreAreas net areas → IsAreaAt areas n zone → u < length net →
     IsReach net n u (area_reach areas u zone)
 reach_at net areas n u zone are at below =
-    let none : AreaWalks = record { number = 0; walks = []; members = []; borders = [] } in
-    let a : AreaWalks = get_or areas zone none in
-    let here : a ≡ get_or areas zone a = get_or_default areas zone none a at.within in
-    reach_is net areas n u zone a (area_reach areas u zone) are at here
-    (slice_get-get_or a.walks u (record { distances = []; hops = [] }) (reach_within net areas u zone a are at.within here below))
+    reach_is net areas n u zone at.area (area_reach areas u zone) are at at.here
+    (area_reach_read areas u zone at.area at.within at.here (reach_within net areas u zone at.area are at.within at.here below))
 
 -- the area that it is in
 pub inner_place : (net : Network) (areas : List AreaWalks) (listens : List (Option ℕ)) (zone u : ℕ) → AreListeners net areas (length net) listens →

@@ -1,3 +1,4 @@
 pub mod Lists
+pub mod AreaZones
 pub mod RouteTables
 pub mod steps

@@ -6,23 +6,25 @@ ghost use Rattle.igp_theory.specs.Laws.{IsOspfNeighbor};
 ghost use Rattle.route_tables.specs.Entries.{AreJoinedBy};
 ghost use Rattle.zone_graph.specs.Segments.{AreZoneSegments};
 ghost use Rattle.ospf_routes.specs.steps.Areas.{AreAreas, AreJoinedAreas, HasArea, IsArea, IsAreaAt, IsListener, RunsOther};
-ghost use Rattle.ospf_routes.specs.Lists.{Adds};
+ghost use Rattle.ospf_routes.specs.AreaZones.{AreAreaZones, IsAreaOf};
+ghost use Rattle.ospf_routes.specs.Lists.{Adds, Exactly};
 
 use crate::OutOfMemory;
 use crate::members::{Borders, Members};
 use net_model::{Interface, Net, Zone};
 use route_tables::push_option;
 use std::alloc::Global;
+use std::rc::Rc;
 use walk_core::Segment;
-use zone_graph::{ZoneWalks, zone_segments};
+use zone_graph::{KnownWalks, ZoneWalks, zone_segments};
 
 /// An area with its least walks, its routers and its border routers.
 #[derive(Debug, Drop)]
 pub(crate) struct AreaWalks {
     /// The number of the area.
     pub number: u32,
-    /// The least walks of the area.
-    pub walks: ZoneWalks,
+    /// The least walks of the area, which networks may share where it is the same in them.
+    pub walks: Rc<ZoneWalks>,
     /// The routers of the area.
     pub members: Members,
     /// The border routers of the area.
@@ -39,24 +41,33 @@ pub(crate) struct JoinedAreas {
 }
 
 /// The backbone and every area that a router is in, each with its least walks, its routers and its border routers; and the
-/// segments of all.
-pub(crate) fn all_areas(alloc: Global, net: &Net) -> Result<JoinedAreas, OutOfMemory>
+/// segments of all. Least walks that are known are taken.
+pub(crate) fn all_areas(
+    alloc: Global,
+    net: &Net,
+    known: &KnownWalks,
+) -> Result<JoinedAreas, OutOfMemory>
     ensures areas { IfOk result (λ all. AreAreas net.now all.areas.items) }
     ensures segments { IfOk result (λ all. AreJoinedBy (IsOspfNeighbor net.now) all.segments.items) }
 {
     let numbers = area_numbers(alloc, net)?;
-    areas_of(alloc, net, numbers.as_slice())
+    areas_of(alloc, net, known, numbers.as_slice())
 }
 
 /// The areas of these numbers, with the segments that their least walks go over.
-fn areas_of(alloc: Global, net: &Net, numbers: &[u32]) -> Result<JoinedAreas, OutOfMemory>
+fn areas_of(
+    alloc: Global,
+    net: &Net,
+    known: &KnownWalks,
+    numbers: &[u32],
+) -> Result<JoinedAreas, OutOfMemory>
     ensures { IfOk result (λ all. AreJoinedAreas net.now numbers.now all.areas.items all.segments.items) }
 {
     let mut areas = Vec::new(alloc);
     let mut segments = Vec::new(alloc);
     for number in numbers {
         let mut own = zone_segments(alloc, net, Zone::Area(*number))?;
-        areas.push(area_over(alloc, net, *number, own.as_slice())?)?;
+        areas.push(area_over(alloc, net, known, *number, own.as_slice())?)?;
         segments.append(&mut own)?;
     }
     Ok(JoinedAreas { areas, segments })
@@ -66,6 +77,7 @@ fn areas_of(alloc: Global, net: &Net, numbers: &[u32]) -> Result<JoinedAreas, Ou
 fn area_over(
     alloc: Global,
     net: &Net,
+    known: &KnownWalks,
     number: u32,
     segments: &[Segment],
 ) -> Result<AreaWalks, OutOfMemory>
@@ -73,7 +85,7 @@ fn area_over(
     ensures number { IfOk result (λ area. area.number ≡ number) }
     ensures area { IfOk result (IsArea net.now) }
 {
-    let walks = ZoneWalks::over(alloc, net, segments)?;
+    let walks = known.walks_over(alloc, net, segments)?;
     let members = Members::of_area(alloc, net, number)?;
     let borders = Borders::of_area(alloc, net, number, &members)?;
     Ok(AreaWalks {
@@ -84,11 +96,30 @@ fn area_over(
     })
 }
 
+/// The zones of the backbone and of every area that a router is in, each once. It is here for those who keep the least walks
+/// of a network for others (`KnownWalks`).
+pub fn area_zones(alloc: Global, net: &Net) -> Result<Vec<Zone>, OutOfMemory>
+    ensures { IfOk result (λ zones. AreAreaZones net.now zones.items) }
+{
+    let numbers = area_numbers(alloc, net)?;
+    zones_of(alloc, numbers.as_slice())
+}
+
+/// The zones of the areas of these numbers.
+fn zones_of(alloc: Global, numbers: &[u32]) -> Result<Vec<Zone>, OutOfMemory>
+    ensures { IfOk result (λ zones. Exactly (λ zone. Any (λ n. Area n ≡ zone) numbers.now) zones.items) }
+{
+    let mut zones = Vec::new(alloc);
+    for number in numbers {
+        zones.push(Zone::Area(*number))?;
+    }
+    Ok(zones)
+}
+
 /// The numbers of the backbone and of every area that a router is in, each once.
 fn area_numbers(alloc: Global, net: &Net) -> Result<Vec<u32>, OutOfMemory>
     ensures network { OnOk result (IsNetwork net.now) }
-    ensures backbone { IfOk result (λ numbers. Contains numbers.items 0) }
-    ensures every { IfOk result (λ numbers. (u n : ℕ) → InArea net.now u n → Contains numbers.items n) }
+    ensures numbers { IfOk result (λ numbers. Exactly (IsAreaOf net.now) numbers.items) }
 {
     let mut numbers = Vec::new(alloc);
     numbers.push(0)?;

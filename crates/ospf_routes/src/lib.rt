@@ -1,8 +1,9 @@
 //! The route tables of OSPF: intra-area routes, ranges and summaries, inter-area routes (RFC 2328).
 //!
 //! `OspfRoutes::build` (`source.rt`) makes the areas with their segments and walks (`all_areas`), and then the tables of `Ospf`
-//! (`protocol.rt`). The rest of step 1, and steps 2 and 3, are `Ospf::build`, which also finds twins; step 4 is
-//! `Ospf::decision` where this tells the route, else `Ospf::route`:
+//! (`protocol.rt`). `build_over` does so where walks are known of another network, of its areas (`area_zones`): an area that has
+//! the same segments shares them (`KnownWalks` of `zone_graph`), and all else is made anew. The rest of step 1, and steps 2 and 3,
+//! are `Ospf::build`, which also finds twins; step 4 is `Ospf::decision` where this tells the route, else `Ospf::route`:
 //!
 //! 1. `domain.rt`: a network and its areas (`areas.rt`, `members.rt`) with their least walks (section 16.1), whose segments the
 //!    tables keep, and routers, border routers (3.3), whom a router listens to (16.2). Its facts are known wherever one has it.
@@ -57,5 +58,6 @@ mod source;
 mod twins;
 mod united;
 
+pub use areas::area_zones;
 pub use route_tables::OutOfMemory;
 pub use source::OspfRoutes;

@@ -9,6 +9,7 @@ use route_core::{RouteSource, Table};
 use route_tables::RouteTables;
 use std::alloc::Global;
 use std::marker::Model;
+use zone_graph::KnownWalks;
 
 /// The route tables that OSPF gives the routers of a network (RFC 2328, section 16).
 ///
@@ -35,7 +36,19 @@ impl OspfRoutes {
     pub fn build(alloc: Global, net: &Net) -> Result<OspfRoutes, OutOfMemory>
         ensures { IfOk result (AreOspfRoutes net.now) }
     {
-        let JoinedAreas { areas, segments } = all_areas(alloc, net)?;
+        OspfRoutes::build_over(alloc, net, &KnownWalks::none(alloc))
+    }
+
+    /// The same, where least walks of areas may be known of another network: they are taken for each area that has the same
+    /// segments here.
+    pub fn build_over(
+        alloc: Global,
+        net: &Net,
+        known: &KnownWalks,
+    ) -> Result<OspfRoutes, OutOfMemory>
+        ensures { IfOk result (AreOspfRoutes net.now) }
+    {
+        let JoinedAreas { areas, segments } = all_areas(alloc, net, known)?;
         let ospf = Ospf::build(alloc, net, areas)?;
         let all = RouteTables::build(alloc, &ospf, segments)?;
         Ok(OspfRoutes { all })

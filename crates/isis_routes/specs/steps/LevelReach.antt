@@ -6,5 +6,5 @@ use Rattle.isis_routes.specs.declared.level_walks.LevelWalks.{LevelWalks}
 
 -- the least walks from router u: those of level 1 are numbered 0, and those of level 2 come after
 abbrev pub level_reach : LevelWalks → ℕ → ℕ → Reach
-level_reach walks u zero = slice_index_or walks.one u (record { distances = []; hops = [] })
-level_reach walks u (suc zone) = slice_index_or walks.two u (record { distances = []; hops = [] })
+level_reach walks u zero = slice_index_or walks.one.value u (record { distances = []; hops = [] })
+level_reach walks u (suc zone) = slice_index_or walks.two.value u (record { distances = []; hops = [] })

@@ -19,8 +19,8 @@ pub record AreLevelSegments (net : Network) (segments : LevelSegments) : Type 0 
 
 -- the least walks of both levels
 pub record AreLevelWalks (net : Network) (walks : LevelWalks) : Type 0 where
-  pub one : AreZoneWalks net One walks.one
-  pub two : AreZoneWalks net Two walks.two
+  pub one : AreZoneWalks net One walks.one.value
+  pub two : AreZoneWalks net Two walks.two.value
 
 -- router u runs both levels
 pub record RunsBothLevels (net : Network) (u : ℕ) : Type 0 where

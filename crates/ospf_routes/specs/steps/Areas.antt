@@ -36,7 +36,7 @@ pub record IsAreaAt (areas : List AreaWalks) (n zone : ℕ) : Type 0 where
 
 -- the area has its least walks, its routers and its border routers
 pub record IsArea (net : Network) (area : AreaWalks) : Type 0 where
-  pub walks : AreZoneWalks net (Area area.number) area.walks
+  pub walks : AreZoneWalks net (Area area.number) area.walks.value
   pub members : AreMembersBelow net area.number (length net) area.members
   pub borders : Exactly (IsBorderIn net area.number) area.borders
 

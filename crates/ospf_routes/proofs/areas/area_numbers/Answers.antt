@@ -9,6 +9,6 @@ loop-u-preserved c =
     c.config.ensures.router (c.as_slice.ensures ∙ ap (λ (d : Configuration). d.interfaces) c.behind-net.view_is)
     c.loop-u.invariant c.in_ok-add_areas.ensures
 
-pub returns-clause-every : goal.returns-clause-every
-returns-clause-every c =
+pub returns-clause-numbers : goal.returns-clause-numbers
+returns-clause-numbers c =
     numbers_all c.args.net.now c.loop-u.u c.loop-u.numbers.items (omega (arith, c.routers-u-end.ensures.count)) c.loop-u.invariant

@@ -9,5 +9,5 @@ collect-requires c = subst (λ (net : Network). AreRoutersAt net c.args.dest c.a
 
 pub down_announcements-requires-clause-small : goal.down_announcements-requires-clause-small
 down_announcements-requires-clause-small c =
-    announced_small c.args.domain.now.net c.in_ok-one.one.dest c.args.domain.now.walks.one c.in_ok-two.two.items c.as_slice.result.now
+    announced_small c.args.domain.now.net c.in_ok-one.one.dest c.args.domain.now.walks.one.value c.in_ok-two.two.items c.as_slice.result.now
     c.net.ensures.known.network c.net.ensures.known.walks.one c.in_ok-two.ensures c.as_slice.ensures.value

@@ -4,7 +4,7 @@ use Rattle.walk_core.specs.declared.segment.Port.{Port}
 use Rattle.igp_theory.specs.Laws.{IsIsisNeighbor}
 use Rattle.route_tables.specs.Entries.{AreJoinedBy}
 use Rattle.isis_routes.proofs.ProtocolFacts.{joined_in_levels}
-use Rattle.isis_routes.proofs.source.IsisRoutes.build.Goals as goal
+use Rattle.isis_routes.proofs.source.IsisRoutes.build_over.Goals as goal
 
 pub build-requires-3 : goal.build-requires-3
 build-requires-3 c =
