@@ -16,7 +16,7 @@ use Rattle.route_tables.specs.declared.best.BestAt.{BestAt}
 use Rattle.route_tables.specs.declared.lane.Decision.{Decision}
 use Rattle.route_tables.specs.declared.leads.Lead.{Lead}
 use Rattle.route_tables.specs.steps.BestSoFar.{IsBestAt, IsBetterOf, lower, kept, both}
-use Rattle.route_tables.specs.steps.Leads.{AreLeads, IsLead, IsLeadAt, IsNumberToBest, IsTold, told_nothing, told_one, told_best, LeadsTo, no_lead}
+use Rattle.route_tables.specs.steps.Leads.{AreLeads, IsLead, IsLeadAt, IsNumberToBest, IsTold, told_nothing, told_one, told_best, IsLeadTo, no_lead}
 use Rattle.route_tables.specs.steps.Sharing.{HasNumber, IsNumberOf}
 use Rattle.route_tables.proofs.ListFacts.{each_more, the_one}
 use Rattle.route_tables.proofs.SharingLaws.{number_kept}
@@ -61,9 +61,9 @@ lane_leads_kept (Some walks) now n entries more leads are = leads_kept (now walk
 
 -- the lead to a vertex has the number of the entry towards it
 led_to : (reach : Reach) (n : ℕ) (entries : List Entry) (leads : List Lead) (at : ℕ) (lead : Lead) (number : ℕ) → AreLeads reach n entries leads →
-    IsLeadAt leads at lead → lead.number ≡ Some number → LeadsTo reach n entries at lead.distance number
+    IsLeadAt leads at lead → lead.number ≡ Some number → IsLeadTo reach n entries at lead.distance number
 led_to reach n entries leads at lead number are is known =
-    subst (λ (o : Option ℕ). IfSome o (LeadsTo reach n entries at lead.distance)) known
+    subst (λ (o : Option ℕ). IfSome o (IsLeadTo reach n entries at lead.distance)) known
     (subst (IsLead reach n entries at) is.is (are at is.within))
 
 -- an entry over hops has these hops

@@ -15,13 +15,13 @@ abbrev pub no_lead : Lead
 no_lead = record { distance = 0; number = None }
 
 -- the vertex is this far, and the number is that of the entry over the first hops below n towards it
-pub record LeadsTo (reach : Reach) (n : ℕ) (entries : List Entry) (at distance number : ℕ) : Type 0 where
+pub record IsLeadTo (reach : Reach) (n : ℕ) (entries : List Entry) (at distance number : ℕ) : Type 0 where
   pub far : distance_of reach at ≡ Some distance
   pub entry : HasNumber (IsEntryTo reach at n) entries number
 
 -- what a lead with a number says of a vertex is so
 abbrev pub IsLead : Reach → ℕ → List Entry → ℕ → Lead → Type 0
-IsLead reach n entries at lead = IfSome lead.number (LeadsTo reach n entries at lead.distance)
+IsLead reach n entries at lead = IfSome lead.number (IsLeadTo reach n entries at lead.distance)
 
 -- these are leads to the vertices, by their numbers
 abbrev pub AreLeads : Reach → ℕ → List Entry → List Lead → Type 0
