@@ -5,7 +5,7 @@ use Rattle.std.specs.List.{Contains}
 use Rattle.std.proofs.lemmas.Option.{none-some, same_Some}
 use Rattle.std.proofs.lemmas.List.{take_more}
 use Rattle.std.proofs.lemmas.List.Elements.{Contains-append_left, Contains-push, Contains-push_cases}
-use Rattle.walk_core.specs.Reach.{Reach, distance_of}
+use Rattle.walk_core.specs.Reach.{Reach, distance_of, HasHop}
 use Rattle.walk_core.specs.BestOffers.{HasTotal, NoneTotals, IsBestTotal, total_towards, total_with}
 use Rattle.walk_core.specs.declared.offers.Offer.{Offer}
 use Rattle.route_tables.specs.BestRoutes.{AreBestHops}
@@ -152,10 +152,15 @@ best_is_reached reach offers best is =
     let far = reached_by (distance_of reach has.offer.at) has.offer.asks best.cost has.total in
     record { distance = far.0; reached = subst (λ (v : ℕ). distance_of reach v ≡ Some far.0) is.made far.1 }
 
--- where all best offers have the first hops towards it, these are those towards the best offers
-pub alike_hops : (reach : Reach) (offers : List Offer) (best : BestAt) (n : ℕ) → IsBestAt reach offers best → LeadAlike reach offers best →
+-- the first hops below n towards each offer that costs this are among those towards the vertex
+abbrev pub LeadBelow : Reach → List Offer → ℕ → BestAt → Type 0
+LeadBelow reach offers n best = (o : Offer) → Contains offers o → total_towards reach o ≡ Some best.cost →
+    (h : ℕ) → h < n → HasHop reach o.at h → HasHop reach best.at h
+
+-- where all best offers have the first hops below n towards it, these are those towards the best offers
+pub below_hops : (reach : Reach) (offers : List Offer) (best : BestAt) (n : ℕ) → IsBestAt reach offers best → LeadBelow reach offers n best →
     (hops : List ℕ) → AreHopsTo reach best.at n hops → AreBestHops reach offers n hops
-alike_hops reach offers best n is same hops to =
+below_hops reach offers best n is same hops to =
     let has = is.best_total.attained in
     record {
       cost = best.cost;
@@ -169,13 +174,16 @@ alike_hops reach offers best n is same hops to =
               offer = has.offer;
               among = has.among;
               total = has.total;
-              hop = subst (λ (l : List ℕ). Contains l h) (sym (same has.offer has.among has.total)) there.1;
+              hop = subst (λ (v : ℕ). HasHop reach v h) (sym is.made) there.1;
             },
           ),
-          λ over. (to.exact h).1 (
-            over.0,
-            subst (λ (l : List ℕ). Contains l h) (same over.1.offer over.1.among over.1.total) over.1.hop,
-          ),
+          λ over. (to.exact h).1 (over.0, same over.1.offer over.1.among over.1.total h over.0 over.1.hop),
         );
       };
     }
+
+-- and where all have all first hops towards it
+pub alike_hops : (reach : Reach) (offers : List Offer) (best : BestAt) (n : ℕ) → IsBestAt reach offers best → LeadAlike reach offers best →
+    (hops : List ℕ) → AreHopsTo reach best.at n hops → AreBestHops reach offers n hops
+alike_hops reach offers best n is same = below_hops reach offers best n is
+    (λ o among total h below has. subst (λ (l : List ℕ). Contains l h) (same o among total) has)

@@ -4,7 +4,7 @@ pub mod DestinationLists
 pub mod BestRoutes
 pub mod AlikeRoutes
 mod BestSteps
-mod SureLaws
+mod LeadLaws
 mod SharingLaws
 mod PrefixOrder
 pub mod JoinedLaws

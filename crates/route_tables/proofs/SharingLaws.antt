@@ -17,7 +17,7 @@ use Rattle.route_tables.proofs.ListFacts.{each_more}
 -- Numbers of entries
 
 -- a number stays that of its entry with more entries
-number_kept : (wanted : Entry → Type 0) (entries more : List Entry) (number : ℕ) → HasNumber wanted entries number →
+pub number_kept : (wanted : Entry → Type 0) (entries more : List Entry) (number : ℕ) → HasNumber wanted entries number →
     HasNumber wanted (entries ++ more) number
 number_kept wanted entries more number has =
     let long = length-append entries more in
@@ -59,13 +59,6 @@ numbers_more wanted k entries more numbers next are here = record {
 pub single_kept : (n : ℕ) (old new : Pool) → KeepsMore old new → AreOverOne n old.entries.items → AreOverOne n new.entries.items
 single_kept n old new kept are = subst (AreOverOne n) (sym kept.entries)
     (λ hop below. number_kept (λ entry. entry ≡ Via (hop ∷ [])) old.entries.items kept.more hop (are hop below))
-
--- a hop alone that is told is the number of the entry over it
-pub over_hop : (n : ℕ) (wanted : Entry → Type 0) (entries : List Entry) (hop : ℕ) → AreOverOne n entries →
-    (hop < n) × wanted (Via (hop ∷ [])) → HasNumber wanted entries hop
-over_hop n wanted entries hop single (below, is) =
-    let has = single hop below in
-    record { below = has.below; is = subst wanted (sym has.is) is }
 
 -- more and more entries
 pub more_kept : (old mid new : Pool) → KeepsMore old mid → KeepsMore mid new → KeepsMore old new

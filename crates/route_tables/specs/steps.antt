@@ -3,5 +3,5 @@ pub mod Kinds
 pub mod Sharing
 pub mod Alike
 pub mod Joined
-pub mod Sure
+pub mod Leads
 pub mod Entries

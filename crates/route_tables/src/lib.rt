@@ -6,8 +6,8 @@
 //! - `route.rt`, `best.rt`: a route before it is an entry, and the route to the best of some offers. One pass finds the best;
 //!   where several are as good, another tells whether all offers have the first hops towards one router: then the route says
 //!   that router and takes no memory.
-//! - `lane.rt`, `sure.rt`: what decides the routes of all routers that know the same offers for a prefix, and what
-//!   that tells at once of a router's entry.
+//! - `lane.rt`, `leads.rt`: what decides the routes of all routers that know the same offers for a prefix; how far a router is
+//!   from each vertex and the number of its entry towards it, which are looked up once, and what they tell of its entries.
 //! - `alike.rt`: whether offers differ by a constant alone, by which prefixes have the same routes.
 //! - `pool.rt`: the entries that the tables of all routers share: those over one hop alone, which are made once and need no
 //!   search, and those that each table adds, among which it looks for a list of several hops, in time of these.
@@ -36,10 +36,10 @@ mod lists;
 // Tables.
 mod joined;
 mod kinds;
+mod leads;
 mod pool;
 mod sharing;
 mod source;
-mod sure;
 mod table;
 
 pub use alike::are_alike;

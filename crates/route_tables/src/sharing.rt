@@ -1,9 +1,10 @@
-ghost use Rattle.std.specs.Prelude.{◌≡◌, ◌<◌, IfOk, IfSome, OnOk, length};
+ghost use Rattle.std.specs.Prelude.{◌≡◌, ◌<◌, ◌∷◌, [], IfOk, IfSome, OnOk, length};
 ghost use Rattle.route_tables.specs.Lanes.{DecidesFor};
 ghost use Rattle.route_tables.specs.Prefixes.{prefix_at};
+ghost use Rattle.walk_core.specs.Reach.{listed_hops_of};
 ghost use Rattle.route_tables.specs.Routings.{AreHopsTo, HasZoneTarget, IsEntryTo, Makes};
 ghost use Rattle.route_tables.specs.steps.Kinds.{IsToldLane};
-ghost use Rattle.route_tables.specs.steps.Sharing.{AreOverOne, HasNumber, IsNumberOf, IsRouterLane, KeepsMore, LaneTells};
+ghost use Rattle.route_tables.specs.steps.Sharing.{AreOverOne, HasNumber, IsNumberOf, IsRouterLane, KeepsMore};
 ghost use Rattle.route_core.specs.declared.entry.Entry.TheVariants.{Via};
 
 use crate::OutOfMemory;
@@ -12,7 +13,6 @@ use crate::lane::Decision;
 use crate::pool::Pool;
 use crate::protocol::Protocol;
 use crate::route::Route;
-use crate::sure::{Sure, only_hop, sure_of};
 use route_core::{Entry, Hops, Number};
 use std::alloc::Global;
 use walk_core::LeastWalks;
@@ -22,9 +22,9 @@ use walk_core::LeastWalks;
 #[derive(Clone, Copy, Debug)]
 pub(crate) struct RouterLane<'a> {
     pub(crate) router: u32,
-    count: u32,
-    walks: Option<&'a LeastWalks>,
-    decisions: &'a [Decision],
+    pub(crate) count: u32,
+    pub(crate) walks: Option<&'a LeastWalks>,
+    pub(crate) decisions: &'a [Decision],
     pub(crate) firsts: &'a [u32],
 }
 
@@ -61,20 +61,6 @@ fn lane_walks<P: Protocol>(protocol: &P, router: u32, lane: usize) -> Option<&Le
 {
     let zone = protocol.zone_of_lane(lane)?;
     Some(protocol.walks(router, zone))
-}
-
-/// What a router's lane tells at once of its entry for the prefixes of a kind.
-#[inline(always)]
-pub(crate) fn sure_at(lane: RouterLane<'_>, kind: usize) -> Sure
-    ensures { LaneTells lane.entry kind result }
-{
-    let Some(walks) = lane.walks else {
-        return Sure::Unknown;
-    };
-    match lane.decisions.get(kind).copied() {
-        Some(decision) => sure_of(walks, lane.count, lane.router, decision),
-        None => Sure::Unknown,
-    }
 }
 
 /// The number of the entry for the prefix at a place, where it has one: that of its route's entry.
@@ -128,7 +114,7 @@ fn number_of<P: Protocol>(
 /// The number of the entry towards a router: that of its one first hop, where it has one alone, else that over all of them
 /// below `count`.
 #[inline(always)]
-fn number_towards(
+pub(crate) fn number_towards(
     alloc: Global,
     walks: &LeastWalks,
     at: u32,
@@ -142,6 +128,17 @@ fn number_towards(
     match only_hop(walks, at) {
         Some(hop) if hop < count => Ok(hop),
         _ => number_over(alloc, walks, at, count, pool),
+    }
+}
+
+/// The first hop towards a vertex, where there is one alone.
+#[inline(always)]
+fn only_hop(walks: &LeastWalks, at: u32) -> Option<u32>
+    ensures { IfSome result (λ hop. listed_hops_of walks.now at ≡ hop ∷ []) }
+{
+    match walks.hops_to(at) {
+        [hop] => Some(*hop),
+        _ => None,
     }
 }
 

@@ -6,15 +6,16 @@ ghost use Rattle.route_tables.specs.Entries.{IsLawful};
 ghost use Rattle.route_tables.specs.steps.Entries.{AreSameEntries, AreTablesBelow};
 ghost use Rattle.route_tables.specs.Prefixes.{AreDistinctPrefixes};
 ghost use Rattle.route_tables.specs.steps.Kinds.{AreLaneKinds, first_prefix_of};
+ghost use Rattle.route_tables.specs.steps.Leads.{AreLaneLeads};
 ghost use Rattle.route_tables.specs.steps.Sharing.{AreNumbers, AreOverOne, AreRouterNumbers, IsNumberOf, IsRouterLane};
 ghost use Rattle.route_tables.specs.steps.Sharing.{KeepsMore, kept_with};
 
 use crate::OutOfMemory;
 use crate::kinds::{LaneKinds, all_kinds};
+use crate::leads::{Lead, leads_of, told};
 use crate::pool::Pool;
 use crate::protocol::Protocol;
-use crate::sharing::{RouterLane, number_asked, router_lane, sure_at};
-use crate::sure::Sure;
+use crate::sharing::{RouterLane, number_asked, router_lane};
 use net_addr::Prefix;
 use route_core::{Entry, Number, Table};
 use std::alloc::Global;
@@ -112,8 +113,15 @@ fn router_numbers<P: Protocol>(
     Ok(RouterNumbers { kinds, numbers })
 }
 
-/// The numbers of a router's entries for the kinds of its lane, in time of these, and of the routes that the lane doesn't
-/// tell.
+/// A router's lane, with the leads by its least walks of the lane's zone.
+#[derive(Clone, Copy, Debug)]
+struct LedLane<'a> {
+    lane: RouterLane<'a>,
+    leads: &'a [Lead],
+}
+
+/// The numbers of a router's entries for the kinds of its lane, in time of these, of the routers, and of the routes that the
+/// leads don't tell.
 #[inline(never)]
 fn numbers_at<P: Protocol>(
     alloc: Global,
@@ -130,38 +138,43 @@ fn numbers_at<P: Protocol>(
         (length lane.entry.firsts.now) pool.new.entries.items numbers.items) }
 {
     pool.begin_table();
+    let leads = leads_of(alloc, lane.walks, lane.count, pool)?;
+    let led = LedLane {
+        lane,
+        leads: leads.as_slice(),
+    };
     let mut numbers = Vec::with_capacity(alloc, lane.firsts.len())?;
     for kind in 0..lane.firsts.len() {
-        let number = number_at(alloc, protocol, lane, pool, kind)?;
+        let number = number_at(alloc, protocol, led, pool, kind)?;
         numbers.push_reserved(number);
     }
     Ok(numbers)
 }
 
-/// The number of the entry for the prefixes of a kind, where there is one: that which the router's lane tells, else that
+/// The number of the entry for the prefixes of a kind, where there is one: that which the router's leads tell, else that
 /// which the protocol is asked for.
 #[inline(always)]
 fn number_at<P: Protocol>(
     alloc: Global,
     protocol: &P,
-    lane: RouterLane<'_>,
+    led: LedLane<'_>,
     pool: &mut Pool,
     kind: usize,
 ) -> Result<Number, OutOfMemory>
-    requires kind { kind < length lane.firsts.now }
-    requires places { All (λ place. place < length (P.candidates protocol.now)) lane.firsts.now }
-    requires lane { IsRouterLane (P.routes protocol.now) (P.candidates protocol.now) lane }
+    requires kind { kind < length led.lane.firsts.now }
+    requires places { All (λ place. place < length (P.candidates protocol.now)) led.lane.firsts.now }
+    requires lane { IsRouterLane (P.routes protocol.now) (P.candidates protocol.now) led.lane }
+    requires leads { AreLaneLeads led.lane pool.old.entries.items led.leads.now }
     requires single { AreOverOne (P.routes protocol.now).routers pool.old.entries.items }
     ensures kept { OnOk result (KeepsMore pool.old pool.new) }
-    ensures number { IfOk result (IsNumberOf ((P.routes protocol.now).entry lane.entry.router
-        (first_prefix_of (P.candidates protocol.now) lane.entry.firsts.now kind)) pool.new.entries.items) }
+    ensures number { IfOk result (IsNumberOf ((P.routes protocol.now).entry led.entry.lane.router
+        (first_prefix_of (P.candidates protocol.now) led.entry.lane.firsts.now kind)) pool.new.entries.items) }
 {
-    match sure_at(lane, kind) {
-        Sure::Nothing => Ok(Number::none()),
-        Sure::Over(hop) => Number::of(hop),
-        Sure::Unknown => {
-            let place = lane.firsts[kind] as usize;
-            number_asked(alloc, protocol, lane.router, pool, place)
+    match told(led.leads, led.lane.router, led.lane.decisions[kind]) {
+        Some(number) => Ok(number),
+        None => {
+            let place = led.lane.firsts[kind] as usize;
+            number_asked(alloc, protocol, led.lane.router, pool, place)
         }
     }
 }

@@ -1,19 +1,17 @@
 -- Tables in the making: entries that all tables share, and the numbers of a table's own.
-use Rattle.std.specs.Prelude.{◌≡◌, ◌<◌, ℕ, List, [], ◌∷◌, ◌++◌, length, None, Option, MatchOption, slice_index_or}
+use Rattle.std.specs.Prelude.{◌≡◌, ◌<◌, ℕ, List, [], ◌∷◌, ◌++◌, length, None, Option, IfSome, MatchOption, slice_index_or}
 use Rattle.net_addr.specs.Addresses.{Block}
 use Rattle.route_core.specs.Rows.{KeptTable}
 use Rattle.route_core.specs.declared.entry.Entry.{Entry}
 use Rattle.route_core.specs.declared.entry.Entry.TheVariants.{Via, Discard}
+use Rattle.route_tables.specs.Lanes.{DecidesAt}
 use Rattle.route_tables.specs.steps.Entries.{AreSameEntries}
 use Rattle.route_tables.specs.Protocols.{ProtocolRoutes}
 use Rattle.route_tables.specs.declared.lane.Decision.TheVariants.{Unknown}
 use Rattle.route_tables.specs.declared.pool.Pool.{Pool}
 use Rattle.route_tables.specs.declared.sharing.RouterLane.{RouterLane}
-use Rattle.route_tables.specs.declared.sure.Sure.{Sure}
-use Rattle.route_tables.specs.declared.sure.Sure.TheVariants.{Unknown as Unsure}
 use Rattle.route_tables.specs.declared.table.RouterNumbers.{RouterNumbers}
 use Rattle.route_tables.specs.steps.Kinds.{AreKinds, first_prefix_of}
-use Rattle.route_tables.specs.steps.Sure.{IsSure, Tells}
 
 -- the entry of the number is one that is wanted
 pub record HasNumber (wanted : Entry → Type 0) (entries : List Entry) (number : ℕ) : Type 0 where
@@ -43,17 +41,16 @@ pub record Keeps (old new : Pool) (entry : Entry) (number : ℕ) : Type 0 where
   pub number_is : number ≡ length old.entries.items
   pub entries : new.entries.items ≡ old.entries.items ++ entry ∷ []
 
--- the lane tells this of its router's entry for the prefixes of a kind
-abbrev pub LaneTells : RouterLane → ℕ → Sure → Type 0
-LaneTells lane kind sure = MatchOption lane.walks (sure ≡ Unsure)
-    (λ walks. Tells walks.now lane.count lane.router (slice_index_or lane.decisions.now kind Unknown) sure)
-
--- what it tells is so of the router's entries for the first prefix of each kind
+-- the lane is that of a router, with what decides its routes for the first prefix of each kind, and its walks of the zone
+-- over which the offers are reached that decide
 pub record IsRouterLane (routes : ProtocolRoutes) (dests : List Block) (lane : RouterLane) : Type 0 where
   pub router : lane.router < routes.routers
   pub count : lane.count ≡ routes.routers
-  pub sure : (kind : ℕ) (sure : Sure) → kind < length lane.firsts.now → LaneTells lane kind sure →
-      IsSure routes.routers (routes.entry lane.router (first_prefix_of dests lane.firsts.now kind)) sure
+  pub zone : ℕ
+  pub walks : IfSome lane.walks (λ walks. walks.now ≡ routes.reach lane.router zone)
+  pub long : length lane.decisions.now ≡ length lane.firsts.now
+  pub decides : (kind : ℕ) → kind < length lane.firsts.now →
+      DecidesAt routes zone lane.router (first_prefix_of dests lane.firsts.now kind) (slice_index_or lane.decisions.now kind Unknown)
 
 -- these are the numbers of a router's entries, for kinds of prefixes that are alike for it
 pub record AreRouterNumbers (entry : Block → Entry → Type 0) (dests : List Block) (entries : List Entry) (own : RouterNumbers) : Type 0 where

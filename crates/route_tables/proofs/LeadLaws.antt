@@ -1,0 +1,178 @@
+-- How a router reaches each vertex, and what that tells of its entries.
+use Rattle.std.proofs.Common.{◌≡◌, ℕ, ◌+◌, ◌<◌, ◌≤◌, inl, inr, List, [], ◌∷◌, ◌++◌, Option, None, Some, IfSome, MatchOption, length, get_or, refl, sym, ap}
+use Rattle.std.proofs.Common.{subst, ◌∙◌, arith, true, false}
+use Rattle.std.specs.List.{Contains}
+use Rattle.std.proofs.lemmas.Bool.{cases_lt, false≢true}
+use Rattle.std.proofs.lemmas.List.Elements.{Contains-push_cases}
+use Rattle.std.proofs.lemmas.Option.{IfSome_then, same_Some}
+use Rattle.walk_core.specs.Reach.{Reach, HasHop}
+use Rattle.walk_core.specs.BestOffers.{total_towards, total_with}
+use Rattle.walk_core.specs.declared.offers.Offer.{Offer}
+use Rattle.route_core.specs.declared.entry.Entry.{Entry}
+use Rattle.route_core.specs.declared.entry.Entry.TheVariants.{Via, Discard}
+use Rattle.route_tables.specs.Lanes.{DecidesRoute, LeadToBest}
+use Rattle.route_tables.specs.Routings.{IsEntryTo, IsRouteFor}
+use Rattle.route_tables.specs.declared.best.BestAt.{BestAt}
+use Rattle.route_tables.specs.declared.lane.Decision.{Decision}
+use Rattle.route_tables.specs.declared.leads.Lead.{Lead}
+use Rattle.route_tables.specs.steps.BestSoFar.{IsBestAt, IsBetterOf, lower, kept, both}
+use Rattle.route_tables.specs.steps.Leads.{AreLeads, IsLead, IsLeadAt, IsNumberToBest, IsTold, told_nothing, told_one, told_best, IsLeadTo, no_lead}
+use Rattle.route_tables.specs.steps.Sharing.{HasNumber, IsNumberOf}
+use Rattle.route_tables.proofs.ListFacts.{each_more, the_one}
+use Rattle.route_tables.proofs.SharingLaws.{number_kept}
+use Rattle.route_tables.proofs.BestSteps.{LeadBelow, below_hops, best_is_reached, best_of_none, better_more, first_more}
+
+-- Leads while entries come
+
+-- what a lead says stays so with more entries
+lead_kept : (reach : Reach) (n : ℕ) (entries more : List Entry) (at : ℕ) (lead : Lead) → IsLead reach n entries at lead →
+    IsLead reach n (entries ++ more) at lead
+lead_kept reach n entries more at lead is = IfSome_then lead.number is
+    (λ number to. record { far = to.far; entry = number_kept (IsEntryTo reach at n) entries more number to.entry })
+
+pub leads_kept : (reach : Reach) (n : ℕ) (entries more : List Entry) (leads : List Lead) → AreLeads reach n entries leads →
+    AreLeads reach n (entries ++ more) leads
+leads_kept reach n entries more leads are = λ at within. lead_kept reach n entries more at (get_or leads at no_lead) (are at within)
+
+-- one more lead, by which there may be more entries
+pub leads_more : (reach : Reach) (n at : ℕ) (entries more : List Entry) (leads : List Lead) (next : Lead) → length leads ≡ at →
+    AreLeads reach n entries leads → IsLead reach n (entries ++ more) at next → (i : ℕ) → i < at + 1 →
+    IsLead reach n (entries ++ more) i (get_or (leads ++ next ∷ []) i no_lead)
+leads_more reach n at entries more leads next long are here =
+    each_more (IsLead reach n (entries ++ more)) leads at next no_lead long
+    (λ i within. leads_kept reach n entries more leads are i (omega (arith, long, within))) here
+
+-- leads by the walks that are known are those by walks that these are
+pub leads_by : {W : Type 0} (found : Option W) (now : W → Reach) (reach : Reach) (n : ℕ) (entries : List Entry) (leads : List Lead) →
+    IfSome found (λ walks. now walks ≡ reach) → MatchOption found (leads ≡ []) (λ walks. AreLeads (now walks) n entries leads) →
+    AreLeads reach n entries leads
+leads_by None now reach n entries leads known none =
+    subst (AreLeads reach n entries) (sym none) (λ at within. absurd (omega (arith, within)))
+leads_by (Some walks) now reach n entries leads known are = subst (λ (r : Reach). AreLeads r n entries leads) known are
+
+-- they stay so with more entries
+pub lane_leads_kept : {W : Type 0} (found : Option W) (now : W → Reach) (n : ℕ) (entries more : List Entry) (leads : List Lead) →
+    MatchOption found (leads ≡ []) (λ walks. AreLeads (now walks) n entries leads) →
+    MatchOption found (leads ≡ []) (λ walks. AreLeads (now walks) n (entries ++ more) leads)
+lane_leads_kept None now n entries more leads none = none
+lane_leads_kept (Some walks) now n entries more leads are = leads_kept (now walks) n entries more leads are
+
+-- What leads tell
+
+-- the lead to a vertex has the number of the entry towards it
+led_to : (reach : Reach) (n : ℕ) (entries : List Entry) (leads : List Lead) (at : ℕ) (lead : Lead) (number : ℕ) → AreLeads reach n entries leads →
+    IsLeadAt leads at lead → lead.number ≡ Some number → IsLeadTo reach n entries at lead.distance number
+led_to reach n entries leads at lead number are is known =
+    subst (λ (o : Option ℕ). IfSome o (IsLeadTo reach n entries at lead.distance)) known
+    (subst (IsLead reach n entries at) is.is (are at is.within))
+
+-- an entry over hops has these hops
+abbrev hops_in : Entry → List ℕ
+hops_in (Via hops) = hops
+hops_in Discard = []
+
+-- where one entry is that towards two vertices, both have the same first hops below n
+same_hops : (reach : Reach) (n one other : ℕ) (entry : Entry) → IsEntryTo reach one n entry → IsEntryTo reach other n entry →
+    (h : ℕ) → h < n → HasHop reach other h → HasHop reach one h
+same_hops reach n one other entry first second h below has =
+    let same : second.hops ≡ first.hops = ap hops_in (sym second.is ∙ first.is) in
+    ((first.are.exact h).0 (subst (λ (l : List ℕ). Contains l h) same ((second.are.exact h).1 (below, has)))).1
+
+-- the best offer's number is that of the entry of routes to the best offers
+best_number : (reach : ℕ → Reach) (zones zone n : ℕ) (entry : Entry → Type 0) (entries : List Entry) (offers : List Offer) (best : BestAt) (number : ℕ) →
+    LeadToBest (reach zone) zone n (IsRouteFor reach zones n entry) offers → IsBestAt (reach zone) offers best → LeadBelow (reach zone) offers n best →
+    HasNumber (IsEntryTo (reach zone) best.at n) entries number → HasNumber entry entries number
+best_number reach zones zone n entry entries offers best number lead is alike has =
+    let route = lead.leads (record { zone = zone; at = best.at }) (record {
+      zone_is = refl;
+      reached = best_is_reached (reach zone) offers best is;
+      best = below_hops (reach zone) offers best n is alike;
+    }) in
+    record { below = has.below; is = route.makes (get_or entries number Discard) has.is }
+
+-- a vertex that alone makes the best offers leads as they do
+alike_alone : (reach : Reach) (offers : List Offer) (n : ℕ) (best : BestAt) → IsBestAt reach offers best → best.alone ≡ true → LeadBelow reach offers n best
+alike_alone reach offers n best is alone = λ o among total h below has. subst (λ (at : ℕ). HasHop reach at h) (is.alone alone o among total) has
+
+-- the best of two offers that are reached
+best_of_two : (reach : Reach) (one other : Offer) (a b : ℕ) (best : BestAt) → total_towards reach one ≡ Some a → total_towards reach other ≡ Some b →
+    IsBetterOf (record { cost = a; at = one.at; alone = true }) (record { cost = b; at = other.at; alone = true }) best →
+    IsBestAt reach (one ∷ other ∷ []) best
+best_of_two reach one other a b best first second better =
+    let known : BestAt = record { cost = a; at = one.at; alone = true } in
+    let next : BestAt = record { cost = b; at = other.at; alone = true } in
+    better_more reach (one ∷ []) other known next best second refl (first_more reach [] one known first refl (best_of_none reach)) better
+
+-- both lead as one does where the entry towards both is the same
+alike_both : (reach : Reach) (one other : Offer) (n : ℕ) (best : BestAt) (entry : Entry) → best.at ≡ one.at → IsEntryTo reach one.at n entry →
+    IsEntryTo reach other.at n entry → LeadBelow reach (one ∷ other ∷ []) n best
+alike_both reach one other n best entry at first second = λ o among total h below has.
+    subst (λ (v : ℕ). HasHop reach v h) (sym at) (elim (Contains-push_cases (one ∷ []) other o among) [
+      | inl earlier ↦ subst (λ (x : Offer). HasHop reach x.at h) (the_one one o earlier) has
+      | inr same ↦ same_hops reach n one.at other.at entry first second h below (subst (λ (x : Offer). HasHop reach x.at h) (sym same) has)
+    ])
+
+-- what the leads to two offers tell is the number of the entry
+told_of_two : (reach : ℕ → Reach) (zones zone n : ℕ) (entry : Entry → Type 0) (entries : List Entry) (leads : List Lead) (one other : Offer)
+    (number : Option ℕ) → AreLeads (reach zone) n entries leads →
+    LeadToBest (reach zone) zone n (IsRouteFor reach zones n entry) (one ∷ other ∷ []) → IsNumberToBest leads one other number →
+    IsNumberOf entry entries number
+told_of_two reach zones zone n entry entries leads one other number are lead is =
+    let offers : List Offer = one ∷ other ∷ [] in
+    let r : Reach = reach zone in
+    let first = led_to r n entries leads one.at is.first is.first_is.number are is.first_is is.first_is.known in
+    let second = led_to r n entries leads other.at is.second is.second_is.number are is.second_is is.second_is.known in
+    let a : ℕ = is.first.distance + one.asks in
+    let b : ℕ = is.second.distance + other.asks in
+    let reached : total_towards r one ≡ Some a = ap (λ d. total_with d one.asks) first.far in
+    let other_reached : total_towards r other ≡ Some b = ap (λ d. total_with d other.asks) second.far in
+    let of_first = λ (less : a ≤ b). is.best.of_first less ∙ is.first_is.known in
+    let of_second = λ (less : b ≤ a). is.best.of_second less ∙ is.second_is.known in
+    elim (cases_lt a b) [
+      | inl less ↦
+          let best : BestAt = record { cost = a; at = one.at; alone = true } in
+          let here = best_of_two r one other a b best reached other_reached (kept less refl) in
+          subst (IsNumberOf entry entries) (sym (of_first (omega arith)))
+          (best_number reach zones zone n entry entries offers best is.first_is.number lead here (alike_alone r offers n best here refl) first.entry)
+      | inr no_less ↦ elim (cases_lt b a) [
+        | inl less ↦
+            let best : BestAt = record { cost = b; at = other.at; alone = true } in
+            let here = best_of_two r one other a b best reached other_reached (lower less refl) in
+            subst (IsNumberOf entry entries) (sym (of_second (omega arith)))
+            (best_number reach zones zone n entry entries offers best is.second_is.number lead here (alike_alone r offers n best here refl) second.entry)
+        | inr also ↦
+            let best : BestAt = record { cost = a; at = one.at; alone = false } in
+            let here = best_of_two r one other a b best reached other_reached (both (omega arith) refl refl (λ no. absurd (false≢true no))) in
+            let same : is.second_is.number ≡ is.first_is.number =
+            same_Some is.second_is.number is.first_is.number (sym (of_second (omega arith)) ∙ of_first (omega arith)) in
+            subst (IsNumberOf entry entries) (sym (of_first (omega arith)))
+            (best_number reach zones zone n entry entries offers best is.first_is.number lead here
+            (alike_both r one other n best (get_or entries is.first_is.number Discard) refl first.entry.is
+            (subst (λ (k : ℕ). IsEntryTo r other.at n (get_or entries k Discard)) same second.entry.is)) first.entry)
+      ]
+    ]
+
+-- what the leads to one offer tell is the number of the entry
+told_of_one : (reach : ℕ → Reach) (zones zone n : ℕ) (entry : Entry → Type 0) (entries : List Entry) (leads : List Lead) (at : ℕ) (lead : Lead) →
+    AreLeads (reach zone) n entries leads →
+    LeadToBest (reach zone) zone n (IsRouteFor reach zones n entry) (record { at = at; asks = 0 } ∷ []) → IsLeadAt leads at lead →
+    IsNumberOf entry entries lead.number
+told_of_one reach zones zone n entry entries leads at lead are routes is =
+    let offer : Offer = record { at = at; asks = 0 } in
+    let r : Reach = reach zone in
+    let to = led_to r n entries leads at lead is.number are is is.known in
+    let best : BestAt = record { cost = lead.distance + 0; at = at; alone = true } in
+    let here = first_more r [] offer best (ap (λ d. total_with d 0) to.far) refl (best_of_none r) in
+    subst (IsNumberOf entry entries) (sym is.known)
+    (best_number reach zones zone n entry entries (offer ∷ []) best is.number routes here (alike_alone r (offer ∷ []) n best here refl) to.entry)
+
+-- what the leads tell is the number of the entry whose route is decided
+pub told_number : (reach : ℕ → Reach) (zones zone n u : ℕ) (entry : Entry → Type 0) (entries : List Entry) (leads : List Lead) (decision : Decision)
+    (number : Option ℕ) → AreLeads (reach zone) n entries leads →
+    DecidesRoute u entry (LeadToBest (reach zone) zone n (IsRouteFor reach zones n entry)) decision → IsTold leads u decision number →
+    IsNumberOf entry entries number
+told_number reach zones zone n u entry entries leads _ _ are decides told_nothing = decides
+told_number reach zones zone n u entry entries leads _ _ are decides (told_one at lead apart is) =
+    told_of_one reach zones zone n entry entries leads at lead are (decides apart) is
+told_number reach zones zone n u entry entries leads _ _ are decides (told_best one other number first second is) =
+    told_of_two reach zones zone n entry entries leads one other number are (decides first second) is
