@@ -16,3 +16,4 @@ mod HomeLaws
 mod FeatureLaws
 mod EarlierLaws
 mod AnswerLaws
+mod UnlikeLaws

@@ -8,3 +8,4 @@ pub mod Homes
 pub mod Features
 pub mod Likeness
 pub mod Earlier
+pub mod Unlike

@@ -14,6 +14,7 @@
 //! | `own` | what a router uses for each sort: what it has for its prefixes, and otherwise what it uses for their parents |
 //! | `cell`, `used` | what a router uses in each phase (in Middle what it does in Old or in New), and in one of them |
 //! | `cells` | what a router uses for each sort, and by that for a class |
+//! | `unlike` | the routers of which it isn't known that they treat two classes alike |
 //! | `earlier` | for each class an earlier one that every router treats alike |
 //! | `law` | that what a router does is what the definitions call its steps |
 //!
@@ -42,6 +43,7 @@ mod homes;
 mod lanes;
 mod proposals;
 mod sorts;
+mod unlike;
 
 // laws
 mod law;

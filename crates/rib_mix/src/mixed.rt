@@ -1,10 +1,10 @@
-ghost use Rattle.std.specs.Prelude.{◌≡◌, ◌<◌, ◌↔◌, IfOk, IfSome, IsTrue, length, map, slice_index};
+ghost use Rattle.std.specs.Prelude.{◌≡◌, ◌<◌, ◌↔◌, IfOk, IfSome, IsTrue, OnOk, length, map, slice_index};
 ghost use Rattle.std.specs.Bool.{OnTrue};
 ghost use Rattle.net_model.specs.Network.{Connected};
 ghost use Rattle.net_model.specs.Refusals.{IsNetwork};
 ghost use Rattle.igp_theory.specs.Migrations.{migration};
 ghost use Rattle.prefix_atoms.specs.Classes.{AreClasses, IsClassing, IsInClass, SourceEntry};
-ghost use Rattle.rib_mix.specs.Answers.{AreAlike, IsAlikeAt, IsNextAtAnEnd, IsNextOf, ShowsEntry};
+ghost use Rattle.rib_mix.specs.Answers.{AddsAllBut, AreAlike, IsAlikeAt, IsAlikeToKnown, IsNextAtAnEnd, IsNextOf, ShowsEntry};
 ghost use Rattle.rib_mix.specs.Mixture.{migration_of};
 ghost use Rattle.rib_mix.specs.Cells.{IsKeptUse};
 ghost use Rattle.rib_mix.specs.steps.Uses.{ShowsUse};
@@ -24,6 +24,7 @@ use crate::own::{Shared, cells_of};
 use crate::sorts::{Sorts, sort_at};
 use crate::spots::Spots;
 use crate::subnets::Subnets;
+use crate::unlike::{add_routers, add_unlike_rows, both_sorts};
 use crate::used::Used;
 use igp_theory::Phase;
 use net_addr::Prefix;
@@ -174,6 +175,27 @@ impl<'a, O: RouteSource, N: RouteSource> Mixed<'a, O, N> {
             cell_of(rows, sorts, router, atom),
             cell_of(rows, sorts, router, other),
         )
+    }
+
+    /// Adds to some routers at the end, ascending, those of the network of which it isn't known that what they do is the same,
+    /// in every phase, for the packets of a class and of one that is known. Where none is known all are added.
+    pub fn add_unlike(
+        &self,
+        atom: u32,
+        known: Option<u32>,
+        unlike: &mut Vec<u32>,
+    ) -> Result<(), OutOfMemory>
+        requires atom { atom < length self.now.classes.samples }
+        requires known { IfSome known (λ other. other < length self.now.classes.samples) }
+        ensures { OnOk result (AddsAllBut
+            (IsAlikeToKnown (migration_of O.table N.table self.now) self.now.classes known atom)
+            (length self.now.net) unlike.old.items unlike.new.items) }
+    {
+        let routers = self.net.routers();
+        match both_sorts(self.sorts.as_slice(), atom, known) {
+            Some(both) => add_unlike_rows(self.rows.as_slice(), both, unlike),
+            None => add_routers(routers, unlike),
+        }
     }
 
     /// An earlier class that every router treats alike, where one is known.
