@@ -17,3 +17,4 @@ mod FeatureLaws
 mod EarlierLaws
 mod AnswerLaws
 mod UnlikeLaws
+mod ConnectedLaws

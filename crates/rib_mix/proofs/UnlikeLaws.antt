@@ -1,6 +1,6 @@
 -- Routers that may treat two classes differently, one after the other.
 use Rattle.std.proofs.Common.{◌≡◌, ℕ, ◌+◌, ◌<◌, ◌≤◌, ◌⊎◌, inl, inr, List, [], ◌∷◌, ◌++◌, All, Contains, length, get_or}
-use Rattle.std.proofs.Common.{arith, below_more, refl, subst, sym, ap, ◌∙◌, ⊎_elim, length-append}
+use Rattle.std.proofs.Common.{arith, below_more, sym, ap, ◌∙◌, ⊎_elim, length-append}
 use Rattle.std.proofs.lemmas.Bool.{cases_lt}
 use Rattle.std.proofs.lemmas.List.{append-nil, append_assoc, get_or_append_left, get_or_push}
 use Rattle.std.proofs.lemmas.List.Elements.{All-push, Contains-append_left, Contains-push}

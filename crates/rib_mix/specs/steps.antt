@@ -9,3 +9,5 @@ pub mod Features
 pub mod Likeness
 pub mod Earlier
 pub mod Unlike
+pub mod SortSpots
+pub mod ConnectedSorts

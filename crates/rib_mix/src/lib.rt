@@ -12,6 +12,7 @@
 //! | `features`, `lanes`, `homes` | what tells prefixes apart: the kinds that tables have of them, and where they are connected |
 //! | `proposals` | with which earlier prefix each is compared |
 //! | `own` | what a router uses for each sort: what it has for its prefixes, and otherwise what it uses for their parents |
+//! | `connected` | at which routers the first prefix of each sort is connected |
 //! | `cell`, `used` | what a router uses in each phase (in Middle what it does in Old or in New), and in one of them |
 //! | `cells` | what a router uses for each sort, and by that for a class |
 //! | `unlike` | the routers of which it isn't known that they treat two classes alike |
@@ -31,6 +32,7 @@ mod next;
 mod both_tables;
 mod cell;
 mod cells;
+mod connected;
 mod own;
 mod spots;
 mod subnets;

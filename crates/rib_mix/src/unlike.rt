@@ -6,11 +6,7 @@ use crate::cells::Cells;
 use route_core::OutOfMemory;
 
 /// The sorts of a class and of one that is known, where there is one and both have a sort.
-pub(crate) fn both_sorts(
-    sorts: &[Option<u32>],
-    atom: u32,
-    known: Option<u32>,
-) -> Option<(u32, u32)>
+pub(crate) fn both_sorts(sorts: &[Option<u32>], atom: u32, known: Option<u32>) -> Option<(u32, u32)>
     requires atom { atom < length sorts.now }
     requires known { IfSome known (λ other. other < length sorts.now) }
     ensures { IfSome result (AreBothSorts sorts.now known atom) }

@@ -1,4 +1,4 @@
-use Rattle.std.proofs.Common.{◌≡◌, ◌∙◌, ◌<◌, ℕ, [], Option, IfSome, ap, get_or, length, sym, subst}
+use Rattle.std.proofs.Common.{◌<◌, ℕ, Option, IfSome, length, sym, subst}
 use Rattle.std.proofs.lemmas.Result.{on_ok_weaker}
 use Rattle.rib_mix.specs.Answers.{AddsAllBut, IsAlikeToKnown}
 use Rattle.rib_mix.specs.Mixture.{Mixture, migration_of}
