@@ -6,7 +6,6 @@ use Rattle.std.proofs.lemmas.List.{append-nil, append_assoc, get_or_append_left,
 use Rattle.std.proofs.lemmas.List.Elements.{All-push, Contains-append_left, Contains-push}
 use Rattle.std.specs.List.Sorted.{IsStrictlyIncreasing}
 use Rattle.rib_mix.specs.Answers.{AddsAllBut}
-use Rattle.rib_mix.specs.steps.Unlike.{AddsUnless}
 
 -- an ascending list takes a number above all of it
 pub ascending_push : (xs : List ℕ) (n : ℕ) → IsStrictlyIncreasing xs → All (λ x. x < n) xs → IsStrictlyIncreasing (xs ++ n ∷ [])
@@ -33,8 +32,8 @@ none_added Is old = record {
 }
 
 -- the next router is added, or something holds for it
-pub added_more : (Is : ℕ → Type 0) (n : ℕ) (old mid new : List ℕ) → AddsAllBut Is n old mid → AddsUnless (Is n) n mid new
-    → AddsAllBut Is (n + 1) old new
+pub added_more : (Is : ℕ → Type 0) (n : ℕ) (old mid new : List ℕ) → AddsAllBut Is n old mid
+    → (new ≡ mid ++ n ∷ []) ⊎ ((new ≡ mid) × Is n) → AddsAllBut Is (n + 1) old new
 added_more Is n old mid new are (inl more) = record {
   added = are.added ++ n ∷ [];
   new_is = more ∙ ap (λ (xs : List ℕ). xs ++ n ∷ []) are.new_is ∙ append_assoc old are.added (n ∷ []);

@@ -21,7 +21,8 @@
 //!
 //! `Mixed::build` takes time of routers times sorts, for each of which it reads a number of each table and no entry; of lanes
 //! times prefixes that occur, to find the sorts; and of routers times connected prefixes. `hops` looks one cell up, `originates`
-//! takes time of the router's subnets. A cell has 8 bytes; those of a router stand side by side.
+//! takes time of the router's subnets, and `add_unlike` compares two cells of each router. A cell has 8 bytes; those of a router
+//! stand side by side.
 #![tactic(auto)]
 
 // mixed forwarding

@@ -1,6 +1,6 @@
-ghost use Rattle.std.specs.Prelude.{◌<◌, ◌^◌, [], IfSome, OnOk, length, slice_index_or};
+ghost use Rattle.std.specs.Prelude.{◌≡◌, ◌<◌, ◌^◌, ◌⊎◌, ◌++◌, ◌∷◌, [], IfSome, OnOk, length, slice_index_or};
 ghost use Rattle.rib_mix.specs.Answers.{AddsAllBut};
-ghost use Rattle.rib_mix.specs.steps.Unlike.{AddsUnless, AreBothSorts, HaveCells, HaveSameCells};
+ghost use Rattle.rib_mix.specs.steps.Unlike.{AreBothSorts, HaveCells, HaveSameCells};
 
 use crate::cells::Cells;
 use route_core::OutOfMemory;
@@ -43,7 +43,8 @@ fn add_unlike_row(
 ) -> Result<(), OutOfMemory>
     requires one { sorts.0 < length row.now }
     requires other { sorts.1 < length row.now }
-    ensures { OnOk result (AddsUnless (HaveSameCells row.now sorts) router unlike.old.items unlike.new.items) }
+    ensures { OnOk result ((unlike.new.items ≡ unlike.old.items ++ router ∷ [])
+        ⊎ ((unlike.new.items ≡ unlike.old.items) × HaveSameCells row.now sorts)) }
 {
     if row.are_same(sorts.0, sorts.1) {
         return Ok(());

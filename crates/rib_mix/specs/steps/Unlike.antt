@@ -1,5 +1,5 @@
 -- Routers that may treat two classes differently, as they are found.
-use Rattle.std.specs.Prelude.{◌≡◌, ℕ, ◌<◌, ◌⊎◌, ◌++◌, ◌∷◌, [], List, length, slice_index_or, Option, Some, None}
+use Rattle.std.specs.Prelude.{◌≡◌, ℕ, ◌<◌, [], List, length, slice_index_or, Option, Some, None}
 use Rattle.rib_mix.specs.Cells.{cell_at}
 use Rattle.rib_mix.specs.declared.cell.Cell.{Cell}
 
@@ -17,7 +17,3 @@ HaveSameCells cells sorts = cell_at cells (Some sorts.0) ≡ cell_at cells (Some
 -- each router has a cell of this sort
 abbrev pub HaveCells : List (List Cell) → ℕ → Type 0
 HaveCells rows sort = (u : ℕ) → u < length rows → sort < length (slice_index_or rows u [])
-
--- a router is added at the end, or something holds
-abbrev pub AddsUnless : Type 0 → ℕ → List ℕ → List ℕ → Type 0
-AddsUnless Holds u old new = (new ≡ old ++ u ∷ []) ⊎ ((new ≡ old) × Holds)
