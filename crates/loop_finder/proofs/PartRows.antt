@@ -1,10 +1,10 @@
 -- How the part of a class is made of its rows.
 use Rattle.std.proofs.Common.{◌≡◌, ℕ, ◌+◌, ◌<◌, ◌↔◌, ◌⊎◌, Bool, List, [], ◌∷◌, ◌++◌, length, map, replicate, get_or, Contains}
-use Rattle.std.proofs.Common.{inl, inr, arith, ap, ◌∙◌, sym, subst, below_more}
+use Rattle.std.proofs.Common.{inl, inr, arith, ap, ◌∙◌, sym, subst, below_more, Option, Some, None, IfSome}
 use Rattle.std.specs.Bool.{OnTrue}
-use Rattle.std.proofs.lemmas.Bool.{cases_lt}
+use Rattle.std.proofs.lemmas.Bool.{cases_eq, cases_lt}
 use Rattle.std.proofs.lemmas.List.{get_or_past, get_or-replicate, length_push, length-map, length-replicate}
-use Rattle.std.proofs.lemmas.List.Elements.{All-push, Contains-append_left, Contains-get_or, Contains-push}
+use Rattle.std.proofs.lemmas.List.Elements.{All-push, Contains-append_left, Contains-get_or, Contains-push, Contains-push_cases}
 use Rattle.std.proofs.Math.ListN.{get_or-append, get_or-map}
 use Rattle.std.proofs.Math.Seq.{get_or-append_seam}
 use Rattle.net_addr.specs.Addresses.{Block}
@@ -18,9 +18,9 @@ use Rattle.igp_theory.proofs.LoopLaws.{old_or_new_step}
 use Rattle.igp_theory.proofs.SameTables.{follows_over}
 use Rattle.order_core.specs.Marks.{IsMarked}
 use Rattle.prefix_atoms.specs.Classes.{IsInClass}
-use Rattle.rib_mix.specs.Answers.{IsAlikeAt}
+use Rattle.rib_mix.specs.Answers.{AddsAllBut, IsAlikeAt, IsAlikeToKnown}
 use Rattle.loop_finder.specs.steps.Ends.{ReadHops, AreNoHops, EndStep, HasBothSteps, hops_at}
-use Rattle.loop_finder.specs.steps.Making.{IsHopsOf, IsMaking, IsRead, IsReadAt, IsSameAt}
+use Rattle.loop_finder.specs.steps.Making.{IsHopsOf, IsMaking, IsRead, IsReadAt, IsSameAt, ReadsSeen}
 use Rattle.loop_finder.specs.steps.PartRows.{AreKept, HasHops, HasMarked, HaveHops, IsRowOf, AreFirstRows}
 use Rattle.loop_finder.specs.Parts.{PhaseHops, hops_of, no_hops, StepsOf, StepsEver, HasStepOf, AllMove, HaveReturning, IsPart}
 use Rattle.loop_finder.specs.steps.Parts.{AreAllBut, AddsUnless}
@@ -259,13 +259,49 @@ AreAllBut-more Is n old new are (inr none) = subst (λ (xs : List ℕ). AreAllBu
 })
 
 -- one router more was read
-pub changed_more : (one other third : ReadHops) (n : ℕ) (old new : List ℕ) → AreAllBut (IsSameAt one other) n old
-    → ((u : ℕ) → (¬ (u ≡ n)) → IsSameAt other third u) → IsSameAt one other n → AddsUnless (IsSameAt other third n) n old new
-    → AreAllBut (IsSameAt one third) (n + 1) new
-changed_more one other third n old new are others before added = AreAllBut-more (IsSameAt one third) n old new (record {
-  below = are.below;
-  whole = λ u below. elim (are.whole u below) [
-    | inl among ↦ inl among
-    | inr same ↦ inr (same_twice one other third u same (others u (λ is. absurd (omega (arith, is, below)))))
+pub reads_next : (c : ClassIn) (seen : List ℕ) (router : ℕ) (first before after : ReadHops) → ReadsSeen c seen first before
+    → IsReadAt c after router → ((u : ℕ) → (¬ (u ≡ router)) → IsSameAt before after u)
+    → ReadsSeen c (seen ++ router ∷ []) first after
+reads_next c seen router first before after reads here others = record {
+  read = λ u among. elim (cases_eq u router) [
+    | inl same ↦ subst (IsReadAt c after) (sym same) here
+    | inr apart ↦ elim (Contains-push_cases seen router u among) [
+      | inl was ↦ read_same c before after u (reads.read u was) (others u apart)
+      | inr is ↦ absurd (apart (sym is))
+    ]
   ];
-}) (elim added [ inl more ↦ inl more | inr none ↦ inr (none.0, same_twice one other third n before none.1) ])
+  rest = λ u. elim (cases_eq u router) [
+    | inl same ↦ inl (subst (Contains (seen ++ router ∷ [])) (sym same) (Contains-push seen router))
+    | inr apart ↦ elim (reads.rest u) [
+      | inl was ↦ inl (Contains-append_left seen (router ∷ []) u was)
+      | inr is ↦ inr (same_twice first before after u is (others u apart))
+    ]
+  ];
+}
+
+-- those that were added to none are all but those for which something holds
+pub all_but_added : (Is : ℕ → Type 0) (n : ℕ) (old new shown : List ℕ) → old ≡ [] → shown ≡ new → AddsAllBut Is n old new
+    → AreAllBut Is n shown
+all_but_added Is n old new shown none is added =
+    let same : added.added ≡ shown = sym (is ∙ added.new_is ∙ ap (λ (xs : List ℕ). xs ++ added.added) none) in
+    subst (AreAllBut Is n) same (record { below = added.below; whole = added.whole })
+
+-- what was read of a router for a class that is known was read for one for whose packets it does the same
+known_read : (m : Mix) (known : Option ℕ) (atom : ℕ) (lists : ReadHops) (u : ℕ) → u < length m.net
+    → IfSome known (λ other. IsRead (class_in m other) lists) → IsAlikeToKnown (migration_in m) m.classes known atom u
+    → IsReadAt (class_in m atom) lists u
+known_read m None atom lists u router known alike = absurd alike
+known_read m (Some other) atom lists u router known alike = read_alike m other atom lists u (known.each u router) alike
+
+-- so each router is read, where those are that aren't known to do the same as for the class that is known
+pub reads_all : (m : Mix) (known : Option ℕ) (atom : ℕ) (first lists : ReadHops) (seen : List ℕ)
+    → IfSome known (λ other. IsRead (class_in m other) first) → ReadsSeen (class_in m atom) seen first lists
+    → AreAllBut (IsAlikeToKnown (migration_in m) m.classes known atom) (length m.net) seen → (u : ℕ) → u < length m.net
+    → IsReadAt (class_in m atom) lists u
+reads_all m known atom first lists seen was reads all u router = elim (all.whole u router) [
+  | inl among ↦ reads.read u among
+  | inr alike ↦ elim (reads.rest u) [
+    | inl among ↦ reads.read u among
+    | inr same ↦ read_same (class_in m atom) first lists u (known_read m known atom first u router was alike) same
+  ]
+]

@@ -1,9 +1,9 @@
-ghost use Rattle.std.specs.Prelude.{◌≡◌, ◌++◌, ◌∷◌, [], ◌<◌, ℕ, IfOk, IfSome, OnOk, length, slice_set};
+ghost use Rattle.std.specs.Prelude.{◌≡◌, ◌<◌, ℕ, IfOk, IfSome, OnOk, length, slice_set};
 ghost use Rattle.std.specs.Bool.{OnTrue};
 ghost use Rattle.prefix_atoms.specs.Classes.{IsInClass};
 ghost use Rattle.loop_finder.specs.steps.EndPairs.{new_hops, old_hops};
 ghost use Rattle.loop_finder.specs.steps.Ends.{HasBothSteps, hops_at};
-ghost use Rattle.loop_finder.specs.steps.Making.{AreNoEnds, IsKnownAt, IsRead, IsReadAt, IsSameAt};
+ghost use Rattle.loop_finder.specs.steps.Making.{AreNoEnds, IsRead, IsReadAt, IsSameAt};
 ghost use Rattle.loop_finder.specs.steps.Parts.{AreAllBut};
 ghost use Rattle.loop_finder.specs.Mixes.{mix_of, sample_of, class_in};
 
@@ -98,54 +98,31 @@ pub(crate) fn read_class<'m, O: RouteSource, N: RouteSource>(
     ensures changed { OnOk result (AreAllBut (IsSameAt lists.old lists.new) (length mixed.now.net) changed.new.items) }
 {
     changed.clear();
-    for router in 0..mixed.net().routers() {
-        if is_known_at(mixed, atom, known, router) {
-            continue;
-        }
-        read_router(mixed, atom, router, lists, changed)?;
+    mixed.add_unlike(atom, known, changed)?;
+    let unlike = changed.as_slice();
+    for router in unlike {
+        read_router(mixed, atom, *router, lists);
     }
     Ok(())
 }
 
-/// Reads a router and adds it to those changed.
+/// Reads a router.
 fn read_router<'m, O: RouteSource, N: RouteSource>(
     mixed: &'m Mixed<'_, O, N>,
     atom: u32,
     router: u32,
     lists: &mut EndLists<'m>,
-    changed: &mut Vec<u32>,
-) -> Result<(), OutOfMemory>
+)
     requires atom { atom < length mixed.now.classes.samples }
     requires router { router < length mixed.now.net }
     requires olds { length lists.old.olds ≡ length mixed.now.net }
     requires news { length lists.old.news ≡ length mixed.now.net }
-    ensures read { OnOk result (IsReadAt (class_in (mix_of O.table N.table mixed.now) atom) lists.new router) }
-    ensures olds_many { OnOk result (length lists.new.olds ≡ length lists.old.olds) }
-    ensures news_many { OnOk result (length lists.new.news ≡ length lists.old.news) }
-    ensures others { OnOk result ((u : ℕ) → ¬ (u ≡ router) → IsSameAt lists.old lists.new u) }
-    ensures changed { OnOk result (changed.new.items ≡ changed.old.items ++ router ∷ []) }
+    ensures read { IsReadAt (class_in (mix_of O.table N.table mixed.now) atom) lists.new router }
+    ensures olds_many { length lists.new.olds ≡ length lists.old.olds }
+    ensures news_many { length lists.new.news ≡ length lists.old.news }
+    ensures others { (u : ℕ) → ¬ (u ≡ router) → IsSameAt lists.old lists.new u }
 {
     let olds = next_hops(mixed, atom, Phase::Old, router);
     let news = next_hops(mixed, atom, Phase::New, router);
     lists.put(router, Ends::new(olds, news));
-    changed.push(router)?;
-    Ok(())
-}
-
-/// Whether a class is known for whose packets a router does the same.
-fn is_known_at<O: RouteSource, N: RouteSource>(
-    mixed: &Mixed<'_, O, N>,
-    atom: u32,
-    known: Option<u32>,
-    router: u32,
-) -> bool
-    requires atom { atom < length mixed.now.classes.samples }
-    requires known { IfSome known (λ other. other < length mixed.now.classes.samples) }
-    requires router { router < length mixed.now.net }
-    ensures { OnTrue result (IsKnownAt (mix_of O.table N.table mixed.now) known router atom) }
-{
-    match known {
-        Some(other) => mixed.is_alike_at(router, other, atom),
-        None => false,
-    }
 }

@@ -1,5 +1,5 @@
 -- What a router has for a prefix, and uses for its parent, says what it uses for the addresses of the prefix.
-use Rattle.std.proofs.Common.{◌≡◌, ℕ, ◌<◌, ◌≤◌, ◌⊎◌, inl, inr, Bool, true, false, Option, Some, None, IfNone, MatchOption, ⊎_elim, arith, refl, subst}
+use Rattle.std.proofs.Common.{◌≡◌, ℕ, ◌<◌, ◌≤◌, ◌⊎◌, inl, inr, Bool, true, false, Option, Some, None, IsFalse, MatchBool, MatchOption, ⊎_elim, arith, refl, subst}
 use Rattle.std.proofs.lemmas.Bool.{cases_lt}
 use Rattle.net_addr.specs.Addresses.{Block, ContainsAddress}
 use Rattle.net_model.specs.Network.{Connected}
@@ -52,9 +52,9 @@ IsEnd s phase p distance table number = MatchOption number (NoneHere s phase p) 
 
 -- what a router has for a prefix: a connected one, or the entry of the old table and that of the new one
 pub record AreHere (s : Site) (p : Block) (ospf : ℕ) (has : Has) : Type 0 where
-  pub connected : MatchOption has.connected (Connected s.net s.u p → ⊥) (λ _. Connected s.net s.u p)
-  pub old : IfNone has.connected (IsEnd s Old p ospf used.Old has.old)
-  pub new : IfNone has.connected (IsEnd s New p 115 used.New has.new)
+  pub connected : MatchBool has.connected (Connected s.net s.u p) (Connected s.net s.u p → ⊥)
+  pub old : IsFalse has.connected → IsEnd s Old p ospf used.Old has.old
+  pub new : IsFalse has.connected → IsEnd s New p 115 used.New has.new
 
 -- what counts for the address and is as long as a prefix is for that prefix
 abbrev IsOneAt : Site → Block → Type 0
@@ -128,31 +128,31 @@ cell_step s p ospf has old_first up one inside first are shorter = by_three has.
     connected_here phase h = here phase 0 used.Connected
         (record { entry = connected; is = refl; counts = connected_counts h; lowest = λ d x counts. omega arith })
 
-    by_three : (place old new : Option ℕ) → AreHere s p ospf (record { connected = place; old = old; new = new })
-        → IsCellUpTo s p.len (cell_over (record { connected = place; old = old; new = new }) old_first up)
-    by_three (Some _) old new h Old = connected_here Old h.connected
-    by_three (Some _) old new h Middle = connected_here Middle h.connected
-    by_three (Some _) old new h New = connected_here New h.connected
-    by_three None None None h Old = none Old h.old
-    by_three None None None h Middle =
-        none Middle (λ d x counts. elim (at_an_end s p d x counts) [ inl one ↦ h.old d x one | inr two ↦ h.new d x two ])
-    by_three None None None h New = none New h.new
-    by_three None (Some n) None h Old = here Old ospf (used.Old n) h.old
-    by_three None (Some n) None h Middle = here Middle ospf (used.Old n)
-        (middle_here s Old p ospf (used.Old n) h.old h.old.lowest (λ d x counts. absurd (h.new d x counts)))
-    by_three None (Some n) None h New = none New h.new
-    by_three None None (Some m) h Old = none Old h.old
-    by_three None None (Some m) h Middle = here Middle 115 (used.New m)
-        (middle_here s New p 115 (used.New m) h.new (λ d x counts. absurd (h.old d x counts)) h.new.lowest)
-    by_three None None (Some m) h New = here New 115 (used.New m) h.new
-    by_three None (Some n) (Some m) h phase = by_first old_first first phase
+    by_three : (is : Bool) (old new : Option ℕ) → AreHere s p ospf (record { connected = is; old = old; new = new })
+        → IsCellUpTo s p.len (cell_over (record { connected = is; old = old; new = new }) old_first up)
+    by_three true old new h Old = connected_here Old h.connected
+    by_three true old new h Middle = connected_here Middle h.connected
+    by_three true old new h New = connected_here New h.connected
+    by_three false None None h Old = none Old (h.old refl)
+    by_three false None None h Middle =
+        none Middle (λ d x counts. elim (at_an_end s p d x counts) [ inl one ↦ h.old refl d x one | inr two ↦ h.new refl d x two ])
+    by_three false None None h New = none New (h.new refl)
+    by_three false (Some n) None h Old = here Old ospf (used.Old n) (h.old refl)
+    by_three false (Some n) None h Middle = here Middle ospf (used.Old n)
+        (middle_here s Old p ospf (used.Old n) (h.old refl) (h.old refl).lowest (λ d x counts. absurd (h.new refl d x counts)))
+    by_three false (Some n) None h New = none New (h.new refl)
+    by_three false None (Some m) h Old = none Old (h.old refl)
+    by_three false None (Some m) h Middle = here Middle 115 (used.New m)
+        (middle_here s New p 115 (used.New m) (h.new refl) (λ d x counts. absurd (h.old refl d x counts)) (h.new refl).lowest)
+    by_three false None (Some m) h New = here New 115 (used.New m) (h.new refl)
+    by_three false (Some n) (Some m) h phase = by_first old_first first phase
       where
         by_first : (old_first : Bool) → OldFirst old_first ospf → IsCellUpTo s p.len (cell_between (used.Old n) (used.New m) old_first)
-        by_first true near Old = here Old ospf (used.Old n) h.old
+        by_first true near Old = here Old ospf (used.Old n) (h.old refl)
         by_first true near Middle = here Middle ospf (used.Old n)
-            (middle_here s Old p ospf (used.Old n) h.old h.old.lowest (λ d x counts. omega (arith, near, h.new.lowest d x counts)))
-        by_first true near New = here New 115 (used.New m) h.new
-        by_first false near Old = here Old ospf (used.Old n) h.old
+            (middle_here s Old p ospf (used.Old n) (h.old refl) (h.old refl).lowest (λ d x counts. omega (arith, near, (h.new refl).lowest d x counts)))
+        by_first true near New = here New 115 (used.New m) (h.new refl)
+        by_first false near Old = here Old ospf (used.Old n) (h.old refl)
         by_first false near Middle = here Middle 115 (used.New m)
-            (middle_here s New p 115 (used.New m) h.new (λ d x counts. omega (arith, near, h.old.lowest d x counts)) h.new.lowest)
-        by_first false near New = here New 115 (used.New m) h.new
+            (middle_here s New p 115 (used.New m) (h.new refl) (λ d x counts. omega (arith, near, (h.old refl).lowest d x counts)) (h.new refl).lowest)
+        by_first false near New = here New 115 (used.New m) (h.new refl)

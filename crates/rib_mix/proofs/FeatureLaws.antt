@@ -1,8 +1,8 @@
 -- Prefixes with the same features are alike at every router.
-use Rattle.std.proofs.Common.{◌≡◌, ℕ, List, [], Option, Some, None, Contains, get_or, slice_get, ap, refl}
-use Rattle.std.proofs.Common.{sym, subst, ◌∙◌}
+use Rattle.std.proofs.Common.{◌≡◌, ℕ, List, Option, Some, None, get_or, ap, refl}
+use Rattle.std.proofs.Common.{subst, ◌∙◌}
 use Rattle.std.specs.Option.{option_map}
-use Rattle.std.proofs.lemmas.Option.{get_or_from_slice_get, slice_get-map, slice_get_within}
+use Rattle.std.proofs.lemmas.Option.{slice_get-map}
 use Rattle.net_addr.specs.Addresses.{Block}
 use Rattle.rib_mix.specs.steps.Features.{AreFeatures, AreOneKind, HaveSameFeatures, HaveSameNumbers, IsOneAt, new_lane, old_lane}
 use Rattle.rib_mix.specs.steps.Likeness.{AreLike}
@@ -31,10 +31,9 @@ one_kind_numbers lanes (Some one) (Some other) are parts lane =
 
 -- prefixes with the same features are alike at every router
 pub features_alike : (prefixes : List Block) (subnets : List (List Block)) (tables : List BothTables) (features : Features)
-    (spots : Spots) (i j : ℕ)
-    → AreFeatures prefixes subnets tables features → features.spots.now ≡ spots → HaveSameFeatures features i j
-    → AreLike (record { prefixes = prefixes; spots = spots }) subnets tables i j
-features_alike prefixes subnets tables features spots i j are is same u own both at_own at_both = record {
+    (spots : Spots) (i j : ℕ) → AreFeatures prefixes subnets tables features → features.spots.now ≡ spots
+    → HaveSameFeatures features i j → AreLike (record { spots = spots; homes = features.homes.items }) tables i j
+features_alike prefixes subnets tables features spots i j are is same u both at_both = record {
   olds = subst
       (λ (ss : Spots). number_at_spot (kept_in both.old) (get_or ss.olds.items i None) ≡ number_at_spot (kept_in both.old)
       (get_or ss.olds.items j None)) is
@@ -43,22 +42,5 @@ features_alike prefixes subnets tables features spots i j are is same u own both
       (λ (ss : Spots). number_at_spot (kept_in both.new) (get_or ss.news.items i None) ≡ number_at_spot (kept_in both.new)
       (get_or ss.news.items j None)) is
       (same.news both.new (are.news u (new_lane both) (slice_get-map new_lane tables u ∙ ap (option_map new_lane) at_both)));
-  homes = λ p q at_p at_q. (
-    λ has. at_home j q at_q (subst (λ (h : List ℕ). Contains h u) same.homes (is_home i p at_p has)),
-    λ has. at_home i p at_p (subst (λ (h : List ℕ). Contains h u) (sym same.homes) (is_home j q at_q has)),
-  );
+  homes = same.homes;
 }
-  where
-    own_is : get_or subnets u [] ≡ own
-    own_is = get_or_from_slice_get subnets u own [] at_own
-
-    is_home : (k : ℕ) (p : Block) → slice_get prefixes k ≡ Some p → Contains own p → Contains (get_or features.homes.items k []) u
-    is_home k p at has =
-        (are.homes.each k u p at).1 (
-          slice_get_within subnets u own at_own,
-          subst (λ (ps : List Block). Contains ps p)
-              (sym own_is) has,
-        )
-
-    at_home : (k : ℕ) (p : Block) → slice_get prefixes k ≡ Some p → Contains (get_or features.homes.items k []) u → Contains own p
-    at_home k p at home = subst (λ (ps : List Block). Contains ps p) own_is ((are.homes.each k u p at).0 home).1

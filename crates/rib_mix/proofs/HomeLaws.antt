@@ -1,18 +1,23 @@
 -- The routers at which prefixes are connected, as they are found.
 use Rattle.std.proofs.Common.{◌≡◌, ◌≢◌, ℕ, ◌+◌, ◌<◌, ◌≤◌, ◌⊎◌, ◌↔◌, inl, inr, List, [], ◌∷◌, ◌++◌, Contains, Option, Some, None}
-use Rattle.std.proofs.Common.{IfNone, IfSome}
+use Rattle.std.proofs.Common.{IfNone, IfSome, IsTrue}
 use Rattle.std.proofs.Common.{length, get_or, set, slice_get, replicate, ap, arith, refl, sym, subst, ◌∙◌, ⊎_elim}
 use Rattle.std.proofs.Common.{get_or-set_other, get_or-set_same}
 use Rattle.std.proofs.lemmas.Bool.{cases_eq, cases_lt}
 use Rattle.std.proofs.lemmas.List.{get_or-replicate, length-replicate, length-set}
 use Rattle.std.proofs.lemmas.List.Elements.{Contains-append_left, Contains-push, Contains-push_cases}
-use Rattle.std.proofs.lemmas.Option.{same_Some, slice_get_within}
+use Rattle.std.proofs.lemmas.Bool.Decides.{Decides-eqb}
+use Rattle.std.proofs.lemmas.Map.Made.{is_member-Decides}
+use Rattle.std.proofs.lemmas.Option.{same_Some, slice_get-get_or, slice_get_within}
 use Rattle.net_addr.specs.Addresses.{Block}
+use Rattle.net_model.specs.Network.{Network}
 use Rattle.route_core.proofs.TableLaws.{Contains-from_place}
 use Rattle.prefix_atoms.specs.Nested.{AreAscendingPrefixes}
 use Rattle.prefix_atoms.proofs.ClassFacts.{one_place}
 use Rattle.prefix_atoms.proofs.NestedLaws.{ascending_apart}
-use Rattle.rib_mix.specs.steps.Homes.{AreHomesBelow, GainHomes, with_home}
+use Rattle.rib_mix.specs.Rows.{AreAllSubnets}
+use Rattle.rib_mix.specs.steps.Homes.{AreHomesBelow, AreNetHomes, ArePrefixHomes, GainHomes, is_home, with_home}
+use Rattle.rib_mix.specs.steps.WayUp.{AreConnectedAt}
 
 -- no prefix has homes before the first router
 pub no_homes_yet : (prefixes : List Block) (subnets : List (List Block)) (homes : List (List ℕ))
@@ -136,3 +141,30 @@ router_next prefixes subnets u old new are gain = record {
         (cases_lt v u)),
   );
 }
+
+-- by the connected prefixes of all routers these are the homes in the network
+pub net_homes : (net : Network) (prefixes : List Block) (subnets : List (List Block)) (homes : List (List ℕ)) → AreAllSubnets net subnets
+    → ArePrefixHomes prefixes subnets homes → AreNetHomes net prefixes homes
+net_homes net prefixes subnets homes all are = record {
+  count = are.count;
+  each = λ i v p at. (
+    λ has.
+        let home = (are.each i v p at).0 has in
+        (all.each v (get_or subnets v []) (slice_get-get_or subnets v [] home.0) p).0 home.1,
+    λ connected.
+        let within : v < length subnets = omega (arith, slice_get_within net v connected.up.config connected.up.router, all.count) in
+        (are.each i v p at).1 (within, (all.each v (get_or subnets v []) (slice_get-get_or subnets v [] within) p).1 connected),
+  );
+}
+
+-- a router is a home where it is one of those that are listed
+pub home_listed : (homes : List (List ℕ)) (u place : ℕ) → IsTrue (is_home homes u place) ↔ Contains (get_or homes place []) u
+home_listed homes u place = is_member-Decides Decides-eqb (get_or homes place []) u
+
+-- so the homes tell at which places prefixes are connected
+pub connected_at : (net : Network) (u : ℕ) (prefixes : List Block) (homes : List (List ℕ)) → AreNetHomes net prefixes homes
+    → AreConnectedAt net u prefixes (is_home homes u)
+connected_at net u prefixes homes are place p at = (
+  λ is. (are.each place u p at).0 ((home_listed homes u place).0 is),
+  λ connected. (home_listed homes u place).1 ((are.each place u p at).1 connected),
+)

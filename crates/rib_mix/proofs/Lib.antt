@@ -16,3 +16,5 @@ mod HomeLaws
 mod FeatureLaws
 mod EarlierLaws
 mod AnswerLaws
+mod UnlikeLaws
+mod ConnectedLaws

@@ -7,17 +7,20 @@ use Rattle.route_core.specs.Tables.{IsListed}
 use Rattle.route_core.specs.declared.entry.Entry.{Entry}
 use Rattle.route_core.specs.declared.table.TableParts.{TableParts}
 use Rattle.route_core.proofs.TableLaws.{entry_of_prefix}
-use Rattle.igp_theory.specs.Migrations.{migration}
+use Rattle.igp_theory.specs.Migrations.{listed_migration, migration}
 use Rattle.prefix_atoms.specs.Classes.{AreClasses, Classes, SourceEntry, connected_occurs, old_occurs, new_occurs}
+use Rattle.rib_mix.specs.Answers.{AddsAllBut, IsAlikeToKnown}
 use Rattle.rib_mix.specs.Cells.{IsCell, cell_at}
 use Rattle.rib_mix.specs.Mixture.{Mixture}
 use Rattle.rib_mix.specs.Rows.{AreAllSubnets, AreRows, Ground, IsForwarding, IsRow, MixedParts, site}
 use Rattle.rib_mix.specs.Sites.{AreTablesOf, table_of}
 use Rattle.rib_mix.specs.steps.Sites.{prefixes_in, AllOccur}
+use Rattle.rib_mix.specs.steps.Unlike.{AreBothSorts, HaveCells, HaveSameCells}
 use Rattle.rib_mix.specs.declared.both_tables.BothTables.{BothTables}
 use Rattle.rib_mix.specs.declared.cell.Cell.{Cell}
 use Rattle.rib_mix.proofs.FoundFacts.{rows_prefixes}
-use Rattle.rib_mix.proofs.ClassUses.{IsPlace, Place, sample}
+use Rattle.rib_mix.proofs.ClassUses.{IsPlace, Place, alike_cells, sample}
+use Rattle.rib_mix.proofs.UnlikeLaws.{added_along}
 use Rattle.prefix_atoms.proofs.Pushed.{at_place}
 
 -- the prefixes of all routers are those that occur
@@ -120,6 +123,55 @@ cell_read old new kept p rows sorts u k cell _ home rows_are sorts_are within is
     (sym (is ∙ ap (λ (rs : List (List Cell)). cell_at (get_or rs u []) (get_or sorts k None)) rows_are
     ∙ ap (λ (ss : List (Option ℕ)). cell_at (get_or kept.rows u []) (get_or ss k None)) sorts_are))
     (home.cells_are k within)
+
+-- each router has a cell of the sort of a class
+pub has_cells : (old new : ℕ → List (Block × Entry)) (kept : MixedParts) (rows : List (List Cell)) (sorts : List (Option ℕ))
+    (k sort : ℕ) → IsForwarding old new kept → rows ≡ kept.rows → sorts ≡ kept.sorts → k < length kept.classes.samples
+    → get_or sorts k None ≡ Some sort → HaveCells rows sort
+has_cells old new kept rows sorts k sort is rows_are sorts_are within sort_is u below =
+    subst (λ (o : Option ℕ). IfSome o (λ s. s < length (get_or rows u []))) sort_is
+    (sort_read old new kept rows sorts u k is rows_are sorts_are (omega (arith, below, ap length rows_are, is.rows_are.count))
+    within)
+
+-- a router with the same cells for a class and for one that is known does the same for both
+alike_read : (old new : ℕ → List (Block × Entry)) (kept : MixedParts) (rows : List (List Cell)) (sorts : List (Option ℕ))
+    (known : Option ℕ) (class u : ℕ) (both : ℕ × ℕ) → IsForwarding old new kept → rows ≡ kept.rows → sorts ≡ kept.sorts
+    → class < length kept.classes.samples → IfSome known (λ other. other < length kept.classes.samples)
+    → AreBothSorts sorts known class both → u < length kept.ground.net → HaveSameCells (get_or rows u []) both
+    → IsAlikeToKnown (listed_migration kept.ground.net old new) kept.classes known class u
+alike_read old new kept rows sorts known class u both is rows_are sorts_are within known_within are router same =
+    let here = some_home old new kept u is router in
+    let row : List Cell = get_or rows u [] in
+    let cell : Cell = cell_at row (Some both.0) in
+    let other_within : are.other < length kept.classes.samples =
+    subst (λ (o : Option ℕ). IfSome o (λ other. other < length kept.classes.samples)) are.known_is known_within in
+    subst (λ (o : Option ℕ). IsAlikeToKnown (listed_migration kept.ground.net old new) kept.classes o class u) (sym are.known_is)
+    (alike_cells _ are.other class cell here.1.place other_within within
+    (cell_read old new kept _ rows sorts u are.other cell is here.1 rows_are sorts_are other_within
+    (same ∙ ap (cell_at row) (sym are.other_is)))
+    (cell_read old new kept _ rows sorts u class cell is here.1 rows_are sorts_are within (ap (cell_at row) (sym are.one_is))))
+
+-- so where all others are added those are added that aren't known to do the same
+pub adds_alike : (old new : ℕ → List (Block × Entry)) (kept : MixedParts) (rows : List (List Cell)) (sorts : List (Option ℕ))
+    (known : Option ℕ) (class : ℕ) (both : ℕ × ℕ) (before after : List ℕ) → IsForwarding old new kept → rows ≡ kept.rows
+    → sorts ≡ kept.sorts → class < length kept.classes.samples → IfSome known (λ other. other < length kept.classes.samples)
+    → AreBothSorts sorts known class both
+    → AddsAllBut (λ (u : ℕ). HaveSameCells (get_or rows u []) both) (length rows) before after
+    → AddsAllBut (IsAlikeToKnown (listed_migration kept.ground.net old new) kept.classes known class) (length kept.ground.net)
+    before after
+adds_alike old new kept rows sorts known class both before after is rows_are sorts_are within known_within are added =
+    let many : length rows ≡ length kept.ground.net = ap length rows_are ∙ is.rows_are.count in
+    added_along (λ (u : ℕ). HaveSameCells (get_or rows u []) both)
+    (IsAlikeToKnown (listed_migration kept.ground.net old new) kept.classes known class) (length kept.ground.net) before after
+    (λ u router. alike_read old new kept rows sorts known class u both is rows_are sorts_are within known_within are router)
+    (subst (λ (n : ℕ). AddsAllBut (λ (u : ℕ). HaveSameCells (get_or rows u []) both) n before after) many added)
+
+-- the same where all are added
+pub adds_routers : (Is : ℕ → Type 0) (count n : ℕ) (before after : List ℕ) → count ≡ n
+    → AddsAllBut (λ (u : ℕ). ⊥) count before after → AddsAllBut Is n before after
+adds_routers Is count n before after many added =
+    added_along (λ (u : ℕ). ⊥) Is n before after (λ u router none. absurd none)
+    (subst (λ (m : ℕ). AddsAllBut (λ (u : ℕ). ⊥) m before after) many added)
 
 -- Views
 

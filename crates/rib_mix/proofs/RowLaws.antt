@@ -1,5 +1,5 @@
 -- What a router has, and what it uses for each class.
-use Rattle.std.proofs.Common.{◌≡◌, ℕ, ◌<◌, List, Option, None, Some, IfSome, length, map, get_or, slice_get, arith, sym, subst}
+use Rattle.std.proofs.Common.{◌≡◌, ℕ, ◌<◌, List, Option, None, Some, IfSome, length, map, get_or, slice_get, arith, sym, subst, Bool, []}
 use Rattle.std.proofs.Common.{◌∙◌}
 use Rattle.std.proofs.lemmas.Option.{slice_get_within, slice_get-get_or}
 use Rattle.net_addr.specs.Addresses.{Block}
@@ -8,17 +8,26 @@ use Rattle.prefix_atoms.proofs.Pushed.{at_place}
 use Rattle.prefix_atoms.specs.Classes.{Classes, IsClassing}
 use Rattle.prefix_atoms.specs.Nested.{IsTop}
 use Rattle.rib_mix.specs.steps.Spots.{AreSharedSpots, AreSpots, AreTableSpots}
-use Rattle.rib_mix.specs.steps.WayUp.{AreOwnCells, IsOwnAmong}
-use Rattle.rib_mix.specs.steps.Sorts.{sort_at}
+use Rattle.rib_mix.specs.steps.ConnectedSorts.{AreConnectedSorts}
+use Rattle.rib_mix.specs.steps.Homes.{AreNetHomes}
+use Rattle.rib_mix.specs.steps.Likeness.{AreLike, AreLikeAt, PlacedPrefixes}
+use Rattle.rib_mix.specs.steps.WayUp.{AreOwnCells, IsOwnAmong, Own}
+use Rattle.rib_mix.specs.steps.Sorts.{AreSorts, sort_at}
+use Rattle.rib_mix.specs.steps.SortSpots.{AreSortSpots, AreSpotCells, HasSpots, HaveSortSpots}
 use Rattle.std.proofs.Math.ListN.{get_or-map}
 use Rattle.rib_mix.proofs.SortSteps.{sort_inside}
-use Rattle.rib_mix.proofs.UpLaws.{top_within}
+use Rattle.rib_mix.proofs.HomeLaws.{connected_at}
+use Rattle.rib_mix.proofs.SortLaws.{own_of, sort_cell, sort_cells, sorts_along}
+use Rattle.rib_mix.proofs.SpotLaws.{spots_within}
+use Rattle.rib_mix.proofs.UpLaws.{all_cells, own_cells, top_within}
 use Rattle.rib_mix.specs.Cells.{IsCell, cell_at}
-use Rattle.rib_mix.specs.Rows.{AreSubnets, Ground, IsRow}
+use Rattle.rib_mix.specs.Rows.{Ground, IsRow, site}
 use Rattle.rib_mix.specs.Sites.{Site}
 use Rattle.rib_mix.specs.steps.Sites.{AreTablesInParts, HasOspfDistance, AllOccur}
 use Rattle.rib_mix.specs.declared.both_tables.BothTables.{BothTables}
 use Rattle.rib_mix.specs.declared.cell.Cell.{Cell}
+use Rattle.rib_mix.specs.declared.own.SortSpots.{SortSpots}
+use Rattle.rib_mix.specs.declared.sorts.Sorts.{Sorts}
 use Rattle.rib_mix.specs.declared.spots.Spots.{Spots}
 
 -- the tables of all routers share their prefixes, and so their spots
@@ -36,11 +45,11 @@ shared_spots prefixes routers u tables both spots parts at are =
     }
 
 -- what a router has is among the prefixes that occur
-pub own_among : (prefixes : List Block) (g : Ground) (u : ℕ) (both : BothTables) (subnets : List Block) (spots : Spots)
-    → AreTablesInParts (length g.net) g.tables → AllOccur prefixes g → AreSubnets g.net u subnets → slice_get g.tables u ≡ Some both
-    → AreSharedSpots prefixes g.tables spots → IsOwnAmong prefixes subnets both spots
-own_among prefixes g u both subnets spots parts occur own at are = record {
-  connected = λ p has. occur.connected u p ((own p).0 has);
+own_among : (prefixes : List Block) (g : Ground) (u : ℕ) (both : BothTables) (spots : Spots)
+    → AreTablesInParts (length g.net) g.tables → AllOccur prefixes g → slice_get g.tables u ≡ Some both
+    → AreSharedSpots prefixes g.tables spots → IsOwnAmong prefixes g.net u both spots
+own_among prefixes g u both spots parts occur at are = record {
+  connected = λ p connected. occur.connected u p connected;
   old = occur.olds u both at;
   new = occur.news u both at;
   old_table = (parts.olds u both at).table;
@@ -49,14 +58,12 @@ own_among prefixes g u both subnets spots parts occur own at are = record {
 }
 
 -- what is used for the sort of the longest prefix of each class makes the row of a router
-pub row_made : (s : Site) (ospf : ℕ) (subnets : List Block) (classes : Classes) (of_places : List ℕ) (cells : List Cell)
-    → IsNetwork s.net
-    → HasOspfDistance s.net s.u ospf → AreSubnets s.net s.u subnets → IsClassing classes
+row_made : (at : ℕ → Site) (classes : Classes) (of_places : List ℕ) (cells : List Cell) → IsClassing classes
     → length of_places ≡ length classes.prefixes
     → ((i : ℕ) → i < length of_places → get_or of_places i 0 < length cells)
-    → AreOwnCells classes.prefixes of_places subnets s.tables ospf cells
-    → IsRow (λ a. record s { a = a }) classes.samples (map (sort_at of_places) classes.tops) cells
-row_made s ospf subnets classes of_places cells network distance subnets_are classing long below are = record {
+    → AreOwnCells classes.prefixes of_places at cells
+    → IsRow at classes.samples (map (sort_at of_places) classes.tops) cells
+row_made at classes of_places cells classing long below are = record {
   within = λ k in_k.
       subst (λ (o : Option ℕ). IfSome o (λ sort. sort < length cells)) (sym (sort_is k))
       (sort_inside of_places (length cells) (get_or classes.tops k None) below
@@ -67,9 +74,66 @@ row_made s ospf subnets classes of_places cells network distance subnets_are cla
       let top : Option ℕ = get_or classes.tops k None in
       let is_top : IsTop classes.prefixes a top = classing.tops.each k top (slice_get-get_or classes.tops k None (omega
       (arith, in_k, classing.tops.count))) in
-      subst (λ (o : Option ℕ). IsCell (record s { a = a }) (cell_at cells o)) (sym (sort_is k))
-      (are s.net s.u a top network distance subnets_are is_top);
+      subst (λ (o : Option ℕ). IsCell (at a) (cell_at cells o)) (sym (sort_is k)) (are a top is_top);
 }
   where
     sort_is : (k : ℕ) → get_or (map (sort_at of_places) classes.tops) k None ≡ sort_at of_places (get_or classes.tops k None)
     sort_is k = get_or-map (sort_at of_places) classes.tops k None
+
+-- what is known of what serves all routers
+pub record IsServing (g : Ground) (classes : Classes) (spots : Spots) (homes : List (List ℕ)) (sorts : Sorts) : Type 0 where
+  pub tables_are : AreTablesInParts (length g.net) g.tables
+  pub occur : AllOccur classes.prefixes g
+  pub classing : IsClassing classes
+  pub spots_are : AreSharedSpots classes.prefixes g.tables spots
+  pub homes_are : AreNetHomes g.net classes.prefixes homes
+  pub sorts_are : AreSorts (AreLike (record { spots = spots; homes = homes }) g.tables) classes.parents (length classes.parents) sorts
+
+-- each sort has spots in both tables of a router
+pub sort_spots_in : (g : Ground) (classes : Classes) (spots : Spots) (homes : List (List ℕ)) (sorts : Sorts) (u : ℕ)
+    (both : BothTables) (own : List SortSpots) → IsServing g classes spots homes sorts → slice_get g.tables u ≡ Some both
+    → AreSortSpots spots sorts (length sorts.firsts.items) own → HaveSortSpots both own
+sort_spots_in g classes spots homes sorts u both own is at own_are =
+    let among = own_among classes.prefixes g u both spots is.tables_are is.occur at is.spots_are in
+    record {
+      each = λ sort one at_sort.
+          let below : sort < length sorts.firsts.items = omega (arith, slice_get_within own sort one at_sort, own_are.count) in
+          subst (HasSpots both) (sym (own_are.each sort one at_sort))
+          (spots_within classes.prefixes both spots sorts sort among.old_table among.new_table among.spots_are
+          (omega (arith, is.sorts_are.sorting.firsts sort below, is.classing.nested.count)));
+      parents = λ sort one at_sort.
+          let below : sort < length sorts.firsts.items = omega (arith, slice_get_within own sort one at_sort, own_are.count) in
+          subst (λ (s : SortSpots). IfSome s.parent (λ up. up < sort)) (sym (own_are.each sort one at_sort))
+          (is.sorts_are.sorting.parents sort below);
+    }
+
+-- the cells of a router that are made by them are its row
+pub row_of_cells : (g : Ground) (classes : Classes) (spots : Spots) (homes : List (List ℕ)) (sorts : Sorts) (u : ℕ)
+    (both : BothTables) (ospf : ℕ) (own : List SortSpots) (rows : List (List Bool)) (cells : List Cell)
+    → IsServing g classes spots homes sorts → slice_get g.tables u ≡ Some both → IsNetwork g.net → HasOspfDistance g.net u ospf
+    → AreSortSpots spots sorts (length sorts.firsts.items) own
+    → AreConnectedSorts (length g.net) sorts.firsts.items homes (length sorts.firsts.items) rows → u < length g.net
+    → AreSpotCells own (get_or rows u []) both ospf (length own) cells
+    → IsRow (site g u both) classes.samples (map (sort_at sorts.of_places.items) classes.tops) cells
+row_of_cells g classes spots homes sorts u both ospf own rows cells is at network distance own_are flagged router made =
+    row_made (site g u both) classes sorts.of_places.items cells is.classing (is.sorts_are.count ∙ is.classing.nested.count)
+    (λ i below. omega (arith, is.sorts_are.sorting.within i below, made.count, own_are.count))
+    (own_cells classes g.net u spots has sorts.of_places.items cells is.classing network distance among
+    (connected_at g.net u classes.prefixes homes is.homes_are)
+    (record { kept = among.old_table; spots = among.spots_are.olds }) (record { kept = among.new_table; spots = among.spots_are.news })
+    (all_cells classes has sorts.of_places.items cells is.classing
+    (λ i below. sort_cell all u both ospf classes.parents sorts cells
+    (sorts_along (AreLike all g.tables) (AreLikeAt all both) classes.parents (length classes.parents) sorts
+    (λ i j like. like u both at) is.sorts_are)
+    (sort_cells spots sorts homes (length g.net) u both ospf own rows cells own_are flagged router made) i
+    (omega (arith, below, is.classing.nested.count)))
+    (length classes.prefixes) (omega arith)))
+  where
+    all : PlacedPrefixes
+    all = record { spots = spots; homes = homes }
+
+    has : Own
+    has = own_of spots homes u both ospf
+
+    among : IsOwnAmong classes.prefixes g.net u both spots
+    among = own_among classes.prefixes g u both spots is.tables_are is.occur at is.spots_are

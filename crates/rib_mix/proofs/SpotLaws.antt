@@ -7,17 +7,21 @@ use Rattle.std.proofs.lemmas.List.{length-set}
 use Rattle.std.proofs.lemmas.Option.{none-some, same_Some, slice_get_within, slice_get-get_or, slice_get-map, get_or_from_slice_get}
 use Rattle.net_addr.specs.Addresses.{Block, default_prefix}
 use Rattle.net_model.proofs.Members.{Contains-map}
-use Rattle.route_core.specs.Rows.{KeptTable, Row, kept_in, kept_number, row_prefix, rows_below, rows_in}
+use Rattle.route_core.specs.Rows.{IsTable, KeptTable, Row, kept_in, kept_number, row_prefix, rows_below, rows_in}
 use Rattle.route_core.proofs.RowLaws.{row_is, row_stands}
 use Rattle.route_core.proofs.TableLaws.{Contains-from_place}
 use Rattle.prefix_atoms.specs.Longest.{number_at}
 use Rattle.prefix_atoms.specs.Nested.{AreAscendingPrefixes}
 use Rattle.prefix_atoms.proofs.ClassFacts.{one_place}
 use Rattle.prefix_atoms.proofs.NestedLaws.{ascending_apart}
+use Rattle.prefix_atoms.proofs.Pushed.{at_place}
 use Rattle.rib_mix.specs.steps.Sites.{prefixes_in}
-use Rattle.rib_mix.specs.steps.Spots.{AreSpots, HasPlace, IsPlaced, IsSpot, number_at_spot, number_in, with_spot}
+use Rattle.rib_mix.specs.steps.SortSpots.{HasSpots, spots_of}
+use Rattle.rib_mix.specs.steps.Spots.{AreSpots, AreTableSpots, IsPlaced, IsSpot, PlacedTable, number_at_spot, number_in, with_spot}
 use Rattle.rib_mix.specs.steps.WayUp.{AreOwnNumbers, IsOwnNumber}
-use Rattle.rib_mix.specs.declared.spots.PlacedTable.{PlacedTable}
+use Rattle.rib_mix.specs.declared.both_tables.BothTables.{BothTables}
+use Rattle.rib_mix.specs.declared.sorts.Sorts.{Sorts}
+use Rattle.rib_mix.specs.declared.spots.Spots.{Spots}
 
 -- the next one of the list is put where it stands among the prefixes
 pub spot_next : (prefixes list : List Block) (n : ℕ) (p : Block) (place : Option ℕ) (old new : List (Option ℕ)) → AreAscendingPrefixes prefixes
@@ -67,27 +71,26 @@ pub spot_within : (list : List Block) (n : ℕ) (p : Block) (spot : Option ℕ) 
 spot_within list n p None none = tt
 spot_within list n p (Some k) stands = slice_get_within list k p stands
 
--- what a table has at a place can be read
-pub place_read : (prefixes : List Block) (table : PlacedTable) (i : ℕ) (p : Block) → IsPlaced prefixes table → slice_get prefixes i ≡ Some p → HasPlace table i
-place_read prefixes table i p placed at = record {
-  within = omega (arith, slice_get_within prefixes i p at, placed.spots.count);
-  kept = placed.kept;
-  spot = spot_within table.parts.prefixes.now (length table.parts.prefixes.now) p (get_or table.spots.now i None) (placed.spots.each i p at);
-}
-
--- spots number the prefixes of a list by their places
-pub spots_number : (prefixes list : List Block) (spots : List (Option ℕ)) → AreSpots prefixes list (length list) spots
-    → AreOwnNumbers prefixes list (λ place. place) (λ i. get_or spots i None)
-spots_number prefixes list spots are i p at = by_spot (get_or spots i None) (are.each i p at)
-  where
-    by_spot : (o : Option ℕ) → IsSpot list (length list) p o → IsOwnNumber list (λ place. place) p o
-    by_spot None none = λ has. none has.0 has.1 (slice_get-get_or list has.0 p has.1 ∙ ap Some has.2)
-    by_spot (Some k) stands = (k, stands, refl)
+-- the spots of the first prefix of a sort are within both tables
+pub spots_within : (prefixes : List Block) (both : BothTables) (spots : Spots) (sorts : Sorts) (sort : ℕ) → IsTable (kept_in both.old)
+    → IsTable (kept_in both.new) → AreTableSpots prefixes both spots → get_or sorts.firsts.items sort 0 < length prefixes
+    → HasSpots both (spots_of spots sorts sort)
+spots_within prefixes both spots sorts sort old_table new_table are within =
+    let place : ℕ = get_or sorts.firsts.items sort 0 in
+    let p = at_place prefixes place within in
+    record {
+      old_table = old_table;
+      new_table = new_table;
+      old = spot_within both.old.prefixes.now (length both.old.prefixes.now) p.0 (get_or spots.olds.items place None)
+          (are.olds.each place p.0 p.1);
+      new = spot_within both.new.prefixes.now (length both.new.prefixes.now) p.0 (get_or spots.news.items place None)
+          (are.news.each place p.0 p.1);
+    }
 
 -- the numbers that a table has at its spots are those of its rows
 pub rows_number : (prefixes : List Block) (table : PlacedTable) → IsPlaced prefixes table
     → AreOwnNumbers prefixes (prefixes_in table.parts) (number_at (rows_in (kept_in table.parts))) (number_in table)
-rows_number prefixes table placed i p at = by_spot (get_or table.spots.now i None) (placed.spots.each i p at)
+rows_number prefixes table placed i p at = by_spot (get_or table.spots i None) (placed.spots.each i p at)
   where
     kept : KeptTable
     kept = kept_in table.parts

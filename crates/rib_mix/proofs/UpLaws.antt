@@ -1,15 +1,16 @@
 -- The way up from the longest prefix of an address: what is used there is what is used of all entries.
 use lib.Dec.{ltb}
 use Rattle.std.proofs.Common.{◌≡◌, ℕ, zero, suc, ◌<◌, ◌≤◌, inl, Bool, true, false, List, length, get_or, set, Option, Some, None}
-use Rattle.std.proofs.Common.{Contains, IfSome}
+use Rattle.std.proofs.Common.{Contains, IfSome, IsTrue, ◌↔◌}
 use Rattle.std.proofs.Common.{ap, arith, refl, sym, subst, ◌∙◌, slice_get, ⊎_elim, eqb-true, ◌==◌, if◌then◌else◌}
-use Rattle.std.proofs.lemmas.Bool.{cases_lt, eqb-false, ltb-false, ltb-true}
+use Rattle.std.proofs.lemmas.Bool.{cases_lt, eqb-false, ltb-false, ltb-true, true≢false}
 use Rattle.std.proofs.lemmas.List.Elements.{All-contains}
 use Rattle.std.proofs.lemmas.Option.{same_Some, slice_get_within, slice_get-get_or}
 use Rattle.net_addr.specs.Addresses.{Block, ContainsAddress, IsBlock}
 use Rattle.net_addr.proofs.Blocks.{same_block}
 use Rattle.net_model.specs.Configuration.{Configuration}
-use Rattle.net_model.specs.Network.{Connected, HasConfiguration}
+use Rattle.net_model.specs.Network.{Network, Connected, HasConfiguration}
+use Rattle.net_model.specs.Refusals.{IsNetwork}
 use Rattle.route_core.specs.Rows.{kept_in, rows_in}
 use Rattle.route_core.specs.Tables.{IsListed}
 use Rattle.route_core.specs.declared.entry.Entry.{Entry}
@@ -27,13 +28,12 @@ use Rattle.prefix_atoms.proofs.Pushed.{at_place}
 use Rattle.rib_mix.specs.Cells.{IsCell, IsUsable, use_in, cell_at, no_cell}
 use Rattle.rib_mix.specs.Sites.{Site, table_of}
 use Rattle.rib_mix.specs.steps.Sites.{CountsAt, HasOspfDistance, HasTableRows, prefixes_in}
-use Rattle.rib_mix.specs.steps.Spots.{AreSpots, IsPlaced, number_in}
+use Rattle.rib_mix.specs.steps.Spots.{IsPlaced, number_in}
 use Rattle.rib_mix.specs.steps.Sorts.{sort_at}
 use Rattle.rib_mix.specs.steps.Uses.{cell_over}
-use Rattle.rib_mix.specs.steps.WayUp.{AreAllCells, AreOwnCells, IsBestUse, IsCellFor, IsOwnAmong, IsOwnNumber, IsOwnSite, UpTo}
-use Rattle.rib_mix.specs.steps.WayUp.{connected_in, has_at, is_old_first, old_in}
+use Rattle.rib_mix.specs.steps.WayUp.{AreAllCells, AreConnectedAt, AreOwnCells, IsBestUse, IsCellFor, IsOwnAmong, IsOwnNumber, IsOwnSite, Own, UpTo}
+use Rattle.rib_mix.specs.steps.WayUp.{has_at, is_old_first, old_in}
 use Rattle.rib_mix.specs.declared.cell.Cell.{Cell}
-use Rattle.rib_mix.specs.declared.own.Own.{Own}
 use Rattle.rib_mix.specs.declared.spots.Spots.{Spots}
 use Rattle.rib_mix.specs.declared.used.Used.{Used}
 use Rattle.rib_mix.specs.declared.used.Used.TheVariants as used
@@ -41,7 +41,7 @@ use Rattle.rib_mix.proofs.CellLaws.{AreHere, Below, IsEnd, NoneHere, OldFirst, b
 use Rattle.rib_mix.proofs.FoundFacts.{entry_kept, lawful_table, prefix_listed}
 use Rattle.rib_mix.proofs.OneUsed.{counts_block}
 use Rattle.rib_mix.proofs.RowSteps.{among_blocks}
-use Rattle.rib_mix.proofs.SpotLaws.{rows_number, spots_number}
+use Rattle.rib_mix.proofs.SpotLaws.{rows_number}
 use Rattle.rib_mix.proofs.UseLaws.{use_of_best}
 
 -- the parent of a prefix is the next shorter one, and stands before it
@@ -54,7 +54,7 @@ parent_of c place p classing at =
 -- what counts at a router is for a prefix of those that it has
 occurs : (prefixes : List Block) (own : Own) (s : Site) (phase : Phase) (q : Block) (d : ℕ) (x : Usable) → IsOwnSite prefixes own s → CountsAt s phase q d x
     → Contains prefixes q
-occurs prefixes own s phase q d x site (connected_counts h) = site.among q ((site.subnets_are q).1 h)
+occurs prefixes own s phase q d x site (connected_counts h) = site.among q h
 occurs prefixes own s phase q d x site (old_counts {e = e} _ _ _ _ _ listed) = site.old_among q (prefix_listed s.tables.old q (e, listed))
 occurs prefixes own s phase q d x site (new_counts {e = e} _ listed) = site.new_among q (prefix_listed s.tables.new q (e, listed))
 
@@ -82,7 +82,7 @@ ospf_of s ospf c at has = ap (λ (k : Configuration). k.distances.ospf) (same_So
 -- what is had at the place of a prefix is what counts for it
 own_here : (prefixes : List Block) (own : Own) (s : Site) (i : ℕ) (p : Block) → IsOwnSite prefixes own s → slice_get prefixes i ≡ Some p
     → AreHere s p own.ospf (has_at own i)
-own_here prefixes own s i p site at = by_connected (connected_in own i) (site.connected i p at)
+own_here prefixes own s i p site at = by_connected (own.connected i) (site.connected i p at)
   where
     old_here : (Connected s.net s.u p → ⊥) → (most : Bool) → (own.ospf == 255) ≡ most
         → IsEnd s Old p own.ospf used.Old (if most then None else number_in own.old i)
@@ -112,12 +112,16 @@ own_here prefixes own s i p site at = by_connected (connected_in own i) (site.co
         from d x (old_counts counts _ _ _ _ _) = absurd counts
         from d x (new_counts {e = e} _ listed) = ((e, listed), refl)
 
-    by_connected : (o : Option ℕ) → IsOwnNumber site.subnets (λ place. place) p o
-        → AreHere s p own.ospf (record { connected = o; old = old_in own i; new = number_in own.new i })
-    by_connected None none =
-        let apart : Connected s.net s.u p → ⊥ = λ h. none ((site.subnets_are p).1 h) in
-        record { connected = apart; old = old_here apart (own.ospf == 255) refl; new = new_here apart }
-    by_connected (Some k) one = record { connected = (site.subnets_are p).0 (Contains-from_place site.subnets one.0 p one.1); old = tt; new = tt }
+    by_connected : (is : Bool) → IsTrue is ↔ Connected s.net s.u p
+        → AreHere s p own.ospf (record { connected = is; old = old_in own i; new = number_in own.new i })
+    by_connected false tells =
+        let apart : Connected s.net s.u p → ⊥ = λ h. true≢false (sym (tells.1 h)) in
+        record { connected = apart; old = λ _. old_here apart (own.ospf == 255) refl; new = λ _. new_here apart }
+    by_connected true tells = record {
+      connected = tells.0 refl;
+      old = λ no. absurd (true≢false no);
+      new = λ no. absurd (true≢false no);
+    }
 
 -- what is used of the shorter prefixes is what is used for the parent
 shorter_best : (prefixes : List Block) (own : Own) (s : Site) (len : ℕ) (o : Option ℕ) (up : Cell) → IsOwnSite prefixes own s
@@ -225,13 +229,14 @@ all_cells c own of_places cells classing made (suc n) fits place below =
     (cases_lt place n)
 
 -- so at the place of the longest prefix of an address there is what the router uses for it
-pub own_cells : (c : Classes) (subnets : List Block) (spots : Spots) (own : Own) (of_places : List ℕ) (cells : List Cell)
-    → IsClassing c
-    → IsOwnAmong c.prefixes subnets (record { old = own.old.parts; new = own.new.parts }) spots
-    → AreSpots c.prefixes subnets (length subnets) own.connected.now → IsPlaced c.prefixes own.old → IsPlaced c.prefixes own.new
+pub own_cells : (c : Classes) (net : Network) (u : ℕ) (spots : Spots) (own : Own) (of_places : List ℕ) (cells : List Cell)
+    → IsClassing c → IsNetwork net → HasOspfDistance net u own.ospf
+    → IsOwnAmong c.prefixes net u (record { old = own.old.parts; new = own.new.parts }) spots
+    → AreConnectedAt net u c.prefixes own.connected → IsPlaced c.prefixes own.old → IsPlaced c.prefixes own.new
     → AreAllCells c.prefixes own of_places cells (length c.prefixes)
-    → AreOwnCells c.prefixes of_places subnets (record { old = own.old.parts; new = own.new.parts }) own.ospf cells
-own_cells c subnets spots own of_places cells classing among connected old new are net u a top network distance own_are is_top =
+    → AreOwnCells c.prefixes of_places
+    (λ a. record { net = net; u = u; tables = record { old = own.old.parts; new = own.new.parts }; a = a }) cells
+own_cells c net u spots own of_places cells classing network distance among connected old new are a top is_top =
     top_cell c.prefixes own s top (cell_at cells (sort_at of_places top)) site is_top
     (earlier_cell c.prefixes own of_places cells (length c.prefixes) top (top_inside c.prefixes a top is_top) are)
   where
@@ -254,12 +259,10 @@ own_cells c subnets spots own of_places cells classing among connected old new a
         new_rows = new_rows;
       };
       distance = distance;
-      subnets = subnets;
-      subnets_are = own_are;
       among = among.connected;
       old_among = among.old;
       new_among = among.new;
-      connected = spots_number c.prefixes subnets own.connected.now connected;
+      connected = connected;
       old = rows_number c.prefixes own.old old;
       new = rows_number c.prefixes own.new new;
     }

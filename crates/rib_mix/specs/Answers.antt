@@ -1,5 +1,6 @@
 -- What a router does with the packets of an address, as an answer.
-use Rattle.std.specs.Prelude.{◌≡◌, ℕ, ◌<◌, ◌⊎◌, ◌↔◌, Contains, length, slice_index}
+use Rattle.std.specs.Prelude.{◌≡◌, ℕ, ◌<◌, ◌⊎◌, ◌↔◌, ◌++◌, List, All, Contains, length, slice_index, Option, Some, None}
+use Rattle.std.specs.List.Sorted.{IsStrictlyIncreasing}
 use Rattle.net_addr.specs.Addresses.{Block}
 use Rattle.net_model.specs.Network.{Connected as ConnectedAt}
 use Rattle.route_core.specs.declared.entry.Entry.{Entry}
@@ -51,6 +52,19 @@ NextLeadsTo Absent h = ⊥
 abbrev pub IsAlikeAt : Migration → Classes → ℕ → ℕ → ℕ → Type 0
 IsAlikeAt move classes u class other =
     (phase : Phase) (next : Next) → IsNextOf move classes u class phase next ↔ IsNextOf move classes u other phase next
+
+-- another class is known, and router u does the same with the packets of both, in each phase
+abbrev pub IsAlikeToKnown : Migration → Classes → Option ℕ → ℕ → ℕ → Type 0
+IsAlikeToKnown move classes None class u = ⊥
+IsAlikeToKnown move classes (Some other) class u = IsAlikeAt move classes u other class
+
+-- some of the first n routers are added at the end, ascending: all for which something doesn't hold, and maybe others
+pub record AddsAllBut (Is : ℕ → Type 0) (n : ℕ) (old new : List ℕ) : Type 0 where
+  pub added : List ℕ
+  pub new_is : new ≡ old ++ added
+  pub ascending : IsStrictlyIncreasing added
+  pub below : All (λ u. u < n) added
+  pub whole : (u : ℕ) → u < n → Contains added u ⊎ Is u
 
 -- every router does the same with the packets of two classes, in each phase, and their targets are connected at the same routers
 pub record AreAlike (move : Migration) (classes : Classes) (class other : ℕ) : Type 0 where

@@ -8,3 +8,6 @@ pub mod Homes
 pub mod Features
 pub mod Likeness
 pub mod Earlier
+pub mod Unlike
+pub mod SortSpots
+pub mod ConnectedSorts

@@ -18,8 +18,8 @@ pub(crate) struct Cell {
 /// What a router has for a prefix.
 #[derive(Clone, Copy, Debug)]
 pub(crate) struct Has {
-    /// The place of the prefix among the connected ones.
-    pub connected: Option<u32>,
+    /// Whether the prefix is connected.
+    pub connected: bool,
     /// The number of the entry of the old table, where that counts.
     pub old: Option<u32>,
     /// The number of the entry of the new table.
@@ -79,7 +79,7 @@ impl Cell {
 pub(crate) fn cell_over(has: Has, old_first: bool, parent: Cell) -> Result<Cell, OutOfMemory>
     ensures { IfOk result (λ cell. cell ≡ cell_over has old_first parent) }
 {
-    if has.connected.is_some() {
+    if has.connected {
         return Ok(Cell {
             middle: Use::connected(),
             other: Use::connected(),

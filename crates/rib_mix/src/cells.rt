@@ -1,4 +1,4 @@
-ghost use Rattle.std.specs.Prelude.{◌≡◌, ◌<◌, [], length, slice_index_or, None, IfSome};
+ghost use Rattle.std.specs.Prelude.{◌≡◌, ◌<◌, [], length, slice_index_or, None, Some, IfSome};
 ghost use Rattle.std.specs.Bool.{OnTrue};
 ghost use Rattle.rib_mix.specs.Cells.{cell_at};
 
@@ -35,6 +35,17 @@ impl Cells {
         ensures { result ≡ cell_at self.now sort }
     {
         cell_at(self.all.as_slice(), sort)
+    }
+
+    /// Whether the cells of two sorts are the same.
+    #[inline(always)]
+    pub fn are_same(&self, one: u32, other: u32) -> bool
+        requires one { one < length self.now }
+        requires other { other < length self.now }
+        ensures { OnTrue result (cell_at self.now (Some one) ≡ cell_at self.now (Some other)) }
+    {
+        let all = self.all.as_slice();
+        is_same(all[one as usize], all[other as usize])
     }
 }
 

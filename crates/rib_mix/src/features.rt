@@ -71,6 +71,19 @@ impl<'a> Features<'a> {
         are_same(self.homes[one].as_slice(), self.homes[other].as_slice())
     }
 
+    /// Of each prefix the routers at which it is connected.
+    pub fn into_homes(self) -> Vec<Homes>
+        ensures { result.items ≡ self.entry.homes.items }
+    {
+        let Features {
+            spots: _spots,
+            olds: _olds,
+            news: _news,
+            homes,
+        } = self;
+        homes
+    }
+
     /// A number made of the features of a prefix, and of that of its parent.
     pub fn digest(&self, place: usize, parent: u64) -> u64 {
         let digest = match self.homes.get(place) {

@@ -1,14 +1,15 @@
-ghost use Rattle.std.specs.Prelude.{◌≡◌, ◌<◌, ◌↔◌, IfOk, IfSome, IsTrue, length, map, slice_index};
+ghost use Rattle.std.specs.Prelude.{◌≡◌, ◌<◌, ◌↔◌, IfOk, IfSome, IsTrue, OnOk, length, map, slice_index};
 ghost use Rattle.std.specs.Bool.{OnTrue};
 ghost use Rattle.net_model.specs.Network.{Connected};
 ghost use Rattle.net_model.specs.Refusals.{IsNetwork};
 ghost use Rattle.igp_theory.specs.Migrations.{migration};
 ghost use Rattle.prefix_atoms.specs.Classes.{AreClasses, IsClassing, IsInClass, SourceEntry};
-ghost use Rattle.rib_mix.specs.Answers.{AreAlike, IsAlikeAt, IsNextAtAnEnd, IsNextOf, ShowsEntry};
+ghost use Rattle.rib_mix.specs.Answers.{AddsAllBut, AreAlike, IsAlikeAt, IsAlikeToKnown, IsNextAtAnEnd, IsNextOf, ShowsEntry};
 ghost use Rattle.rib_mix.specs.Mixture.{migration_of};
 ghost use Rattle.rib_mix.specs.Cells.{IsKeptUse};
 ghost use Rattle.rib_mix.specs.steps.Uses.{ShowsUse};
 ghost use Rattle.rib_mix.specs.Rows.{AreAllSubnets, AreRows};
+ghost use Rattle.rib_mix.specs.steps.Homes.{AreNetHomes, ArePrefixHomes};
 ghost use Rattle.rib_mix.specs.steps.Sorts.{AreSorts, sort_at};
 ghost use Rattle.rib_mix.specs.steps.Likeness.{AreLike, own_placed};
 ghost use Rattle.rib_mix.specs.steps.Spots.{AreSharedSpots, HaveSpots};
@@ -17,13 +18,16 @@ ghost use Rattle.rib_mix.specs.steps.Sites.{AreTablesInParts, HasOspfDistance, A
 
 use crate::both_tables::{BothTables, tables_of};
 use crate::cells::{Cells, cell_of, is_same};
+use crate::connected::connected_sorts;
 use crate::earlier::earlier_classes;
 use crate::features::Features;
+use crate::homes::Homes;
 use crate::next::Next;
-use crate::own::{Shared, cells_of};
+use crate::own::{Shared, cells_of, sort_spots};
 use crate::sorts::{Sorts, sort_at};
 use crate::spots::Spots;
 use crate::subnets::Subnets;
+use crate::unlike::{add_routers, add_unlike_rows, both_sorts};
 use crate::used::Used;
 use igp_theory::Phase;
 use net_addr::Prefix;
@@ -90,15 +94,16 @@ impl<'a, O: RouteSource, N: RouteSource> Mixed<'a, O, N> {
         let subnets = all_subnets(alloc, net)?;
         let tables = tables_of(alloc, old, new)?;
         let spots = Spots::of_tables(alloc, atoms.prefixes(), tables.as_slice())?;
-        let sorts = sorts_of(alloc, &atoms, subnets.as_slice(), tables.as_slice(), &spots)?;
+        let sorted = sorts_of(alloc, &atoms, subnets.as_slice(), tables.as_slice(), &spots)?;
         let shared = Shared {
             atoms: &atoms,
             spots: &spots,
-            sorts: &sorts,
+            homes: sorted.homes.as_slice(),
+            sorts: &sorted.sorts,
         };
-        let rows = rows_of(alloc, net, subnets.as_slice(), tables.as_slice(), &shared)?;
-        let class_sorts = class_sorts(alloc, &atoms, &sorts)?;
-        let earlier = earlier_classes(alloc, &atoms, &sorts)?;
+        let rows = rows_of(alloc, net, tables.as_slice(), &shared)?;
+        let class_sorts = class_sorts(alloc, &shared)?;
+        let earlier = earlier_classes(alloc, &atoms, &sorted.sorts)?;
         Ok(Mixed {
             net,
             old,
@@ -176,6 +181,27 @@ impl<'a, O: RouteSource, N: RouteSource> Mixed<'a, O, N> {
         )
     }
 
+    /// Adds to some routers at the end, ascending, those of the network of which it isn't known that what they do is the same,
+    /// in every phase, for the packets of a class and of one that is known. Where none is known all are added.
+    pub fn add_unlike(
+        &self,
+        atom: u32,
+        known: Option<u32>,
+        unlike: &mut Vec<u32>,
+    ) -> Result<(), OutOfMemory>
+        requires atom { atom < length self.now.classes.samples }
+        requires known { IfSome known (λ other. other < length self.now.classes.samples) }
+        ensures { OnOk result (AddsAllBut
+            (IsAlikeToKnown (migration_of O.table N.table self.now) self.now.classes known atom)
+            (length self.now.net) unlike.old.items unlike.new.items) }
+    {
+        let routers = self.net.routers();
+        match both_sorts(self.sorts.as_slice(), atom, known) {
+            Some(both) => add_unlike_rows(self.rows.as_slice(), both, unlike),
+            None => add_routers(routers, unlike),
+        }
+    }
+
     /// An earlier class that every router treats alike, where one is known.
     pub fn earlier_alike(&self, atom: u32) -> Option<u32>
         requires { atom < length self.now.classes.samples }
@@ -184,6 +210,15 @@ impl<'a, O: RouteSource, N: RouteSource> Mixed<'a, O, N> {
     {
         self.earlier[atom as usize]
     }
+}
+
+/// The sorts of prefixes, and where these are connected.
+#[derive(Drop)]
+struct Sorted {
+    /// The sorts.
+    sorts: Sorts,
+    /// Of each prefix the routers at which it is connected.
+    homes: Vec<Homes>,
 }
 
 /// The prefixes that are connected at each router of a network.
@@ -198,29 +233,36 @@ fn all_subnets(alloc: Global, net: &Net) -> Result<Vec<Subnets>, OutOfMemory>
     Ok(all)
 }
 
-/// The sorts of the prefixes that occur.
+/// The sorts of the prefixes that occur, and the routers at which each of these is connected.
 fn sorts_of(
     alloc: Global,
     atoms: &Atoms,
     subnets: &[Subnets],
     tables: &[BothTables<'_>],
     spots: &Spots,
-) -> Result<Sorts, OutOfMemory>
+) -> Result<Sorted, OutOfMemory>
     requires { HaveSpots (length atoms.now.prefixes) spots.now }
-    ensures { IfOk result (AreSorts (AreLike (record { prefixes = atoms.now.prefixes; spots = spots.now }) subnets.now tables.now)
-        atoms.now.parents (length atoms.now.parents)) }
+    ensures homes { IfOk result (λ sorted. ArePrefixHomes atoms.now.prefixes subnets.now sorted.homes.items) }
+    ensures sorts { IfOk result (λ sorted. AreSorts
+        (AreLike (record { spots = spots.now; homes = sorted.homes.items }) tables.now) atoms.now.parents
+        (length atoms.now.parents) sorted.sorts) }
 {
     let features = Features::of_prefixes(alloc, atoms.prefixes(), subnets, tables, spots)?;
-    Ok(Sorts::of_features(alloc, &features, atoms.parents())?)
+    let sorts = Sorts::of_features(alloc, &features, atoms.parents())?;
+    Ok(Sorted {
+        sorts,
+        homes: features.into_homes(),
+    })
 }
 
 /// For each class the sort of its longest prefix.
-fn class_sorts(alloc: Global, atoms: &Atoms, sorts: &Sorts) -> Result<Vec<Option<u32>>, OutOfMemory>
-    requires { length sorts.now.of_places.items ≡ length atoms.now.prefixes }
-    ensures { IfOk result (λ classes. classes.items ≡ map (sort_at sorts.now.of_places.items) atoms.now.tops) }
+fn class_sorts(alloc: Global, shared: &Shared<'_>) -> Result<Vec<Option<u32>>, OutOfMemory>
+    requires { length shared.now.sorts.now.of_places.items ≡ length shared.now.atoms.now.prefixes }
+    ensures { IfOk result (λ classes. classes.items ≡
+        map (sort_at shared.now.sorts.now.of_places.items) shared.now.atoms.now.tops) }
 {
-    let tops = atoms.tops();
-    let of_places = sorts.of_places.as_slice();
+    let tops = shared.atoms.tops();
+    let of_places = shared.sorts.of_places.as_slice();
     let mut classes = Vec::with_capacity(alloc, tops.len())?;
     for top in tops {
         classes.push(sort_at(of_places, *top))?;
@@ -232,25 +274,34 @@ fn class_sorts(alloc: Global, atoms: &Atoms, sorts: &Sorts) -> Result<Vec<Option
 fn rows_of(
     alloc: Global,
     net: &Net,
-    subnets: &[Subnets],
     tables: &[BothTables<'_>],
     shared: &Shared<'_>,
 ) -> Result<Vec<Cells>, OutOfMemory>
     requires tables { AreTablesInParts (length net.now) tables.now }
-    requires subnets { AreAllSubnets net.now subnets.now }
     requires occur { AllOccur shared.now.atoms.now.prefixes (record { net = net.now; tables = tables.now }) }
     requires classing { IsClassing shared.now.atoms.now }
     requires spots { AreSharedSpots shared.now.atoms.now.prefixes tables.now shared.now.spots.now }
-    requires sorts { AreSorts (AreLike (own_placed shared.now) subnets.now tables.now) shared.now.atoms.now.parents
+    requires places { HaveSpots (length shared.now.atoms.now.prefixes) shared.now.spots.now }
+    requires homes { AreNetHomes net.now shared.now.atoms.now.prefixes shared.now.homes.now }
+    requires sorts { AreSorts (AreLike (own_placed shared.now) tables.now) shared.now.atoms.now.parents
         (length shared.now.atoms.now.parents) shared.now.sorts.now }
     ensures { IfOk result (λ rows. AreRows (record { net = net.now; tables = tables.now }) shared.now.atoms.now.samples
         (map (sort_at shared.now.sorts.now.of_places.items) shared.now.atoms.now.tops) rows.items) }
 {
+    let spots = sort_spots(alloc, shared)?;
+    let firsts = shared.sorts.firsts.as_slice();
+    let connected = connected_sorts(alloc, net.routers(), firsts, shared.homes)?;
     let mut rows = Vec::with_capacity(alloc, net.routers() as usize)?;
     for router in 0..net.routers() {
-        let subnets = subnets[router as usize].as_slice();
-        let both = tables[router as usize];
-        let row = cells_of(alloc, shared, subnets, both, ospf_distance(net, router))?;
+        let own = connected[router as usize].as_slice();
+        let both = &tables[router as usize];
+        let row = cells_of(
+            alloc,
+            spots.as_slice(),
+            own,
+            both,
+            ospf_distance(net, router),
+        )?;
         rows.push(row)?;
     }
     Ok(rows)

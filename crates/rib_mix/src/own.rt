@@ -1,114 +1,118 @@
-ghost use Rattle.std.specs.Prelude.{◌≡◌, ◌<◌, IfOk, length};
-ghost use Rattle.rib_mix.specs.steps.Sorts.{AreSorts, IsSorting};
-ghost use Rattle.rib_mix.specs.steps.Likeness.{AreLikeAt, own_placed};
-ghost use Rattle.rib_mix.specs.steps.Spots.{HasPlace};
-ghost use Rattle.rib_mix.specs.steps.WayUp.{AreOwnCells, AreSortCells, IsOwn, IsOwnAmong, has_at};
+ghost use Rattle.std.specs.Prelude.{◌≡◌, ◌<◌, IfOk, IfSome, length};
+ghost use Rattle.route_core.specs.Rows.{IsTable, kept_in};
+ghost use Rattle.rib_mix.specs.steps.Sorts.{IsSorting};
+ghost use Rattle.rib_mix.specs.steps.SortSpots.{AreSortSpots, AreSpotCells, HasSpots, HaveSortSpots, has_of};
+ghost use Rattle.rib_mix.specs.steps.Spots.{HaveSpots, number_at_spot};
 
 use crate::both_tables::BothTables;
-use crate::cell::{Cell, Has, cell_at, cell_over};
+use crate::cell::{Has, cell_at, cell_over};
 use crate::cells::Cells;
+use crate::homes::Homes;
 use crate::sorts::Sorts;
-use crate::spots::{PlacedTable, Spots, find_spots};
-use net_addr::Prefix;
+use crate::spots::Spots;
 use net_model::{ISIS_DISTANCE, MOST_DISTANCE};
 use prefix_atoms::Atoms;
-use route_core::{Number, OutOfMemory};
+use route_core::{Number, OutOfMemory, TableParts};
 use std::alloc::Global;
 
-/// What serves all routers: the classes, where their prefixes stand among those of the tables, and the sorts of these.
+/// What serves all routers: the classes, where their prefixes stand among those of the tables, at which routers they are
+/// connected, and their sorts.
 #[derive(Clone, Copy)]
 pub(crate) struct Shared<'a> {
     /// The classes.
     pub atoms: &'a Atoms,
     /// Where their prefixes stand.
     pub spots: &'a Spots,
+    /// The routers at which each is connected.
+    pub homes: &'a [Homes],
     /// The sorts of the prefixes.
     pub sorts: &'a Sorts,
 }
 
-/// What a router has: its connected prefixes by the places of those that occur, both tables, and its OSPF distance.
+/// Of a sort where its first prefix stands among those of the tables, and the sort of the parents.
 #[derive(Clone, Copy, Debug)]
-pub(crate) struct Own<'a> {
-    /// Where the prefixes stand among the connected ones.
-    pub connected: &'a [Number],
-    /// The old table.
-    pub old: PlacedTable<'a>,
-    /// The new table.
-    pub new: PlacedTable<'a>,
-    /// The distance of the entries of the old table, which don't count at the greatest.
-    pub ospf: u8,
+pub(crate) struct SortSpots {
+    /// Where the prefix stands among those of the old tables.
+    pub old: Number,
+    /// Where it stands among those of the new ones.
+    pub new: Number,
+    /// The sort of the parents.
+    pub parent: Option<u32>,
 }
 
-/// What a router with this OSPF distance uses for each sort, of these connected prefixes and both tables.
+/// The spots of all sorts.
+pub(crate) fn sort_spots(alloc: Global, shared: &Shared<'_>) -> Result<Vec<SortSpots>, OutOfMemory>
+    requires spots { HaveSpots (length shared.now.atoms.now.prefixes) shared.now.spots.now }
+    requires sorts { IsSorting (length shared.now.atoms.now.prefixes) shared.now.sorts.now }
+    ensures { IfOk result (λ own. AreSortSpots shared.now.spots.now shared.now.sorts.now
+        (length shared.now.sorts.now.firsts.items) own.items) }
+{
+    let sorts = shared.sorts;
+    let spots = shared.spots;
+    let mut own = Vec::with_capacity(alloc, sorts.firsts.len())?;
+    for sort in 0..sorts.firsts.len() {
+        let first = sorts.firsts[sort] as usize;
+        own.push(SortSpots {
+            old: spots.olds[first],
+            new: spots.news[first],
+            parent: sorts.parents[sort],
+        })?;
+    }
+    Ok(own)
+}
+
+/// What a router with these tables and this OSPF distance uses for each sort, by what it has for the first prefix and uses for
+/// the parents' sort, which has a lower number.
+#[inline(never)]
 pub(crate) fn cells_of(
     alloc: Global,
-    shared: &Shared<'_>,
-    subnets: &[Prefix],
-    tables: BothTables<'_>,
+    spots: &[SortSpots],
+    connected: &[bool],
+    tables: &BothTables<'_>,
     ospf: u8,
 ) -> Result<Cells, OutOfMemory>
-    requires own { IsOwnAmong shared.now.atoms.now.prefixes subnets.now tables shared.now.spots.now }
-    requires sorts { AreSorts (AreLikeAt (own_placed shared.now) subnets.now tables) shared.now.atoms.now.parents
-        (length shared.now.atoms.now.parents) shared.now.sorts.now }
-    ensures count { IfOk result (λ cells. length cells ≡ length shared.now.sorts.now.firsts.items) }
-    ensures cells { IfOk result (AreOwnCells shared.now.atoms.now.prefixes shared.now.sorts.now.of_places.items subnets.now
-        tables.entry ospf) }
+    requires spots { HaveSortSpots tables.now spots.now }
+    requires connected { length connected.now ≡ length spots.now }
+    ensures { IfOk result (AreSpotCells spots.now connected.now tables.now ospf (length spots.now)) }
 {
-    let connected = find_spots(alloc, shared.atoms.prefixes(), subnets)?;
-    let own = Own {
-        connected: connected.as_slice(),
-        old: PlacedTable {
-            spots: shared.spots.olds.as_slice(),
-            parts: tables.old,
-        },
-        new: PlacedTable {
-            spots: shared.spots.news.as_slice(),
-            parts: tables.new,
-        },
-        ospf,
-    };
-    Ok(Cells::from_vec(find_all(alloc, shared, own)?))
-}
-
-impl Own<'_> {
-    /// What the router has for the prefix at a place.
-    #[inline(always)]
-    fn at(self, place: usize) -> Has
-        requires connected { place < length self.connected.now }
-        requires old { HasPlace self.old place }
-        requires new { HasPlace self.new place }
-        ensures { result ≡ has_at self.entry place }
-    {
-        let old = if self.ospf == MOST_DISTANCE {
-            None
-        } else {
-            self.old.number(place)
-        };
-        Has {
-            connected: self.connected[place].get(),
-            old,
-            new: self.new.number(place),
-        }
-    }
-}
-
-/// Finds for each sort what the router uses, by what it has for the first prefix and uses for the parent's sort, which has a
-/// lower number.
-#[inline(never)]
-fn find_all(alloc: Global, shared: &Shared<'_>, own: Own<'_>) -> Result<Vec<Cell>, OutOfMemory>
-    requires own { IsOwn shared.now.atoms.now.prefixes own }
-    requires sorts { IsSorting (length shared.now.atoms.now.prefixes) shared.now.sorts.now }
-    ensures { IfOk result (λ cells. AreSortCells own.entry shared.now.sorts.now
-        (length shared.now.sorts.now.firsts.items) cells.items) }
-{
-    let firsts = shared.sorts.firsts.as_slice();
-    let parents = shared.sorts.parents.as_slice();
-    let old_first = own.ospf < ISIS_DISTANCE;
-    let mut cells = Vec::with_capacity(alloc, firsts.len())?;
-    for sort in 0..firsts.len() {
-        let parent = cell_at(cells.as_slice(), parents[sort]);
-        let cell = cell_over(own.at(firsts[sort] as usize), old_first, parent)?;
+    let old_first = ospf < ISIS_DISTANCE;
+    let mut cells = Vec::with_capacity(alloc, spots.len())?;
+    for (sort, own) in spots.iter().enumerate() {
+        let has = has_of(connected[sort], tables, ospf, own);
+        let parent = cell_at(cells.as_slice(), own.parent);
+        let cell = cell_over(has, old_first, parent)?;
         cells.push_reserved(cell);
     }
-    Ok(cells)
+    Ok(Cells::from_vec(cells))
+}
+
+/// What a router has for the first prefix of a sort.
+#[inline(always)]
+fn has_of(connected: bool, tables: &BothTables<'_>, ospf: u8, own: &SortSpots) -> Has
+    requires { HasSpots tables.now own.now }
+    ensures { result ≡ has_of connected tables.now ospf own.now }
+{
+    let old = if ospf == MOST_DISTANCE {
+        None
+    } else {
+        number_at(tables.old, own.old)
+    };
+    Has {
+        connected,
+        old,
+        new: number_at(tables.new, own.new),
+    }
+}
+
+/// The number of the entry for the prefix at a spot of a table, if there is one and the table has an entry for it.
+#[inline(always)]
+fn number_at(parts: TableParts<'_>, spot: Number) -> Option<u32>
+    requires table { IsTable (kept_in parts) }
+    requires spot { IfSome spot (λ k. k < length parts.prefixes.now) }
+    ensures { result ≡ number_at_spot (kept_in parts.entry) spot }
+{
+    match spot.get() {
+        Some(spot) => parts.number(spot as usize),
+        None => None,
+    }
 }

@@ -1,11 +1,11 @@
 ghost use Rattle.std.specs.Prelude.{◌≡◌, ◌<◌, IfOk, IfSome, OnOk, length};
 ghost use Rattle.prefix_atoms.specs.Nested.{AreAscendingPrefixes};
-ghost use Rattle.rib_mix.specs.steps.Spots.{AreSharedSpots, AreSpots, HasPlace, HaveSpots, number_in, with_spot};
+ghost use Rattle.rib_mix.specs.steps.Spots.{AreSharedSpots, AreSpots, HaveSpots, with_spot};
 
 use crate::both_tables::BothTables;
 use net_addr::Prefix;
 use prefix_atoms::place_of_prefix;
-use route_core::{Number, OutOfMemory, TableParts};
+use route_core::{Number, OutOfMemory};
 use std::alloc::Global;
 
 /// Where each of the prefixes that occur stands among those of the old tables, and among those of the new ones.
@@ -15,29 +15,6 @@ pub(crate) struct Spots {
     pub olds: Vec<Number>,
     /// Among those of the new tables.
     pub news: Vec<Number>,
-}
-
-/// A table, and where each of the prefixes that occur stands among its own.
-#[derive(Clone, Copy, Debug)]
-pub(crate) struct PlacedTable<'a> {
-    /// Where they stand.
-    pub spots: &'a [Number],
-    /// The table.
-    pub parts: TableParts<'a>,
-}
-
-impl PlacedTable<'_> {
-    /// The number of the entry for the prefix at a place, where the table has one.
-    #[inline(always)]
-    pub fn number(self, place: usize) -> Option<u32>
-        requires { HasPlace self place }
-        ensures { result ≡ number_in self.entry place }
-    {
-        match self.spots[place].get() {
-            Some(spot) => self.parts.number(spot as usize),
-            None => None,
-        }
-    }
 }
 
 impl Spots {
@@ -65,7 +42,7 @@ impl Spots {
 }
 
 /// Finds where each of some ascending prefixes stands in a list.
-pub(crate) fn find_spots(
+fn find_spots(
     alloc: Global,
     prefixes: &[Prefix],
     list: &[Prefix],

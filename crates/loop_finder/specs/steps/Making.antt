@@ -1,9 +1,9 @@
 -- What is read of classes, and what parts are made with.
-use Rattle.std.specs.Prelude.{◌≡◌, ℕ, ◌<◌, ◌↔◌, List, length, vec_len, Contains, Option, Some, IfSome}
+use Rattle.std.specs.Prelude.{◌≡◌, ℕ, ◌<◌, ◌↔◌, ◌⊎◌, List, length, vec_len, Contains, Option, Some, IfSome}
 use Rattle.igp_theory.specs.declared.phase.Phase.{Phase}
 use Rattle.igp_theory.specs.declared.phase.Phase.TheVariants.{Old, New}
 use Rattle.prefix_atoms.specs.Classes.{IsInClass}
-use Rattle.rib_mix.specs.Answers.{IsAlikeAt, IsNextOf, NextLeadsTo}
+use Rattle.rib_mix.specs.Answers.{IsNextOf, NextLeadsTo}
 use Rattle.rib_mix.specs.declared.next.Next.{Next}
 use Rattle.loop_finder.specs.steps.Ends.{ReadHops, EndStep, AreNoHops, hops_at}
 use Rattle.loop_finder.specs.steps.Returns.{MarksReturns}
@@ -38,15 +38,14 @@ pub record IsRead (c : ClassIn) (lists : ReadHops) : Type 0 where
   pub news_many : length lists.news ≡ length c.mixture.net
   pub each : (u : ℕ) → u < length c.mixture.net → IsReadAt c lists u
 
+-- the routers that are seen were read for a class, and of the others it's still what was read at first
+pub record ReadsSeen (c : ClassIn) (seen : List ℕ) (first lists : ReadHops) : Type 0 where
+  pub read : (u : ℕ) → Contains seen u → IsReadAt c lists u
+  pub rest : (u : ℕ) → Contains seen u ⊎ IsSameAt first lists u
+
 -- this was read of the class that is known
 abbrev pub IsKnownClass : Mix → Making → Type 0
 IsKnownClass m making = IfSome making.known (λ atom. IsRead (class_in m atom) making.lists)
-
--- a class is known, and router u does the same for another
-pub record IsKnownAt (m : Mix) (known : Option ℕ) (u atom : ℕ) : Type 0 where
-  pub other : ℕ
-  pub is : known ≡ Some other
-  pub alike : IsAlikeAt (migration_in m) m.classes u other atom
 
 -- what was read is of n routers, and those to which a walk over the steps of both networks may return are marked
 pub record IsMaking (n : ℕ) (making : Making) : Type 0 where

@@ -1,7 +1,9 @@
 -- The routers at which each of some prefixes is connected.
 use Rattle.std.specs.Prelude.{◌≡◌, ℕ, ◌<◌, ◌⊎◌, ◌↔◌, ◌++◌, ◌∷◌, [], List, length, slice_get, slice_index_or, slice_set, Option}
-use Rattle.std.specs.Prelude.{Some, None, Contains}
+use Rattle.std.specs.Prelude.{Some, None, Contains, Bool, eqb}
+use Rattle.std.specs.Set.{is_member}
 use Rattle.net_addr.specs.Addresses.{Block}
+use Rattle.net_model.specs.Network.{Network, Connected}
 
 -- router v is one of the first n, at which these prefixes are connected, and p is among them
 abbrev pub IsHomeBelow : List (List Block) → ℕ → Block → ℕ → Type 0
@@ -16,6 +18,15 @@ pub record AreHomesBelow (prefixes : List Block) (subnets : List (List Block)) (
 -- for each prefix all its homes
 abbrev pub ArePrefixHomes : List Block → List (List Block) → List (List ℕ) → Type 0
 ArePrefixHomes prefixes subnets homes = AreHomesBelow prefixes subnets (length subnets) homes
+
+-- for each prefix the routers of a network at which it is connected
+pub record AreNetHomes (net : Network) (prefixes : List Block) (homes : List (List ℕ)) : Type 0 where
+  pub count : length homes ≡ length prefixes
+  pub each : (i v : ℕ) (p : Block) → slice_get prefixes i ≡ Some p → Contains (slice_index_or homes i []) v ↔ Connected net v p
+
+-- whether router u is one of those of the prefix at a place
+abbrev pub is_home : List (List ℕ) → ℕ → ℕ → Bool
+is_home homes u place = is_member eqb (slice_index_or homes place []) u
 
 -- those of the prefixes that are seen gain a router as a home, and no others
 pub record GainHomes (prefixes : List Block) (router : ℕ) (seen : List Block) (old new : List (List ℕ)) : Type 0 where

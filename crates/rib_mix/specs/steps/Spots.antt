@@ -1,9 +1,9 @@
 -- Where the prefixes that occur stand in a list of prefixes, and what a table has for them.
-use Rattle.std.specs.Prelude.{◌≡◌, ℕ, ◌<◌, List, length, slice_get, slice_index_or, slice_set, Option, Some, None, IfSome, MatchOption}
+use Rattle.std.specs.Prelude.{◌≡◌, ℕ, ◌<◌, List, length, slice_get, slice_index_or, slice_set, Option, Some, None, MatchOption}
 use Rattle.net_addr.specs.Addresses.{Block}
 use Rattle.route_core.specs.Rows.{IsTable, KeptTable, kept_in, kept_number}
 use Rattle.rib_mix.specs.declared.both_tables.BothTables.{BothTables}
-use Rattle.rib_mix.specs.declared.spots.PlacedTable.{PlacedTable}
+use Rattle.route_core.specs.declared.table.TableParts.{TableParts}
 use Rattle.rib_mix.specs.declared.spots.Spots.{Spots}
 
 -- a place where a prefix stands in a list, or none where it isn't among the first n
@@ -34,16 +34,15 @@ pub record HaveSpots (places : ℕ) (spots : Spots) : Type 0 where
   pub olds : length spots.olds.items ≡ places
   pub news : length spots.news.items ≡ places
 
--- a table, with the spots of some prefixes among its own
+-- a table, and where each of the prefixes that occur stands among its own
+pub record PlacedTable : Type 0 where
+  pub spots : List (Option ℕ)
+  pub parts : TableParts
+
+-- these are the spots of some prefixes
 pub record IsPlaced (prefixes : List Block) (table : PlacedTable) : Type 0 where
   pub kept : IsTable (kept_in table.parts)
-  pub spots : AreSpots prefixes table.parts.prefixes.now (length table.parts.prefixes.now) table.spots.now
-
--- what a table has for the prefix at a place can be read
-pub record HasPlace (table : PlacedTable) (place : ℕ) : Type 0 where
-  pub within : place < length table.spots.now
-  pub kept : IsTable (kept_in table.parts)
-  pub spot : IfSome (slice_index_or table.spots.now place None) (λ spot. spot < length table.parts.prefixes.now)
+  pub spots : AreSpots prefixes table.parts.prefixes.now (length table.parts.prefixes.now) table.spots
 
 -- the number of the entry for the prefix at a spot, if there is one and the table has an entry for it
 abbrev pub number_at_spot : KeptTable → Option ℕ → Option ℕ
@@ -52,4 +51,4 @@ number_at_spot kept (Some spot) = kept_number kept spot
 
 -- the number of the entry for the prefix at a place, where the table has one
 abbrev pub number_in : PlacedTable → ℕ → Option ℕ
-number_in table place = number_at_spot (kept_in table.parts) (slice_index_or table.spots.now place None)
+number_in table place = number_at_spot (kept_in table.parts) (slice_index_or table.spots place None)

@@ -1,5 +1,5 @@
 -- What a router uses for the addresses of a prefix, by what it has for the prefix and what it uses for its parent.
-use Rattle.std.specs.Prelude.{ℕ, Bool, if◌then◌else◌, is_some, List, slice_index_or, Option, Some, None, ◌≡◌, slice_get}
+use Rattle.std.specs.Prelude.{ℕ, Bool, if◌then◌else◌, List, Option, Some, None, ◌≡◌, slice_get}
 use Rattle.rib_mix.specs.Cells.{new_use, old_use}
 use Rattle.rib_mix.specs.declared.cell.Cell.{Cell}
 use Rattle.rib_mix.specs.declared.cell.Has.{Has}
@@ -39,4 +39,4 @@ cell_of_two (Some n) (Some m) old_first up = cell_between (Old n) (New m) old_fi
 -- what is used of what a router has for a prefix: a connected prefix before all entries
 abbrev pub cell_over : Has → Bool → Cell → Cell
 cell_over has old_first up =
-    if is_some has.connected then record { middle = Connected; other = Connected } else cell_of_two has.old has.new old_first up
+    if has.connected then record { middle = Connected; other = Connected } else cell_of_two has.old has.new old_first up

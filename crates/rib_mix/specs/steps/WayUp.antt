@@ -1,10 +1,9 @@
 -- What a router uses for each prefix that occurs, of what it has for the prefix and for those that it lies in.
 use lib.Dec.{ltb}
-use Rattle.std.specs.Prelude.{◌≡◌, ℕ, Bool, ◌<◌, ◌≤◌, ◌⊎◌, ◌==◌, if◌then◌else◌, List, length, slice_get, slice_index_or, Option}
+use Rattle.std.specs.Prelude.{◌≡◌, ℕ, Bool, ◌<◌, ◌≤◌, ◌⊎◌, ◌↔◌, ◌==◌, IsTrue, if◌then◌else◌, List, length, slice_get, slice_index_or, Option}
 use Rattle.std.specs.Prelude.{Some, None, Contains, MatchOption}
 use Rattle.net_addr.specs.Addresses.{Block, ContainsAddress}
-use Rattle.net_model.specs.Network.{Network}
-use Rattle.net_model.specs.Refusals.{IsNetwork}
+use Rattle.net_model.specs.Network.{Network, Connected}
 use Rattle.net_model.specs.declared.bounds.TheConstants.{ISIS_DISTANCE, MOST_DISTANCE}
 use Rattle.route_core.specs.Rows.{IsTable, kept_in, rows_in}
 use Rattle.igp_theory.specs.Forwarding.{Usable, Kind}
@@ -12,16 +11,14 @@ use Rattle.igp_theory.specs.declared.phase.Phase.{Phase}
 use Rattle.prefix_atoms.specs.Longest.{number_at}
 use Rattle.prefix_atoms.specs.Nested.{IsTop}
 use Rattle.rib_mix.specs.Cells.{IsCell, IsUsable, use_in, cell_at, no_cell}
-use Rattle.rib_mix.specs.Rows.{AreSubnets}
 use Rattle.rib_mix.specs.Sites.{Site}
 use Rattle.rib_mix.specs.steps.Sites.{CountsAt, HasOspfDistance, IsLawfulSite, prefixes_in, AreAmong}
-use Rattle.rib_mix.specs.steps.Spots.{AreTableSpots, IsPlaced, number_in}
+use Rattle.rib_mix.specs.steps.Spots.{AreTableSpots, PlacedTable, number_in}
 use Rattle.rib_mix.specs.steps.Uses.{cell_over}
 use Rattle.rib_mix.specs.steps.Sorts.{sort_at}
 use Rattle.rib_mix.specs.declared.both_tables.BothTables.{BothTables}
 use Rattle.rib_mix.specs.declared.cell.Cell.{Cell}
 use Rattle.rib_mix.specs.declared.cell.Has.{Has}
-use Rattle.rib_mix.specs.declared.own.Own.{Own}
 use Rattle.rib_mix.specs.declared.sorts.Sorts.{Sorts}
 use Rattle.rib_mix.specs.declared.spots.Spots.{Spots}
 use Rattle.rib_mix.specs.declared.used.Used.{Used}
@@ -58,9 +55,12 @@ IsBestUse s kind way = ((way ≡ used.Nothing) × ((q : Block) (d : ℕ) (x : Us
 abbrev pub IsCellUpTo : Site → ℕ → Cell → Type 0
 IsCellUpTo s len cell = (phase : Phase) → IsBestUse s (UpTo s phase len) (use_in cell phase)
 
--- what a router has at a place among its connected prefixes
-abbrev pub connected_in : Own → ℕ → Option ℕ
-connected_in own place = slice_index_or own.connected.now place None
+-- what a router has: at which places prefixes are connected, both tables with their spots, and its OSPF distance
+pub record Own : Type 0 where
+  pub connected : ℕ → Bool
+  pub old : PlacedTable
+  pub new : PlacedTable
+  pub ospf : ℕ
 
 -- the number of its entry of the old table at a place, where that table counts
 abbrev pub old_in : Own → ℕ → Option ℕ
@@ -68,18 +68,21 @@ old_in own place = if own.ospf == MOST_DISTANCE then None else number_in own.old
 
 -- what it has for the prefix at a place
 abbrev pub has_at : Own → ℕ → Has
-has_at own place = record { connected = connected_in own place; old = old_in own place; new = number_in own.new place }
+has_at own place = record { connected = own.connected place; old = old_in own place; new = number_in own.new place }
+
+-- these are the places of the prefixes that are connected at router u
+abbrev pub AreConnectedAt : Network → ℕ → List Block → (ℕ → Bool) → Type 0
+AreConnectedAt net u prefixes connected =
+    (place : ℕ) (p : Block) → slice_get prefixes place ≡ Some p → IsTrue (connected place) ↔ Connected net u p
 
 -- it is asked for at the router that has this, whose prefixes are among these
 pub record IsOwnSite (prefixes : List Block) (own : Own) (s : Site) : Type 0 where
   pub lawful : IsLawfulSite s
   pub distance : HasOspfDistance s.net s.u own.ospf
-  pub subnets : List Block
-  pub subnets_are : AreSubnets s.net s.u subnets
-  pub among : AreAmong prefixes subnets
+  pub among : (p : Block) → Connected s.net s.u p → Contains prefixes p
   pub old_among : AreAmong prefixes (prefixes_in s.tables.old)
   pub new_among : AreAmong prefixes (prefixes_in s.tables.new)
-  pub connected : AreOwnNumbers prefixes subnets (λ place. place) (connected_in own)
+  pub connected : AreConnectedAt s.net s.u prefixes own.connected
   pub old : AreOwnNumbers prefixes (prefixes_in s.tables.old) (number_at (rows_in (kept_in s.tables.old))) (number_in own.old)
   pub new : AreOwnNumbers prefixes (prefixes_in s.tables.new) (number_at (rows_in (kept_in s.tables.new))) (number_in own.new)
 
@@ -105,24 +108,16 @@ pub record AreSortCells (own : Own) (sorts : Sorts) (n : ℕ) (cells : List Cell
       cell_over (has_at own (slice_index_or sorts.firsts.items sort 0)) (is_old_first own) (cell_at cells
       (slice_index_or sorts.parents.items sort None))
 
--- what a router has, by the places of prefixes
-pub record IsOwn (prefixes : List Block) (own : Own) : Type 0 where
-  pub connected : length own.connected.now ≡ length prefixes
-  pub old : IsPlaced prefixes own.old
-  pub new : IsPlaced prefixes own.new
-
--- the prefixes of a router are among these, of which the spots in its tables are known
-pub record IsOwnAmong (prefixes subnets : List Block) (both : BothTables) (spots : Spots) : Type 0 where
-  pub connected : AreAmong prefixes subnets
+-- the prefixes of router u are among these, of which the spots in its tables are known
+pub record IsOwnAmong (prefixes : List Block) (net : Network) (u : ℕ) (both : BothTables) (spots : Spots) : Type 0 where
+  pub connected : (p : Block) → Connected net u p → Contains prefixes p
   pub old : AreAmong prefixes (prefixes_in both.old)
   pub new : AreAmong prefixes (prefixes_in both.new)
   pub old_table : IsTable (kept_in both.old)
   pub new_table : IsTable (kept_in both.new)
   pub spots_are : AreTableSpots prefixes both spots
 
--- what a router with these connected prefixes, both tables and OSPF distance uses for an address is the cell of its longest
--- prefix's sort
-abbrev pub AreOwnCells : List Block → List ℕ → List Block → BothTables → ℕ → List Cell → Type 0
-AreOwnCells prefixes of_places subnets both ospf cells =
-    (net : Network) (u a : ℕ) (top : Option ℕ) → IsNetwork net → HasOspfDistance net u ospf → AreSubnets net u subnets → IsTop prefixes a top →
-    IsCell (record { net = net; u = u; tables = both; a = a }) (cell_at cells (sort_at of_places top))
+-- what a router uses for each address, by the site of each, is the cell of the sort of its longest prefix
+abbrev pub AreOwnCells : List Block → List ℕ → (ℕ → Site) → List Cell → Type 0
+AreOwnCells prefixes of_places at cells =
+    (a : ℕ) (top : Option ℕ) → IsTop prefixes a top → IsCell (at a) (cell_at cells (sort_at of_places top))

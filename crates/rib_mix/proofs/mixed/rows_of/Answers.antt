@@ -1,89 +1,85 @@
-use Rattle.std.proofs.Common.{◌≡◌, ◌<◌, ℕ, List, Some, get_or, length, map, slice_get, arith, refl, sym, subst, ◌∙◌}
+use Rattle.std.proofs.Common.{◌≡◌, ◌<◌, ℕ, Bool, List, [], Some, get_or, length, map, slice_get, arith, refl, sym, subst, ◌∙◌}
+use Rattle.std.proofs.lemmas.List.{get_or_default}
 use Rattle.std.proofs.lemmas.Option.{same_Some, slice_get_read}
-use Rattle.net_addr.specs.Addresses.{Block}
-use Rattle.rib_mix.specs.Rows.{AreSubnets, Ground, IsRow, site}
+use Rattle.prefix_atoms.specs.Classes.{Classes}
+use Rattle.rib_mix.specs.Rows.{Ground, IsRow, site}
 use Rattle.rib_mix.specs.declared.both_tables.BothTables.{BothTables}
 use Rattle.rib_mix.specs.declared.cell.Cell.{Cell}
+use Rattle.rib_mix.specs.declared.own.SortSpots.{SortSpots}
 use Rattle.rib_mix.specs.declared.sorts.Sorts.{Sorts}
-use Rattle.rib_mix.specs.steps.Likeness.{AreLike, AreLikeAt, own_placed}
-use Rattle.rib_mix.specs.steps.Sorts.{AreSorts, sort_at}
-use Rattle.rib_mix.specs.steps.WayUp.{AreOwnCells, IsOwnAmong}
-use Rattle.rib_mix.proofs.RowLaws.{own_among, row_made}
-use Rattle.rib_mix.proofs.SortLaws.{sorts_along}
+use Rattle.rib_mix.specs.steps.ConnectedSorts.{AreConnectedSorts}
+use Rattle.rib_mix.specs.steps.Sorts.{sort_at}
+use Rattle.rib_mix.specs.steps.SortSpots.{AreSpotCells, HaveSortSpots}
+use Rattle.rib_mix.proofs.RowLaws.{IsServing, row_of_cells, sort_spots_in}
 use Rattle.prefix_atoms.proofs.Pushed.{count_more, each_more}
 use Rattle.rib_mix.proofs.mixed.rows_of.Goals as goal
 
-pub cells_of-requires-clause-own : goal.cells_of-requires-clause-own
-cells_of-requires-clause-own c =
+pub cells_of-requires-clause-spots : goal.cells_of-requires-clause-spots
+cells_of-requires-clause-spots c =
     let router : ℕ = c.loop-router.router in
     let both : BothTables = c.index-tables-router.result in
+    let g : Ground = record { net = c.args.net.now; tables = c.args.tables.now } in
+    let serving : IsServing g c.args.shared.now.atoms.now c.args.shared.now.spots.now c.args.shared.now.homes.now
+    c.args.shared.now.sorts.now = record {
+      tables_are = c.requires.tables;
+      occur = c.requires.occur;
+      classing = c.requires.classing;
+      spots_are = c.requires.spots;
+      homes_are = c.requires.homes;
+      sorts_are = c.requires.sorts;
+    } in
     let here : slice_get c.args.tables.now router ≡ Some both =
     slice_get_read c.args.tables.now (length c.args.tables.now) router both refl
     (omega (arith, c.loop-router-test.true, c.requires.tables.count, c.routers-router-end.ensures.count)) c.index-tables-router.is in
-    let own : AreSubnets c.args.net.now router c.index-subnets-router.result = c.requires.subnets.each router c.index-subnets-router.result
-    (slice_get_read c.args.subnets.now (length c.args.subnets.now) router c.index-subnets-router.result refl
-    (omega (arith, c.loop-router-test.true, c.requires.subnets.count, c.routers-router-end.ensures.count)) c.index-subnets-router.is) in
-    subst (λ (ps : List Block). IsOwnAmong c.args.shared.now.atoms.now.prefixes ps both c.args.shared.now.spots.now)
-    (sym c.as_slice-subnets.ensures)
-    (own_among c.args.shared.now.atoms.now.prefixes
-    (record { net = c.args.net.now; tables = c.args.tables.now }) router both c.index-subnets-router.result
-    c.args.shared.now.spots.now c.requires.tables c.requires.occur own here c.requires.spots)
-
-pub cells_of-requires-clause-sorts : goal.cells_of-requires-clause-sorts
-cells_of-requires-clause-sorts c =
-    let router : ℕ = c.loop-router.router in
-    let both : BothTables = c.index-tables-router.result in
-    let subnets : List Block = c.index-subnets-router.result in
-    let parents = c.args.shared.now.atoms.now.parents in
-    let here : slice_get c.args.tables.now router ≡ Some both =
-    slice_get_read c.args.tables.now (length c.args.tables.now) router both refl
-    (omega (arith, c.loop-router-test.true, c.requires.tables.count, c.routers-router-end.ensures.count)) c.index-tables-router.is
-    in
-    let own : slice_get c.args.subnets.now router ≡ Some subnets =
-    slice_get_read c.args.subnets.now (length c.args.subnets.now) router subnets refl
-    (omega (arith, c.loop-router-test.true, c.requires.subnets.count, c.routers-router-end.ensures.count))
-    c.index-subnets-router.is in
-    subst (λ (ps : List Block). AreSorts (AreLikeAt (own_placed c.args.shared.now) ps both) parents
-    (length parents) c.args.shared.now.sorts.now)
-    (sym c.as_slice-subnets.ensures)
-    (sorts_along (AreLike (own_placed c.args.shared.now) c.args.subnets.now c.args.tables.now) (AreLikeAt
-    (own_placed c.args.shared.now) subnets both) parents
-    (length parents) c.args.shared.now.sorts.now (λ i j like. like router subnets both own here) c.requires.sorts)
+    subst (HaveSortSpots both) (sym c.as_slice.ensures.value)
+    (sort_spots_in g c.args.shared.now.atoms.now c.args.shared.now.spots.now c.args.shared.now.homes.now
+    c.args.shared.now.sorts.now router both c.in_ok-spots.spots.items serving here c.in_ok-spots.ensures)
 
 pub loop-router-preserved : goal.loop-router-preserved
 loop-router-preserved c =
     let router : ℕ = c.loop-router.router in
     let both : BothTables = c.index-tables-router.result in
-    let subnets : List Block = c.index-subnets-router.result in
+    let ospf : ℕ = c.ospf_distance.result in
     let g : Ground = record { net = c.args.net.now; tables = c.args.tables.now } in
-    let prefixes : List Block = c.args.shared.now.atoms.now.prefixes in
+    let classes : Classes = c.args.shared.now.atoms.now in
     let sorts : Sorts = c.args.shared.now.sorts.now in
+    let homes : List (List ℕ) = c.args.shared.now.homes.now in
+    let spots : List SortSpots = c.in_ok-spots.spots.items in
+    let flags : List (List Bool) = c.in_ok-connected.connected.items in
+    let inside : router < length c.args.net.now = omega (arith, c.loop-router-test.true, c.routers-router-end.ensures.count) in
+    let serving : IsServing g classes c.args.shared.now.spots.now homes sorts = record {
+      tables_are = c.requires.tables;
+      occur = c.requires.occur;
+      classing = c.requires.classing;
+      spots_are = c.requires.spots;
+      homes_are = c.requires.homes;
+      sorts_are = c.requires.sorts;
+    } in
     let here : slice_get c.args.tables.now router ≡ Some both =
-    slice_get_read c.args.tables.now (length c.args.tables.now) router both refl
-    (omega (arith, c.loop-router-test.true, c.requires.tables.count, c.routers-router-end.ensures.count)) c.index-tables-router.is in
-    let own : AreSubnets c.args.net.now router subnets = c.requires.subnets.each router subnets
-    (slice_get_read c.args.subnets.now (length c.args.subnets.now) router subnets refl
-    (omega (arith, c.loop-router-test.true, c.requires.subnets.count, c.routers-router-end.ensures.count)) c.index-subnets-router.is) in
-    let row : IsRow (site g router both) c.args.shared.now.atoms.now.samples (map
-    (sort_at sorts.of_places.items) c.args.shared.now.atoms.now.tops)
-    c.in_ok-row.row =
-    row_made (site g router both 0) c.ospf_distance.result subnets c.args.shared.now.atoms.now sorts.of_places.items
-    c.in_ok-row.row
-    c.ospf_distance.ensures.network c.ospf_distance.ensures.distance own c.requires.classing
-    (c.requires.sorts.count ∙ c.requires.classing.nested.count)
-    (λ i below. subst (λ (n : ℕ). get_or sorts.of_places.items i 0 < n) (sym c.in_ok-row.ensures.count)
-    (c.requires.sorts.sorting.within i below))
-    (subst (λ (ps : List Block). AreOwnCells prefixes sorts.of_places.items ps both c.ospf_distance.result c.in_ok-row.row)
-    c.as_slice-subnets.ensures
-    c.in_ok-row.ensures.cells) in
+    slice_get_read c.args.tables.now (length c.args.tables.now) router both refl (omega (arith, inside, c.requires.tables.count))
+    c.index-tables-router.is in
+    let flagged : AreConnectedSorts (length c.args.net.now) sorts.firsts.items homes (length sorts.firsts.items) flags =
+    subst (λ (n : ℕ). AreConnectedSorts n sorts.firsts.items homes (length sorts.firsts.items) flags) c.routers.ensures.count
+    (subst (λ (firsts : List ℕ). AreConnectedSorts c.routers.result firsts homes (length firsts) flags)
+    c.as_slice-firsts.ensures.value c.in_ok-connected.ensures) in
+    let own : c.as_slice-own.result.now ≡ get_or flags router [] =
+    c.as_slice-own.ensures ∙ c.index.ensures
+    ∙ get_or_default flags router c.index.result.now [] (omega (arith, inside, flagged.flags.count)) in
+    let made : AreSpotCells spots (get_or flags router []) both ospf (length spots) c.in_ok-row.row =
+    subst (λ (row : List Bool). AreSpotCells spots row both ospf (length spots) c.in_ok-row.row) own
+    (subst (λ (all : List SortSpots). AreSpotCells all c.as_slice-own.result.now both ospf (length all) c.in_ok-row.row)
+    c.as_slice.ensures.value c.in_ok-row.ensures) in
+    let row : IsRow (site g router both) classes.samples (map (sort_at sorts.of_places.items) classes.tops) c.in_ok-row.row =
+    row_of_cells g classes c.args.shared.now.spots.now homes sorts router both ospf spots flags c.in_ok-row.row serving here
+    c.ospf_distance.ensures.network c.ospf_distance.ensures.distance c.in_ok-spots.ensures flagged inside made in
     record {
-      count = count_more c.loop-router.rows.items c.push.new.self.items c.in_ok-row.row router c.loop-router.invariant.count c.in_ok-push.ensures.items;
+      count = count_more c.loop-router.rows.items c.push.new.self.items c.in_ok-row.row router c.loop-router.invariant.count
+          c.in_ok-push.ensures.items;
       each = each_more
           (λ (u : ℕ) (row : List Cell). (both : BothTables) → slice_get c.args.tables.now u ≡ Some both → IsRow (site g u both)
-          c.args.shared.now.atoms.now.samples (map (sort_at sorts.of_places.items) c.args.shared.now.atoms.now.tops) row)
-          c.loop-router.rows.items c.push.new.self.items c.in_ok-row.row router c.loop-router.invariant.count c.loop-router.invariant.each
-          c.in_ok-push.ensures.items
-          (λ other at. subst (λ (b : BothTables). IsRow (site g router b) c.args.shared.now.atoms.now.samples
-          (map (sort_at sorts.of_places.items) c.args.shared.now.atoms.now.tops) c.in_ok-row.row) (same_Some both other (sym here
-          ∙ at)) row);
+          classes.samples (map (sort_at sorts.of_places.items) classes.tops) row)
+          c.loop-router.rows.items c.push.new.self.items c.in_ok-row.row router c.loop-router.invariant.count
+          c.loop-router.invariant.each c.in_ok-push.ensures.items
+          (λ other at. subst (λ (b : BothTables). IsRow (site g router b) classes.samples
+          (map (sort_at sorts.of_places.items) classes.tops) c.in_ok-row.row) (same_Some both other (sym here ∙ at)) row);
     }

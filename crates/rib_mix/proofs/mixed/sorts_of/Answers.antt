@@ -2,6 +2,8 @@ use Rattle.std.proofs.Common.{◌≡◌, ap, ◌∙◌, ◌<◌, IfSome, List, N
 use Rattle.net_addr.specs.Addresses.{Block}
 use Rattle.prefix_atoms.proofs.Pushed.{at_place}
 use Rattle.rib_mix.specs.steps.Features.{AreFeatures, HaveFeatures, HaveSameFeatures}
+use Rattle.rib_mix.specs.declared.features.Features.{Features}
+use Rattle.rib_mix.specs.steps.Homes.{ArePrefixHomes}
 use Rattle.rib_mix.specs.steps.Likeness.{AreLike}
 use Rattle.rib_mix.specs.steps.Sorts.{AreSorts}
 use Rattle.rib_mix.proofs.FeatureLaws.{features_alike}
@@ -23,16 +25,26 @@ of_features-requires-clause-parents c = λ i below.
     subst (λ (ps : List (Option ℕ)). IfSome (get_or ps i None) (λ j. j < i)) (sym c.parents.ensures.parents)
     (parent_of c.args.atoms.now i p.0 c.parents.ensures.classing p.1).before
 
-pub returns : goal.returns
-returns c =
-    let features = c.in_ok-features.features in
+pub returns-clause-homes : goal.returns-clause-homes
+returns-clause-homes c =
+    let are : AreFeatures c.args.atoms.now.prefixes c.args.subnets.now c.args.tables.now c.in_ok-features.features =
+    subst (λ (ps : List Block). AreFeatures ps c.args.subnets.now c.args.tables.now c.in_ok-features.features)
+    c.prefixes.ensures.prefixes c.in_ok-features.ensures.are in
+    subst (ArePrefixHomes c.args.atoms.now.prefixes c.args.subnets.now) (sym c.into_homes.ensures) are.homes
+
+pub returns-clause-sorts : goal.returns-clause-sorts
+returns-clause-sorts c =
+    let features : Features = c.in_ok-features.features in
     let parents : List (Option ℕ) = c.args.atoms.now.parents in
-    let like : ℕ → ℕ → Type 0 =
-    AreLike (record { prefixes = c.args.atoms.now.prefixes; spots = c.args.spots.now }) c.args.subnets.now c.args.tables.now in
-    subst (λ (ps : List (Option ℕ)). AreSorts like ps (length ps) c.in_ok-of_features.field-0) c.parents.ensures.parents
-    (sorts_along (HaveSameFeatures features) like c.parents.result.now (length c.parents.result.now) c.in_ok-of_features.field-0
-    (λ i j. features_alike c.args.atoms.now.prefixes c.args.subnets.now c.args.tables.now features c.args.spots.now i j
-    (subst (λ (ps : List Block). AreFeatures ps c.args.subnets.now c.args.tables.now features) c.prefixes.ensures.prefixes
-    c.in_ok-features.ensures.are)
-    c.in_ok-features.ensures.spots)
-    c.in_ok-of_features.ensures)
+    let like : List (List ℕ) → ℕ → ℕ → Type 0 =
+    λ homes. AreLike (record { spots = c.args.spots.now; homes = homes }) c.args.tables.now in
+    let are : AreFeatures c.args.atoms.now.prefixes c.args.subnets.now c.args.tables.now features =
+    subst (λ (ps : List Block). AreFeatures ps c.args.subnets.now c.args.tables.now features)
+    c.prefixes.ensures.prefixes c.in_ok-features.ensures.are in
+    subst (λ (homes : List (List ℕ)). AreSorts (like homes) parents (length parents) c.in_ok-sorts.sorts) (sym c.into_homes.ensures)
+    (subst (λ (ps : List (Option ℕ)). AreSorts (like features.homes.items) ps (length ps) c.in_ok-sorts.sorts)
+    c.parents.ensures.parents
+    (sorts_along (HaveSameFeatures features) (like features.homes.items) c.parents.result.now (length c.parents.result.now)
+    c.in_ok-sorts.sorts
+    (λ i j. features_alike c.args.atoms.now.prefixes c.args.subnets.now c.args.tables.now features c.args.spots.now i j are
+    c.in_ok-features.ensures.spots) c.in_ok-sorts.ensures))

@@ -1,53 +1,48 @@
-use Rattle.std.proofs.Common.{List, arith, length, subst, sym}
-use Rattle.net_addr.specs.Addresses.{Block}
+use lib.Dec.{ltb}
+use Rattle.std.proofs.Common.{◌≡◌, ◌∙◌, ℕ, ◌<◌, Bool, false, List, Some, IfSome, ap, arith, get_or, length, refl, slice_get, subst, sym}
+use Rattle.std.proofs.lemmas.Option.{slice_get_read}
 use Rattle.rib_mix.specs.declared.cell.Cell.{Cell}
-use Rattle.rib_mix.specs.declared.own.Own.{Own}
-use Rattle.rib_mix.specs.declared.sorts.Sorts.{Sorts}
-use Rattle.rib_mix.specs.steps.Likeness.{own_placed}
-use Rattle.rib_mix.specs.steps.Spots.{AreSpots, IsPlaced}
-use Rattle.rib_mix.specs.steps.WayUp.{AreOwnCells}
-use Rattle.rib_mix.proofs.SortLaws.{IsOwnOf, sort_cell}
-use Rattle.rib_mix.proofs.UpLaws.{all_cells, own_cells}
+use Rattle.rib_mix.specs.declared.cell.Has.{Has}
+use Rattle.rib_mix.specs.declared.own.SortSpots.{SortSpots}
+use Rattle.rib_mix.specs.Cells.{cell_at}
+use Rattle.rib_mix.specs.steps.SortSpots.{has_of}
+use Rattle.rib_mix.specs.steps.Uses.{cell_over}
+use Rattle.rib_mix.proofs.SortLaws.{cells_more}
 use Rattle.rib_mix.proofs.own.cells_of.Goals as goal
 
-pub returns-clause-cells : goal.returns-clause-cells
-returns-clause-cells c =
-    let own : Own = record {
-      connected = c.as_slice.result;
-      old = record { spots = c.as_slice-2.result; parts = c.args.tables.old };
-      new = record { spots = c.as_slice-3.result; parts = c.args.tables.new };
-      ospf = c.args.ospf;
-    } in
-    let prefixes : List Block = c.args.shared.now.atoms.now.prefixes in
-    let sorts : Sorts = c.args.shared.now.sorts.now in
-    let cells : List Cell = c.in_ok-find_all.field-0.items in
-    let old : IsPlaced prefixes own.old = record {
-      kept = c.requires.own.old_table;
-      spots = subst (AreSpots prefixes c.args.tables.old.prefixes.now (length c.args.tables.old.prefixes.now))
-          (sym c.as_slice-2.ensures.value)
-          c.requires.own.spots_are.olds;
-    } in
-    let new : IsPlaced prefixes own.new = record {
-      kept = c.requires.own.new_table;
-      spots = subst (AreSpots prefixes c.args.tables.new.prefixes.now (length c.args.tables.new.prefixes.now))
-          (sym c.as_slice-3.ensures.value)
-          c.requires.own.spots_are.news;
-    } in
-    let connected : AreSpots prefixes c.args.subnets.now (length c.args.subnets.now) c.as_slice.result.now =
-    subst (AreSpots prefixes c.args.subnets.now (length c.args.subnets.now)) (sym c.as_slice.ensures.value)
-    (subst (λ (ps : List Block). AreSpots ps c.args.subnets.now (length c.args.subnets.now) c.in_ok-connected.connected.items)
-    c.prefixes.ensures.prefixes
-    c.in_ok-connected.ensures) in
-    let is_own : IsOwnOf (own_placed c.args.shared.now) c.args.subnets.now own = record {
-      connected = connected;
-      olds = c.as_slice-2.ensures.value;
-      news = c.as_slice-3.ensures.value;
-    } in
-    subst (AreOwnCells prefixes sorts.of_places.items c.args.subnets.now c.args.tables c.args.ospf) (sym c.from_vec.ensures)
-    (own_cells c.args.shared.now.atoms.now c.args.subnets.now c.args.shared.now.spots.now own sorts.of_places.items cells
-    c.prefixes.ensures.classing
-    c.requires.own connected old new
-    (all_cells c.args.shared.now.atoms.now own sorts.of_places.items cells c.prefixes.ensures.classing
-    (sort_cell (own_placed c.args.shared.now) c.args.subnets.now own c.args.shared.now.atoms.now.parents sorts cells is_own
-    c.prefixes.ensures.classing.nested.count c.requires.sorts c.in_ok-find_all.ensures)
-    (length prefixes) (omega arith)))
+-- the spots that were read stand at their place
+read_at : (spots : List SortSpots) (sort : ℕ) (one : SortSpots) → sort < length spots → one ≡ get_or spots sort one
+    → slice_get spots sort ≡ Some one
+read_at spots sort one below is = slice_get_read spots (length spots) sort one refl below is
+
+pub has_of-has-requires : goal.has_of-has-requires
+has_of-has-requires c =
+    c.requires.spots.each c.loop-sort.sort c.index-spots-sort.result
+    (read_at c.args.spots.now c.loop-sort.sort c.index-spots-sort.result c.loop-sort-test.true c.index-spots-sort.is)
+
+pub cell_at-parent-requires : goal.cell_at-parent-requires
+cell_at-parent-requires c =
+    let one : SortSpots = c.index-spots-sort.result in
+    let long : length c.as_slice.result.now ≡ c.loop-sort.sort =
+    ap length c.as_slice.ensures.value ∙ c.loop-sort.invariant.cells.count in
+    subst (λ (n : ℕ). IfSome one.parent (λ s. s < n)) (sym long)
+    (c.requires.spots.parents c.loop-sort.sort one
+    (read_at c.args.spots.now c.loop-sort.sort one c.loop-sort-test.true c.index-spots-sort.is))
+
+pub loop-sort-preserved : goal.loop-sort-preserved
+loop-sort-preserved c =
+    let sort : ℕ = c.loop-sort.sort in
+    let one : SortSpots = c.index-spots-sort.result in
+    let cells : List Cell = c.loop-sort.cells.items in
+    let first : Bool = ltb c.args.ospf 115 in
+    let has : Has = has_of (get_or c.args.connected.now sort false) c.args.tables.now c.args.ospf one in
+    let made : c.in_ok-cell.cell ≡ cell_over has first (cell_at cells one.parent) =
+    c.in_ok-cell.ensures ∙ ap (λ (h : Has). cell_over h first c.cell_at-parent.result) c.has_of-has.ensures
+    ∙ ap (cell_over has first) (c.cell_at-parent.ensures ∙ ap (λ (cs : List Cell). cell_at cs one.parent) c.as_slice.ensures.value) in
+    record {
+      room = omega (arith, c.loop-sort.invariant.room, c.push_reserved.ensures.capacity);
+      cells = cells_more c.args.spots.now c.args.connected.now c.args.tables.now c.args.ospf sort one cells
+          c.push_reserved.new.self.items c.in_ok-cell.cell c.requires.spots
+          (read_at c.args.spots.now sort one c.loop-sort-test.true c.index-spots-sort.is) made c.push_reserved.ensures.items
+          c.loop-sort.invariant.cells;
+    }
