@@ -34,15 +34,16 @@ use loop_finder::Finder;
 use migrate_words::{Command, CommandKind};
 use migration_report::{Decision, Outcome};
 use net_addr::{Bytes, Prefix};
-use net_model::{Net, NetRefusal};
+use net_model::{Net, NetRefusal, Zone};
 use order_core::Waves;
-use ospf_routes::OspfRoutes;
+use ospf_routes::{OspfRoutes, area_zones};
 use plan_theory::EndFault;
 use rib_mix::Mixed;
 use std::alloc::{AllocError, Global};
 use step_scripts::{OrderRefusal, Version, WaveFile, read_waves};
 use store_edge::Sink;
 use wave_oracle::whole_fault;
+use zone_graph::KnownWalks;
 
 /// What `failures` comes to on the texts of its files. How far it is, is said on a sink.
 pub(crate) fn judge_failures<P: Sink>(
@@ -188,9 +189,10 @@ fn links_failed<P: Sink>(
     ensures { IfOk result (λ failed. AreFailedLinks net.now read.now.version read.now.waves failed.items) }
 {
     let links = links(alloc, net)?;
+    let known = known_walks(alloc, net)?;
     let mut failed = Vec::with_capacity(alloc, links.len())?;
     for link in links.as_slice() {
-        let verdict = link_verdict(alloc, read, net, *link)?;
+        let verdict = link_verdict(alloc, read, net, &known, *link)?;
         failed.push(FailedLink {
             link: *link,
             verdict,
@@ -206,18 +208,28 @@ fn links_failed<P: Sink>(
     Ok(failed)
 }
 
+/// The least walks of a network's areas and levels. Without a link an area or a level without it keeps its own, and in the
+/// others each router from which none of them goes over the link.
+fn known_walks(alloc: Global, net: &Net) -> Result<KnownWalks, OutOfMemory> {
+    let mut zones = area_zones(alloc, net)?;
+    zones.push(Zone::One)?;
+    zones.push(Zone::Two)?;
+    Ok(KnownWalks::of_zones(alloc, net, zones.as_slice())?)
+}
+
 /// What a list comes to without a link: the network without it is refused, or judged.
 fn link_verdict(
     alloc: Global,
     read: &WaveFile,
     net: &Net,
+    known: &KnownWalks,
     link: Prefix,
 ) -> Result<LinkVerdict, OutOfMemory>
     requires { length read.now.waves ≡ length net.now }
     ensures { IfOk result (IsLinkVerdict net.now read.now.version read.now.waves link) }
 {
     match without(alloc, net, link) {
-        Ok(rest) => verdict_over(alloc, read, &Move::to_isis(&rest)),
+        Ok(rest) => verdict_over(alloc, read, known, &Move::to_isis(&rest)),
         Err(refusal) => refused_verdict(refusal),
     }
 }
@@ -234,11 +246,16 @@ fn refused_verdict(refusal: NetRefusal) -> Result<LinkVerdict, OutOfMemory>
 }
 
 /// What a list comes to in a migration, by the tables before and after.
-fn verdict_over(alloc: Global, read: &WaveFile, of: &Move<'_>) -> Result<LinkVerdict, OutOfMemory>
+fn verdict_over(
+    alloc: Global,
+    read: &WaveFile,
+    known: &KnownWalks,
+    of: &Move<'_>,
+) -> Result<LinkVerdict, OutOfMemory>
     requires { length read.now.waves ≡ length of.now.net }
     ensures { IfOk result (IsVerdictOver (move_of of.now) read.now.waves read.now.version) }
 {
-    let tables = Tables::of(alloc, of)?;
+    let tables = Tables::over(alloc, of, known)?;
     let mixed = tables.mix(alloc)?;
     let verdict = mixed_verdict(alloc, read, &mixed)?;
     Ok(verdict)

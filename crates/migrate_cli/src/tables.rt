@@ -11,6 +11,7 @@ use route_core::{RouteSource, Table};
 use std::alloc::Global;
 use std::marker::Model;
 use used_routes::Sources;
+use zone_graph::KnownWalks;
 
 /// The tables that take over: those of IS-IS, or of a second OSPF process.
 #[derive(Drop)]
@@ -22,13 +23,13 @@ pub(crate) enum NewRoutes {
 }
 
 impl NewRoutes {
-    /// The tables that take over in a migration.
-    fn of(alloc: Global, of: &Move<'_>) -> Result<NewRoutes, OutOfMemory>
+    /// The tables that take over in a migration, by least walks that are known of another network.
+    fn over(alloc: Global, of: &Move<'_>, known: &KnownWalks) -> Result<NewRoutes, OutOfMemory>
         ensures { IfOk result (AreNewRoutes of.now) }
     {
         match of.redesign() {
-            None => Ok(NewRoutes::Isis(IsisRoutes::build(alloc, of.net())?)),
-            Some(net) => Ok(NewRoutes::Ospf(OspfRoutes::build(alloc, net)?)),
+            None => Ok(NewRoutes::Isis(IsisRoutes::build_over(alloc, of.net(), known)?)),
+            Some(net) => Ok(NewRoutes::Ospf(OspfRoutes::build_over(alloc, net, known)?)),
         }
     }
 }
@@ -90,8 +91,19 @@ impl<'a> Tables<'a> {
     pub fn of(alloc: Global, of: &'a Move<'a>) -> Result<Tables<'a>, OutOfMemory>
         ensures { IfOk result (λ tables. tables ≡ of.now) }
     {
-        let old = OspfRoutes::build(alloc, of.net())?;
-        let new = NewRoutes::of(alloc, of)?;
+        Tables::over(alloc, of, &KnownWalks::none(alloc))
+    }
+
+    /// The same, by least walks that are known of another network.
+    pub fn over(
+        alloc: Global,
+        of: &'a Move<'a>,
+        known: &KnownWalks,
+    ) -> Result<Tables<'a>, OutOfMemory>
+        ensures { IfOk result (λ tables. tables ≡ of.now) }
+    {
+        let old = OspfRoutes::build_over(alloc, of.net(), known)?;
+        let new = NewRoutes::over(alloc, of, known)?;
         Ok(Tables { of, old, new })
     }
 

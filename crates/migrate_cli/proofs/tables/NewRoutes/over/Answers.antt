@@ -6,23 +6,23 @@ use Rattle.isis_routes.specs.RouteTables.{AreIsisRoutes}
 use Rattle.migrate_cli.specs.declared.tables.NewRoutes.TheVariants.{Isis, Ospf}
 use Rattle.migrate_cli.specs.steps.Tables.{AreNewRoutes, network_move}
 use Rattle.migrate_cli.proofs.TableFacts.{isis_tables, redesign_tables}
-use Rattle.migrate_cli.proofs.tables.NewRoutes.of.Goals as goal
+use Rattle.migrate_cli.proofs.tables.NewRoutes.over.Goals as goal
 
-pub returns-in_ok-build-in-None : goal.returns-in_ok-build-in-None
-returns-in_ok-build-in-None c =
+pub returns-in_ok-build_over-in-None : goal.returns-in_ok-build_over-in-None
+returns-in_ok-build_over-in-None c =
     let of = c.args.of.now in
     let redesign : None ≡ of.redesign = ap (option_map (λ (new : Bor Network). new.now)) (sym c.in-None.is) ∙ c.redesign.ensures.value in
-    let routes = c.in_ok-build-in-None.field-0 in
+    let routes = c.in_ok-build_over-in-None.field-0 in
     subst (λ (some : Option Network). AreNewRoutes (network_move of.net some) (Isis routes)) redesign
-    (isis_tables of.net routes (subst (λ (net : Network). AreIsisRoutes net routes) c.net.ensures c.in_ok-build-in-None.ensures))
+    (isis_tables of.net routes (subst (λ (net : Network). AreIsisRoutes net routes) c.net.ensures c.in_ok-build_over-in-None.ensures))
 
-pub returns-in_ok-build-in-Some : goal.returns-in_ok-build-in-Some
-returns-in_ok-build-in-Some c =
+pub returns-in_ok-build_over-in-Some : goal.returns-in_ok-build_over-in-Some
+returns-in_ok-build_over-in-Some c =
     let of = c.args.of.now in
     let new = c.in-Some.net in
     let redesign : Some new.now ≡ of.redesign = ap (option_map (λ (some : Bor Network). some.now)) (sym c.in-Some.is) ∙ c.redesign.ensures.value in
-    let routes = c.in_ok-build-in-Some.field-0 in
+    let routes = c.in_ok-build_over-in-Some.field-0 in
     let same : length new.now ≡ length of.net =
     subst (λ (some : Option (Bor Network)). IfSome some (λ net. length net.now ≡ length of.net)) c.in-Some.is c.redesign.ensures.routers in
     subst (λ (some : Option Network). AreNewRoutes (network_move of.net some) (Ospf routes)) redesign
-    (redesign_tables of.net new.now routes same c.in_ok-build-in-Some.ensures)
+    (redesign_tables of.net new.now routes same c.in_ok-build_over-in-Some.ensures)
