@@ -18,7 +18,7 @@ use crate::known::{shared_states, sound_states};
 use crate::order_fault::{order_fault, state_fault};
 use crate::parts::parts_of;
 use crate::pieces::pieces_of;
-use crate::retag::{is_all_old, is_old_begun, is_sound_start, tag_found};
+use crate::retag::{is_all_old, is_old_begun, tag_found};
 use crate::subject::Subject;
 use crate::times::{ChangeWaves, rank_waves};
 use crate::watch::watch_of;
@@ -162,9 +162,6 @@ impl<'a, O: RouteSource, N: RouteSource> Finder<'a, O, N> {
         ensures mixture { self.new.mixture ≡ self.old.mixture }
         ensures start { self.new.start ≡ self.old.start }
     {
-        if is_sound_start(self.begun, self.start.as_slice(), phases) {
-            return None;
-        }
         state_fault(&self.subject, phases, &mut self.work.room)
     }
 

@@ -126,13 +126,6 @@ pub(crate) fn is_all_old(phases: &[Phase]) -> bool
     true
 }
 
-/// Whether some phases are those of the start, and that is known to be sound.
-pub(crate) fn is_sound_start(begun: bool, start: &[Phase], phases: &[Phase]) -> bool
-    ensures { OnTrue result ((begun ≡ true) × (start.now ≡ phases.now)) }
-{
-    begun && start == phases
-}
-
 /// Whether the state in which every router is in its old phase is known to be sound: where it's the start, and the start is.
 pub(crate) fn is_old_begun(begun: bool, from_old: bool) -> bool
     ensures { result ≡ begun && from_old }

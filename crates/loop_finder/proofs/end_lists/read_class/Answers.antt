@@ -1,4 +1,4 @@
-use Rattle.std.proofs.Common.{◌≡◌, ◌++◌, ◌∷◌, ◌+◌, ◌<◌, [], ℕ, List, get_or, length, take, arith, inr, refl, sym, subst, ◌∙◌, ap}
+use Rattle.std.proofs.Common.{◌≡◌, ◌++◌, ◌∷◌, ◌+◌, [], ℕ, List, get_or, length, take, arith, inr, refl, sym, subst, ◌∙◌}
 use Rattle.std.proofs.lemmas.List.{take_all, take_more}
 use Rattle.rib_mix.specs.Answers.{IsAlikeToKnown}
 use Rattle.loop_finder.specs.Mixes.{Mix, mix_of, ClassIn, class_in, migration_in}
