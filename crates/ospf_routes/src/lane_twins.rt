@@ -44,8 +44,8 @@ impl Model for LaneTwins {
 }
 
 impl LaneTwins {
-    /// Those of the area at this place: prefixes of other areas that are announced alike into it, else prefixes with the same
-    /// entries everywhere. They take time of the prefixes, of their homes, and of what is announced of them into the area.
+    /// Those of the area at this place: prefixes with the same entries everywhere, else prefixes of other areas that are
+    /// announced alike into it. They take time of the prefixes, of their homes, and of what is announced of them into the area.
     fn of_area(
         alloc: Global,
         heard: Heard<'_>,
