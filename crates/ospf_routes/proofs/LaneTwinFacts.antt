@@ -1,8 +1,8 @@
 -- Prefixes outside an area that are announced alike into it have the same entries at the routers that are in it alone.
 use Rattle.std.proofs.Common.{◌≡◌, ⊎_elim, ℕ, ◌+◌, ◌<◌, List, [], length, get_or, set, Option, None, Some, refl, sym, subst, arith}
-use Rattle.std.specs.Option.{IfSome, option_or}
+use Rattle.std.specs.Option.{IfSome}
 use Rattle.std.proofs.lemmas.List.{length-map}
-use Rattle.std.proofs.lemmas.Option.{same_Some}
+use Rattle.std.proofs.lemmas.Option.{none-some, same_Some}
 use Rattle.net_addr.specs.Addresses.{Block}
 use Rattle.net_model.specs.Network.{Connected}
 use Rattle.walk_core.specs.declared.offers.Offer.{Offer}
@@ -110,10 +110,10 @@ outside_noted l ds n d old new number are at outside noted u k is = ⊎_elim
     (λ before. outside_later l ds n old are u k before)
     (noted_or_before old number n u k (subst (λ (known : List (Option ℕ)). get_or known u None ≡ Some k) noted is))
 
--- what holds of each number that one of two options names
-pub or_each : (P : ℕ → Type 0) (one other : Option ℕ) → IfSome one P → ((k : ℕ) → other ≡ Some k → P k) → (k : ℕ) → option_or one other ≡ Some k → P k
-or_each P None other is each k same = each k same
-or_each P (Some y) other is each k same = subst P (same_Some y k same) is
+-- what holds of the number that an option names
+pub some_each : (P : ℕ → Type 0) (found : Option ℕ) → IfSome found P → (k : ℕ) → found ≡ Some k → P k
+some_each P None is k same = absurd (none-some k same)
+some_each P (Some y) is k same = subst P (same_Some y k same) is
 
 -- What is read for a lane
 

@@ -25,7 +25,7 @@ use Rattle.ospf_routes.specs.steps.Destinations.{IsDestination}
 use Rattle.ospf_routes.specs.Lists.{Exactly, Adds}
 use Rattle.ospf_routes.specs.steps.Members.{IsBorderIn}
 use Rattle.ospf_routes.specs.steps.Offered.{AreOffers, OutsideOf}
-use Rattle.ospf_routes.specs.steps.Ranges.{IsComponentOfSome, AreActiveRanges, AreRangesBelow}
+use Rattle.ospf_routes.specs.steps.Ranges.{IsComponentOfSome, AreActiveRanges, AreRangesBelow, HoldRanges}
 use Rattle.ospf_routes.specs.steps.Summarized.{IsAreaSubnet, SummarizedSubnet, IsListedRange, IsRangeRoute}
 use Rattle.ospf_routes.specs.steps.Summarized.{SummarizedRange, SummarizedFrom, AreSummarized, OutsideSummary}
 use Rattle.ospf_routes.specs.steps.Summarized.{Announces, IsPassedOn, IsHeard, IsOutgoing, IsAlone, IsDefault, RouterDefault, HasDefault}
@@ -34,7 +34,7 @@ use Rattle.ospf_routes.specs.declared.intra_area.Destination.{Destination}
 use Rattle.ospf_routes.specs.declared.ranges.ActiveRange.{ActiveRange}
 use Rattle.ospf_routes.specs.declared.area_route.AreaRoute.{AreaRoute}
 use Rattle.net_addr.proofs.SomeElement.{any_of, any_in}
-use Rattle.route_tables.proofs.ListFacts.{iff_then, exactly_same, exactly_added, adds_same, adds_both}
+use Rattle.route_tables.proofs.ListFacts.{iff_then, exactly_same, exactly_added, adds_nothing, adds_same, adds_both}
 use Rattle.route_tables.proofs.BestRoutes.{best_cost_is}
 use Rattle.ospf_routes.proofs.BorderLists.{border_is_router}
 use Rattle.ospf_routes.proofs.CostBounds.{lists_from}
@@ -133,6 +133,12 @@ all_ranges_are net p ranges borders known are r = (
   where
     listed : (b : ℕ) → IsBorderRouter net b → IsListedRange ranges p b r ↔ SummarizedRange net p b r
     listed b border = ranges_are net p b (get_or ranges b []) (known.each b (border_is_router net b border)) r
+
+-- a prefix that is of no active range gets no route of one
+pub no_ranges_added : (net : Network) (p : Block) (ranged : List Block) (old : List AreaRoute) → HoldRanges net ranged → (Contains ranged p → ⊥) →
+    Adds old old (λ r. SummarizedRange net p r.at r)
+no_ranges_added net p ranged old hold none = adds_nothing old (λ (r : AreaRoute). SummarizedRange net p r.at r)
+    (λ r is. none (hold p r.at (record { range = is.range; active = range_cost_active net r.at is.range r.asks is.costs; dest = is.dest })))
 
 pub summarized_both : (net : Network) (p : Block) (b : ℕ) (r : AreaRoute) →
     SummarizedFrom net p b r ↔ (SummarizedSubnet net p b r ⊎ SummarizedRange net p b r)

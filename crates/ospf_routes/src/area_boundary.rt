@@ -2,15 +2,15 @@ ghost use Rattle.std.specs.Prelude.{◌≡◌, ◌<◌, ◌↔◌, length, Some,
 ghost use Rattle.ospf_routes.specs.steps.Destinations.{IsDestinationIn};
 ghost use Rattle.net_model.specs.Network.{IsBorderRouter};
 ghost use Rattle.ospf_routes.specs.Lists.{Adds, Exactly};
-ghost use Rattle.ospf_routes.specs.steps.Ranges.{AreActiveRanges, AreRangesBelow};
-ghost use Rattle.ospf_routes.specs.steps.Summarized.{AreSummarized, IsAreaSubnet, IsListedRange, IsRangeRoute, SummarizedSubnet};
+ghost use Rattle.ospf_routes.specs.steps.Ranges.{AreActiveRanges, AreRangesBelow, HoldRanges};
+ghost use Rattle.ospf_routes.specs.steps.Summarized.{AreSummarized, IsAreaSubnet, IsListedRange, IsRangeRoute, SummarizedRange, SummarizedSubnet};
 ghost use Rattle.ospf_routes.specs.declared.area_route.AreaRoute.{AreaRoute as Route};
 
 use crate::OutOfMemory;
 use crate::area_route::AreaRoute;
 use crate::domain::Domain;
 use crate::intra_area::{AreaOffers, Destination, part_cost};
-use crate::ranges::{ActiveRange, ActiveRanges, is_component};
+use crate::ranges::{ActiveRange, ActiveRanges, RangePrefixes, is_component};
 use net_addr::Prefix;
 use route_tables::push_option;
 use std::alloc::Global;
@@ -24,24 +24,25 @@ pub(crate) struct Boundary<'a> {
     pub borders: &'a [u32],
     /// The active ranges of each router.
     pub ranges: &'a [ActiveRanges],
+    /// The prefixes of all active ranges.
+    pub ranged: &'a RangePrefixes,
 }
 
 /// The subnets and ranges that border routers summarize of a prefix, each as a route of its own area.
 pub(crate) fn summarized(
     alloc: Global,
-    domain: &Domain<'_>,
-    borders: &[u32],
-    ranges: &[ActiveRanges],
+    boundary: Boundary<'_>,
     destination: &Destination,
 ) -> Result<Vec<AreaRoute>, OutOfMemory>
-    requires borders { Exactly (IsBorderRouter domain.now.net) borders.now }
-    requires ranges { AreRangesBelow domain.now.net (length domain.now.net) ranges.now }
-    requires destination { IsDestinationIn domain.now destination.now }
-    ensures { IfOk result (λ routes. AreSummarized domain.now.net destination.now.dest routes.items) }
+    requires borders { Exactly (IsBorderRouter boundary.domain.now.net) boundary.borders.now }
+    requires ranges { AreRangesBelow boundary.domain.now.net (length boundary.domain.now.net) boundary.ranges.now }
+    requires ranged { HoldRanges boundary.domain.now.net boundary.ranged.now }
+    requires destination { IsDestinationIn boundary.domain.now destination.now }
+    ensures { IfOk result (λ routes. AreSummarized boundary.entry.domain.now.net destination.now.dest routes.items) }
 {
     let mut routes = Vec::new(alloc);
-    push_subnets(&mut routes, domain, ranges, destination)?;
-    push_ranges(&mut routes, borders, ranges, destination.dest)?;
+    push_subnets(&mut routes, boundary.domain, boundary.ranges, destination)?;
+    push_ranged(&mut routes, boundary, destination.dest)?;
     Ok(routes)
 }
 
@@ -110,6 +111,24 @@ fn subnet_summary(
         at: b,
         asks,
     })
+}
+
+/// Adds the active ranges of this prefix that border routers advertise. They are looked for only where there is one.
+fn push_ranged(
+    routes: &mut Vec<AreaRoute>,
+    boundary: Boundary<'_>,
+    dest: Prefix,
+) -> Result<(), OutOfMemory>
+    requires borders { Exactly (IsBorderRouter boundary.domain.now.net) boundary.borders.now }
+    requires ranges { AreRangesBelow boundary.domain.now.net (length boundary.domain.now.net) boundary.ranges.now }
+    requires ranged { HoldRanges boundary.domain.now.net boundary.ranged.now }
+    ensures { OnOk result (Adds routes.old.items routes.new.items
+        (λ r. SummarizedRange boundary.entry.domain.now.net dest r.at r)) }
+{
+    if !boundary.ranged.has(dest) {
+        return Ok(());
+    }
+    push_ranges(routes, boundary.borders, boundary.ranges, dest)
 }
 
 /// Adds the active ranges of this prefix that border routers advertise.

@@ -26,7 +26,7 @@ pub(crate) fn offers_inside(
 ) -> Result<Vec<Offer>, OutOfMemory>
     ensures { IfOk result (λ offers. Exactly (λ o. Any (λ r. InsideOf area r o) routes.now) offers.items) }
 {
-    let mut offers = Vec::new(alloc);
+    let mut offers = Vec::with_capacity(alloc, routes.len())?;
     for route in routes {
         push_option(&mut offers, inside_offer(*route, area))?;
     }
@@ -41,7 +41,7 @@ pub(crate) fn offers_outside(
 ) -> Result<Vec<Offer>, OutOfMemory>
     ensures { IfOk result (λ offers. Exactly (λ o. Any (λ r. OutsideOf area r o) routes.now) offers.items) }
 {
-    let mut offers = Vec::new(alloc);
+    let mut offers = Vec::with_capacity(alloc, routes.len())?;
     for route in routes {
         push_option(&mut offers, outside_offer(*route, area))?;
     }

@@ -44,8 +44,8 @@ impl Model for LaneTwins {
 }
 
 impl LaneTwins {
-    /// Those of the area at this place: prefixes of other areas that are announced alike into it, else prefixes with the same
-    /// entries everywhere. They take time of the prefixes, of their homes, and of what is announced of them into the area.
+    /// Those of the area at this place: prefixes with the same entries everywhere, else prefixes of other areas that are
+    /// announced alike into it. They take time of the prefixes, of their homes, and of what is announced of them into the area.
     fn of_area(
         alloc: Global,
         heard: Heard<'_>,
@@ -64,8 +64,7 @@ impl LaneTwins {
         let mut latest = Latest::none(alloc, 1 + heard.domain.routers() as usize)?;
         let mut all = Vec::with_capacity(alloc, heard.destinations.len())?;
         for place in 0..heard.destinations.len() {
-            let twin = outside_twin(heard, zone, &mut latest, place);
-            all.push(twin.or(twins[place]))?;
+            all.push(lane_twin(heard, twins, zone, &mut latest, place))?;
         }
         Ok(LaneTwins { all })
     }
@@ -97,6 +96,32 @@ pub(crate) fn all_lane_twins(
         all.push(LaneTwins::of_area(alloc, heard, twins, zone)?)?;
     }
     Ok(all)
+}
+
+/// An earlier prefix with the same entries everywhere, where one is known. Else the latest one before that is announced alike
+/// into the area, where both are outside of it.
+fn lane_twin(
+    heard: Heard<'_>,
+    twins: &[Option<usize>],
+    zone: usize,
+    latest: &mut Latest,
+    place: usize,
+) -> Option<usize>
+    requires zone { zone < length heard.domain.now.areas }
+    requires destinations { AreOspfDestinations heard.domain.now heard.destinations.now }
+    requires listens { AreListeners heard.domain.now.net heard.domain.now.areas (length heard.domain.now.net) heard.listens.now }
+    requires summaries { AreSummaries heard.domain.now heard.destinations.now heard.summaries.now }
+    requires twins { AreTwins heard.domain.now.net (ospf_prefixes heard.destinations.now) twins.now }
+    requires place { place < length heard.destinations.now }
+    requires latest { AreOutsideBelow (heard_lane heard zone) heard.destinations.now place latest.old }
+    ensures latest { AreOutsideBelow (heard_lane heard.entry zone) heard.entry.destinations.now (place + 1) latest.new }
+    ensures twin { IfSome result (IsEarlierBy (AreLaneAlike (heard_lane heard.entry zone))
+        (ospf_prefixes heard.entry.destinations.now) place) }
+{
+    match twins[place] {
+        Some(twin) => Some(twin),
+        None => outside_twin(heard, zone, latest, place),
+    }
 }
 
 /// The latest prefix before that is outside the area too, and has its first announcement from the same router or none either,

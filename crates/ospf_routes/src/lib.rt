@@ -1,16 +1,16 @@
 //! The route tables of OSPF: intra-area routes, ranges and summaries, inter-area routes (RFC 2328).
 //!
 //! `OspfRoutes::build` (`source.rt`) makes the areas with their segments and walks (`all_areas`), and then the tables of `Ospf`
-//! (`protocol.rt`). `build_over` does so where walks are known of another network, of its areas (`area_zones`): an area that has
-//! the same segments shares them (`KnownWalks` of `zone_graph`), and all else is made anew. The rest of step 1, and steps 2 and 3,
-//! are `Ospf::build`, which also finds twins; step 4 is `Ospf::decision` where this tells the route, else `Ospf::route`:
+//! (`protocol.rt`). `build_over` does so where walks are known of another network, of its areas (`area_zones`): an area with the
+//! same segments shares them (`KnownWalks` of `zone_graph`), and all else is made anew. The rest of step 1, and steps 2 and 3, are
+//! `Ospf::build`, which also finds twins; step 4 is `Ospf::decision` where this tells the route, else `Ospf::route`:
 //!
 //! 1. `domain.rt`: a network and its areas (`areas.rt`, `members.rt`) with their least walks (section 16.1), whose segments the
 //!    tables keep, and routers, border routers (3.3), whom a router listens to (16.2). Its facts are known wherever one has it.
 //!    `destinations.rt`: what the routers know of each prefix before anything is summarized. `candidates.rt`, `subnets.rt`,
-//!    `intra_area.rt`, over lists in the order of their prefixes (`ordered.rt`): the prefixes, where each is connected, what the interfaces of each area offer of it, and what it costs
-//!    within an area.
-//! 2. `ranges.rt`: the active ranges of border routers (12.4.3, 11.1), and what they cost.
+//!    `intra_area.rt`, over lists in the order of their prefixes (`ordered.rt`): the prefixes, where each is connected, what the
+//!    interfaces of each area offer of it, and what it costs within an area.
+//! 2. `ranges.rt`: the active ranges of border routers (12.4.3, 11.1), what they cost, and the prefixes of all of them.
 //! 3. `all_summaries` (`originating.rt`, 12.4.3): what the border routers of each area announce of a prefix into it, for all
 //!    prefixes and areas in one vector (`summaries.rt`). `area_boundary.rt` has what they summarize out of whichever area,
 //!    each as a route of its own area (`area_route.rt`). Those of other areas than the backbone are the summaries into the

@@ -5,7 +5,7 @@ ghost use Rattle.ospf_routes.specs.steps.Destinations.{AreOspfDestinations, IsDe
 ghost use Rattle.net_model.specs.Network.{IsBorderRouter};
 ghost use Rattle.ospf_routes.specs.Lists.{Adds, Exactly};
 ghost use Rattle.ospf_routes.specs.steps.Offered.{AreOffers};
-ghost use Rattle.ospf_routes.specs.steps.Ranges.{AreRangesBelow};
+ghost use Rattle.ospf_routes.specs.steps.Ranges.{AreRangesBelow, HoldRanges};
 ghost use Rattle.ospf_routes.specs.steps.Heard.{AddsRow, AreSummaries, IsLeaving, IsSummaryRow};
 ghost use Rattle.ospf_routes.specs.steps.Summarized.{Announces, IsHeard, IsOutgoing};
 
@@ -16,7 +16,7 @@ use crate::areas::AreaWalks;
 use crate::backbone_routes::push_reached;
 use crate::domain::Domain;
 use crate::intra_area::Destination;
-use crate::ranges::ActiveRanges;
+use crate::ranges::{ActiveRanges, RangePrefixes};
 use crate::stub_areas::{is_totally_stubby, push_defaults};
 use crate::summaries::Summaries;
 use net_addr::Prefix;
@@ -39,9 +39,11 @@ pub(crate) fn all_summaries(
     domain: &Domain<'_>,
     destinations: &[Destination],
     ranges: &[ActiveRanges],
+    ranged: &RangePrefixes,
 ) -> Result<Summaries, OutOfMemory>
     requires destinations { AreOspfDestinations domain.now destinations.now }
     requires ranges { AreRangesBelow domain.now.net (length domain.now.net) ranges.now }
+    requires ranged { HoldRanges domain.now.net ranged.now }
     ensures { IfOk result (AreSummaries domain.now destinations.now) }
 {
     let borders = domain.borders(alloc)?;
@@ -51,6 +53,7 @@ pub(crate) fn all_summaries(
         domain,
         borders: borders.as_slice(),
         ranges,
+        ranged,
     };
     for destination in destinations {
         keep_summaries(alloc, &mut summaries, &mut offers, boundary, destination)?;
@@ -68,17 +71,12 @@ fn keep_summaries(
 ) -> Result<(), OutOfMemory>
     requires borders { Exactly (IsBorderRouter boundary.domain.now.net) boundary.borders.now }
     requires ranges { AreRangesBelow boundary.domain.now.net (length boundary.domain.now.net) boundary.ranges.now }
+    requires ranged { HoldRanges boundary.domain.now.net boundary.ranged.now }
     requires destination { IsDestinationIn boundary.domain.now destination.now }
     ensures { OnOk result (AddsRow (IsSummaryRow boundary.entry.domain.now destination.now.dest
         (length boundary.entry.domain.now.areas)) summaries.old summaries.new) }
 {
-    let routes = summarized(
-        alloc,
-        boundary.domain,
-        boundary.borders,
-        boundary.ranges,
-        destination,
-    )?;
+    let routes = summarized(alloc, boundary, destination)?;
     let backbone = offers_outside(alloc, routes.as_slice(), 0)?;
     let leaving = Leaving {
         destination,

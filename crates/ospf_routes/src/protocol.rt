@@ -16,7 +16,7 @@ use crate::intra_area::Destination;
 use crate::lane_twins::{Heard, LaneTwins, all_lane_twins};
 use crate::lanes::decision;
 use crate::originating::all_summaries;
-use crate::ranges::{ActiveRanges, all_ranges};
+use crate::ranges::{ActiveRanges, RangePrefixes, all_ranges};
 use crate::summaries::Summaries;
 use crate::twins::all_twins;
 use net_addr::Prefix;
@@ -83,10 +83,11 @@ impl<'a> Ospf<'a> {
         let listens = domain.listens(alloc)?;
         // 2. Active ranges (sections 12.4.3 and 11.1).
         let ranges = all_ranges(alloc, &domain, known)?;
+        let ranged = RangePrefixes::of_ranges(alloc, ranges.as_slice())?;
         // 3. What border routers announce into each area (sections 12.4.3, 16.2 and 3.6).
-        let summaries = all_summaries(alloc, &domain, known, ranges.as_slice())?;
+        let summaries = all_summaries(alloc, &domain, known, ranges.as_slice(), &ranged)?;
         // Prefixes that have the same entries, at every router and at those of one area.
-        let twins = all_twins(alloc, &domain, known, ranges.as_slice(), &summaries)?;
+        let twins = all_twins(alloc, &domain, known, &ranged, &summaries)?;
         let heard = Heard {
             domain: &domain,
             destinations: known,

@@ -131,7 +131,7 @@ pub(crate) fn homes_among(
 ) -> Result<Vec<u32>, OutOfMemory>
     ensures { IfOk result (λ homes. Exactly (λ u. Any (IsHome dest u) subnets.now) homes.items) }
 {
-    let mut homes = Vec::new(alloc);
+    let mut homes = Vec::with_capacity(alloc, subnets.len())?;
     for subnet in subnets {
         push_option(&mut homes, home_at(*subnet, dest))?;
     }
@@ -157,7 +157,7 @@ pub(crate) fn routes_among(
 ) -> Result<Vec<AreaRoute>, OutOfMemory>
     ensures { IfOk result (λ routes. Exactly (λ r. Any (IsSubnetRoute dest r) subnets.now) routes.items) }
 {
-    let mut routes = Vec::new(alloc);
+    let mut routes = Vec::with_capacity(alloc, subnets.len())?;
     for subnet in subnets {
         push_option(&mut routes, route_to(*subnet, dest))?;
     }

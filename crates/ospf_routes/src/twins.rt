@@ -1,6 +1,6 @@
 ghost use Rattle.std.specs.Prelude.{◌≡◌, ◌+◌, ◌<◌, ◌↔◌, ℕ, length, Contains, IfOk, IfSome, IsTrue};
 ghost use Rattle.ospf_routes.specs.steps.Destinations.{AreOspfDestinations, ospf_prefixes};
-ghost use Rattle.ospf_routes.specs.steps.Ranges.{AreRangesBelow};
+ghost use Rattle.ospf_routes.specs.steps.Ranges.{HoldRanges};
 ghost use Rattle.ospf_routes.specs.steps.Heard.{AreSummaries};
 ghost use Rattle.ospf_routes.specs.steps.OfferLists.{AreSummariesOf, IsPlaceIn};
 ghost use Rattle.ospf_routes.specs.steps.Twins.{AreKnownBelow, AreTwinParts, AreTwins, AreTwinsAt, AreTwinSummaries, IsTwinPart};
@@ -9,7 +9,7 @@ use crate::OutOfMemory;
 use crate::domain::Domain;
 use crate::intra_area::{AreaOffers, Destination};
 use crate::latest::Latest;
-use crate::ranges::{ActiveRanges, RangePrefixes};
+use crate::ranges::RangePrefixes;
 use crate::summaries::Summaries;
 use route_tables::are_alike;
 use std::alloc::Global;
@@ -22,19 +22,18 @@ pub(crate) fn all_twins(
     alloc: Global,
     domain: &Domain<'_>,
     destinations: &[Destination],
-    ranges: &[ActiveRanges],
+    ranged: &RangePrefixes,
     summaries: &Summaries,
 ) -> Result<Vec<Option<usize>>, OutOfMemory>
     requires destinations { AreOspfDestinations domain.now destinations.now }
-    requires ranges { AreRangesBelow domain.now.net (length domain.now.net) ranges.now }
+    requires ranged { HoldRanges domain.now.net ranged.now }
     requires summaries { AreSummaries domain.now destinations.now summaries.now }
     ensures { IfOk result (λ twins. AreTwins domain.now.net (ospf_prefixes destinations.now) twins.items) }
 {
-    let ranged = RangePrefixes::of_ranges(alloc, ranges)?;
     let mut latest = Latest::none(alloc, domain.routers() as usize)?;
     let mut twins = Vec::with_capacity(alloc, destinations.len())?;
     for place in 0..destinations.len() {
-        twins.push(twin_of(destinations, &ranged, summaries, &mut latest, place))?;
+        twins.push(twin_of(destinations, ranged, summaries, &mut latest, place))?;
     }
     Ok(twins)
 }

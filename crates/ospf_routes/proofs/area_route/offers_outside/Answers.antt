@@ -7,11 +7,11 @@ use Rattle.ospf_routes.proofs.area_route.offers_outside.Goals as goal
 pub loop-route-preserved : goal.loop-route-preserved
 loop-route-preserved c =
     adds_at (λ (o : Offer) (r : AreaRoute). OutsideOf c.args.area r o)
-    c.new-offers.result.items c.loop-route.offers.items c.push_option.new.all.items c.args.routes.now c.loop-route.route-index _ c.outside_offer.result
+    c.in_ok-offers.offers.items c.loop-route.offers.items c.push_option.new.all.items c.args.routes.now c.loop-route.route-index _ c.outside_offer.result
     c.loop-route-test.true c.loop-route.invariant c.in_ok-push_option.ensures.ok c.outside_offer.ensures
 
 pub returns : goal.returns
 returns c =
-    exactly_added c.new-offers.result.items c.loop-route.offers.items _ c.new-offers.ensures.items
+    exactly_added c.in_ok-offers.offers.items c.loop-route.offers.items _ c.in_ok-offers.ensures.items
     (adds_end (λ (o : Offer) (r : AreaRoute). OutsideOf c.args.area r o)
-    c.new-offers.result.items c.loop-route.offers.items c.args.routes.now c.loop-route.route-index c.loop-route-test.false c.loop-route.invariant)
+    c.in_ok-offers.offers.items c.loop-route.offers.items c.args.routes.now c.loop-route.route-index c.loop-route-test.false c.loop-route.invariant)

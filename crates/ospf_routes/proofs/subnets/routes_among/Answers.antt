@@ -4,12 +4,12 @@ use Rattle.ospf_routes.proofs.subnets.routes_among.Goals as goal
 
 pub loop-subnet-preserved : goal.loop-subnet-preserved
 loop-subnet-preserved c =
-    adds_step (IsSubnetRoute c.args.dest) c.new-routes.result.items c.loop-subnet.routes.items c.push_option.new.all.items c.args.subnets.now
+    adds_step (IsSubnetRoute c.args.dest) c.in_ok-routes.routes.items c.loop-subnet.routes.items c.push_option.new.all.items c.args.subnets.now
     c.loop-subnet.subnet-index c.subnet-item.result c.route_to.result c.loop-subnet-test.true c.subnet-item.is
     c.loop-subnet.invariant c.in_ok-push_option.ensures.ok c.route_to.ensures
 
 pub returns : goal.returns
 returns c =
-    exactly_added c.new-routes.result.items c.loop-subnet.routes.items _ c.new-routes.ensures.items
-    (adds_end (IsSubnetRoute c.args.dest) c.new-routes.result.items c.loop-subnet.routes.items c.args.subnets.now c.loop-subnet.subnet-index
+    exactly_added c.in_ok-routes.routes.items c.loop-subnet.routes.items _ c.in_ok-routes.ensures.items
+    (adds_end (IsSubnetRoute c.args.dest) c.in_ok-routes.routes.items c.loop-subnet.routes.items c.args.subnets.now c.loop-subnet.subnet-index
     c.loop-subnet-test.false c.loop-subnet.invariant)

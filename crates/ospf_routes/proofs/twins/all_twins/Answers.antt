@@ -3,7 +3,6 @@ use Rattle.net_addr.specs.Addresses.{Block}
 use Rattle.igp_theory.specs.Ospf.{OspfEntry}
 use Rattle.route_tables.specs.Entries.{AreAlikePrefixes}
 use Rattle.ospf_routes.specs.steps.Destinations.{ospf_prefixes}
-use Rattle.ospf_routes.specs.steps.Ranges.{HoldRanges}
 use Rattle.ospf_routes.specs.steps.Twins.{AreEarlierBy}
 use Rattle.ospf_routes.specs.declared.intra_area.Destination.{Destination}
 use Rattle.ospf_routes.proofs.TwinFacts.{earlier_more, twin_found}
@@ -15,11 +14,10 @@ loop-place-preserved c =
     let ds : List Destination = c.args.destinations.now in
     let place : ℕ = c.loop-place.place in
     let alike : Block → Block → Type 0 = AreAlikePrefixes (length net) (OspfEntry net) in
-    let hold : HoldRanges net c.in_ok-ranged.ranged = c.in_ok-ranged.ensures net c.requires.ranges in
     record {
       twins = subst (λ (l : List (Option ℕ)). AreEarlierBy alike (ospf_prefixes ds) (place + 1) l) (sym {A = List (Option ℕ)} c.in_ok-push.ensures.items)
           (earlier_more alike (ospf_prefixes ds) place c.loop-place.twins.items c.twin_of.result c.loop-place.invariant.twins
-          (twin_found c.args.domain.now ds c.in_ok-ranged.ranged c.args.summaries.now place c.twin_of.result c.routers.ensures.known c.requires.destinations
-          hold c.requires.summaries c.loop-place-test.true c.twin_of.ensures.below c.twin_of.ensures.twins));
+          (twin_found c.args.domain.now ds c.args.ranged.now c.args.summaries.now place c.twin_of.result c.routers.ensures.known c.requires.destinations
+          c.requires.ranged c.requires.summaries c.loop-place-test.true c.twin_of.ensures.below c.twin_of.ensures.twins));
       latest = c.twin_of.ensures.latest;
     }
