@@ -14,3 +14,4 @@ mod RunFacts
 mod AlikeFacts
 mod LeadFacts
 mod LaneFacts
+mod BehindFacts

@@ -1,14 +1,14 @@
 ghost use Rattle.std.specs.Prelude.{◌≡◌, ◌<◌, ◌↔◌, Some, All, IfSome, IsTrue, length};
 ghost use Rattle.isis_routes.specs.steps.Levels.{zone_number};
 ghost use Rattle.isis_routes.specs.declared.level.Level.{Level};
-ghost use Rattle.isis_routes.specs.steps.Lanes.{IsDecisionBy, IsDecisionOf, IsInLane, MakesOne};
+ghost use Rattle.isis_routes.specs.steps.Lanes.{IsBehindOne, IsDecisionBy, IsDecisionOf, IsFirstOf, IsInLane, IsSecondOf, MakesOne};
 ghost use Rattle.isis_routes.specs.declared.level.Level.TheVariants.{One, Two};
 
 use crate::destinations::Destination;
 use crate::domain::Domain;
 use crate::level::Level;
 use crate::level_walks::{ZONE_ONE, ZONE_TWO};
-use route_tables::Decision;
+use route_tables::{Behind, Decision, is_all_addresses};
 use walk_core::Offer;
 
 /// How many lanes routers fall into: that of each level, under the number of the level, and one for those that run neither.
@@ -81,6 +81,38 @@ fn level_two_decision(destination: &Destination) -> Decision
         return Decision::Unknown;
     }
     decision_by(destination.one.homes.as_slice(), destination.two.as_slice())
+}
+
+/// What decides where routers that run level 1 alone reach none of the level 1 offers.
+pub(crate) fn behind_level_one(destination: &Destination) -> Behind
+    ensures { IsBehindOne destination.now result }
+{
+    Behind {
+        first: first_of_level_one(destination),
+        second: decision_without(destination),
+    }
+}
+
+/// The decision of the level 1 offers, and that there is nothing where there are none.
+fn first_of_level_one(destination: &Destination) -> Decision
+    ensures { IsFirstOf destination.now result }
+{
+    let offers = destination.one.offers.as_slice();
+    if offers.is_empty() {
+        return Decision::Nothing;
+    }
+    decision_by(destination.one.homes.as_slice(), offers)
+}
+
+/// What decides for routers that run level 1 alone and have no level 1 route: they have no entry where nothing is leaked and
+/// the default isn't asked for.
+fn decision_without(destination: &Destination) -> Decision
+    ensures { IsSecondOf destination.now result }
+{
+    if is_all_addresses(destination.one.dest) || !destination.down.as_slice().is_empty() {
+        return Decision::Unknown;
+    }
+    Decision::Nothing
 }
 
 /// The decision of one or two offers, where each router at which the prefix is connected makes one.

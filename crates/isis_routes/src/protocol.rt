@@ -11,11 +11,15 @@ use crate::asked::Asked;
 use crate::destinations::{Destination, destinations};
 use crate::domain::Domain;
 use crate::entry::route_of;
-use crate::lanes::{LANES, decision_of, lane_of_level, level_of_lane, router_level};
+use crate::lanes::{
+    LANES, behind_level_one, decision_of, lane_of_level, level_of_lane, router_level,
+};
+use crate::level::Level;
+use crate::level_walks::ZONE_ONE;
 use crate::segments::LevelSegments;
 use net_addr::Prefix;
 use net_model::Net;
-use route_tables::{Decision, Protocol, Route};
+use route_tables::{Behind, Decision, Protocol, Route};
 use std::alloc::Global;
 use std::marker::Model;
 use walk_core::LeastWalks;
@@ -155,6 +159,23 @@ impl<'a> Protocol for Isis<'a> {
         match level_of_lane(lane) {
             Some(level) => decision_of(self.destination(place), level),
             None => Decision::Unknown,
+        }
+    }
+
+    fn zone_behind(&self, lane: usize) -> Option<usize> {
+        match level_of_lane(lane)? {
+            Level::One => Some(ZONE_ONE),
+            Level::Two => None,
+        }
+    }
+
+    fn behind(&self, lane: usize, place: usize, _zone: usize) -> Behind {
+        match level_of_lane(lane) {
+            Some(Level::One) => behind_level_one(self.destination(place)),
+            _ => Behind {
+                first: Decision::Unknown,
+                second: Decision::Unknown,
+            },
         }
     }
 

@@ -21,7 +21,7 @@ use crate::summaries::Summaries;
 use crate::twins::all_twins;
 use net_addr::Prefix;
 use net_model::Net;
-use route_tables::{Decision, Protocol, Route};
+use route_tables::{Behind, Decision, Protocol, Route};
 use std::alloc::Global;
 use std::marker::Model;
 use walk_core::{LeastWalks, Offer};
@@ -227,6 +227,17 @@ impl<'a> Protocol for Ospf<'a> {
             self.decision_in(lane, place)
         } else {
             Decision::Unknown
+        }
+    }
+
+    fn zone_behind(&self, _lane: usize) -> Option<usize> {
+        None
+    }
+
+    fn behind(&self, _lane: usize, _place: usize, _zone: usize) -> Behind {
+        Behind {
+            first: Decision::Unknown,
+            second: Decision::Unknown,
         }
     }
 

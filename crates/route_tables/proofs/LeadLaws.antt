@@ -1,22 +1,27 @@
 -- How a router reaches each vertex, and what that tells of its entries.
-use Rattle.std.proofs.Common.{◌≡◌, ℕ, ◌+◌, ◌<◌, ◌≤◌, inl, inr, List, [], ◌∷◌, ◌++◌, Option, None, Some, IfSome, MatchOption, length, get_or, refl, sym, ap}
+use Rattle.std.proofs.Common.{◌≡◌, ◌≢◌, ℕ, ◌+◌, ◌<◌, ◌≤◌, inl, inr, List, [], ◌∷◌, ◌++◌, Option, None, Some, IfSome, MatchOption, length, get_or, refl, sym, ap}
 use Rattle.std.proofs.Common.{subst, ◌∙◌, arith, true, false}
 use Rattle.std.specs.List.{Contains}
 use Rattle.std.proofs.lemmas.Bool.{cases_lt, false≢true}
 use Rattle.std.proofs.lemmas.List.Elements.{Contains-push_cases}
 use Rattle.std.proofs.lemmas.Option.{IfSome_then, same_Some}
+use Rattle.net_addr.specs.Addresses.{Block}
 use Rattle.walk_core.specs.Reach.{Reach, HasHop}
 use Rattle.walk_core.specs.BestOffers.{total_towards, total_with}
 use Rattle.walk_core.specs.declared.offers.Offer.{Offer}
 use Rattle.route_core.specs.declared.entry.Entry.{Entry}
 use Rattle.route_core.specs.declared.entry.Entry.TheVariants.{Via, Discard}
-use Rattle.route_tables.specs.Lanes.{DecidesRoute, LeadToBest}
+use Rattle.route_tables.specs.Lanes.{DecidesBeyond, DecidesRoute, IsBeyond, LeadToBest, MissesOffers}
 use Rattle.route_tables.specs.Routings.{IsEntryTo, IsRouteFor}
 use Rattle.route_tables.specs.declared.best.BestAt.{BestAt}
+use Rattle.route_tables.specs.Protocols.{ProtocolRoutes}
+use Rattle.route_tables.specs.declared.lane.Behind.{Behind}
 use Rattle.route_tables.specs.declared.lane.Decision.{Decision}
+use Rattle.route_tables.specs.declared.lane.Decision.TheVariants.{Nothing, One, Two, Unknown}
 use Rattle.route_tables.specs.declared.leads.Lead.{Lead}
 use Rattle.route_tables.specs.steps.BestSoFar.{IsBestAt, IsBetterOf, lower, kept, both}
-use Rattle.route_tables.specs.steps.Leads.{AreLeads, IsLead, IsLeadAt, IsNumberToBest, IsTold, told_nothing, told_one, told_best, IsLeadTo, no_lead}
+use Rattle.route_tables.specs.steps.Leads.{AreLeads, AreMissed, IsFarAt, IsLead, IsLeadAt, IsNumberToBest, IsTold, told_nothing, told_one, told_best, IsLeadTo}
+use Rattle.route_tables.specs.steps.Leads.{IsToldBeyond, no_lead}
 use Rattle.route_tables.specs.steps.Sharing.{HasNumber, IsNumberOf}
 use Rattle.route_tables.proofs.ListFacts.{each_more, the_one}
 use Rattle.route_tables.proofs.SharingLaws.{number_kept}
@@ -27,8 +32,11 @@ use Rattle.route_tables.proofs.BestSteps.{LeadBelow, below_hops, best_is_reached
 -- what a lead says stays so with more entries
 lead_kept : (reach : Reach) (n : ℕ) (entries more : List Entry) (at : ℕ) (lead : Lead) → IsLead reach n entries at lead →
     IsLead reach n (entries ++ more) at lead
-lead_kept reach n entries more at lead is = IfSome_then lead.number is
-    (λ number to. record { far = to.far; entry = number_kept (IsEntryTo reach at n) entries more number to.entry })
+lead_kept reach n entries more at lead is = record {
+  to = IfSome_then lead.number is.to
+      (λ number to. record { far = to.far; entry = number_kept (IsEntryTo reach at n) entries more number to.entry });
+  far = is.far;
+}
 
 pub leads_kept : (reach : Reach) (n : ℕ) (entries more : List Entry) (leads : List Lead) → AreLeads reach n entries leads →
     AreLeads reach n (entries ++ more) leads
@@ -64,7 +72,7 @@ led_to : (reach : Reach) (n : ℕ) (entries : List Entry) (leads : List Lead) (a
     IsLeadAt leads at lead → lead.number ≡ Some number → IsLeadTo reach n entries at lead.distance number
 led_to reach n entries leads at lead number are is known =
     subst (λ (o : Option ℕ). IfSome o (IsLeadTo reach n entries at lead.distance)) known
-    (subst (IsLead reach n entries at) is.is (are at is.within))
+    (subst (IsLead reach n entries at) is.is (are at is.within)).to
 
 -- an entry over hops has these hops
 abbrev hops_in : Entry → List ℕ
@@ -176,3 +184,28 @@ told_number reach zones zone n u entry entries leads _ _ are decides (told_one a
     told_of_one reach zones zone n entry entries leads at lead are (decides apart) is
 told_number reach zones zone n u entry entries leads _ _ are decides (told_best one other number first second is) =
     told_of_two reach zones zone n entry entries leads one other number are (decides first second) is
+
+-- What is missed
+
+-- a vertex to which there is a lead to what isn't reached isn't reached
+far_at : (reach : Reach) (n : ℕ) (entries : List Entry) (leads : List Lead) (u at : ℕ) → AreLeads reach n entries leads → (u ≢ at) × IsFarAt leads at →
+    IsBeyond reach u at
+far_at reach n entries leads u at are (other, is) = record { other = other; unreached = (are at is.within).far is.is }
+
+-- offers that the leads miss are missed
+missed : (reach : Reach) (n : ℕ) (entries : List Entry) (leads : List Lead) (u : ℕ) (decision : Decision) → AreLeads reach n entries leads →
+    AreMissed leads u decision → MissesOffers reach u decision
+missed reach n entries leads u Nothing are is = tt
+missed reach n entries leads u (One at) are is = far_at reach n entries leads u at are is
+missed reach n entries leads u (Two one other) are is =
+    (far_at reach n entries leads u one.at are is.0, far_at reach n entries leads u other.at are is.1)
+missed reach n entries leads u Unknown are is = absurd is
+
+-- what the leads over the zone behind tell is the number of the entry whose route is decided there
+pub told_number_behind : (routes : ProtocolRoutes) (zone behind u : ℕ) (p : Block) (entries : List Entry) (first other : List Lead) (decisions : Behind)
+    (number : Option ℕ) → AreLeads (routes.reach u zone) routes.routers entries first → AreLeads (routes.reach u behind) routes.routers entries other →
+    DecidesBeyond routes (routes.reach u zone) behind u p decisions → IsToldBeyond first other u decisions number →
+    IsNumberOf (routes.entry u p) entries number
+told_number_behind routes zone behind u p entries first other decisions number are others decides is =
+    told_number (routes.reach u) routes.zones behind routes.routers u (routes.entry u p) entries other decisions.second number others
+    (decides (missed (routes.reach u zone) routes.routers entries first u decisions.first are is.missed)) is.told

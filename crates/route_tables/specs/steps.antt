@@ -5,3 +5,4 @@ pub mod Alike
 pub mod Joined
 pub mod Leads
 pub mod Entries
+pub mod Told

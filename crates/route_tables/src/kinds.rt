@@ -1,10 +1,10 @@
-ghost use Rattle.std.specs.Prelude.{◌+◌, ◌<◌, ◌++◌, ◌∷◌, [], All, length, IfOk};
-ghost use Rattle.route_tables.specs.Lanes.{DecidesFor};
+ghost use Rattle.std.specs.Prelude.{◌≡◌, ◌+◌, ◌<◌, ◌++◌, ◌∷◌, [], All, length, IfOk, IfSome};
+ghost use Rattle.route_tables.specs.Lanes.{DecidesBehind, DecidesFor};
 ghost use Rattle.route_tables.specs.Protocols.{AreAlikeInLane};
-ghost use Rattle.route_tables.specs.steps.Kinds.{AreDecided, AreKinds, AreLanesBelow, IsLane};
+ghost use Rattle.route_tables.specs.steps.Kinds.{AreDecided, AreDecidedBehind, AreKinds, AreLanesBelow, IsLane, IsToldBehind};
 
 use crate::OutOfMemory;
-use crate::lane::Decision;
+use crate::lane::{Behind, Decision};
 use crate::protocol::Protocol;
 use std::alloc::Global;
 use std::rc::Rc;
@@ -19,6 +19,17 @@ pub(crate) struct LaneKinds {
     pub(crate) firsts: Vec<u32>,
     /// What decides for each kind.
     pub(crate) decisions: Vec<Decision>,
+    /// What decides for each behind that.
+    pub(crate) behind: LaneBehind,
+}
+
+/// What decides in a lane where first offers aren't reached.
+#[derive(Debug, Drop)]
+pub(crate) struct LaneBehind {
+    /// The zone over which it decides, where offers decide for any kind.
+    pub(crate) zone: Option<usize>,
+    /// What decides for each kind, and none of them where no zone is known.
+    pub(crate) decisions: Vec<Behind>,
 }
 
 /// The kinds of the prefixes in each lane.
@@ -52,11 +63,78 @@ fn kinds_in<P: Protocol>(alloc: Global, protocol: &P, lane: usize) -> Result<Lan
     }
     let kinds = Rc::new(alloc, kinds)?;
     let decisions = decisions_at(alloc, protocol, lane, firsts.as_slice())?;
+    let behind = lane_behind(alloc, protocol, lane, firsts.as_slice())?;
     Ok(LaneKinds {
         kinds,
         firsts,
         decisions,
+        behind,
     })
+}
+
+/// What decides in a lane for the prefixes at these places where first offers aren't reached.
+fn lane_behind<P: Protocol>(
+    alloc: Global,
+    protocol: &P,
+    lane: usize,
+    places: &[u32],
+) -> Result<LaneBehind, OutOfMemory>
+    requires lane { lane < P.lanes protocol.now }
+    requires places { All (λ place. place < length (P.candidates protocol.now)) places.now }
+    ensures { IfOk result (IsToldBehind (P.routes protocol.now) lane (P.candidates protocol.now) places.now) }
+{
+    match protocol.zone_behind(lane) {
+        Some(zone) => {
+            let decisions = behind_at(alloc, protocol, lane, zone, places)?;
+            let zone = zone_with_offers(zone, decisions.as_slice());
+            Ok(LaneBehind { zone, decisions })
+        }
+        None => Ok(LaneBehind {
+            zone: None,
+            decisions: Vec::new(alloc),
+        }),
+    }
+}
+
+/// The zone, where offers decide there.
+fn zone_with_offers(zone: usize, decisions: &[Behind]) -> Option<usize>
+    ensures { IfSome result (λ known. known ≡ zone) }
+{
+    for behind in decisions {
+        if has_offers(behind.second) {
+            return Some(zone);
+        }
+    }
+    None
+}
+
+/// Whether offers decide.
+fn has_offers(decision: Decision) -> bool {
+    match decision {
+        Decision::One(_) | Decision::Two(_, _) => true,
+        Decision::Nothing | Decision::Unknown => false,
+    }
+}
+
+/// What decides in a lane over a zone for the prefixes at these places where first offers aren't reached.
+fn behind_at<P: Protocol>(
+    alloc: Global,
+    protocol: &P,
+    lane: usize,
+    zone: usize,
+    places: &[u32],
+) -> Result<Vec<Behind>, OutOfMemory>
+    requires lane { lane < P.lanes protocol.now }
+    requires zone { zone < (P.routes protocol.now).zones }
+    requires places { All (λ place. place < length (P.candidates protocol.now)) places.now }
+    ensures { IfOk result (λ decisions. AreDecidedBehind (DecidesBehind (P.routes protocol.now) lane zone)
+        (P.candidates protocol.now) places.now (length places.now) decisions.items) }
+{
+    let mut decisions = Vec::with_capacity(alloc, places.len())?;
+    for place in places {
+        decisions.push(protocol.behind(lane, *place as usize, zone))?;
+    }
+    Ok(decisions)
 }
 
 /// What decides in a lane for the prefixes at these places.

@@ -12,3 +12,13 @@ pub enum Decision {
     /// It isn't known at once.
     Unknown,
 }
+
+/// What decides the routes of the routers of a lane that make and reach none of the offers of a first decision, which they
+/// would reach over the lane's zone.
+#[derive(Clone, Copy, Debug)]
+pub struct Behind {
+    /// The first decision. Where it is that there is nothing, no offers come first.
+    pub first: Decision,
+    /// What decides then, over the zone behind.
+    pub second: Decision,
+}

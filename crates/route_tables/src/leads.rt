@@ -1,10 +1,10 @@
-ghost use Rattle.std.specs.Prelude.{◌≡◌, Some, [], IfOk, IfSome, MatchOption, OnOk};
-ghost use Rattle.walk_core.specs.Reach.{distance_of};
-ghost use Rattle.route_tables.specs.steps.Leads.{AreLeads, IsLead, IsLeadAt, IsNumberOfBest, IsNumberToBest, IsTold, no_lead};
+ghost use Rattle.std.specs.Prelude.{◌≡◌, ◌≢◌, [], IfOk, IfSome, IsTrue, MatchOption, OnOk};
+ghost use Rattle.route_tables.specs.steps.Leads.{AreLeads, AreMissed, IsFarAt, IsLead, IsLeadAt, IsNumberOfBest, IsNumberToBest, IsTold};
+ghost use Rattle.route_tables.specs.steps.Leads.{IsToldBeyond, far_lead, no_lead};
 ghost use Rattle.route_tables.specs.steps.Sharing.{AreOverOne, KeepsMore};
 
 use crate::OutOfMemory;
-use crate::lane::Decision;
+use crate::lane::{Behind, Decision};
 use crate::pool::Pool;
 use crate::sharing::number_towards;
 use route_core::Number;
@@ -14,7 +14,7 @@ use walk_core::{LeastWalks, Offer};
 /// How a router reaches a vertex by its least walks of a zone.
 #[derive(Clone, Copy, Debug)]
 pub(crate) struct Lead {
-    /// How far it is, where there is a number.
+    /// How far it is where there is a number, and the greatest number where it isn't reached.
     distance: u64,
     /// The number of the entry towards it. There is none towards what isn't reached, nor towards the router itself.
     number: Number,
@@ -71,24 +71,24 @@ fn lead_to(
     ensures kept { OnOk result (KeepsMore pool.old pool.new) }
     ensures lead { IfOk result (IsLead walks.now count pool.new.entries.items at) }
 {
-    match reached_over_hops(walks, at) {
-        Some(distance) => {
-            let number = Number::of(number_towards(alloc, walks, at, count, pool)?)?;
-            Ok(Lead { distance, number })
-        }
-        None => Ok(no_lead()),
+    let Some(distance) = walks.distance(at) else {
+        return Ok(far_lead());
+    };
+    if walks.hops_to(at).is_empty() {
+        return Ok(no_lead());
     }
+    let number = Number::of(number_towards(alloc, walks, at, count, pool)?)?;
+    Ok(Lead { distance, number })
 }
 
-/// How far a vertex is, where walks lead there over first hops.
+/// A lead to what isn't reached.
 #[inline(always)]
-fn reached_over_hops(walks: &LeastWalks, at: u32) -> Option<u64>
-    ensures { IfSome result (λ distance. distance_of walks.now at ≡ Some distance) }
+fn far_lead() -> Lead
+    ensures { result ≡ far_lead }
 {
-    if walks.hops_to(at).is_empty() {
-        None
-    } else {
-        walks.distance(at)
+    Lead {
+        distance: u64::MAX,
+        number: Number::none(),
     }
 }
 
@@ -145,6 +145,57 @@ fn number_of_best(first: Lead, one_asks: u64, second: Lead, other_asks: u64) -> 
         return Some(second.number);
     }
     None
+}
+
+/// The same by what decides behind: where the first offers are missed, what the leads over the zone behind tell.
+#[inline(always)]
+pub(crate) fn told_behind(
+    first: &[Lead],
+    behind: &[Lead],
+    router: u32,
+    decisions: Behind,
+) -> Option<Number>
+    ensures { IfSome result (IsToldBeyond first.now behind.now router decisions) }
+{
+    if are_missed(first, router, decisions.first) {
+        told(behind, router, decisions.second)
+    } else {
+        None
+    }
+}
+
+/// Whether a router makes and reaches none of the offers of a decision.
+#[inline(always)]
+fn are_missed(leads: &[Lead], router: u32, decision: Decision) -> bool
+    ensures { IsTrue result → AreMissed leads.now router decision }
+{
+    match decision {
+        Decision::Nothing => true,
+        Decision::One(at) => is_missed(leads, router, at),
+        Decision::Two(one, other) => {
+            is_missed(leads, router, one.at) && is_missed(leads, router, other.at)
+        }
+        Decision::Unknown => false,
+    }
+}
+
+/// Whether a vertex is another one than the router and isn't reached.
+#[inline(always)]
+fn is_missed(leads: &[Lead], router: u32, at: u32) -> bool
+    ensures { IsTrue result → (router ≢ at) × IsFarAt leads.now at }
+{
+    at != router && is_far_at(leads, at)
+}
+
+/// Whether a vertex isn't reached.
+#[inline(always)]
+fn is_far_at(leads: &[Lead], at: u32) -> bool
+    ensures { IsTrue result → IsFarAt leads.now at }
+{
+    match leads.get(at as usize).copied() {
+        Some(lead) => lead.distance == u64::MAX && lead.number == Number::none(),
+        None => false,
+    }
 }
 
 /// The lead to a vertex, where it has a number.

@@ -6,8 +6,9 @@
 //! - `route.rt`, `best.rt`: a route before it is an entry, and the route to the best of some offers. One pass finds the best;
 //!   where several are as good, another tells whether all offers have the first hops towards one router: then the route says
 //!   that router and takes no memory.
-//! - `lane.rt`, `leads.rt`: what decides the routes of all routers that know the same offers for a prefix; how far a router is
-//!   from each vertex and the number of its entry towards it, which are looked up once, and what they tell of its entries.
+//! - `lane.rt`, `leads.rt`: what decides the routes of all routers that know the same offers for a prefix, and what does
+//!   behind that, where these offers aren't reached; how far a router is from each vertex and the number of its entry
+//!   towards it, which are looked up once, and what they tell of its entries.
 //! - `alike.rt`: whether offers differ by a constant alone, by which prefixes have the same routes.
 //! - `pool.rt`: the entries that the tables of all routers share: those over one hop alone, which are made once and need no
 //!   search, and those that each table adds, among which it looks for a list of several hops, in time of these.
@@ -45,7 +46,7 @@ mod table;
 pub use alike::are_alike;
 pub use best::{best_hops, best_route};
 pub use candidates::{Candidates, DistinctPrefixes, is_all_addresses};
-pub use lane::Decision;
+pub use lane::{Behind, Decision};
 pub use lists::push_option;
 pub use protocol::Protocol;
 pub use route::{Route, Target};

@@ -2,12 +2,12 @@ ghost use Rattle.std.specs.Prelude.{◌≡◌, ◌<◌, ℕ, List, length, Conta
 ghost use Rattle.net_addr.specs.Addresses.{Block};
 ghost use Rattle.route_core.specs.declared.entry.Entry.{Entry};
 ghost use Rattle.route_tables.specs.Entries.{IsLawful};
-ghost use Rattle.route_tables.specs.Lanes.{DecidesFor};
+ghost use Rattle.route_tables.specs.Lanes.{DecidesBehind, DecidesFor};
 ghost use Rattle.route_tables.specs.Prefixes.{AreDistinctPrefixes, prefix_at};
 ghost use Rattle.route_tables.specs.Protocols.{AreAlikeInLane, IsRouteOf, ProtocolRoutes};
 
 use crate::OutOfMemory;
-use crate::lane::Decision;
+use crate::lane::{Behind, Decision};
 use crate::route::Route;
 use net_addr::Prefix;
 use std::alloc::Global;
@@ -75,6 +75,19 @@ pub trait Protocol {
         requires lane { lane < lanes self.now }
         requires place { place < length (candidates self.now) }
         ensures { DecidesFor (routes self.now) lane (prefix_at (candidates self.now) place) result };
+
+    /// Another zone, over which the offers are reached that decide where those that decide in a lane aren't reached, where one
+    /// is known.
+    fn zone_behind(&self, lane: usize) -> Option<usize>
+        requires { lane < lanes self.now }
+        ensures { IfSome result (λ zone. zone < (routes self.now).zones) };
+
+    /// What decides over a zone the routes of the routers of a lane that reach none of some first offers.
+    fn behind(&self, lane: usize, place: usize, zone: usize) -> Behind
+        requires lane { lane < lanes self.now }
+        requires place { place < length (candidates self.now) }
+        requires zone { zone < (routes self.now).zones }
+        ensures { DecidesBehind (routes self.now) lane zone (prefix_at (candidates self.now) place) result };
 
     /// The route that it gives a router for the prefix of this number.
     fn route(&self, alloc: Global, place: usize, router: u32) -> Result<Option<Route>, OutOfMemory>

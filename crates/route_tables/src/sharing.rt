@@ -1,15 +1,15 @@
-ghost use Rattle.std.specs.Prelude.{◌≡◌, ◌<◌, ◌∷◌, [], IfOk, IfSome, OnOk, length};
+ghost use Rattle.std.specs.Prelude.{◌≡◌, ℕ, ◌<◌, ◌∷◌, [], IfOk, IfSome, OnOk, length};
 ghost use Rattle.route_tables.specs.Lanes.{DecidesFor};
 ghost use Rattle.route_tables.specs.Prefixes.{prefix_at};
 ghost use Rattle.walk_core.specs.Reach.{listed_hops_of};
 ghost use Rattle.route_tables.specs.Routings.{AreHopsTo, HasZoneTarget, IsEntryTo, Makes};
-ghost use Rattle.route_tables.specs.steps.Kinds.{IsToldLane};
+ghost use Rattle.route_tables.specs.steps.Kinds.{IsToldBehind, IsToldLane};
 ghost use Rattle.route_tables.specs.steps.Sharing.{AreOverOne, HasNumber, IsNumberOf, IsRouterLane, KeepsMore};
 ghost use Rattle.route_core.specs.declared.entry.Entry.TheVariants.{Via};
 
 use crate::OutOfMemory;
 use crate::kinds::LaneKinds;
-use crate::lane::Decision;
+use crate::lane::{Behind, Decision};
 use crate::pool::Pool;
 use crate::protocol::Protocol;
 use crate::route::Route;
@@ -17,14 +17,16 @@ use route_core::{Entry, Hops, Number};
 use std::alloc::Global;
 use walk_core::LeastWalks;
 
-/// A router's lane: the router, how many there are, what decides for each kind and the place of its first prefix, and where it
-/// is known what decides, the router's least walks of the lane's zone.
+/// A router's lane: the router, how many there are, the place of the first prefix of each kind, and what decides for each
+/// kind and behind that, each with the router's least walks of the zone over which it decides, where these are known.
 #[derive(Clone, Copy, Debug)]
 pub(crate) struct RouterLane<'a> {
     pub(crate) router: u32,
     pub(crate) count: u32,
     pub(crate) walks: Option<&'a LeastWalks>,
     pub(crate) decisions: &'a [Decision],
+    pub(crate) walks_behind: Option<&'a LeastWalks>,
+    pub(crate) behind: &'a [Behind],
     pub(crate) firsts: &'a [u32],
 }
 
@@ -39,6 +41,7 @@ pub(crate) fn router_lane<'a, P: Protocol>(
     requires lane { lane < P.lanes protocol.now }
     requires in_lane { (P.routes protocol.now).in_lane lane router }
     requires told { IsToldLane (DecidesFor (P.routes protocol.now) lane) (P.candidates protocol.now) own.now }
+    requires behind { IsToldBehind (P.routes protocol.now) lane (P.candidates protocol.now) own.now.firsts.items own.now.behind }
     ensures lane { IsRouterLane (P.routes protocol.now) (P.candidates protocol.now) result }
     ensures router { result.router ≡ router }
     ensures firsts { result.firsts.now ≡ own.now.firsts.items }
@@ -46,21 +49,22 @@ pub(crate) fn router_lane<'a, P: Protocol>(
     RouterLane {
         router,
         count: protocol.routers(),
-        walks: lane_walks(protocol, router, lane),
+        walks: zone_walks(protocol, router, protocol.zone_of_lane(lane)),
         decisions: own.decisions.as_slice(),
+        walks_behind: zone_walks(protocol, router, own.behind.zone),
+        behind: own.behind.decisions.as_slice(),
         firsts: own.firsts.as_slice(),
     }
 }
 
-/// The least walks of a router in the zone of its lane, where what decides is known there.
-fn lane_walks<P: Protocol>(protocol: &P, router: u32, lane: usize) -> Option<&LeastWalks>
+/// The least walks of a router in a zone, where one is known.
+fn zone_walks<P: Protocol>(protocol: &P, router: u32, zone: Option<usize>) -> Option<&LeastWalks>
     requires router { router < (P.routes protocol.now).routers }
-    requires lane { lane < P.lanes protocol.now }
-    ensures { IfSome result (λ walks. walks.now ≡ (P.routes protocol.now).reach router
-        ((P.routes protocol.now).lane_zone lane)) }
+    requires zone { IfSome zone (λ known. known < (P.routes protocol.now).zones) }
+    ensures { (number : ℕ) → IfSome zone (λ known. known ≡ number) →
+        IfSome result (λ walks. walks.now ≡ (P.routes protocol.now).reach router number) }
 {
-    let zone = protocol.zone_of_lane(lane)?;
-    Some(protocol.walks(router, zone))
+    Some(protocol.walks(router, zone?))
 }
 
 /// The number of the entry for the prefix at a place, where it has one: that of its route's entry.

@@ -1,4 +1,4 @@
-ghost use Rattle.std.specs.Prelude.{◌≡◌, ◌<◌, ℕ, length, All, Contains, IfOk, OnOk, map};
+ghost use Rattle.std.specs.Prelude.{◌≡◌, ◌<◌, ℕ, length, All, Contains, IfOk, IfSome, OnOk, map};
 ghost use Rattle.net_addr.specs.Addresses.{Block};
 ghost use Rattle.route_core.specs.declared.entry.Entry.{Entry as EntryValue};
 ghost use Rattle.route_core.specs.Rows.{IsTable, listed};
@@ -7,12 +7,13 @@ ghost use Rattle.route_tables.specs.steps.Entries.{AreSameEntries, AreTablesBelo
 ghost use Rattle.route_tables.specs.Prefixes.{AreDistinctPrefixes};
 ghost use Rattle.route_tables.specs.steps.Kinds.{AreLaneKinds, first_prefix_of};
 ghost use Rattle.route_tables.specs.steps.Leads.{AreLaneLeads};
+ghost use Rattle.route_tables.specs.steps.Told.{IsToldOfKind};
 ghost use Rattle.route_tables.specs.steps.Sharing.{AreNumbers, AreOverOne, AreRouterNumbers, IsNumberOf, IsRouterLane};
 ghost use Rattle.route_tables.specs.steps.Sharing.{KeepsMore, kept_with};
 
 use crate::OutOfMemory;
 use crate::kinds::{LaneKinds, all_kinds};
-use crate::leads::{Lead, leads_of, told};
+use crate::leads::{Lead, leads_of, told, told_behind};
 use crate::pool::Pool;
 use crate::protocol::Protocol;
 use crate::sharing::{RouterLane, number_asked, router_lane};
@@ -113,11 +114,12 @@ fn router_numbers<P: Protocol>(
     Ok(RouterNumbers { kinds, numbers })
 }
 
-/// A router's lane, with the leads by its least walks of the lane's zone.
+/// A router's lane, with the leads by its least walks of the lane's zone, and of the zone behind.
 #[derive(Clone, Copy, Debug)]
 struct LedLane<'a> {
     lane: RouterLane<'a>,
     leads: &'a [Lead],
+    behind: &'a [Lead],
 }
 
 /// The numbers of a router's entries for the kinds of its lane, in time of these, of the routers, and of the routes that the
@@ -139,9 +141,11 @@ fn numbers_at<P: Protocol>(
 {
     pool.begin_table();
     let leads = leads_of(alloc, lane.walks, lane.count, pool)?;
+    let behind = leads_of(alloc, lane.walks_behind, lane.count, pool)?;
     let led = LedLane {
         lane,
         leads: leads.as_slice(),
+        behind: behind.as_slice(),
     };
     let mut numbers = Vec::with_capacity(alloc, lane.firsts.len())?;
     for kind in 0..lane.firsts.len() {
@@ -164,17 +168,31 @@ fn number_at<P: Protocol>(
     requires kind { kind < length led.lane.firsts.now }
     requires places { All (λ place. place < length (P.candidates protocol.now)) led.lane.firsts.now }
     requires lane { IsRouterLane (P.routes protocol.now) (P.candidates protocol.now) led.lane }
-    requires leads { AreLaneLeads led.lane pool.old.entries.items led.leads.now }
+    requires leads { AreLaneLeads led.lane pool.old.entries.items led.leads.now led.behind.now }
     requires single { AreOverOne (P.routes protocol.now).routers pool.old.entries.items }
     ensures kept { OnOk result (KeepsMore pool.old pool.new) }
     ensures number { IfOk result (IsNumberOf ((P.routes protocol.now).entry led.entry.lane.router
         (first_prefix_of (P.candidates protocol.now) led.entry.lane.firsts.now kind)) pool.new.entries.items) }
 {
-    match told(led.leads, led.lane.router, led.lane.decisions[kind]) {
+    match number_told(led, kind) {
         Some(number) => Ok(number),
         None => {
             let place = led.lane.firsts[kind] as usize;
             number_asked(alloc, protocol, led.lane.router, pool, place)
         }
     }
+}
+
+/// The number of the entry for the prefixes of a kind, or that there is none, where the leads tell it.
+#[inline(always)]
+fn number_told(led: LedLane<'_>, kind: usize) -> Option<Number>
+    requires kind { kind < length led.lane.firsts.now }
+    requires long { length led.lane.decisions.now ≡ length led.lane.firsts.now }
+    ensures { IfSome result (IsToldOfKind led.entry kind) }
+{
+    if let Some(number) = told(led.leads, led.lane.router, led.lane.decisions[kind]) {
+        return Some(number);
+    }
+    let decisions = led.lane.behind.get(kind).copied()?;
+    told_behind(led.leads, led.behind, led.lane.router, decisions)
 }

@@ -1,8 +1,10 @@
 -- What decides the routes of all routers that take theirs from the same level first.
 use Rattle.std.specs.Prelude.{◌≡◌, ◌<◌, ◌∷◌, ℕ, List, [], Any, All, length}
+use Rattle.net_addr.specs.Addresses.{default_prefix}
 use Rattle.net_model.specs.Network.{Network}
 use Rattle.walk_core.specs.declared.offers.Offer.{Offer}
 use Rattle.igp_theory.specs.Isis.{RunsLevelOne, RunsLevelTwo}
+use Rattle.route_tables.specs.declared.lane.Behind.{Behind}
 use Rattle.route_tables.specs.declared.lane.Decision.{Decision}
 use Rattle.route_tables.specs.declared.lane.Decision.TheVariants.{Nothing, One as OneOffer, Two as TwoOffers, Unknown}
 use Rattle.isis_routes.specs.steps.Levels.{zone_number}
@@ -43,3 +45,18 @@ pub data IsDecisionOf (level : Level) (d : Destination) (decision : Decision) : 
   of_down : level ≡ One → length d.one.offers.items ≡ 0 → IsDecisionBy d.one.homes.items d.down.items decision → IsDecisionOf level d decision
   of_two : level ≡ Two → length d.one.offers.items ≡ 0 → IsDecisionBy d.one.homes.items d.two.items decision → IsDecisionOf level d decision
   of_none : decision ≡ Unknown → IsDecisionOf level d decision
+
+-- the first decision for a destination is by what level 1 offers, and that there is nothing where it offers nothing
+pub data IsFirstOf (d : Destination) (first : Decision) : Type 0 where
+  no_first : first ≡ Nothing → length d.one.offers.items ≡ 0 → IsFirstOf d first
+  by_first : IsDecisionBy d.one.homes.items d.one.offers.items first → IsFirstOf d first
+
+-- without a level 1 route there is nothing, where nothing is leaked and the prefix isn't that of all addresses
+pub data IsSecondOf (d : Destination) (second : Decision) : Type 0 where
+  nothing_left : second ≡ Nothing → length d.down.items ≡ 0 → (d.one.dest ≡ default_prefix → ⊥) → IsSecondOf d second
+  left_unknown : second ≡ Unknown → IsSecondOf d second
+
+-- what decides for routers that run level 1 alone, behind what level 1 offers
+pub record IsBehindOne (d : Destination) (behind : Behind) : Type 0 where
+  pub first : IsFirstOf d behind.first
+  pub second : IsSecondOf d behind.second

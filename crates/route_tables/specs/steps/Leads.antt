@@ -1,11 +1,12 @@
 -- How a router reaches each vertex, and what that tells of its entries.
-use Rattle.std.specs.Prelude.{◌≡◌, ◌≢◌, ◌+◌, ◌<◌, ◌≤◌, ℕ, List, [], length, Option, None, Some, IfSome, MatchOption, slice_index_or}
+use Rattle.std.specs.Prelude.{◌≡◌, ◌≢◌, ◌+◌, ◌-◌, ◌^◌, ◌<◌, ◌≤◌, ℕ, List, [], length, Option, None, Some, IfSome, MatchOption, slice_index_or}
 use Rattle.walk_core.specs.Reach.{Reach, distance_of}
 use Rattle.walk_core.specs.declared.offers.Offer.{Offer}
 use Rattle.route_core.specs.declared.entry.Entry.{Entry}
 use Rattle.route_tables.specs.Routings.{IsEntryTo}
+use Rattle.route_tables.specs.declared.lane.Behind.{Behind}
 use Rattle.route_tables.specs.declared.lane.Decision.{Decision}
-use Rattle.route_tables.specs.declared.lane.Decision.TheVariants.{Nothing, One, Two}
+use Rattle.route_tables.specs.declared.lane.Decision.TheVariants.{Nothing, One, Two, Unknown}
 use Rattle.route_tables.specs.declared.leads.Lead.{Lead}
 use Rattle.route_tables.specs.declared.sharing.RouterLane.{RouterLane}
 use Rattle.route_tables.specs.steps.Sharing.{HasNumber}
@@ -14,22 +15,28 @@ use Rattle.route_tables.specs.steps.Sharing.{HasNumber}
 abbrev pub no_lead : Lead
 no_lead = record { distance = 0; number = None }
 
+-- a lead to what isn't reached
+abbrev pub far_lead : Lead
+far_lead = record { distance = 2 ^ 64 - 1; number = None }
+
 -- the vertex is this far, and the number is that of the entry over the first hops below n towards it
 pub record IsLeadTo (reach : Reach) (n : ℕ) (entries : List Entry) (at distance number : ℕ) : Type 0 where
   pub far : distance_of reach at ≡ Some distance
   pub entry : HasNumber (IsEntryTo reach at n) entries number
 
--- what a lead with a number says of a vertex is so
-abbrev pub IsLead : Reach → ℕ → List Entry → ℕ → Lead → Type 0
-IsLead reach n entries at lead = IfSome lead.number (IsLeadTo reach n entries at lead.distance)
+-- what a lead says of a vertex is so: with a number how it is reached, and that it isn't reached
+pub record IsLead (reach : Reach) (n : ℕ) (entries : List Entry) (at : ℕ) (lead : Lead) : Type 0 where
+  pub to : IfSome lead.number (IsLeadTo reach n entries at lead.distance)
+  pub far : lead ≡ far_lead → distance_of reach at ≡ None
 
 -- these are leads to the vertices, by their numbers
 abbrev pub AreLeads : Reach → ℕ → List Entry → List Lead → Type 0
 AreLeads reach n entries leads = (at : ℕ) → at < length leads → IsLead reach n entries at (slice_index_or leads at no_lead)
 
--- these are the leads of the router in the lane, and none where the walks aren't known
-abbrev pub AreLaneLeads : RouterLane → List Entry → List Lead → Type 0
-AreLaneLeads lane entries leads = MatchOption lane.walks (leads ≡ []) (λ walks. AreLeads walks.now lane.count entries leads)
+-- these are the leads by both walks of the router in the lane, and none where they aren't known
+pub record AreLaneLeads (lane : RouterLane) (entries : List Entry) (first behind : List Lead) : Type 0 where
+  pub of_lane : MatchOption lane.walks (first ≡ []) (λ walks. AreLeads walks.now lane.count entries first)
+  pub of_behind : MatchOption lane.walks_behind (behind ≡ []) (λ walks. AreLeads walks.now lane.count entries behind)
 
 -- this is the lead to the vertex, and it has a number
 pub record IsLeadAt (leads : List Lead) (at : ℕ) (lead : Lead) : Type 0 where
@@ -51,9 +58,26 @@ pub record IsNumberToBest (leads : List Lead) (one other : Offer) (number : Opti
   pub second_is : IsLeadAt leads other.at second
   pub best : IsNumberOfBest first one.asks second other.asks number
 
+-- the lead to the vertex is that to what isn't reached
+pub record IsFarAt (leads : List Lead) (at : ℕ) : Type 0 where
+  pub within : at < length leads
+  pub is : slice_index_or leads at no_lead ≡ far_lead
+
+-- the leads tell that router u makes and reaches none of the offers of the decision
+abbrev pub AreMissed : List Lead → ℕ → Decision → Type 0
+AreMissed leads u Nothing = Unit {0}
+AreMissed leads u (One at) = (u ≢ at) × IsFarAt leads at
+AreMissed leads u (Two one other) = ((u ≢ one.at) × IsFarAt leads one.at) × ((u ≢ other.at) × IsFarAt leads other.at)
+AreMissed leads u Unknown = ⊥
+
 -- the leads tell router u this number of its entry by what decides, None where it has none
 pub data IsTold (leads : List Lead) (u : ℕ) : Decision → Option ℕ → Type 0 where
   told_nothing : IsTold leads u Nothing None
   told_one : (at : ℕ) (lead : Lead) → u ≢ at → IsLeadAt leads at lead → IsTold leads u (One at) lead.number
   told_best : (one other : Offer) (number : Option ℕ) → u ≢ one.at → u ≢ other.at → IsNumberToBest leads one other number →
       IsTold leads u (Two one other) number
+
+-- the leads by both walks tell it by what decides behind: the first offers are missed, and the others tell it
+pub record IsToldBeyond (first behind : List Lead) (u : ℕ) (decisions : Behind) (number : Option ℕ) : Type 0 where
+  pub missed : AreMissed first u decisions.first
+  pub told : IsTold behind u decisions.second number

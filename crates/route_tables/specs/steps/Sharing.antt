@@ -4,14 +4,14 @@ use Rattle.net_addr.specs.Addresses.{Block}
 use Rattle.route_core.specs.Rows.{KeptTable}
 use Rattle.route_core.specs.declared.entry.Entry.{Entry}
 use Rattle.route_core.specs.declared.entry.Entry.TheVariants.{Via, Discard}
-use Rattle.route_tables.specs.Lanes.{DecidesAt}
+use Rattle.route_tables.specs.Lanes.{DecidesAt, DecidesBeyond}
 use Rattle.route_tables.specs.steps.Entries.{AreSameEntries}
 use Rattle.route_tables.specs.Protocols.{ProtocolRoutes}
 use Rattle.route_tables.specs.declared.lane.Decision.TheVariants.{Unknown}
 use Rattle.route_tables.specs.declared.pool.Pool.{Pool}
 use Rattle.route_tables.specs.declared.sharing.RouterLane.{RouterLane}
 use Rattle.route_tables.specs.declared.table.RouterNumbers.{RouterNumbers}
-use Rattle.route_tables.specs.steps.Kinds.{AreKinds, first_prefix_of}
+use Rattle.route_tables.specs.steps.Kinds.{AreKinds, first_prefix_of, open_behind}
 
 -- the entry of the number is one that is wanted
 pub record HasNumber (wanted : Entry → Type 0) (entries : List Entry) (number : ℕ) : Type 0 where
@@ -42,7 +42,7 @@ pub record Keeps (old new : Pool) (entry : Entry) (number : ℕ) : Type 0 where
   pub entries : new.entries.items ≡ old.entries.items ++ entry ∷ []
 
 -- the lane is that of a router, with what decides its routes for the first prefix of each kind, and its walks of the zone
--- over which the offers are reached that decide
+-- over which the offers are reached that decide, and the same behind
 pub record IsRouterLane (routes : ProtocolRoutes) (dests : List Block) (lane : RouterLane) : Type 0 where
   pub router : lane.router < routes.routers
   pub count : lane.count ≡ routes.routers
@@ -51,6 +51,11 @@ pub record IsRouterLane (routes : ProtocolRoutes) (dests : List Block) (lane : R
   pub long : length lane.decisions.now ≡ length lane.firsts.now
   pub decides : (kind : ℕ) → kind < length lane.firsts.now →
       DecidesAt routes zone lane.router (first_prefix_of dests lane.firsts.now kind) (slice_index_or lane.decisions.now kind Unknown)
+  pub zone_behind : ℕ
+  pub walks_behind : IfSome lane.walks_behind (λ walks. walks.now ≡ routes.reach lane.router zone_behind)
+  pub behind : (kind : ℕ) → kind < length lane.behind.now →
+      DecidesBeyond routes (routes.reach lane.router zone) zone_behind lane.router (first_prefix_of dests lane.firsts.now kind)
+      (slice_index_or lane.behind.now kind open_behind)
 
 -- these are the numbers of a router's entries, for kinds of prefixes that are alike for it
 pub record AreRouterNumbers (entry : Block → Entry → Type 0) (dests : List Block) (entries : List Entry) (own : RouterNumbers) : Type 0 where

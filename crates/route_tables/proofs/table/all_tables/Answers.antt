@@ -9,7 +9,7 @@ use Rattle.route_tables.specs.declared.kinds.LaneKinds.{LaneKinds}
 use Rattle.route_tables.specs.declared.table.RouterNumbers.{RouterNumbers}
 use Rattle.route_tables.specs.Lanes.{DecidesFor}
 use Rattle.route_tables.specs.Protocols.{AreAlikeInLane, ProtocolRoutes}
-use Rattle.route_tables.specs.steps.Kinds.{AreLaneKinds, IsToldLane}
+use Rattle.route_tables.specs.steps.Kinds.{AreLaneKinds, IsToldBehind, IsToldLane}
 use Rattle.route_tables.specs.steps.Sharing.{AreOverOne, AreRouterNumbers, AreRouterNumbersBelow, kept_with}
 use Rattle.route_tables.proofs.SharingLaws.{single_kept}
 use Rattle.route_tables.proofs.KeptTables.{all_are_tables, are_tables, kinds_for, numbers_below_more}
@@ -21,6 +21,13 @@ router_lane-lane-requires-clause-told g c =
     let lane : ℕ = c.lane-lane.result in
     subst (IsToldLane (DecidesFor (g.P.Protocol.routes protocol) lane) (g.P.Protocol.candidates protocol))
     (sym c.index-own.ensures) (c.in_ok-lanes.ensures.each lane c.index-own.result.now c.lane-lane.ensures.below).decided
+
+pub router_lane-lane-requires-clause-behind : goal.router_lane-lane-requires-clause-behind
+router_lane-lane-requires-clause-behind g c =
+    let protocol = c.args.protocol.now in
+    let lane : ℕ = c.lane-lane.result in
+    subst (λ (own : LaneKinds). IsToldBehind (g.P.Protocol.routes protocol) lane (g.P.Protocol.candidates protocol) own.firsts.items own.behind)
+    (sym c.index-own.ensures) (c.in_ok-lanes.ensures.each lane c.index-own.result.now c.lane-lane.ensures.below).behind
 
 pub router_numbers-requires-clause-kinds : goal.router_numbers-requires-clause-kinds
 router_numbers-requires-clause-kinds g c =

@@ -1,33 +1,46 @@
-use Rattle.std.proofs.Common.{ℕ, List, Option, get_or, subst, arith}
-use Rattle.std.proofs.lemmas.List.{get_or_default}
+use Rattle.std.proofs.Common.{◌<◌, ℕ, List, length, Option, get_or, subst}
 use Rattle.net_addr.specs.Addresses.{Block}
-use Rattle.walk_core.specs.Reach.{Reach}
 use Rattle.route_core.specs.declared.entry.Entry.{Entry}
 use Rattle.route_tables.specs.Protocols.{ProtocolRoutes}
-use Rattle.route_tables.specs.declared.lane.Decision.{Decision}
 use Rattle.route_tables.specs.declared.lane.Decision.TheVariants.{Unknown}
-use Rattle.route_tables.specs.declared.leads.Lead.{Lead}
-use Rattle.route_tables.specs.steps.Kinds.{first_prefix_of}
-use Rattle.route_tables.specs.steps.Leads.{AreLeads, IsTold}
-use Rattle.route_tables.proofs.LeadLaws.{leads_by, told_number}
+use Rattle.route_tables.specs.declared.table.LedLane.{LedLane}
+use Rattle.route_tables.specs.steps.Kinds.{first_prefix_of, open_behind}
+use Rattle.route_tables.specs.steps.Leads.{AreLaneLeads, AreLeads}
+use Rattle.route_tables.specs.steps.Sharing.{IsNumberOf, IsRouterLane}
+use Rattle.route_tables.specs.steps.Told.{IsToldOfKind, told_beyond, told_first}
+use Rattle.route_tables.proofs.LeadLaws.{leads_by, told_number, told_number_behind}
 use Rattle.route_tables.proofs.table.number_at.Goals as goal
+
+-- what is told of a kind is the number of the entry for its first prefix
+told_of_kind : (routes : ProtocolRoutes) (dests : List Block) (entries : List Entry) (led : LedLane) (kind : ℕ) (number : Option ℕ) →
+    IsRouterLane routes dests led.lane → AreLaneLeads led.lane entries led.leads.now led.behind.now → kind < length led.lane.firsts.now →
+    IsToldOfKind led kind number → IsNumberOf (routes.entry led.lane.router (first_prefix_of dests led.lane.firsts.now kind)) entries number
+told_of_kind routes dests entries led kind number is are within told = go told
+  where
+    u : ℕ
+    u = led.lane.router
+
+    p : Block
+    p = first_prefix_of dests led.lane.firsts.now kind
+
+    first : AreLeads (routes.reach u is.zone) routes.routers entries led.leads.now
+    first = subst (λ (n : ℕ). AreLeads (routes.reach u is.zone) n entries led.leads.now) is.count
+        (leads_by led.lane.walks (λ walks. walks.now) (routes.reach u is.zone) led.lane.count entries led.leads.now is.walks are.of_lane)
+
+    other : AreLeads (routes.reach u is.zone_behind) routes.routers entries led.behind.now
+    other = subst (λ (n : ℕ). AreLeads (routes.reach u is.zone_behind) n entries led.behind.now) is.count
+        (leads_by led.lane.walks_behind (λ walks. walks.now) (routes.reach u is.zone_behind) led.lane.count entries led.behind.now is.walks_behind
+        are.of_behind)
+
+    go : IsToldOfKind led kind number → IsNumberOf (routes.entry u p) entries number
+    go (told_first told) =
+        told_number (routes.reach u) routes.zones is.zone routes.routers u (routes.entry u p) entries led.leads.now
+        (get_or led.lane.decisions.now kind Unknown) number first (is.decides kind within) told
+    go (told_beyond beyond told) =
+        told_number_behind routes is.zone is.zone_behind u p entries led.leads.now led.behind.now (get_or led.lane.behind.now kind open_behind) number
+        first other (is.behind kind beyond) told
 
 pub returns-in-Some-clause-number : goal.returns-in-Some-clause-number
 returns-in-Some-clause-number g c =
-    let routes : ProtocolRoutes = g.P.Protocol.routes c.args.protocol.now in
-    let dests : List Block = g.P.Protocol.candidates c.args.protocol.now in
-    let lane = c.args.led.lane in
-    let kind : ℕ = c.args.kind in
-    let is = c.requires.lane in
-    let reach : ℕ → Reach = routes.reach lane.router in
-    let entries : List Entry = c.args.pool.now.entries.items in
-    let leads : List Lead = c.args.led.leads.now in
-    let decisions : List Decision = lane.decisions.now in
-    let number : Option ℕ = c.in-Some.number in
-    told_number reach routes.zones is.zone routes.routers lane.router (routes.entry lane.router (first_prefix_of dests lane.firsts.now kind)) entries leads
-    (get_or decisions kind Unknown) number
-    (subst (λ (n : ℕ). AreLeads (reach is.zone) n entries leads) is.count
-    (leads_by lane.walks (λ walks. walks.now) (reach is.zone) lane.count entries leads is.walks c.requires.leads))
-    (is.decides kind c.requires.kind)
-    (subst (λ (d : Decision). IsTold leads lane.router d number)
-    (get_or_default decisions kind _ Unknown (omega (arith, is.long, c.requires.kind))) c.in-Some.ensures)
+    told_of_kind (g.P.Protocol.routes c.args.protocol.now) (g.P.Protocol.candidates c.args.protocol.now) c.args.pool.now.entries.items c.args.led
+    c.args.kind c.in-Some.number c.requires.lane c.requires.leads c.requires.kind c.in-Some.ensures

@@ -10,7 +10,7 @@ invariant-loop-kind g l = record {
   numbers : AreNumbers (λ (kind : ℕ). (g.P.Protocol.routes l.protocol).entry l.lane.router
       (first_prefix_of (g.P.Protocol.candidates l.protocol) l.lane.firsts.now kind)) l.kind
       l.pool.entries.items l.numbers.items;
-  leads : AreLaneLeads l.lane l.pool.entries.items l.led.leads.now;
+  leads : AreLaneLeads l.lane l.pool.entries.items l.led.leads.now l.led.behind.now;
   single : AreOverOne (g.P.Protocol.routes l.protocol).routers l.pool.entries.items;
   room : length l.lane.firsts.now ≤ vec_capacity l.numbers;
   kept : KeepsMore l.initial.pool l.pool;

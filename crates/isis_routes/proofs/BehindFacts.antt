@@ -1,0 +1,80 @@
+-- What decides for the routers that reach none of the offers of level 1.
+use Rattle.std.proofs.Common.{◌≡◌, ℕ, ◌<◌, inl, inr, List, [], ◌∷◌, length, None, Some, refl, sym, ap, subst, ◌∙◌, arith}
+use Rattle.std.specs.List.{Contains}
+use Rattle.std.proofs.lemmas.List.Elements.{Contains-push_cases}
+use Rattle.std.proofs.lemmas.Option.{none-some}
+use Rattle.net_addr.specs.Addresses.{default_prefix}
+use Rattle.net_model.specs.Network.{Connected}
+use Rattle.walk_core.specs.Reach.{Reach, distance_of}
+use Rattle.walk_core.specs.BestOffers.{NoneTotals, total_towards, total_with}
+use Rattle.walk_core.specs.declared.offers.Offer.{Offer}
+use Rattle.route_core.specs.declared.entry.Entry.{Entry}
+use Rattle.igp_theory.specs.Isis.{HasLevelOneRoute, IsisEntry, RunsLevelOne, level_one, level_two, down, default_route}
+use Rattle.route_tables.specs.Lanes.{DecidesAt, MissesOffers}
+use Rattle.route_tables.specs.declared.lane.Behind.{Behind}
+use Rattle.route_tables.specs.declared.lane.Decision.{Decision}
+use Rattle.route_tables.specs.declared.lane.Decision.TheVariants.{Nothing, One as OneOffer, Two as TwoOffers, Unknown}
+use Rattle.route_tables.proofs.ListFacts.{the_one}
+use Rattle.isis_routes.specs.steps.Destinations.{HasAnnouncements}
+use Rattle.isis_routes.specs.steps.Domain.{IsisDomain, IsKnown}
+use Rattle.isis_routes.specs.steps.Lanes.{IsBehindOne, IsDecisionAmong, IsFirstOf, IsInLane, IsSecondOf, made_at_homes, left_open}
+use Rattle.isis_routes.specs.steps.Lanes.{no_first, by_first, nothing_left, left_unknown}
+use Rattle.isis_routes.specs.steps.LevelReach.{level_reach}
+use Rattle.isis_routes.specs.steps.Routes.{given_by_isis}
+use Rattle.isis_routes.specs.declared.destinations.Destination.{Destination}
+use Rattle.isis_routes.specs.declared.level.Level.TheVariants.{One}
+use Rattle.isis_routes.proofs.EntryFacts.{unoffered}
+use Rattle.isis_routes.proofs.LeadFacts.{as_good, one_leads}
+
+-- an offer at a vertex that isn't reached costs nothing in all
+none_costs : (reach : Reach) (o x : Offer) (cost : ℕ) → distance_of reach o.at ≡ None → x ≡ o → total_towards reach x ≡ Some cost → ⊥
+none_costs reach o x cost far same total =
+    none-some cost (sym (ap (λ d. total_with d o.asks) far) ∙ subst (λ (y : Offer). total_towards reach y ≡ Some cost) same total)
+
+-- where the offers that a decision names are missed, none of them is reached
+missed_none : (reach : Reach) (u : ℕ) (offers : List Offer) (decision : Decision) → IsDecisionAmong offers decision → MissesOffers reach u decision →
+    NoneTotals reach offers
+missed_none reach u offers Nothing is missed = absurd is
+missed_none reach u offers (OneOffer at) (asks, is) missed = λ cost has.
+    let o : Offer = record { at = at; asks = asks } in
+    none_costs reach o has.offer cost missed.unreached (the_one o has.offer (subst (λ (l : List Offer). Contains l has.offer) is has.among)) has.total
+missed_none reach u offers (TwoOffers one two) is missed = λ cost has.
+    elim (Contains-push_cases (one ∷ []) two has.offer (subst (λ (l : List Offer). Contains l has.offer) is has.among)) [
+      | inl earlier ↦ none_costs reach one has.offer cost missed.0.unreached (the_one one has.offer earlier) has.total
+      | inr same ↦ none_costs reach two has.offer cost missed.1.unreached (sym same) has.total
+    ]
+missed_none reach u offers Unknown is missed = absurd is
+
+-- a router that misses the first offers has no level 1 route
+no_level_one : (domain : IsisDomain) (u : ℕ) (d : Destination) (first : Decision) → IsKnown domain → HasAnnouncements domain.net d →
+    u < length domain.net → RunsLevelOne domain.net u → IsFirstOf d first → MissesOffers (level_reach domain.walks u 0) u first →
+    (Connected domain.net u d.one.dest → ⊥) → HasLevelOneRoute domain.net d.one.dest u → ⊥
+no_level_one domain u d first known has within runs (no_first is empty) missed away =
+    unoffered domain.net d.one.dest u d.one.offers.items has.one.offers empty
+no_level_one domain u d first known has within runs (by_first (left_open is)) missed away =
+    absurd (subst (MissesOffers (level_reach domain.walks u 0) u) is missed)
+no_level_one domain u d first known has within runs (by_first (made_at_homes at_home among)) missed away =
+    (one_leads domain u d d.one.offers.items known has within away runs (as_good refl)).route None
+    (missed_none (level_reach domain.walks u 0) u d.one.offers.items first among missed)
+
+-- a router that runs level 1 alone and has no level 1 route has no entry where nothing is leaked, but for all addresses
+no_entry : (domain : IsisDomain) (u : ℕ) (d : Destination) → HasAnnouncements domain.net d → IsInLane domain.net One u → length d.down.items ≡ 0 →
+    (d.one.dest ≡ default_prefix → ⊥) → ((Connected domain.net u d.one.dest → ⊥) → HasLevelOneRoute domain.net d.one.dest u → ⊥) →
+    (e : Entry) → IsisEntry domain.net u d.one.dest e → ⊥
+no_entry domain u d has lane empty some none e (level_one away is _) = none away is
+no_entry domain u d has lane empty some none e (level_two _ _ is _) = lane.1 is.costs.runs
+no_entry domain u d has lane empty some none e (down _ _ _ is _) =
+    let listed = (has.down is.costs.best.at is.costs.best.attained.asks).1 is.costs.best.attained.offered.offered in
+    omega (arith, listed.among.1, empty)
+no_entry domain u d has lane empty some none e (default_route _ _ _ _ all _ _ _) = some all
+
+-- what decides behind what level 1 offers decides the routes of the routers that miss it
+pub behind_decides : (domain : IsisDomain) (zone u : ℕ) (d : Destination) (behind : Behind) → IsKnown domain → HasAnnouncements domain.net d →
+    u < length domain.net → IsInLane domain.net One u → IsBehindOne d behind → MissesOffers (level_reach domain.walks u 0) u behind.first →
+    DecidesAt (given_by_isis domain) zone u d.one.dest behind.second
+behind_decides domain zone u d behind known has within lane is missed = go is.second
+  where
+    go : IsSecondOf d behind.second → DecidesAt (given_by_isis domain) zone u d.one.dest behind.second
+    go (nothing_left same empty some) = subst (DecidesAt (given_by_isis domain) zone u d.one.dest) (sym same)
+        (no_entry domain u d has lane empty some (no_level_one domain u d behind.first known has within lane.0 is.first missed))
+    go (left_unknown same) = subst (DecidesAt (given_by_isis domain) zone u d.one.dest) (sym same) tt
