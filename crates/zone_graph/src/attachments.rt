@@ -40,12 +40,13 @@ pub(crate) fn all_attachments(
     Ok(all)
 }
 
-/// Puts them in the order of the addresses with which their subnets begin.
-pub(crate) fn sort_by_base(attachments: &mut Vec<Attachment>)
-    ensures kept { (a : Attachment) → Contains attachments.new.items a ↔ Contains attachments.old.items a }
-    ensures sorted { IsNonDecreasingBy (λ a. a.link.subnet.base) attachments.new.items }
+/// Puts them in the order of the addresses with which their subnets begin. Those of one subnet stay in the order of their
+/// routers, so that the segments of a network without a link are those of the whole one, but for the link's.
+pub(crate) fn sort_by_base(attachments: &mut Vec<Attachment>) -> Result<(), OutOfMemory>
+    ensures kept { OnOk result ((a : Attachment) → Contains attachments.new.items a ↔ Contains attachments.old.items a) }
+    ensures sorted { OnOk result (IsNonDecreasingBy (λ a. a.link.subnet.base) attachments.new.items) }
 {
-    attachments.sort_unstable_by_key(|attachment| attachment.link.subnet.base());
+    Ok(attachments.sort_by_key(|attachment| attachment.link.subnet.base())?)
 }
 
 /// The links of a router.

@@ -16,7 +16,7 @@ pub fn zone_segments(alloc: Global, net: &Net, zone: Zone) -> Result<Vec<Segment
     ensures { IfOk result (λ segments. AreZoneSegments net.now zone segments.items) }
 {
     let mut attachments = all_attachments(alloc, net, zone)?;
-    sort_by_base(&mut attachments);
+    sort_by_base(&mut attachments)?;
     let segments = segments_of(alloc, attachments.as_slice())?;
     Ok(segments)
 }

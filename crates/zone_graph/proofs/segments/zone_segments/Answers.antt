@@ -7,12 +7,12 @@ use Rattle.zone_graph.proofs.segments.zone_segments.Goals as goal
 
 pub segments_of-requires : goal.segments_of-requires
 segments_of-requires c =
-    subst (λ (l : List Attachment). IsNonDecreasingBy (λ (a : Attachment). a.link.subnet.base) l) (sym c.as_slice.ensures.value) c.sort_by_base.ensures.sorted
+    subst (λ (l : List Attachment). IsNonDecreasingBy (λ (a : Attachment). a.link.subnet.base) l) (sym c.as_slice.ensures.value) c.in_ok-sort_by_base.ensures.sorted
 
 pub returns : goal.returns
 returns c =
     let sorted : List Attachment = c.sort_by_base.new.attachments.items in
     are_zone_segments c.args.net.now c.args.zone sorted c.in_ok-segments.segments.items c.all_attachments.ensures.network
-    (attachments_same c.args.net.now c.args.zone (length c.args.net.now) c.in_ok-attachments.attachments.items sorted c.sort_by_base.ensures.kept
+    (attachments_same c.args.net.now c.args.zone (length c.args.net.now) c.in_ok-attachments.attachments.items sorted c.in_ok-sort_by_base.ensures.kept
     c.in_ok-attachments.ensures.exact)
     (subst (λ (l : List Attachment). AreTheSegments l c.in_ok-segments.segments.items) c.as_slice.ensures.value c.in_ok-segments.ensures)
