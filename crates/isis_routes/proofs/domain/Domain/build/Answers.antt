@@ -5,4 +5,4 @@ use Rattle.isis_routes.proofs.domain.Domain.build.Goals as goal
 
 pub attached_routers-requires-clause-both : goal.attached_routers-requires-clause-both
 attached_routers-requires-clause-both c =
-    subst (λ (l : List ℕ). Exactly (RunsBothLevels c.args.net.now) l) (sym c.as_slice-3.ensures.value) c.in_ok-both.ensures.routers
+    subst (λ (l : List ℕ). Exactly (RunsBothLevels c.args.net.now) l) (sym c.as_slice.ensures.value) c.in_ok-both.ensures.routers
