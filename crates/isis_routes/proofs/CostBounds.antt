@@ -73,7 +73,8 @@ two_cost_is_small : (net : Network) (p : Block) (u cost : ℕ) (walks : LevelWal
     cost < 2 ^ 42
 two_cost_is_small net p u cost walks network are costs =
     let within : u < length net = HasConfiguration-within net u costs.runs.config costs.runs.router in
-    let small : cost < 200 * 2 ^ 32 + 2 ^ 41 = best_is_small net ZoneTwo walks.two.value u cost (2 ^ 41) (OfOthers (LevelTwoAnnouncement net p) u) are.two within
+    let small : cost < 200 * 2 ^ 32 + 2 ^ 41 =
+    best_is_small net ZoneTwo walks.two.value u cost (2 ^ 41) (OfOthers (LevelTwoAnnouncement net p) u) are.two within
     (λ at asks is. announcement_is_small net p at asks walks.one.value network are.one is.offered) costs.best in
     omega arith
 

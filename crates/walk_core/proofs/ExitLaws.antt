@@ -186,7 +186,8 @@ pub exits_more : (rows : List (List (Option ℕ))) (outlets : List Outlet) (i : 
 exits_more rows outlets i exits exit within is before = record {
   each = λ e among. elim (Contains-push_cases exits exit e among) [
     | inl earlier ↦ before.each e earlier
-    | inr same ↦ subst (λ (x : Exit). HasExit rows outlets x) same (record { outlet = get_or outlets i none; among = Contains-get_or outlets i none within; is = is })
+    | inr same ↦ subst (λ (x : Exit). HasExit rows outlets x) same
+        (record { outlet = get_or outlets i none; among = Contains-get_or outlets i none within; is = is })
   ];
   every = below_more (λ j. IsOverOne rows (exits ++ exit ∷ []) (get_or outlets j none)) i
       (λ j less. let one = before.every j less in

@@ -11,7 +11,7 @@ use Rattle.walk_core.specs.Reach.{Reach, AreLeastWalks, AreWalksBelow, distance_
 use Rattle.walk_core.specs.Segments.{SendsAcross}
 use Rattle.walk_core.specs.declared.segment.Port.{Port}
 use Rattle.walk_core.specs.steps.Flooding.{segment_at}
-use Rattle.walk_core.specs.steps.Kept.{AllUnused, AreKept, IsDearPort, IsDearTo, IsUnused, IsKept, LosesDearArcs, LosesSegments}
+use Rattle.walk_core.specs.steps.Kept.{AllUnused, StayLeast, IsDearPort, IsDearTo, IsUnused, StaysLeast, LosesDearArcs, LosesSegments}
 use Rattle.walk_core.specs.steps.FirstHops.{ListFirstHops}
 use Rattle.walk_core.specs.steps.Rows.{IsDistanceRow}
 use Rattle.walk_core.specs.steps.SegmentWalks.{reach_at}
@@ -109,7 +109,12 @@ least_walks_kept arc other root reach within loses known = record {
     λ has. let hop : FirstHop arc root v h = (known.hops v h).0 has in
         record { leg = hop.leg; legs = hop.legs; walk = least_walk_down arc other root v (hop.leg ∷ hop.legs) within loses hop.walk; begins = hop.begins },
     λ hop. (known.hops v h).1
-        (record { leg = hop.leg; legs = hop.legs; walk = least_walk_up arc other root v (hop.leg ∷ hop.legs) reach within loses known hop.walk; begins = hop.begins }),
+        (record {
+          leg = hop.leg;
+          legs = hop.legs;
+          walk = least_walk_up arc other root v (hop.leg ∷ hop.legs) reach within loses known hop.walk;
+          begins = hop.begins;
+        }),
   );
 }
   where
@@ -170,17 +175,17 @@ walks_without before after lost root reach loses unused known =
     }
 
 -- what is known of a root that is marked
-pub row_kept : (arc : Arcs) (count root : ℕ) (roots : List Bool) (walks : List Reach) (reach : Reach) → AreKept arc count roots walks →
+pub row_kept : (arc : Arcs) (count root : ℕ) (roots : List Bool) (walks : List Reach) (reach : Reach) → StayLeast arc count roots walks →
     get_or roots root false ≡ true → reach ≡ reach_at walks root → (row : List (Option ℕ)) → row ≡ reach.distances → IsDistanceRow arc count root row
 row_kept arc count root roots walks reach kept marked is row same =
-    let own : IsKept arc count root (reach_at walks root) = kept root marked in
+    let own : StaysLeast arc count root (reach_at walks root) = kept root marked in
     subst (λ (l : List (Option ℕ)). IsDistanceRow arc count root l) (sym (same ∙ ap (λ (r : Reach). r.distances) is)) (record {
       least = record { least = own.least.distances; none = own.least.unreached };
       within = own.within;
       near = own.near;
     })
 
-pub hops_kept : (arc : Arcs) (count root : ℕ) (roots : List Bool) (walks : List Reach) (reach : Reach) → AreKept arc count roots walks →
+pub hops_kept : (arc : Arcs) (count root : ℕ) (roots : List Bool) (walks : List Reach) (reach : Reach) → StayLeast arc count roots walks →
     get_or roots root false ≡ true → reach ≡ reach_at walks root → (lists : List (List ℕ)) → lists ≡ reach.hops → ListFirstHops arc root lists
 hops_kept arc count root roots walks reach kept marked is lists same =
     subst (λ (l : List (List ℕ)). ListFirstHops arc root l) (sym (same ∙ ap (λ (r : Reach). r.hops) is)) (kept root marked).least.hops
@@ -189,7 +194,7 @@ hops_kept arc count root roots walks reach kept marked is lists same =
 pub roots_kept : (before after : List (List Port)) (lost : List ℕ) (count n : ℕ) (roots : List Bool) (walks : List Reach) →
     AreWalksBelow (SendsAcross before) count count walks → LosesSegments before after lost → length roots ≡ n → n ≤ length walks →
     ((u : ℕ) → u < n → get_or roots u false ≡ true → (length (reach_at walks u).distances ≤ count) × AllUnused before lost (reach_at walks u)) →
-    AreKept (SendsAcross after) count roots walks
+    StayLeast (SendsAcross after) count roots walks
 roots_kept before after lost count n roots walks known loses long few each u marked = elim (cases_lt u n) [
   | inl below ↦
       let is = each u below marked in

@@ -1,5 +1,5 @@
 -- Vertices on common segments, as routers on LANs and links: each port sends at its own cost to all others.
-use Rattle.std.specs.Prelude.{◌≡◌, ◌≢◌, ℕ, ◌^◌, ◌<◌, ◌≤◌, List, Contains}
+use Rattle.std.specs.Prelude.{◌≡◌, ◌≢◌, ℕ, ◌^◌, ◌<◌, ◌≤◌, List, [], ◌∷◌, Contains}
 use Rattle.walk_core.specs.declared.segment.Port.{Port}
 
 -- u has a port of the segment that costs this, and v has one too
@@ -33,3 +33,9 @@ pub record IsPort (count : ℕ) (port : Port) : Type 0 where
 abbrev pub AreSegments : ℕ → List (List Port) → Type 0
 AreSegments count segments =
     (segment : List Port) → Contains segments segment → (port : Port) → Contains segment port → IsPort count port
+
+-- some segments are what is left of others where some of these go, in the same order
+pub data IsLeftOf : List (List Port) → List (List Port) → Type 0 where
+  nothing : IsLeftOf [] []
+  stays : (segment : List Port) (after before : List (List Port)) → IsLeftOf after before → IsLeftOf (segment ∷ after) (segment ∷ before)
+  goes : (segment : List Port) (after before : List (List Port)) → IsLeftOf after before → IsLeftOf after (segment ∷ before)

@@ -1,9 +1,9 @@
-ghost use Rattle.std.specs.Prelude.{◌≤◌, List, IfOk, IfSome, length};
+ghost use Rattle.std.specs.Prelude.{◌≤◌, List, IfNone, IfOk, IfSome, length};
 ghost use Rattle.std.specs.Bool.{OnTrue};
 ghost use Rattle.walk_core.specs.Reach.{AreWalksBelow};
-ghost use Rattle.walk_core.specs.Segments.{AreSegments, SendsAcross};
+ghost use Rattle.walk_core.specs.Segments.{AreSegments, IsLeftOf, SendsAcross};
 ghost use Rattle.walk_core.specs.steps.Flooding.{segment_at};
-ghost use Rattle.walk_core.specs.steps.Kept.{AllUnused, AreKept, IsDearPort, IsDearTo, IsNearer, IsUnused, LosesSegments};
+ghost use Rattle.walk_core.specs.steps.Kept.{AllUnused, StayLeast, IsDearPort, IsDearTo, IsNearer, IsUnused, LosesSegments};
 ghost use Rattle.walk_core.specs.declared.segment.Port.{Port as PortValue};
 
 use crate::lost::lost_segments;
@@ -34,7 +34,7 @@ pub(crate) struct Kept<'a> {
 /// The least-cost walks from every one of so many vertices over segments, as `segment_walks` gives them, by those over other
 /// segments: where these are the same and some more, in the same order, and none where they aren't. A root keeps its walks
 /// unless one of the segments that went is on a least-cost walk from it. It takes time of both lists of segments, of the
-/// vertices and the pairs of ports that went, and of the roots that don't keep their walks.
+/// vertices and the pairs of ports that went, and of the roots that don't keep their walks. `None` where they aren't left of the others.
 pub fn segment_walks_without(
     alloc: Global,
     segments: &[Segment],
@@ -43,7 +43,8 @@ pub fn segment_walks_without(
 ) -> Result<Option<Vec<LeastWalks>>, OutOfMemory>
     requires segments { AreSegments count segments.now }
     requires known { AreWalksBelow (SendsAcross known.segments.now) count count known.walks.now }
-    ensures { IfOk result (λ found. IfSome found (λ all. AreWalksBelow (SendsAcross segments.now) count count all.items)) }
+    ensures walks { IfOk result (λ found. IfSome found (λ all. AreWalksBelow (SendsAcross segments.now) count count all.items)) }
+    ensures none { IfOk result (λ found. IfNone found (IsLeftOf segments.now known.entry.segments.now → ⊥)) }
 {
     let Some(lost) = lost_segments(alloc, known.segments, segments)? else {
         return Ok(None);
@@ -60,8 +61,18 @@ pub fn segment_walks_without(
 }
 
 impl<'a> Kept<'a> {
-    ghost use Rattle.std.specs.Prelude.{◌≡◌, ◌<◌, IfSome, slice_index_or, false, true};
+    ghost use Rattle.std.specs.Prelude.{◌≡◌, ◌<◌, [], IfSome, slice_index_or, false, true};
     ghost use Rattle.walk_core.specs.steps.SegmentWalks.{reach_at};
+
+    /// Nothing that is kept.
+    pub fn none() -> Kept<'a>
+        ensures { result.roots.now ≡ [] }
+    {
+        Kept {
+            roots: &[],
+            walks: &[],
+        }
+    }
 
     /// The walks from a root, where they are kept.
     pub fn walks_from(self, root: u32) -> Option<&'a LeastWalks>
@@ -85,7 +96,7 @@ fn kept_roots(
 ) -> Result<Vec<bool>, OutOfMemory>
     requires known { AreWalksBelow (SendsAcross known.segments.now) count count known.walks.now }
     ensures { IfOk result (λ roots. (after : List (List PortValue)) → LosesSegments known.entry.segments.now after lost.now →
-        AreKept (SendsAcross after) count roots.items known.entry.walks.now) }
+        StayLeast (SendsAcross after) count roots.items known.entry.walks.now) }
 {
     let mut roots = Vec::with_capacity(alloc, known.walks.len())?;
     for walks in known.walks {

@@ -29,7 +29,7 @@
 //! Along a chain every second root is such a one. A root without a port takes no
 //! time of its own and no row, and the rows of the others end with the last vertex that has a port. Where the walks over
 //! more segments are known, roots keep those that take none of the segments that went (`segment_walks_without`). A caller that is
-//! proved: `ZoneWalks::over` of `zone_graph`.
+//! proved: `KnownWalks::walks_over` of `zone_graph`.
 #![tactic(auto)]
 
 // graphs

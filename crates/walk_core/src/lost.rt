@@ -1,10 +1,10 @@
-ghost use Rattle.std.specs.Prelude.{◌≡◌, ◌+◌, ◌<◌, ◌≤◌, IfOk, IfSome, OnOk, length};
-ghost use Rattle.std.specs.Bool.{OnTrue};
+ghost use Rattle.std.specs.Prelude.{◌≡◌, ◌+◌, ◌<◌, ◌↔◌, IfNone, IfOk, IfSome, IsTrue, OnOk, length};
+ghost use Rattle.walk_core.specs.Segments.{IsLeftOf};
 ghost use Rattle.walk_core.specs.steps.Flooding.{segment_at};
 ghost use Rattle.walk_core.specs.steps.Kept.{AreLostBefore, HasRun, LosesSegments};
 
 use crate::OutOfMemory;
-use crate::segment::{Port, Segment};
+use crate::segment::Segment;
 use std::alloc::Global;
 
 /// A run through the segments of a list beside those of another: how many of the others were met, and at which places stand
@@ -15,13 +15,14 @@ struct Run {
     lost: Vec<usize>,
 }
 
-/// The places of the segments that went from a list, where the others are what stayed of it, in its order.
+/// The places of the segments that went from a list, where the others are what is left of it, in its order; else none.
 pub(crate) fn lost_segments(
     alloc: Global,
     before: &[Segment],
     after: &[Segment],
 ) -> Result<Option<Vec<usize>>, OutOfMemory>
-    ensures { IfOk result (λ found. IfSome found (λ lost. LosesSegments before.now after.now lost.items)) }
+    ensures lost { IfOk result (λ found. IfSome found (λ lost. LosesSegments before.now after.now lost.items)) }
+    ensures none { IfOk result (λ found. IfNone found (IsLeftOf after.now before.now → ⊥)) }
 {
     let mut run = Run {
         met: 0,
@@ -59,33 +60,10 @@ impl Run {
 
 /// Whether there is a segment at a place, and another one is the same.
 fn is_next(segments: &[Segment], place: usize, segment: &Segment) -> bool
-    ensures within { OnTrue result (place < length segments.now) }
-    ensures same { OnTrue result (segment_at segments.now place ≡ segment.now) }
+    ensures { IsTrue result ↔ ((place < length segments.now) × (segment_at segments.now place ≡ segment.now)) }
 {
     match segments.get(place) {
-        Some(own) => are_same(own.as_slice(), segment.as_slice()),
+        Some(own) => own.is_same(segment),
         None => false,
     }
-}
-
-/// Whether two lists of ports are the same.
-fn are_same(one: &[Port], other: &[Port]) -> bool
-    ensures { OnTrue result (one.now ≡ other.now) }
-{
-    if one.len() != other.len() {
-        return false;
-    }
-    for place in 0..one.len() {
-        if !is_same(one[place], other[place]) {
-            return false;
-        }
-    }
-    true
-}
-
-/// Whether two ports are the same.
-fn is_same(one: Port, other: Port) -> bool
-    ensures { OnTrue result (one ≡ other) }
-{
-    one.vertex == other.vertex && one.cost == other.cost
 }

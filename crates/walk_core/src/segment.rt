@@ -1,4 +1,4 @@
-ghost use Rattle.std.specs.Prelude.{◌≡◌, ◌<◌, length};
+ghost use Rattle.std.specs.Prelude.{◌≡◌, ◌↔◌, ◌<◌, IsTrue, length};
 ghost use Rattle.walk_core.specs.steps.Flooding.{segment_at};
 
 use std::marker::Model;
@@ -38,11 +38,20 @@ impl Model for Segment {
 }
 
 impl Segment {
+    ghost use Rattle.std.specs.Prelude.{◌≡◌, ◌↔◌, IsTrue};
+
     /// The segment of these ports.
     pub fn from_vec(ports: Vec<Port>) -> Segment
         ensures { result ≡ ports.items }
     {
         Segment { ports }
+    }
+
+    /// Whether another segment has the same ports, in the same order.
+    pub fn is_same(&self, other: &Segment) -> bool
+        ensures { IsTrue result ↔ (self.now ≡ other.now) }
+    {
+        are_same(self.as_slice(), other.as_slice())
     }
 
     /// The ports as a slice.
@@ -59,4 +68,26 @@ pub(crate) fn ports_at(segments: &[Segment], place: usize) -> &[Port]
     ensures { result.now ≡ segment_at segments.now place }
 {
     segments[place].as_slice()
+}
+
+/// Whether two lists have the same ports, in the same order.
+fn are_same(one: &[Port], other: &[Port]) -> bool
+    ensures { IsTrue result ↔ (one.now ≡ other.now) }
+{
+    if one.len() != other.len() {
+        return false;
+    }
+    for place in 0..one.len() {
+        if !is_same_port(one[place], other[place]) {
+            return false;
+        }
+    }
+    true
+}
+
+/// Whether two ports are of one vertex, at the same cost.
+fn is_same_port(one: Port, other: Port) -> bool
+    ensures { IsTrue result ↔ (one ≡ other) }
+{
+    one.vertex == other.vertex && one.cost == other.cost
 }

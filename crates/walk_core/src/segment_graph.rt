@@ -2,7 +2,7 @@ ghost use Rattle.std.specs.Prelude.{◌≡◌, ◌<◌, [], IfOk, length, slice_
 ghost use Rattle.walk_core.specs.Segments.{SendsAcross};
 ghost use Rattle.walk_core.specs.steps.Ascending.{AreAscending};
 ghost use Rattle.walk_core.specs.steps.FirstHops.{ListFirstHops};
-ghost use Rattle.walk_core.specs.steps.Kept.{AreKept};
+ghost use Rattle.walk_core.specs.steps.Kept.{StayLeast};
 ghost use Rattle.walk_core.specs.steps.SegmentWalks.{AreOutlets};
 
 use crate::beyond::all_beyond;
@@ -43,7 +43,7 @@ impl<'a> SegmentGraph<'a> {
     ghost use Rattle.walk_core.specs.Segments.{SendsAcross};
     ghost use Rattle.walk_core.specs.steps.Ends.{AreRowsFound, AreSearched, IsShortRow};
     ghost use Rattle.walk_core.specs.steps.FirstHops.{AreAllHops};
-    ghost use Rattle.walk_core.specs.steps.Kept.{AreKept};
+    ghost use Rattle.walk_core.specs.steps.Kept.{StayLeast};
     ghost use Rattle.walk_core.specs.steps.Rows.{AreDistanceRows, IsDistanceRow};
     ghost use Rattle.walk_core.specs.steps.SegmentWalks.{AreOutlets, IsJoined};
 
@@ -89,12 +89,8 @@ impl<'a> SegmentGraph<'a> {
     pub fn walks(&self, alloc: Global) -> Result<Vec<LeastWalks>, OutOfMemory>
         ensures { IfOk result (λ all. AreWalksBelow (SendsAcross self.now.segments) self.now.count self.now.count all.items) }
     {
-        let count = self.count();
         let rows = self.rows(alloc)?;
-        let beyond = all_beyond(alloc, self.segments, rows.as_slice(), count)?;
-        let ways = Ways::new(count, self.segments, rows.as_slice(), beyond.as_slice());
-        let lists = self.all_hops(alloc, &ways)?;
-        self.joined(alloc, rows, lists)
+        self.walks_by(alloc, rows, Kept::none())
     }
 
     /// The least-cost walks from every vertex, where some of them are kept.
@@ -103,14 +99,28 @@ impl<'a> SegmentGraph<'a> {
         alloc: Global,
         kept: Kept<'_>,
     ) -> Result<Vec<LeastWalks>, OutOfMemory>
-        requires { AreKept (SendsAcross self.now.segments) self.now.count kept.roots.now kept.walks.now }
+        requires { StayLeast (SendsAcross self.now.segments) self.now.count kept.roots.now kept.walks.now }
+        ensures { IfOk result (λ all. AreWalksBelow (SendsAcross self.now.segments) self.now.count self.now.count all.items) }
+    {
+        let rows = self.rows_keeping(alloc, kept)?;
+        self.walks_by(alloc, rows, kept)
+    }
+
+    /// The least-cost walks from every vertex, by the distances from it, where some of them are kept.
+    fn walks_by(
+        &self,
+        alloc: Global,
+        rows: Vec<Distances>,
+        kept: Kept<'_>,
+    ) -> Result<Vec<LeastWalks>, OutOfMemory>
+        requires rows { AreDistanceRows (SendsAcross self.now.segments) self.now.count self.now.count rows.items }
+        requires kept { StayLeast (SendsAcross self.now.segments) self.now.count kept.roots.now kept.walks.now }
         ensures { IfOk result (λ all. AreWalksBelow (SendsAcross self.now.segments) self.now.count self.now.count all.items) }
     {
         let count = self.count();
-        let rows = self.rows_keeping(alloc, kept)?;
         let beyond = all_beyond(alloc, self.segments, rows.as_slice(), count)?;
         let ways = Ways::new(count, self.segments, rows.as_slice(), beyond.as_slice());
-        let lists = self.all_hops_keeping(alloc, &ways, kept)?;
+        let lists = self.all_hops(alloc, &ways, kept)?;
         self.joined(alloc, rows, lists)
     }
 
@@ -139,7 +149,7 @@ impl<'a> SegmentGraph<'a> {
 
     /// The distances from every vertex, those of kept walks copied.
     fn rows_keeping(&self, alloc: Global, kept: Kept<'_>) -> Result<Vec<Distances>, OutOfMemory>
-        requires { AreKept (SendsAcross self.now.segments) self.now.count kept.roots.now kept.walks.now }
+        requires { StayLeast (SendsAcross self.now.segments) self.now.count kept.roots.now kept.walks.now }
         ensures { IfOk result (λ rows. AreDistanceRows (SendsAcross self.now.segments) self.now.count self.now.count rows.items) }
     {
         let count = self.count();
@@ -159,7 +169,7 @@ impl<'a> SegmentGraph<'a> {
         root: u32,
     ) -> Result<Distances, OutOfMemory>
         requires root { root < self.now.count }
-        requires kept { AreKept (SendsAcross self.now.segments) self.now.count kept.roots.now kept.walks.now }
+        requires kept { StayLeast (SendsAcross self.now.segments) self.now.count kept.roots.now kept.walks.now }
         ensures { IfOk result (IsDistanceRow (SendsAcross self.now.segments) self.now.count root) }
     {
         let Some(walks) = kept.walks_from(root) else {
@@ -170,7 +180,7 @@ impl<'a> SegmentGraph<'a> {
     }
 
     /// The first hops from every vertex, those of kept walks copied, and the others by the ways over the segments.
-    fn all_hops_keeping(
+    fn all_hops(
         &self,
         alloc: Global,
         ways: &Ways<'_>,
@@ -178,28 +188,13 @@ impl<'a> SegmentGraph<'a> {
     ) -> Result<Vec<NumberLists>, OutOfMemory>
         requires count { ways.now.count ≡ self.now.count }
         requires segments { ways.now.segments ≡ self.now.segments }
-        requires kept { AreKept (SendsAcross self.now.segments) self.now.count kept.roots.now kept.walks.now }
+        requires kept { StayLeast (SendsAcross self.now.segments) self.now.count kept.roots.now kept.walks.now }
         ensures { IfOk result (λ lists. AreAllHops (SendsAcross self.now.segments) self.now.count lists.items) }
     {
         let count = self.count();
         let mut lists = Vec::with_capacity(alloc, count as usize)?;
         for root in 0..count {
             let hops = hops_keeping(alloc, ways, kept, self.ports(root as usize), root)?;
-            lists.push(hops)?;
-        }
-        Ok(lists)
-    }
-
-    /// The first hops from every vertex, by the ways over the segments.
-    fn all_hops(&self, alloc: Global, ways: &Ways<'_>) -> Result<Vec<NumberLists>, OutOfMemory>
-        requires count { ways.now.count ≡ self.now.count }
-        requires segments { ways.now.segments ≡ self.now.segments }
-        ensures { IfOk result (λ lists. AreAllHops (SendsAcross self.now.segments) self.now.count lists.items) }
-    {
-        let count = self.count();
-        let mut lists = Vec::with_capacity(alloc, count as usize)?;
-        for root in 0..count {
-            let hops = ways.hops_from(alloc, self.ports(root as usize), root)?;
             lists.push(hops)?;
         }
         Ok(lists)
@@ -297,7 +292,7 @@ fn hops_keeping(
 ) -> Result<NumberLists, OutOfMemory>
     requires root { root < ways.now.count }
     requires outlets { AreOutlets ways.now.segments root (length ways.now.segments) outlets.now }
-    requires kept { AreKept (SendsAcross ways.now.segments) ways.now.count kept.roots.now kept.walks.now }
+    requires kept { StayLeast (SendsAcross ways.now.segments) ways.now.count kept.roots.now kept.walks.now }
     ensures exact { IfOk result (ListFirstHops (SendsAcross ways.now.segments) root) }
     ensures ascending { IfOk result AreAscending }
 {

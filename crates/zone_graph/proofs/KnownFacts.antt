@@ -15,6 +15,7 @@ pub over_their_count : (count : ℕ) (segments : List (List Port)) (walks : List
 over_their_count count segments walks over = subst (λ (n : ℕ). AreLeastOver n segments walks) (sym over.long) over
 
 -- what is known stays known when one more zone is kept
-pub knows_more : (net : Network) (known : List KnownZone) (kept : KnownZone) (other : Zone) → KnowsZone net known other → KnowsZone net (known ++ kept ∷ []) other
+pub knows_more : (net : Network) (known : List KnownZone) (kept : KnownZone) (other : Zone) → KnowsZone net known other →
+    KnowsZone net (known ++ kept ∷ []) other
 knows_more net known kept other knows =
     record { kept = knows.kept; among = Contains-append_left known (kept ∷ []) knows.kept knows.among; segments = knows.segments }

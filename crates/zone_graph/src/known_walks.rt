@@ -65,8 +65,9 @@ impl KnownWalks {
         Ok(KnownWalks { zones: known })
     }
 
-    /// The least walks of a zone, over its segments, as `ZoneWalks::over` makes them: those of a known zone with the same
-    /// segments and as many routers, where there is one. It takes the time of all known segments, or of the walks.
+    /// The least walks of a zone, over its segments: of this network, and of every other one with as many routers where some
+    /// zone has the same segments. Those of a known zone with these segments are shared, where there is one. It takes the time
+    /// of all known segments, or of the walks.
     pub fn walks_over(
         &self,
         alloc: Global,

@@ -26,7 +26,7 @@ impl Model for ZoneWalks {
 
 impl ZoneWalks {
     /// The least walks over the adjacencies of a zone (RFC 2328, section 16.1; RFC 1195). It is here for users of a network
-    /// as a library: the protocols keep a zone's segments, and take `over`.
+    /// as a library: the protocols keep a zone's segments, and take `KnownWalks::walks_over`.
     pub fn build(alloc: Global, net: &Net, zone: Zone) -> Result<ZoneWalks, OutOfMemory>
         ensures { IfOk result (AreZoneWalks net.now zone) }
     {
@@ -36,7 +36,7 @@ impl ZoneWalks {
 
     /// The least walks of a zone, over its segments: of this network, and of every other one with as many routers where some
     /// zone has the same segments. Of segments that are no zone's nothing is said.
-    pub fn over(alloc: Global, net: &Net, segments: &[Segment]) -> Result<ZoneWalks, OutOfMemory>
+    fn over(alloc: Global, net: &Net, segments: &[Segment]) -> Result<ZoneWalks, OutOfMemory>
         requires { AreSegments (length net.now) segments.now }
         ensures { IfOk result (AreWalksOver (length net.now) segments.now) }
     {

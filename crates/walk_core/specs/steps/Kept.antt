@@ -1,9 +1,10 @@
 -- Least walks that stay what they are where segments go.
-use Rattle.std.specs.Prelude.{All, ◌≡◌, ℕ, ◌+◌, ◌*◌, ◌^◌, ◌<◌, ◌≤◌, ◌⊎◌, ◌≢◌, Bool, true, false, List, Contains, Option, Some, length, slice_index_or}
+use Rattle.std.specs.Prelude.{All, ◌≡◌, ℕ, ◌+◌, ◌*◌, ◌^◌, ◌<◌, ◌≤◌, ◌⊎◌, ◌≢◌, Bool, true, false, List, Contains, Option, Some, drop, length, slice_index_or}
 use Rattle.walk_core.specs.Walks.{Arcs, LeastCost}
 use Rattle.walk_core.specs.Reach.{Reach, AreLeastWalks, distance_of}
 use Rattle.walk_core.specs.steps.Flooding.{segment_at}
 use Rattle.walk_core.specs.steps.SegmentWalks.{reach_at}
+use Rattle.walk_core.specs.Segments.{IsLeftOf}
 use Rattle.walk_core.specs.declared.segment.Port.{Port}
 
 -- over the arc from a to b, which costs this, b is farther from the root than it is
@@ -41,14 +42,14 @@ pub record LosesSegments (before after : List (List Port)) (lost : List ℕ) : T
   pub among : (segment : List Port) → Contains after segment → Contains before segment
 
 -- what is known of the walks from a root is so over these arcs, and fits so many vertices
-pub record IsKept (arc : Arcs) (count root : ℕ) (reach : Reach) : Type 0 where
+pub record StaysLeast (arc : Arcs) (count root : ℕ) (reach : Reach) : Type 0 where
   pub least : AreLeastWalks arc root reach
   pub within : length reach.distances ≤ count
   pub near : (v d : ℕ) → distance_of reach v ≡ Some d → d < count * 2 ^ 32
 
 -- it is so of each root that is marked
-abbrev pub AreKept : Arcs → ℕ → List Bool → List Reach → Type 0
-AreKept arc count roots walks = (u : ℕ) → slice_index_or roots u false ≡ true → IsKept arc count u (reach_at walks u)
+abbrev pub StayLeast : Arcs → ℕ → List Bool → List Reach → Type 0
+StayLeast arc count roots walks = (u : ℕ) → slice_index_or roots u false ≡ true → StaysLeast arc count u (reach_at walks u)
 
 -- none of the segments at some places is of use to a root
 abbrev pub AllUnused : List (List Port) → List ℕ → Reach → Type 0
@@ -60,3 +61,4 @@ pub record HasRun (n : ℕ) (before after : List (List Port)) (met : ℕ) (lost 
   pub places : (i : ℕ) → Contains lost i → i < n
   pub every : AreLostBefore n before after lost
   pub among : (j : ℕ) → j < met → (i : ℕ) × (i < n) × (segment_at before i ≡ segment_at after j)
+  pub left : IsLeftOf after before → IsLeftOf (drop met after) (drop n before)

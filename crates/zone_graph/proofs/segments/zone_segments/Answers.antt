@@ -7,7 +7,8 @@ use Rattle.zone_graph.proofs.segments.zone_segments.Goals as goal
 
 pub segments_of-requires : goal.segments_of-requires
 segments_of-requires c =
-    subst (λ (l : List Attachment). IsNonDecreasingBy (λ (a : Attachment). a.link.subnet.base) l) (sym c.as_slice.ensures.value) c.in_ok-sort_by_base.ensures.sorted
+    subst (λ (l : List Attachment). IsNonDecreasingBy (λ (a : Attachment). a.link.subnet.base) l)
+    (sym c.as_slice.ensures.value) c.in_ok-sort_by_base.ensures.sorted
 
 pub returns : goal.returns
 returns c =

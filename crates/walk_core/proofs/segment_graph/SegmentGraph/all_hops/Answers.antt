@@ -7,8 +7,8 @@ use Rattle.walk_core.specs.steps.SegmentWalks.{AreOutlets}
 use Rattle.walk_core.proofs.ReachLaws.{all_hops_more}
 use Rattle.walk_core.proofs.segment_graph.SegmentGraph.all_hops.Goals as goal
 
-pub hops_from-requires-clause-outlets : goal.hops_from-requires-clause-outlets
-hops_from-requires-clause-outlets c =
+pub hops_keeping-requires-clause-outlets : goal.hops_keeping-requires-clause-outlets
+hops_keeping-requires-clause-outlets c =
     subst (λ (s : List (List Port)). AreOutlets s c.loop-root.root (length s) c.ports.result.now) (sym c.requires.segments) c.ports.ensures.ports
 
 pub loop-root-preserved : goal.loop-root-preserved

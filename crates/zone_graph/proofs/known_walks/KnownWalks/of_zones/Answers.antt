@@ -20,7 +20,8 @@ loop-zone-preserved c =
       All-push IsKnownZone known kept c.loop-zone.invariant.0 c.in_ok-known_zone.ensures.known,
       subst (λ (l : List Zone). All (KnowsZone net (known ++ kept ∷ [])) l) (sym (take_more zones i (Area 0) c.loop-zone-test.true))
           (All-push (KnowsZone net (known ++ kept ∷ [])) (take i zones) zone
-          (All-weaker (KnowsZone net known) (KnowsZone net (known ++ kept ∷ [])) (λ other knows. knows_more net known kept other knows) (take i zones) c.loop-zone.invariant.1)
+          (All-weaker (KnowsZone net known) (KnowsZone net (known ++ kept ∷ []))
+          (λ other knows. knows_more net known kept other knows) (take i zones) c.loop-zone.invariant.1)
           (record { kept = kept; among = Contains-push known kept; segments = c.in_ok-known_zone.ensures.segments })),
     )
 
@@ -30,4 +31,5 @@ returns c =
     let net = c.args.net.now in
     let known : List KnownZone = c.loop-zone.known.items in
     All-contains (KnowsZone net known) c.args.zones.now zone
-    (subst (λ (l : List Zone). All (KnowsZone net known) l) (take_all c.loop-zone.zone-index c.args.zones.now c.loop-zone-test.false) c.loop-zone.invariant.1) among
+    (subst (λ (l : List Zone). All (KnowsZone net known) l)
+    (take_all c.loop-zone.zone-index c.args.zones.now c.loop-zone-test.false) c.loop-zone.invariant.1) among

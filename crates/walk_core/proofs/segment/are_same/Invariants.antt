@@ -1,5 +1,5 @@
 use Rattle.std.proofs.Common.{◌≡◌, take}
-use Rattle.walk_core.proofs.lost.are_same.Given as goal
+use Rattle.walk_core.proofs.segment.are_same.Given as goal
 
 abbrev pub invariant-loop-place : goal.invariant-loop-place
 invariant-loop-place l = take l.place l.one ≡ take l.place l.other

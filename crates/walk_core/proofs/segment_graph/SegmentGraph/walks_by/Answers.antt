@@ -4,16 +4,16 @@ use Rattle.walk_core.specs.Reach.{Reach}
 use Rattle.walk_core.specs.Segments.{AreSegments, SendsAcross}
 use Rattle.walk_core.specs.declared.segment.Port.{Port}
 use Rattle.walk_core.specs.steps.SegmentWalks.{IsMesh, Joined}
-use Rattle.walk_core.proofs.segment_graph.SegmentGraph.walks.Goals as goal
+use Rattle.walk_core.proofs.segment_graph.SegmentGraph.walks_by.Goals as goal
 
 pub new-ways-requires : goal.new-ways-requires
 new-ways-requires c =
     let count : ℕ = c.count-count.result in
     let segments : List (List Port) = c.self.inside.segments.now in
-    let rows : List (List (Option ℕ)) = c.in_ok-rows.rows.items in
+    let rows : List (List (Option ℕ)) = c.args.rows.items in
     let beyond : List Reach = c.in_ok-beyond.beyond.items in
     let counted : AreDistanceRows (SendsAcross c.args.self.now.segments) count count rows =
-    subst (λ (n : ℕ). AreDistanceRows (SendsAcross c.args.self.now.segments) n n rows) (sym c.count-count.ensures.value) c.in_ok-rows.ensures in
+    subst (λ (n : ℕ). AreDistanceRows (SendsAcross c.args.self.now.segments) n n rows) (sym c.count-count.ensures.value) c.requires.rows in
     subst (λ (b : List Reach). IsMesh (record { count = count; segments = segments; rows = c.as_slice-2.result.now; beyond = b }))
     (sym c.as_slice-3.ensures.value)
     (subst (λ (r : List (List (Option ℕ))). IsMesh (record { count = count; segments = segments; rows = r; beyond = beyond }))
