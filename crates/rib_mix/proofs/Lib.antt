@@ -18,3 +18,4 @@ mod EarlierLaws
 mod AnswerLaws
 mod UnlikeLaws
 mod ConnectedLaws
+mod ColumnLaws

@@ -11,3 +11,4 @@ pub mod Earlier
 pub mod Unlike
 pub mod SortSpots
 pub mod ConnectedSorts
+pub mod Columns

@@ -1,5 +1,5 @@
-ghost use Rattle.std.specs.Prelude.{◌≡◌, ◌<◌, IfOk, IfSome, length};
-ghost use Rattle.rib_mix.specs.Cells.{new_use, old_use, use_in, cell_at, no_cell};
+ghost use Rattle.std.specs.Prelude.{◌≡◌, IfOk};
+ghost use Rattle.rib_mix.specs.Cells.{new_use, old_use, use_in, no_cell};
 ghost use Rattle.rib_mix.specs.steps.Uses.{cell_between, cell_over};
 
 use crate::used::{Use, Used};
@@ -28,7 +28,8 @@ pub(crate) struct Has {
 
 impl Cell {
     /// It uses nothing.
-    fn nothing() -> Cell
+    #[inline(always)]
+    pub fn nothing() -> Cell
         ensures { result ≡ no_cell }
     {
         Cell {
@@ -106,16 +107,4 @@ fn cell_between(old: Use, new: Use, old_first: bool) -> Cell
 {
     let (middle, other) = if old_first { (old, new) } else { (new, old) };
     Cell { middle, other }
-}
-
-/// What a router uses for a sort of prefixes, and nothing where there is none.
-#[inline(always)]
-pub(crate) fn cell_at(cells: &[Cell], sort: Option<u32>) -> Cell
-    requires { IfSome sort (λ s. s < length cells.now) }
-    ensures { result ≡ cell_at cells.now sort }
-{
-    match sort {
-        Some(sort) => cells[sort as usize],
-        None => Cell::nothing(),
-    }
 }

@@ -14,14 +14,14 @@
 //! | `own` | what a router uses for each sort: what it has for its prefixes, and otherwise what it uses for their parents |
 //! | `connected` | at which routers the first prefix of each sort is connected |
 //! | `cell`, `used` | what a router uses in each phase (in Middle what it does in Old or in New), and in one of them |
-//! | `cells` | what a router uses for each sort, and by that for a class |
+//! | `columns` | what each router uses for each sort, and by that for a class |
 //! | `unlike` | the routers of which it isn't known that they treat two classes alike |
 //! | `earlier` | for each class an earlier one that every router treats alike |
 //! | `law` | that what a router does is what the definitions call its steps |
 //!
 //! `Mixed::build` takes time of routers times sorts, for each of which it reads a number of each table and no entry; of lanes
 //! times prefixes that occur, to find the sorts; and of routers times connected prefixes. `hops` looks one cell up, `originates`
-//! takes time of the router's subnets, and `add_unlike` compares two cells of each router. A cell has 8 bytes; those of a router
+//! takes time of the router's subnets, and `add_unlike` compares two cells of each router. A cell has 8 bytes; those of a sort
 //! stand side by side.
 #![tactic(auto)]
 
@@ -32,7 +32,7 @@ mod next;
 // what a router has and uses
 mod both_tables;
 mod cell;
-mod cells;
+mod columns;
 mod connected;
 mod own;
 mod spots;

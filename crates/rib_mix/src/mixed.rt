@@ -17,17 +17,17 @@ ghost use Rattle.rib_mix.specs.Laws.{HaveAnswers};
 ghost use Rattle.rib_mix.specs.steps.Sites.{AreTablesInParts, HasOspfDistance, AllOccur};
 
 use crate::both_tables::{BothTables, tables_of};
-use crate::cells::{Cells, cell_of, is_same};
+use crate::columns::{Columns, cell_of, is_same};
 use crate::connected::connected_sorts;
 use crate::earlier::earlier_classes;
 use crate::features::Features;
 use crate::homes::Homes;
 use crate::next::Next;
-use crate::own::{Shared, cells_of, sort_spots};
+use crate::own::{OfRouter, Shared, put_cells, sort_spots};
 use crate::sorts::{Sorts, sort_at};
 use crate::spots::Spots;
 use crate::subnets::Subnets;
-use crate::unlike::{add_routers, add_unlike_rows, both_sorts};
+use crate::unlike::{add_routers, add_unlike_cells, both_sorts};
 use crate::used::Used;
 use igp_theory::Phase;
 use net_addr::Prefix;
@@ -49,8 +49,8 @@ pub struct Mixed<'a, O: RouteSource, N: RouteSource> {
     subnets: Vec<Subnets>,
     /// Of each router both tables.
     tables: Vec<BothTables<'a>>,
-    /// For each router what it uses for each sort of prefixes.
-    rows: Vec<Cells>,
+    /// What each router uses for each sort of prefixes.
+    columns: Columns,
     /// For each class the sort of its longest prefix.
     sorts: Vec<Option<u32>>,
     /// For each class an earlier one that every router treats alike, where one is known.
@@ -69,7 +69,7 @@ impl<'a, O: RouteSource, N: RouteSource> Model for Mixed<'a, O, N> {
       ground = record { net = x.net.now; tables = x.tables.items };
       classes = x.atoms;
       subnets = x.subnets.items;
-      rows = x.rows.items;
+      rows = x.columns;
       sorts = x.sorts.items;
       earlier = x.earlier.items;
     }) };
@@ -101,7 +101,7 @@ impl<'a, O: RouteSource, N: RouteSource> Mixed<'a, O, N> {
             homes: sorted.homes.as_slice(),
             sorts: &sorted.sorts,
         };
-        let rows = rows_of(alloc, net, tables.as_slice(), &shared)?;
+        let columns = columns_of(alloc, net, tables.as_slice(), &shared)?;
         let class_sorts = class_sorts(alloc, &shared)?;
         let earlier = earlier_classes(alloc, &atoms, &sorted.sorts)?;
         Ok(Mixed {
@@ -111,7 +111,7 @@ impl<'a, O: RouteSource, N: RouteSource> Mixed<'a, O, N> {
             atoms,
             subnets,
             tables,
-            rows,
+            columns,
             sorts: class_sorts,
             earlier,
         })
@@ -152,7 +152,7 @@ impl<'a, O: RouteSource, N: RouteSource> Mixed<'a, O, N> {
             → IsNextAtAnEnd (migration_of O.table N.table self.now) self.now.classes router atom result }
     {
         let tables = &self.tables[router as usize];
-        let cell = cell_of(self.rows.as_slice(), self.sorts.as_slice(), router, atom);
+        let cell = cell_of(&self.columns, self.sorts.as_slice(), router, atom);
         let old = tables.old.entries;
         let new = tables.new.entries;
         next_of(old, new, cell.used(phase))
@@ -173,11 +173,11 @@ impl<'a, O: RouteSource, N: RouteSource> Mixed<'a, O, N> {
         ensures { OnTrue result
             (IsAlikeAt (migration_of O.table N.table self.now) self.now.classes router atom other) }
     {
-        let rows = self.rows.as_slice();
+        let columns = &self.columns;
         let sorts = self.sorts.as_slice();
         is_same(
-            cell_of(rows, sorts, router, atom),
-            cell_of(rows, sorts, router, other),
+            cell_of(columns, sorts, router, atom),
+            cell_of(columns, sorts, router, other),
         )
     }
 
@@ -197,7 +197,7 @@ impl<'a, O: RouteSource, N: RouteSource> Mixed<'a, O, N> {
     {
         let routers = self.net.routers();
         match both_sorts(self.sorts.as_slice(), atom, known) {
-            Some(both) => add_unlike_rows(self.rows.as_slice(), both, unlike),
+            Some(both) => add_unlike_cells(&self.columns, both, unlike),
             None => add_routers(routers, unlike),
         }
     }
@@ -271,12 +271,12 @@ fn class_sorts(alloc: Global, shared: &Shared<'_>) -> Result<Vec<Option<u32>>, O
 }
 
 /// What each router of a network uses for each sort of prefixes.
-fn rows_of(
+fn columns_of(
     alloc: Global,
     net: &Net,
     tables: &[BothTables<'_>],
     shared: &Shared<'_>,
-) -> Result<Vec<Cells>, OutOfMemory>
+) -> Result<Columns, OutOfMemory>
     requires tables { AreTablesInParts (length net.now) tables.now }
     requires occur { AllOccur shared.now.atoms.now.prefixes (record { net = net.now; tables = tables.now }) }
     requires classing { IsClassing shared.now.atoms.now }
@@ -285,26 +285,22 @@ fn rows_of(
     requires homes { AreNetHomes net.now shared.now.atoms.now.prefixes shared.now.homes.now }
     requires sorts { AreSorts (AreLike (own_placed shared.now) tables.now) shared.now.atoms.now.parents
         (length shared.now.atoms.now.parents) shared.now.sorts.now }
-    ensures { IfOk result (λ rows. AreRows (record { net = net.now; tables = tables.now }) shared.now.atoms.now.samples
-        (map (sort_at shared.now.sorts.now.of_places.items) shared.now.atoms.now.tops) rows.items) }
+    ensures { IfOk result (λ columns. AreRows (record { net = net.now; tables = tables.now }) shared.now.atoms.now.samples
+        (map (sort_at shared.now.sorts.now.of_places.items) shared.now.atoms.now.tops) columns) }
 {
     let spots = sort_spots(alloc, shared)?;
     let firsts = shared.sorts.firsts.as_slice();
     let connected = connected_sorts(alloc, net.routers(), firsts, shared.homes)?;
-    let mut rows = Vec::with_capacity(alloc, net.routers() as usize)?;
+    let mut columns = Columns::nothing(alloc, net.routers(), firsts.len())?;
     for router in 0..net.routers() {
-        let own = connected[router as usize].as_slice();
-        let both = &tables[router as usize];
-        let row = cells_of(
-            alloc,
-            spots.as_slice(),
-            own,
-            both,
-            ospf_distance(net, router),
-        )?;
-        rows.push(row)?;
+        let own = OfRouter {
+            connected: connected[router as usize].as_slice(),
+            tables: &tables[router as usize],
+            ospf: ospf_distance(net, router),
+        };
+        put_cells(&mut columns, router, spots.as_slice(), &own)?;
     }
-    Ok(rows)
+    Ok(columns)
 }
 
 /// The OSPF distance of a router.

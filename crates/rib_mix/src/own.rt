@@ -1,12 +1,13 @@
-ghost use Rattle.std.specs.Prelude.{◌≡◌, ◌<◌, IfOk, IfSome, length};
+ghost use Rattle.std.specs.Prelude.{◌≡◌, ◌<◌, [], IfOk, IfSome, OnOk, length, slice_index_or};
 ghost use Rattle.route_core.specs.Rows.{IsTable, kept_in};
+ghost use Rattle.rib_mix.specs.steps.Columns.{AreOtherRows};
 ghost use Rattle.rib_mix.specs.steps.Sorts.{IsSorting};
 ghost use Rattle.rib_mix.specs.steps.SortSpots.{AreSortSpots, AreSpotCells, HasSpots, HaveSortSpots, has_of};
 ghost use Rattle.rib_mix.specs.steps.Spots.{HaveSpots, number_at_spot};
 
 use crate::both_tables::BothTables;
-use crate::cell::{Has, cell_at, cell_over};
-use crate::cells::Cells;
+use crate::cell::{Has, cell_over};
+use crate::columns::Columns;
 use crate::homes::Homes;
 use crate::sorts::Sorts;
 use crate::spots::Spots;
@@ -61,29 +62,43 @@ pub(crate) fn sort_spots(alloc: Global, shared: &Shared<'_>) -> Result<Vec<SortS
     Ok(own)
 }
 
-/// What a router with these tables and this OSPF distance uses for each sort, by what it has for the first prefix and uses for
-/// the parents' sort, which has a lower number.
+/// Of a router what tells what it uses.
+#[derive(Clone, Copy)]
+pub(crate) struct OfRouter<'a> {
+    /// Of each sort whether its first prefix is connected.
+    pub connected: &'a [bool],
+    /// Both tables.
+    pub tables: &'a BothTables<'a>,
+    /// The OSPF distance.
+    pub ospf: u8,
+}
+
+/// Puts what a router uses for each sort, by what it has for the first prefix and uses for the parents' sort, which has a
+/// lower number.
 #[inline(never)]
-pub(crate) fn cells_of(
-    alloc: Global,
+pub(crate) fn put_cells(
+    columns: &mut Columns,
+    router: u32,
     spots: &[SortSpots],
-    connected: &[bool],
-    tables: &BothTables<'_>,
-    ospf: u8,
-) -> Result<Cells, OutOfMemory>
-    requires spots { HaveSortSpots tables.now spots.now }
-    requires connected { length connected.now ≡ length spots.now }
-    ensures { IfOk result (AreSpotCells spots.now connected.now tables.now ospf (length spots.now)) }
+    own: &OfRouter<'_>,
+) -> Result<(), OutOfMemory>
+    requires router { router < length columns.old }
+    requires sorts { length (slice_index_or columns.old router []) ≡ length spots.now }
+    requires spots { HaveSortSpots own.now.tables.now spots.now }
+    requires connected { length own.now.connected.now ≡ length spots.now }
+    ensures cells { OnOk result (AreSpotCells spots.now own.now.connected.now own.now.tables.now own.now.ospf
+        (length spots.now) (slice_index_or columns.new router [])) }
+    ensures others { OnOk result (AreOtherRows router columns.old columns.new) }
 {
-    let old_first = ospf < ISIS_DISTANCE;
-    let mut cells = Vec::with_capacity(alloc, spots.len())?;
-    for (sort, own) in spots.iter().enumerate() {
-        let has = has_of(connected[sort], tables, ospf, own);
-        let parent = cell_at(cells.as_slice(), own.parent);
+    let tables = *own.tables;
+    let old_first = own.ospf < ISIS_DISTANCE;
+    for (sort, spot) in spots.iter().enumerate() {
+        let has = has_of(own.connected[sort], &tables, own.ospf, spot);
+        let parent = columns.cell(router, spot.parent);
         let cell = cell_over(has, old_first, parent)?;
-        cells.push_reserved(cell);
+        columns.put(router, sort, cell);
     }
-    Ok(Cells::from_vec(cells))
+    Ok(())
 }
 
 /// What a router has for the first prefix of a sort.

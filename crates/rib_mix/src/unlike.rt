@@ -2,7 +2,8 @@ ghost use Rattle.std.specs.Prelude.{◌≡◌, ◌<◌, ◌^◌, ◌⊎◌, ◌+
 ghost use Rattle.rib_mix.specs.Answers.{AddsAllBut};
 ghost use Rattle.rib_mix.specs.steps.Unlike.{AreBothSorts, HaveCells, HaveSameCells};
 
-use crate::cells::Cells;
+use crate::cell::Cell;
+use crate::columns::{Columns, is_same};
 use route_core::OutOfMemory;
 
 /// The sorts of a class and of one that is known, where there is one and both have a sort.
@@ -16,37 +17,36 @@ pub(crate) fn both_sorts(sorts: &[Option<u32>], atom: u32, known: Option<u32>) -
 }
 
 /// Adds the routers whose cells of two sorts aren't the same.
-pub(crate) fn add_unlike_rows(
-    rows: &[Cells],
+pub(crate) fn add_unlike_cells(
+    columns: &Columns,
     sorts: (u32, u32),
     unlike: &mut Vec<u32>,
 ) -> Result<(), OutOfMemory>
-    requires many { length rows.now < 2 ^ 32 }
-    requires one { HaveCells rows.now sorts.0 }
-    requires other { HaveCells rows.now sorts.1 }
-    ensures { OnOk result (AddsAllBut (λ u. HaveSameCells (slice_index_or rows.now u []) sorts) (length rows.now)
+    requires many { length columns.now < 2 ^ 32 }
+    requires one { HaveCells columns.now sorts.0 }
+    requires other { HaveCells columns.now sorts.1 }
+    ensures { OnOk result (AddsAllBut (λ u. HaveSameCells (slice_index_or columns.now u []) sorts) (length columns.now)
         unlike.old.items unlike.new.items) }
 {
-    for (router, row) in rows.iter().enumerate() {
-        add_unlike_row(row, sorts, router as u32, unlike)?;
+    let others = columns.of_sort(sorts.1);
+    for (router, cell) in columns.of_sort(sorts.0).iter().enumerate() {
+        add_unlike_cell(*cell, others[router], router as u32, unlike)?;
     }
     Ok(())
 }
 
-/// Adds a router whose cells of two sorts aren't the same.
+/// Adds a router whose two cells aren't the same.
 #[inline(always)]
-fn add_unlike_row(
-    row: &Cells,
-    sorts: (u32, u32),
+fn add_unlike_cell(
+    one: Cell,
+    other: Cell,
     router: u32,
     unlike: &mut Vec<u32>,
 ) -> Result<(), OutOfMemory>
-    requires one { sorts.0 < length row.now }
-    requires other { sorts.1 < length row.now }
     ensures { OnOk result ((unlike.new.items ≡ unlike.old.items ++ router ∷ [])
-        ⊎ ((unlike.new.items ≡ unlike.old.items) × HaveSameCells row.now sorts)) }
+        ⊎ ((unlike.new.items ≡ unlike.old.items) × (one ≡ other))) }
 {
-    if row.are_same(sorts.0, sorts.1) {
+    if is_same(one, other) {
         return Ok(());
     }
     unlike.push(router)?;

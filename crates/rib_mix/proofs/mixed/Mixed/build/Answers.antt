@@ -14,8 +14,8 @@ use Rattle.rib_mix.proofs.HomeLaws.{net_homes}
 use Rattle.rib_mix.proofs.MixedLaws.{all_occur, forwarding_made}
 use Rattle.rib_mix.proofs.mixed.Mixed.build.Goals as goal
 
-pub rows_of-requires-clause-occur : goal.rows_of-requires-clause-occur
-rows_of-requires-clause-occur g c =
+pub columns_of-requires-clause-occur : goal.columns_of-requires-clause-occur
+columns_of-requires-clause-occur g c =
     subst (λ (ts : List BothTables). AllOccur c.in_ok-atoms.atoms.prefixes (record { net = c.args.net.now; tables = ts }))
     (sym c.as_slice-5.ensures.value)
     (all_occur _ _ _ _ (record { net = c.args.net.now; tables = c.in_ok-tables.tables.items }) c.in_ok-atoms.atoms
@@ -33,14 +33,14 @@ read_sorts : (all : PlacedPrefixes) (tables shown : List BothTables) (parents : 
 read_sorts all tables shown parents sorts same are =
     subst (λ (ts : List BothTables). AreSorts (AreLike all ts) parents (length parents) sorts) same are
 
-pub rows_of-requires-clause-homes : goal.rows_of-requires-clause-homes
-rows_of-requires-clause-homes g c =
+pub columns_of-requires-clause-homes : goal.columns_of-requires-clause-homes
+columns_of-requires-clause-homes g c =
     subst (AreNetHomes c.args.net.now c.in_ok-atoms.atoms.prefixes) (sym c.as_slice-4.ensures.value)
     (read_homes c.args.net.now c.in_ok-atoms.atoms.prefixes c.in_ok-subnets.subnets.items c.as_slice-2.result.now
     c.in_ok-sorted.sorted.homes.items c.as_slice-2.ensures.value c.in_ok-subnets.ensures c.in_ok-sorted.ensures.homes)
 
-pub rows_of-requires-clause-sorts : goal.rows_of-requires-clause-sorts
-rows_of-requires-clause-sorts g c =
+pub columns_of-requires-clause-sorts : goal.columns_of-requires-clause-sorts
+columns_of-requires-clause-sorts g c =
     let parents : List (Option ℕ) = c.in_ok-atoms.atoms.parents in
     subst (λ (homes : List (List ℕ)). AreSorts (AreLike (record { spots = c.in_ok-spots.spots; homes = homes })
     c.as_slice-5.result.now) parents (length parents) c.in_ok-sorted.sorted.sorts) (sym c.as_slice-4.ensures.value)
@@ -54,7 +54,7 @@ invariant_of-result g c =
       ground = record { net = c.args.net.now; tables = c.in_ok-tables.tables.items };
       classes = c.in_ok-atoms.atoms;
       subnets = c.in_ok-subnets.subnets.items;
-      rows = c.in_ok-rows.rows.items;
+      rows = c.in_ok-columns.columns;
       sorts = c.in_ok-class_sorts.class_sorts.items;
       earlier = c.in_ok-earlier.earlier.items;
     } in
@@ -65,7 +65,7 @@ invariant_of-result g c =
     c.as_slice-5.ensures.value
     (subst (λ (ss : List (Option ℕ)). AreRows
     (record { net = c.args.net.now; tables = c.as_slice-5.result.now }) kept.classes.samples ss kept.rows)
-    (sym c.in_ok-class_sorts.ensures) c.in_ok-rows.ensures) in
+    (sym c.in_ok-class_sorts.ensures) c.in_ok-columns.ensures) in
     let long : length kept.sorts ≡ length kept.classes.samples =
     omega (
       arith,

@@ -1,4 +1,4 @@
-use Rattle.std.proofs.Common.{◌<◌, ◌^◌, get_or, subst, sym}
+use Rattle.std.proofs.Common.{◌<◌, ◌^◌, get_or, refl, subst, sym}
 use Rattle.igp_theory.specs.declared.phase.Phase.{Phase}
 use Rattle.rib_mix.specs.Answers.{IsNextAtAnEnd, IsNextOf}
 use Rattle.rib_mix.specs.Mixture.{Mixture, migration_of}
@@ -11,9 +11,9 @@ use Rattle.rib_mix.proofs.mixed.Mixed.hops.Goals as goal
 
 pub cell_of-cell-requires-clause-sort : goal.cell_of-cell-requires-clause-sort
 cell_of-cell-requires-clause-sort g c =
-    sort_read _ _ _ c.as_slice.result.now c.as_slice-2.result.now c.args.router c.args.atom c.self.invariant.forwarding
-    c.as_slice.ensures.value
-    c.as_slice-2.ensures.value (router_along _ _ c.args.router c.self.view_is c.requires.router)
+    sort_read _ _ _ c.self.inside.columns c.as_slice.result.now c.args.router c.args.atom c.self.invariant.forwarding
+    refl
+    c.as_slice.ensures.value (router_along _ _ c.args.router c.self.view_is c.requires.router)
     (atom_along _ _ c.args.atom c.self.view_is c.requires.atom)
 
 pub next_of-requires : goal.next_of-requires
@@ -21,10 +21,10 @@ next_of-requires g c =
     let router = router_along _ _ c.args.router c.self.view_is c.requires.router in
     let atom = atom_along _ _ c.args.atom c.self.view_is c.requires.atom in
     let here = home _ _ _ c.args.router c.index-tables.result.now c.self.invariant.forwarding router c.index-tables.ensures in
-    let cell = cell_read _ _ _ _ c.as_slice.result.now c.as_slice-2.result.now c.args.router c.args.atom c.cell_of-cell.result
+    let cell = cell_read _ _ _ _ c.self.inside.columns c.as_slice.result.now c.args.router c.args.atom c.cell_of-cell.result
     c.self.invariant.forwarding here
-    c.as_slice.ensures.value
-    c.as_slice-2.ensures.value atom c.cell_of-cell.ensures in
+    refl
+    c.as_slice.ensures.value atom c.cell_of-cell.ensures in
     subst (λ (way : Used). IsKeptUse c.index-tables.result.now.old.entries.now c.index-tables.result.now.new.entries.now way) (sym c.used.ensures)
     (cell c.args.phase).within
 
@@ -33,10 +33,10 @@ returns g c =
     let router = router_along _ _ c.args.router c.self.view_is c.requires.router in
     let atom = atom_along _ _ c.args.atom c.self.view_is c.requires.atom in
     let here = home _ _ _ c.args.router c.index-tables.result.now c.self.invariant.forwarding router c.index-tables.ensures in
-    let cell = cell_read _ _ _ _ c.as_slice.result.now c.as_slice-2.result.now c.args.router c.args.atom c.cell_of-cell.result
+    let cell = cell_read _ _ _ _ c.self.inside.columns c.as_slice.result.now c.args.router c.args.atom c.cell_of-cell.result
     c.self.invariant.forwarding here
-    c.as_slice.ensures.value
-    c.as_slice-2.ensures.value atom c.cell_of-cell.ensures in
+    refl
+    c.as_slice.ensures.value atom c.cell_of-cell.ensures in
     let shows : ShowsUse c.index-tables.result.now.old.entries.now c.index-tables.result.now.new.entries.now
     (use_in c.cell_of-cell.result c.args.phase)
     c.next_of.result =

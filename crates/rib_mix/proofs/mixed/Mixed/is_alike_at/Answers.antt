@@ -1,4 +1,4 @@
-use Rattle.std.proofs.Common.{subst, ◌∙◌}
+use Rattle.std.proofs.Common.{refl, subst, ◌∙◌}
 use Rattle.std.proofs.lemmas.Bool.{OnTrue_at, OnTrue_from}
 use Rattle.rib_mix.specs.Answers.{IsAlikeAt}
 use Rattle.rib_mix.specs.Mixture.{Mixture, migration_of}
@@ -8,14 +8,14 @@ use Rattle.rib_mix.proofs.mixed.Mixed.is_alike_at.Goals as goal
 
 pub cell_of-requires-clause-sort : goal.cell_of-requires-clause-sort
 cell_of-requires-clause-sort g c =
-    sort_read _ _ _ c.as_slice-rows.result.now c.as_slice-sorts.result.now c.args.router c.args.atom c.self.invariant.forwarding
-    c.as_slice-rows.ensures.value c.as_slice-sorts.ensures.value (router_along _ _ c.args.router c.self.view_is c.requires.router)
+    sort_read _ _ _ c.self.inside.columns c.as_slice-sorts.result.now c.args.router c.args.atom c.self.invariant.forwarding
+    refl c.as_slice-sorts.ensures.value (router_along _ _ c.args.router c.self.view_is c.requires.router)
     (atom_along _ _ c.args.atom c.self.view_is c.requires.atom)
 
 pub cell_of-requires-2-clause-sort : goal.cell_of-requires-2-clause-sort
 cell_of-requires-2-clause-sort g c =
-    sort_read _ _ _ c.as_slice-rows.result.now c.as_slice-sorts.result.now c.args.router c.args.other c.self.invariant.forwarding
-    c.as_slice-rows.ensures.value c.as_slice-sorts.ensures.value (router_along _ _ c.args.router c.self.view_is c.requires.router)
+    sort_read _ _ _ c.self.inside.columns c.as_slice-sorts.result.now c.args.router c.args.other c.self.invariant.forwarding
+    refl c.as_slice-sorts.ensures.value (router_along _ _ c.args.router c.self.view_is c.requires.router)
     (atom_along _ _ c.args.other c.self.view_is c.requires.other)
 
 pub returns : goal.returns
@@ -30,10 +30,10 @@ returns g c =
     x.classes c.args.router c.args.atom c.args.other)
     c.self.view_is
     (alike_cells _ c.args.atom c.args.other c.cell_of.result here.1.place atom other
-    (cell_read _ _ _ _ c.as_slice-rows.result.now c.as_slice-sorts.result.now c.args.router c.args.atom c.cell_of.result
+    (cell_read _ _ _ _ c.self.inside.columns c.as_slice-sorts.result.now c.args.router c.args.atom c.cell_of.result
     c.self.invariant.forwarding here.1
-    c.as_slice-rows.ensures.value c.as_slice-sorts.ensures.value atom c.cell_of.ensures)
-    (cell_read _ _ _ _ c.as_slice-rows.result.now c.as_slice-sorts.result.now c.args.router c.args.other c.cell_of.result
+    refl c.as_slice-sorts.ensures.value atom c.cell_of.ensures)
+    (cell_read _ _ _ _ c.self.inside.columns c.as_slice-sorts.result.now c.args.router c.args.other c.cell_of.result
     c.self.invariant.forwarding here.1
-    c.as_slice-rows.ensures.value c.as_slice-sorts.ensures.value other (OnTrue_at holds c.is_same.ensures
+    refl c.as_slice-sorts.ensures.value other (OnTrue_at holds c.is_same.ensures
     ∙ c.cell_of-2.ensures))))

@@ -1,21 +1,22 @@
-use Rattle.std.proofs.Common.{◌≡◌, ◌<◌, ℕ, Bool, List, [], Some, get_or, length, map, slice_get, arith, refl, sym, subst, ◌∙◌}
+use Rattle.std.proofs.Common.{◌≡◌, ◌<◌, inl, inr, ℕ, Bool, List, [], Some, below_more, get_or, length, map, slice_get, ap, arith, refl, sym, subst, ◌∙◌}
+use Rattle.std.proofs.lemmas.Bool.{cases_eq}
 use Rattle.std.proofs.lemmas.List.{get_or_default}
-use Rattle.std.proofs.lemmas.Option.{same_Some, slice_get_read}
+use Rattle.std.proofs.lemmas.Option.{get_or_from_slice_get, same_Some, slice_get_read, slice_get_within}
 use Rattle.prefix_atoms.specs.Classes.{Classes}
 use Rattle.rib_mix.specs.Rows.{Ground, IsRow, site}
 use Rattle.rib_mix.specs.declared.both_tables.BothTables.{BothTables}
 use Rattle.rib_mix.specs.declared.cell.Cell.{Cell}
 use Rattle.rib_mix.specs.declared.own.SortSpots.{SortSpots}
 use Rattle.rib_mix.specs.declared.sorts.Sorts.{Sorts}
+use Rattle.rib_mix.specs.steps.Columns.{AreOtherRows, HaveLength}
 use Rattle.rib_mix.specs.steps.ConnectedSorts.{AreConnectedSorts}
 use Rattle.rib_mix.specs.steps.Sorts.{sort_at}
 use Rattle.rib_mix.specs.steps.SortSpots.{AreSpotCells, HaveSortSpots}
 use Rattle.rib_mix.proofs.RowLaws.{IsServing, row_of_cells, sort_spots_in}
-use Rattle.prefix_atoms.proofs.Pushed.{count_more, each_more}
-use Rattle.rib_mix.proofs.mixed.rows_of.Goals as goal
+use Rattle.rib_mix.proofs.mixed.columns_of.Goals as goal
 
-pub cells_of-requires-clause-spots : goal.cells_of-requires-clause-spots
-cells_of-requires-clause-spots c =
+pub put_cells-requires-clause-spots : goal.put_cells-requires-clause-spots
+put_cells-requires-clause-spots c =
     let router : ℕ = c.loop-router.router in
     let both : BothTables = c.index-tables-router.result in
     let g : Ground = record { net = c.args.net.now; tables = c.args.tables.now } in
@@ -31,9 +32,17 @@ cells_of-requires-clause-spots c =
     let here : slice_get c.args.tables.now router ≡ Some both =
     slice_get_read c.args.tables.now (length c.args.tables.now) router both refl
     (omega (arith, c.loop-router-test.true, c.requires.tables.count, c.routers-router-end.ensures.count)) c.index-tables-router.is in
-    subst (HaveSortSpots both) (sym c.as_slice.ensures.value)
+    subst (HaveSortSpots both) (sym c.as_slice-in-loop-router.ensures.value)
     (sort_spots_in g c.args.shared.now.atoms.now c.args.shared.now.spots.now c.args.shared.now.homes.now
     c.args.shared.now.sorts.now router both c.in_ok-spots.spots.items serving here c.in_ok-spots.ensures)
+
+-- of so many cells is each row, where the new one is
+lengths_kept : (u sorts : ℕ) (old new : List (List Cell)) → AreOtherRows u old new → length (get_or new u []) ≡ sorts
+    → HaveLength sorts old → HaveLength sorts new
+lengths_kept u sorts old new others own are v below = elim (cases_eq v u) [
+  | inl same ↦ subst (λ (n : ℕ). length (get_or new n []) ≡ sorts) (sym same) own
+  | inr apart ↦ ap length (others.others v apart) ∙ are v (omega (arith, below, others.count))
+]
 
 pub loop-router-preserved : goal.loop-router-preserved
 loop-router-preserved c =
@@ -46,6 +55,7 @@ loop-router-preserved c =
     let homes : List (List ℕ) = c.args.shared.now.homes.now in
     let spots : List SortSpots = c.in_ok-spots.spots.items in
     let flags : List (List Bool) = c.in_ok-connected.connected.items in
+    let row : List Cell = get_or c.put_cells.new.columns router [] in
     let inside : router < length c.args.net.now = omega (arith, c.loop-router-test.true, c.routers-router-end.ensures.count) in
     let serving : IsServing g classes c.args.shared.now.spots.now homes sorts = record {
       tables_are = c.requires.tables;
@@ -62,24 +72,43 @@ loop-router-preserved c =
     subst (λ (n : ℕ). AreConnectedSorts n sorts.firsts.items homes (length sorts.firsts.items) flags) c.routers.ensures.count
     (subst (λ (firsts : List ℕ). AreConnectedSorts c.routers.result firsts homes (length firsts) flags)
     c.as_slice-firsts.ensures.value c.in_ok-connected.ensures) in
-    let own : c.as_slice-own.result.now ≡ get_or flags router [] =
-    c.as_slice-own.ensures ∙ c.index.ensures
+    let own : c.as_slice.result.now ≡ get_or flags router [] =
+    c.as_slice.ensures ∙ c.index.ensures
     ∙ get_or_default flags router c.index.result.now [] (omega (arith, inside, flagged.flags.count)) in
-    let made : AreSpotCells spots (get_or flags router []) both ospf (length spots) c.in_ok-row.row =
-    subst (λ (row : List Bool). AreSpotCells spots row both ospf (length spots) c.in_ok-row.row) own
-    (subst (λ (all : List SortSpots). AreSpotCells all c.as_slice-own.result.now both ospf (length all) c.in_ok-row.row)
-    c.as_slice.ensures.value c.in_ok-row.ensures) in
-    let row : IsRow (site g router both) classes.samples (map (sort_at sorts.of_places.items) classes.tops) c.in_ok-row.row =
-    row_of_cells g classes c.args.shared.now.spots.now homes sorts router both ospf spots flags c.in_ok-row.row serving here
+    let made : AreSpotCells spots (get_or flags router []) both ospf (length spots) row =
+    subst (λ (flags : List Bool). AreSpotCells spots flags both ospf (length spots) row) own
+    (subst (λ (all : List SortSpots). AreSpotCells all c.as_slice.result.now both ospf (length all) row)
+    c.as_slice-in-loop-router.ensures.value c.in_ok-put_cells.ensures.cells) in
+    let is_row : IsRow (site g router both) classes.samples (map (sort_at sorts.of_places.items) classes.tops) row =
+    row_of_cells g classes c.args.shared.now.spots.now homes sorts router both ospf spots flags row serving here
     c.ospf_distance.ensures.network c.ospf_distance.ensures.distance c.in_ok-spots.ensures flagged inside made in
+    let others : AreOtherRows router c.loop-router.columns c.put_cells.new.columns = c.in_ok-put_cells.ensures.others in
     record {
-      count = count_more c.loop-router.rows.items c.push.new.self.items c.in_ok-row.row router c.loop-router.invariant.count
-          c.in_ok-push.ensures.items;
-      each = each_more
-          (λ (u : ℕ) (row : List Cell). (both : BothTables) → slice_get c.args.tables.now u ≡ Some both → IsRow (site g u both)
-          classes.samples (map (sort_at sorts.of_places.items) classes.tops) row)
-          c.loop-router.rows.items c.push.new.self.items c.in_ok-row.row router c.loop-router.invariant.count
-          c.loop-router.invariant.each c.in_ok-push.ensures.items
+      count = others.count ∙ c.loop-router.invariant.count;
+      lengths = lengths_kept router (length sorts.firsts.items) c.loop-router.columns c.put_cells.new.columns others
+          (made.count ∙ c.in_ok-spots.ensures.count) c.loop-router.invariant.lengths;
+      each = below_more
+          (λ u. (both : BothTables) → slice_get c.args.tables.now u ≡ Some both → IsRow (site g u both)
+          classes.samples (map (sort_at sorts.of_places.items) classes.tops) (get_or c.put_cells.new.columns u []))
+          router
+          (λ u below both at. subst (IsRow (site g u both) classes.samples (map (sort_at sorts.of_places.items) classes.tops))
+          (sym (others.others u (λ same. absurd (omega (arith, same, below))))) (c.loop-router.invariant.each u below both at))
           (λ other at. subst (λ (b : BothTables). IsRow (site g router b) classes.samples
-          (map (sort_at sorts.of_places.items) classes.tops) c.in_ok-row.row) (same_Some both other (sym here ∙ at)) row);
+          (map (sort_at sorts.of_places.items) classes.tops) row) (same_Some both other (sym here ∙ at)) is_row);
     }
+
+pub returns : goal.returns
+returns c = record {
+  count = c.loop-router.invariant.count;
+  each = λ u row at both at_both. subst
+      (IsRow (site (record { net = c.args.net.now; tables = c.args.tables.now }) u both) c.args.shared.now.atoms.now.samples
+      (map (sort_at c.args.shared.now.sorts.now.of_places.items) c.args.shared.now.atoms.now.tops))
+      (get_or_from_slice_get c.loop-router.columns u row [] at)
+      (c.loop-router.invariant.each u (omega (
+        arith,
+        slice_get_within c.loop-router.columns u row at,
+        c.loop-router.invariant.count,
+        c.loop-router-test.false,
+        c.routers-router-end.ensures.count,
+      )) both at_both);
+}
