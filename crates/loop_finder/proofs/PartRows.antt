@@ -20,13 +20,13 @@ use Rattle.order_core.specs.Marks.{IsMarked}
 use Rattle.prefix_atoms.specs.Classes.{IsInClass}
 use Rattle.rib_mix.specs.Answers.{AddsAllBut, IsAlikeAt, IsAlikeToKnown}
 use Rattle.loop_finder.specs.steps.Ends.{ReadHops, AreNoHops, EndStep, HasBothSteps, hops_at}
-use Rattle.loop_finder.specs.steps.Making.{IsHopsOf, IsMaking, IsRead, IsReadAt, IsSameAt, ReadsSeen}
+use Rattle.loop_finder.specs.steps.Making.{IsHopsOf, IsMaking, IsRead, IsReadAt, IsSameAt, KnowsUnlike, ReadsSeen}
 use Rattle.loop_finder.specs.steps.PartRows.{AreKept, HasHops, HasMarked, HaveHops, IsRowOf, AreFirstRows}
 use Rattle.loop_finder.specs.Parts.{PhaseHops, hops_of, no_hops, StepsOf, StepsEver, HasStepOf, AllMove, HaveReturning, IsPart}
 use Rattle.loop_finder.specs.steps.Parts.{AreAllBut, AddsUnless}
 use Rattle.loop_finder.specs.steps.Returns.{MarksAgain, MarksReturns}
-use Rattle.loop_finder.specs.Mixes.{Mix, migration_in, class_in, ClassIn, least_of}
-use Rattle.loop_finder.specs.declared.parts.Making.{Making}
+use Rattle.loop_finder.specs.Mixes.{Mix, migration_in, class_in, ClassIn, least_of, sample_of}
+use Rattle.loop_finder.specs.declared.making.Making.{Making}
 use Rattle.loop_finder.proofs.ClassFacts.{steps_to_those}
 use Rattle.loop_finder.proofs.ClassVerdicts.{one_target}
 use Rattle.loop_finder.proofs.Returning.{follows_on}
@@ -98,16 +98,6 @@ returns_again one other n changed before marks olds news same returns again u h 
       | inl among ↦ absurd (apart among)
       | inr is ↦ was x y is steps
     ]
-
--- where none changed, the same routers are returned to
-pub returns_still : (one other : ReadHops) (n : ℕ) (changed : List ℕ) (marks : List Bool) → length changed ≡ 0 → length other.olds ≡ n
-    → length other.news ≡ n → AreAllBut (IsSameAt one other) n changed → MarksReturns (EndStep one) marks
-    → MarksReturns (EndStep other) marks
-returns_still one other n changed marks none olds news same returns =
-    returns_again one other n changed marks marks olds news same returns (λ u h hops follows. inr (
-      (λ marked. marked),
-      follows_over (λ x y steps. (steps, λ among. omega (arith, among.1, none))) u (h ∷ hops) u follows,
-    ))
 
 -- where each router has a step in both ends or is one of the target's, all others move
 pub all_move_from : (c : ClassIn) (p : Block) (lists : ReadHops)
@@ -305,3 +295,14 @@ reads_all m known atom first lists seen was reads all u router = elim (all.whole
     | inr same ↦ read_same (class_in m atom) first lists u (known_read m known atom first u router was alike) same
   ]
 ]
+
+-- so the class is read
+pub is_read : (m : Mix) (making : Making) (atom : ℕ) (lists : ReadHops) → IsInClass m.classes atom (sample_of m.classes atom)
+    → KnowsUnlike m atom making → length lists.olds ≡ length m.net → length lists.news ≡ length m.net
+    → ReadsSeen (class_in m atom) making.changed.items making.lists lists → IsRead (class_in m atom) lists
+is_read m making atom lists least knows olds news reads = record {
+  least = least;
+  olds_many = olds;
+  news_many = news;
+  each = reads_all m making.known atom making.lists lists making.changed.items knows.class.known_is reads knows.unlike;
+}

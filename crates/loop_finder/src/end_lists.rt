@@ -1,11 +1,9 @@
-ghost use Rattle.std.specs.Prelude.{◌≡◌, ◌<◌, ℕ, IfOk, IfSome, OnOk, length, slice_set};
+ghost use Rattle.std.specs.Prelude.{◌≡◌, ◌<◌, ℕ, All, IfOk, length, slice_set};
 ghost use Rattle.std.specs.Bool.{OnTrue};
-ghost use Rattle.prefix_atoms.specs.Classes.{IsInClass};
 ghost use Rattle.loop_finder.specs.steps.EndPairs.{new_hops, old_hops};
 ghost use Rattle.loop_finder.specs.steps.Ends.{HasBothSteps, hops_at};
-ghost use Rattle.loop_finder.specs.steps.Making.{AreNoEnds, IsRead, IsReadAt, IsSameAt};
-ghost use Rattle.loop_finder.specs.steps.Parts.{AreAllBut};
-ghost use Rattle.loop_finder.specs.Mixes.{mix_of, sample_of, class_in};
+ghost use Rattle.loop_finder.specs.steps.Making.{AreNoEnds, IsReadAt, IsSameAt, ReadsSeen};
+ghost use Rattle.loop_finder.specs.Mixes.{mix_of, class_in};
 
 use crate::class_hops::next_hops;
 use crate::ends::Ends;
@@ -38,6 +36,14 @@ impl<'m> EndLists<'m> {
         let none: &'m [u32] = &[];
         let all = vec![in alloc; Ends::Each(none, none); routers as usize]?;
         Ok(EndLists { all })
+    }
+
+    /// Takes over the hops that another has of as many routers.
+    pub fn copy_from(&mut self, other: &EndLists<'m>)
+        requires { length self.old.olds ≡ length other.now.olds }
+        ensures { self.new ≡ other.now }
+    {
+        self.all.copy_from_slice(other.all.as_slice());
     }
 
     /// Whether a router has a hop in both networks.
@@ -82,28 +88,24 @@ impl<'m> EndLists<'m> {
     }
 }
 
-/// Reads a class, and tells the routers that are read: those that don't do the same as for the class that is known.
+/// Reads some routers for a class.
 pub(crate) fn read_class<'m, O: RouteSource, N: RouteSource>(
     mixed: &'m Mixed<'_, O, N>,
     atom: u32,
-    known: Option<u32>,
+    routers: &[u32],
     lists: &mut EndLists<'m>,
-    changed: &mut Vec<u32>,
-) -> Result<(), OutOfMemory>
-    requires least { IsInClass mixed.now.classes atom (sample_of mixed.now.classes atom) }
+)
+    requires atom { atom < length mixed.now.classes.samples }
+    requires routers { All (λ u. u < length mixed.now.net) routers.now }
     requires olds { length lists.old.olds ≡ length mixed.now.net }
     requires news { length lists.old.news ≡ length mixed.now.net }
-    requires known { IfSome known (λ other. IsRead (class_in (mix_of O.table N.table mixed.now) other) lists.old) }
-    ensures read { OnOk result (IsRead (class_in (mix_of O.table N.table mixed.now) atom) lists.new) }
-    ensures changed { OnOk result (AreAllBut (IsSameAt lists.old lists.new) (length mixed.now.net) changed.new.items) }
+    ensures olds { length lists.new.olds ≡ length mixed.now.net }
+    ensures news { length lists.new.news ≡ length mixed.now.net }
+    ensures reads { ReadsSeen (class_in (mix_of O.table N.table mixed.now) atom) routers.now lists.old lists.new }
 {
-    changed.clear();
-    mixed.add_unlike(atom, known, changed)?;
-    let unlike = changed.as_slice();
-    for router in unlike {
+    for router in routers {
         read_router(mixed, atom, *router, lists);
     }
-    Ok(())
 }
 
 /// Reads a router.

@@ -14,7 +14,7 @@ ghost use Rattle.loop_finder.specs.Times.{times_in};
 
 use crate::calm::Calm;
 use crate::fault::Fault;
-use crate::known::{shared_states, sound_states};
+use crate::known::{is_sound_start, shared_states, sound_states};
 use crate::order_fault::{order_fault, state_fault};
 use crate::parts::parts_of;
 use crate::pieces::pieces_of;
@@ -162,6 +162,9 @@ impl<'a, O: RouteSource, N: RouteSource> Finder<'a, O, N> {
         ensures mixture { self.new.mixture ≡ self.old.mixture }
         ensures start { self.new.start ≡ self.old.start }
     {
+        if is_sound_start(self.begun, self.start.as_slice(), phases) {
+            return None;
+        }
         state_fault(&self.subject, phases, &mut self.work.room)
     }
 
@@ -177,6 +180,9 @@ impl<'a, O: RouteSource, N: RouteSource> Finder<'a, O, N> {
         ensures mixture { self.new.mixture ≡ self.old.mixture }
         ensures start { self.new.start ≡ self.old.start }
     {
+        if is_sound_start(self.begun, self.start.as_slice(), phases) {
+            return None;
+        }
         let found = state_fault(&self.subject, phases, &mut self.work.room);
         let mixed = self.subject.mixed;
         tag_found(

@@ -1,7 +1,32 @@
-ghost use Rattle.std.specs.Prelude.{◌≡◌, ◌+◌, ◌*◌, ◌<◌, ◌≤◌, ℕ, MatchOption, length, slice_index};
+ghost use Rattle.std.specs.Prelude.{◌≡◌, ◌+◌, ◌*◌, ◌<◌, ◌≤◌, ℕ, MatchOption, length, slice_index, true};
+ghost use Rattle.std.specs.Bool.{OnTrue};
+ghost use Rattle.igp_theory.specs.Phases.{state_in};
 ghost use Rattle.igp_theory.specs.States.{state_of};
 
 use crate::fault::Fault;
+use rib_mix::Phase;
+
+/// Whether a state is the start, of which `begun` tells that it's sound.
+pub(crate) fn is_sound_start(begun: bool, start: &[Phase], phases: &[Phase]) -> bool
+    requires { length start.now ≡ length phases.now }
+    ensures begun { OnTrue result (begun ≡ true) }
+    ensures same { OnTrue result (state_in start.now ≡ state_in phases.now) }
+{
+    begun && are_same(start, phases)
+}
+
+/// Whether two states of as many routers are the same.
+fn are_same(one: &[Phase], other: &[Phase]) -> bool
+    requires { length one.now ≡ length other.now }
+    ensures { OnTrue result (state_in one.now ≡ state_in other.now) }
+{
+    for place in 0..one.len() {
+        if one[place] != other[place] {
+            return false;
+        }
+    }
+    true
+}
 
 /// How many states from the first on an order shares with another of as many routers, of whose states so many are asked
 /// about.

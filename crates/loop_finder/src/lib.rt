@@ -13,6 +13,7 @@
 //! | `span`, `room`, `work` | two states, and room to work in |
 //! | `ends`, `end_lists`, `class_hops` | the hops of a class in both networks, and where they changed |
 //! | `layers`, `chains`, `level_marks` | where a walk may return, by one search for strongly connected components, chains at once |
+//! | `making` | what is known of the two latest classes, from the nearer of which a class is read |
 //! | `parts`, `part` | the parts |
 //! | `pieces`, `cutting`, `cut_check` | their pieces: a walk that returns stays in one of them, and parts share them |
 //! | `watch`, `known` | which parts a change of a router concerns, and what is known of the latest order |
@@ -23,7 +24,7 @@
 //! | `retag` | the tags by another start |
 //!
 //! `new` takes time of classes times routers, of classes times parts, and of the steps to which steps lead from routers that
-//! don't do the same as for the class before; an order that of its changes and of the walks behind the first place at which it
+//! don't do the same as for the nearer of the two classes before; an order that of its changes and of the walks behind the first place at which it
 //! differs from the latest one; a timetable that of the waves from the first changed one on. No call takes memory after `new`.
 #![tactic(auto)]
 
@@ -45,6 +46,7 @@ mod graph;
 mod chains;
 mod layers;
 mod level_marks;
+mod making;
 mod part;
 mod parts;
 mod watch;

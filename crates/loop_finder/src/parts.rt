@@ -1,79 +1,20 @@
-ghost use Rattle.std.specs.Prelude.{◌≡◌, ◌+◌, ◌<◌, ℕ, All, None, Some, IfOk, OnOk, length};
+ghost use Rattle.std.specs.Prelude.{◌≡◌, ◌+◌, ◌<◌, ℕ, All, IfOk, OnOk, length};
 ghost use Rattle.std.specs.Bool.{OnTrue};
 ghost use Rattle.net_model.specs.Refusals.{IsNetwork};
-ghost use Rattle.prefix_atoms.specs.Classes.{IsInClass};
 ghost use Rattle.loop_finder.specs.steps.Targets.{IsTargetIn};
-ghost use Rattle.loop_finder.specs.steps.Making.{IsKnownClass, IsMaking, IsRead};
+ghost use Rattle.loop_finder.specs.steps.Making.{IsMaking, IsRead, KnowsBoth};
 ghost use Rattle.loop_finder.specs.steps.PartRows.{HasEarlierHops};
 ghost use Rattle.loop_finder.specs.Parts.{AllMove, AreParts, IsCovered};
 ghost use Rattle.loop_finder.specs.Mixes.{mix_of, sample_of, class_in};
 
 use crate::class_fault::{ClassTarget, class_target};
-use crate::end_lists::{EndLists, read_class};
-use crate::layers::Layers;
-use crate::level_marks::mark_returns;
 use crate::live::none_marked;
+use crate::making::{Making, Makings};
 use crate::part::{Part, digest_of};
 use net_addr::Prefix;
 use rib_mix::{Mixed, OutOfMemory};
 use route_core::RouteSource;
 use std::alloc::Global;
-
-/// What parts are made with: what was read of the latest class, and what is known of it.
-#[derive(Drop)]
-pub(crate) struct Making<'m> {
-    /// The class, none before the first.
-    pub known: Option<u32>,
-    /// What was read of it.
-    pub lists: EndLists<'m>,
-    /// The routers that were read anew for it: what they do isn't known to be the same as for the class before.
-    pub changed: Vec<u32>,
-    /// For each router whether a walk over the class's steps may return to it.
-    pub marks: Vec<bool>,
-    /// The layers of the routers.
-    pub layers: Layers,
-}
-
-impl<'m> Making<'m> {
-    /// What the parts of so many routers are made with.
-    fn new(alloc: Global, routers: u32) -> Result<Making<'m>, OutOfMemory>
-        ensures making { IfOk result (IsMaking routers) }
-        ensures known { IfOk result (λ making. making.known ≡ None) }
-    {
-        let lists = EndLists::new(alloc, routers)?;
-        Ok(Making {
-            known: None,
-            lists,
-            changed: Vec::with_capacity(alloc, routers as usize)?,
-            marks: vec![in alloc; false; routers as usize]?,
-            layers: Layers::new(alloc, routers)?,
-        })
-    }
-
-    /// Reads a class. What is known stays where the same was read of the class before.
-    fn read<O: RouteSource, N: RouteSource>(
-        &mut self,
-        mixed: &'m Mixed<'_, O, N>,
-        atom: u32,
-    ) -> Result<(), OutOfMemory>
-        requires making { IsMaking (length mixed.now.net) self.old }
-        requires least { IsInClass mixed.now.classes atom (sample_of mixed.now.classes atom) }
-        requires known { IsKnownClass (mix_of O.table N.table mixed.now) self.old }
-        ensures making { OnOk result (IsMaking (length mixed.now.net) self.new) }
-        ensures known { OnOk result (self.new.known ≡ Some atom) }
-        ensures read { OnOk result (IsRead (class_in (mix_of O.table N.table mixed.now) atom) self.new.lists) }
-    {
-        let known = self.known;
-        read_class(mixed, atom, known, &mut self.lists, &mut self.changed)?;
-        self.known = Some(atom);
-        let changed = self.changed.as_slice();
-        if changed.is_empty() {
-            return Ok(());
-        }
-        mark_returns(&self.lists, changed, &mut self.layers, &mut self.marks);
-        Ok(())
-    }
-}
 
 /// The parts of the classes for which some state may be unsound, ascending. A class has none
 /// where an earlier part has its hops between routers to which a walk may return.
@@ -86,10 +27,10 @@ pub(crate) fn parts_of<'m, O: RouteSource, N: RouteSource>(
 ) -> Result<Vec<Part<'m>>, OutOfMemory>
     ensures { IfOk result (λ parts. AreParts (mix_of O.table N.table mixed.now) parts.items (length mixed.now.classes.samples)) }
 {
-    let mut making = Making::new(alloc, mixed.net().routers())?;
+    let mut makings = Makings::new(alloc, mixed.net().routers())?;
     let mut parts = Vec::new(alloc);
     for atom in 0..mixed.atoms().count() {
-        add_part(alloc, mixed, atom as u32, &mut making, &mut parts)?;
+        add_part(alloc, mixed, atom as u32, &mut makings, &mut parts)?;
     }
     Ok(parts)
 }
@@ -100,16 +41,14 @@ fn add_part<'m, O: RouteSource, N: RouteSource>(
     alloc: Global,
     mixed: &'m Mixed<'_, O, N>,
     atom: u32,
-    making: &mut Making<'m>,
+    makings: &mut Makings<'m>,
     parts: &mut Vec<Part<'m>>,
 ) -> Result<(), OutOfMemory>
     requires network { IsNetwork mixed.now.net }
     requires atom { atom < length mixed.now.classes.samples }
-    requires making { IsMaking (length mixed.now.net) making.old }
-    requires known { IsKnownClass (mix_of O.table N.table mixed.now) making.old }
+    requires makings { KnowsBoth (mix_of O.table N.table mixed.now) makings.old }
     requires parts { AreParts (mix_of O.table N.table mixed.now) parts.old.items atom }
-    ensures making { OnOk result (IsMaking (length mixed.now.net) making.new) }
-    ensures known { OnOk result (IsKnownClass (mix_of O.table N.table mixed.now) making.new) }
+    ensures makings { OnOk result (KnowsBoth (mix_of O.table N.table mixed.now) makings.new) }
     ensures parts { OnOk result (AreParts (mix_of O.table N.table mixed.now) parts.new.items (atom + 1)) }
 {
     if is_alike(mixed, atom, parts) {
@@ -118,8 +57,9 @@ fn add_part<'m, O: RouteSource, N: RouteSource>(
     let Some(target) = class_target(mixed, atom) else {
         return Ok(());
     };
-    making.read(mixed, atom)?;
-    add_known(alloc, mixed, &ClassTarget { atom, target }, making, parts)
+    makings.read(mixed, atom)?;
+    let class = ClassTarget { atom, target };
+    add_known(alloc, mixed, &class, &makings.recent, parts)
 }
 
 /// Whether every router is known to treat an earlier class alike: the parts of the earlier ones tell of it then.

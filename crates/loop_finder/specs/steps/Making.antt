@@ -1,14 +1,16 @@
 -- What is read of classes, and what parts are made with.
-use Rattle.std.specs.Prelude.{◌≡◌, ℕ, ◌<◌, ◌↔◌, ◌⊎◌, List, length, vec_len, Contains, Option, Some, IfSome}
+use Rattle.std.specs.Prelude.{◌≡◌, ℕ, ◌<◌, ◌↔◌, ◌⊎◌, List, length, vec_len, Contains, IfSome}
 use Rattle.igp_theory.specs.declared.phase.Phase.{Phase}
 use Rattle.igp_theory.specs.declared.phase.Phase.TheVariants.{Old, New}
 use Rattle.prefix_atoms.specs.Classes.{IsInClass}
-use Rattle.rib_mix.specs.Answers.{IsNextOf, NextLeadsTo}
+use Rattle.rib_mix.specs.Answers.{IsAlikeToKnown, IsNextOf, NextLeadsTo}
 use Rattle.rib_mix.specs.declared.next.Next.{Next}
 use Rattle.loop_finder.specs.steps.Ends.{ReadHops, EndStep, AreNoHops, hops_at}
+use Rattle.loop_finder.specs.steps.Parts.{AreAllBut}
 use Rattle.loop_finder.specs.steps.Returns.{MarksReturns}
 use Rattle.loop_finder.specs.Mixes.{Mix, migration_in, ClassIn, class_in, least_of}
-use Rattle.loop_finder.specs.declared.parts.Making.{Making}
+use Rattle.loop_finder.specs.declared.making.Making.{Making}
+use Rattle.loop_finder.specs.declared.making.Makings.{Makings}
 
 -- nothing is read yet of n routers
 pub record AreNoEnds (n : ℕ) (lists : ReadHops) : Type 0 where
@@ -53,3 +55,18 @@ pub record IsMaking (n : ℕ) (making : Making) : Type 0 where
   pub news_many : length making.lists.news ≡ n
   pub marks_many : vec_len making.marks ≡ n
   pub returns : MarksReturns (EndStep making.lists) making.marks.items
+
+-- it's known which class was read, and to which routers a walk over its steps may return
+pub record KnowsClass (m : Mix) (making : Making) : Type 0 where
+  pub making_is : IsMaking (length m.net) making
+  pub known_is : IsKnownClass m making
+
+-- and which routers aren't known to do the same for another class
+pub record KnowsUnlike (m : Mix) (atom : ℕ) (making : Making) : Type 0 where
+  pub class : KnowsClass m making
+  pub unlike : AreAllBut (IsAlikeToKnown (migration_in m) m.classes making.known atom) (length m.net) making.changed.items
+
+-- that is known of the two latest classes
+pub record KnowsBoth (m : Mix) (makings : Makings) : Type 0 where
+  pub recent_is : KnowsClass m makings.recent
+  pub older_is : KnowsClass m makings.older

@@ -8,5 +8,5 @@ invariant-loop-router g l = record {
   olds_many : length l.lists.olds ≡ length l.mixed.net;
   news_many : length l.lists.news ≡ length l.mixed.net;
   reads : ReadsSeen (class_in (mix_of g.O.RouteSource.table g.N.RouteSource.table l.mixed) l.atom)
-      (take l.router-index l.unlike) l.initial.lists l.lists;
+      (take l.router-index l.routers) l.initial.lists l.lists;
 }

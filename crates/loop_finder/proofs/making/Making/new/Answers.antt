@@ -1,5 +1,5 @@
 use Rattle.std.proofs.Common.{inl, inr, arith}
-use Rattle.loop_finder.proofs.parts.Making.new.Goals as goal
+use Rattle.loop_finder.proofs.making.Making.new.Goals as goal
 
 pub returns-clause-making : goal.returns-clause-making
 returns-clause-making c = record {
