@@ -69,6 +69,14 @@ placed routers sorts u s all rows are is in_rows in_row =
       below = omega (arith, place_before routers u s sorts router sort, are.long);
     }
 
+-- so are a router and a sort that is asked for
+pub placed_some : (routers sorts u s : ℕ) (all : List Cell) (rows : List (List Cell)) (sort : Option ℕ) → AreColumns routers sorts all
+    → column_rows routers sorts all ≡ rows → u < length rows → IfSome sort (λ t. t < length (get_or rows u [])) → sort ≡ Some s
+    → IsPlaced routers sorts u s all
+placed_some routers sorts u s all rows sort are is in_rows in_row same =
+    placed routers sorts u s all rows are is in_rows
+    (subst (λ (o : Option ℕ). IfSome o (λ t. t < length (get_or rows u []))) same in_row)
+
 -- a cell that is put at its place is put into its router's row
 pub cell_put : (routers sorts : ℕ) (all : List Cell) (u s : ℕ) (cell : Cell) → IsPlaced routers sorts u s all
     → column_rows routers sorts (set all (s * routers + u) cell) ≡ with_cell u s cell (column_rows routers sorts all)

@@ -12,7 +12,7 @@ pub(crate) fn proposals_of(
     let mut pairs = digests_of(alloc, features, parents)?;
     pairs.sort_unstable();
     let mut proposals = vec![in alloc; None; parents.len()]?;
-    let mut first = (0, 0);
+    let mut first = pairs.first().copied().unwrap_or((0, 0));
     for pair in pairs.as_slice() {
         if pair.0 != first.0 {
             first = *pair;
@@ -46,13 +46,16 @@ fn digests_of(
     Ok(digests)
 }
 
-/// The number of the prefix at a place, and 0 where there is none.
+/// What stands for the parent's number where there is no parent. 0 would stay 0 for prefixes that no router has anything for.
+const NO_PARENT: u64 = 1;
+
+/// The number of the prefix at a place, and `NO_PARENT` where there is none.
 fn digest_at(digests: &[(u64, u32)], place: Option<u32>) -> u64 {
     match place {
         Some(place) => match digests.get(place as usize) {
             Some(digest) => digest.0,
-            None => 0,
+            None => NO_PARENT,
         },
-        None => 0,
+        None => NO_PARENT,
     }
 }

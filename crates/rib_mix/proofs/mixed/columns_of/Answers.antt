@@ -1,4 +1,5 @@
-use Rattle.std.proofs.Common.{◌≡◌, ◌<◌, inl, inr, ℕ, Bool, List, [], Some, below_more, get_or, length, map, slice_get, ap, arith, refl, sym, subst, ◌∙◌}
+use Rattle.std.proofs.Common.{◌≡◌, ◌<◌, ◌∙◌, inl, inr, ℕ, Bool, List, [], Some, below_more, get_or, length, map, slice_get, ap, arith}
+use Rattle.std.proofs.Common.{refl, sym, subst}
 use Rattle.std.proofs.lemmas.Bool.{cases_eq}
 use Rattle.std.proofs.lemmas.List.{get_or_default}
 use Rattle.std.proofs.lemmas.Option.{get_or_from_slice_get, same_Some, slice_get_read, slice_get_within}
@@ -31,7 +32,8 @@ put_cells-requires-clause-spots c =
     } in
     let here : slice_get c.args.tables.now router ≡ Some both =
     slice_get_read c.args.tables.now (length c.args.tables.now) router both refl
-    (omega (arith, c.loop-router-test.true, c.requires.tables.count, c.routers-router-end.ensures.count)) c.index-tables-router.is in
+    (omega (arith, c.loop-router-test.true, c.requires.tables.count, c.routers-router-end.ensures.count))
+    c.index-tables-router.is in
     subst (HaveSortSpots both) (sym c.as_slice-in-loop-router.ensures.value)
     (sort_spots_in g c.args.shared.now.atoms.now c.args.shared.now.spots.now c.args.shared.now.homes.now
     c.args.shared.now.sorts.now router both c.in_ok-spots.spots.items serving here c.in_ok-spots.ensures)

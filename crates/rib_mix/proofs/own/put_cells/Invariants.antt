@@ -6,6 +6,7 @@ use Rattle.rib_mix.proofs.own.put_cells.Given as goal
 abbrev pub invariant-loop-sort : goal.invariant-loop-sort
 invariant-loop-sort l = record {
   row : length (get_or l.columns l.router []) ≡ length l.spots;
-  cells : AreSpotCells l.spots l.own.connected.now l.own.tables.now l.own.ospf l.sort (take l.sort (get_or l.columns l.router []));
+  cells : AreSpotCells l.spots l.own.connected.now l.own.tables.now l.own.ospf l.sort
+      (take l.sort (get_or l.columns l.router []));
   others : AreOtherRows l.router l.fn.columns l.columns;
 }
