@@ -13,7 +13,7 @@ use Rattle.igp_theory.specs.Isis.{HasLevelOneRoute, IsisEntry, RunsLevelOne, lev
 use Rattle.route_tables.specs.Lanes.{DecidesAt, MissesOffers}
 use Rattle.route_tables.specs.declared.lane.Behind.{Behind}
 use Rattle.route_tables.specs.declared.lane.Decision.{Decision}
-use Rattle.route_tables.specs.declared.lane.Decision.TheVariants.{Nothing, One as OneOffer, Two as TwoOffers, Unknown}
+use Rattle.route_tables.specs.declared.lane.Decision.TheVariants.{Nothing, NothingBut, One as OneOffer, Two as TwoOffers, Unknown}
 use Rattle.route_tables.proofs.ListFacts.{the_one}
 use Rattle.isis_routes.specs.steps.Destinations.{HasAnnouncements}
 use Rattle.isis_routes.specs.steps.Domain.{IsisDomain, IsKnown}
@@ -35,6 +35,7 @@ none_costs reach o x cost far same total =
 missed_none : (reach : Reach) (u : ℕ) (offers : List Offer) (decision : Decision) → IsDecisionAmong offers decision → MissesOffers reach u decision →
     NoneTotals reach offers
 missed_none reach u offers Nothing is missed = absurd is
+missed_none reach u offers (NothingBut one two) is missed = absurd is
 missed_none reach u offers (OneOffer at) (asks, is) missed = λ cost has.
     let o : Offer = record { at = at; asks = asks } in
     none_costs reach o has.offer cost missed.unreached (the_one o has.offer (subst (λ (l : List Offer). Contains l has.offer) is has.among)) has.total

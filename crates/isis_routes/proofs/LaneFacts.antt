@@ -9,7 +9,7 @@ use Rattle.route_core.specs.declared.entry.Entry.{Entry}
 use Rattle.igp_theory.specs.Isis.{HasDownRoute, HasLevelOneRoute, HasLevelTwoRoute, IsisEntry}
 use Rattle.route_tables.specs.Lanes.{DecidesAt, DecidesRoute, LeadToBest}
 use Rattle.route_tables.specs.declared.lane.Decision.{Decision}
-use Rattle.route_tables.specs.declared.lane.Decision.TheVariants.{Nothing, One as OneOffer, Two as TwoOffers, Unknown}
+use Rattle.route_tables.specs.declared.lane.Decision.TheVariants.{Nothing, NothingBut, One as OneOffer, Two as TwoOffers, Unknown}
 use Rattle.route_tables.specs.declared.route.Route.TheVariants.{Towards}
 use Rattle.route_tables.proofs.ListFacts.{any_in_one, any_in_two, the_one}
 use Rattle.isis_routes.specs.steps.Destinations.{HasAnnouncements}
@@ -46,6 +46,7 @@ LeadsElsewhere u offers lead = (MakesOne offers u → ⊥) → (given : List Off
 decided : (u : ℕ) (offers : List Offer) (entry : Entry → Type 0) (lead : List Offer → Type 0) (decision : Decision) → LeadsElsewhere u offers lead →
     IsDecisionAmong offers decision → DecidesRoute u entry lead decision
 decided u offers entry lead Nothing law is = absurd is
+decided u offers entry lead (NothingBut one two) law is = absurd is
 decided u offers entry lead (OneOffer at) law (asks, is) = λ other.
     subst (λ (l : List Offer). LeadsElsewhere u l lead) is law
     (λ makes. other (sym (any_in_one (λ (o : Offer). o.at ≡ u) (record { at = at; asks = asks }) makes.made)))

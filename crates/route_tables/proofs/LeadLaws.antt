@@ -17,10 +17,11 @@ use Rattle.route_tables.specs.declared.best.BestAt.{BestAt}
 use Rattle.route_tables.specs.Protocols.{ProtocolRoutes}
 use Rattle.route_tables.specs.declared.lane.Behind.{Behind}
 use Rattle.route_tables.specs.declared.lane.Decision.{Decision}
-use Rattle.route_tables.specs.declared.lane.Decision.TheVariants.{Nothing, One, Two, Unknown}
+use Rattle.route_tables.specs.declared.lane.Decision.TheVariants.{Nothing, NothingBut, One, Two, Unknown}
 use Rattle.route_tables.specs.declared.leads.Lead.{Lead}
 use Rattle.route_tables.specs.steps.BestSoFar.{IsBestAt, IsBetterOf, lower, kept, both}
-use Rattle.route_tables.specs.steps.Leads.{AreLeads, AreMissed, IsFarAt, IsLead, IsLeadAt, IsNumberToBest, IsTold, told_nothing, told_one, told_best, IsLeadTo}
+use Rattle.route_tables.specs.steps.Leads.{AreLeads, AreMissed, IsFarAt, IsLead, IsLeadAt, IsNumberToBest, IsTold, IsLeadTo}
+use Rattle.route_tables.specs.steps.Leads.{told_best, told_nothing, told_nothing_but, told_one}
 use Rattle.route_tables.specs.steps.Leads.{IsToldBeyond, no_lead}
 use Rattle.route_tables.specs.steps.Sharing.{HasNumber, IsNumberOf}
 use Rattle.route_tables.proofs.ListFacts.{each_more, the_one}
@@ -180,6 +181,7 @@ pub told_number : (reach : ℕ → Reach) (zones zone n u : ℕ) (entry : Entry 
     DecidesRoute u entry (LeadToBest (reach zone) zone n (IsRouteFor reach zones n entry)) decision → IsTold leads u decision number →
     IsNumberOf entry entries number
 told_number reach zones zone n u entry entries leads _ _ are decides told_nothing = decides
+told_number reach zones zone n u entry entries leads _ _ are decides (told_nothing_but one other first second) = decides first second
 told_number reach zones zone n u entry entries leads _ _ are decides (told_one at lead apart is) =
     told_of_one reach zones zone n entry entries leads at lead are (decides apart) is
 told_number reach zones zone n u entry entries leads _ _ are decides (told_best one other number first second is) =
@@ -196,6 +198,7 @@ far_at reach n entries leads u at are (other, is) = record { other = other; unre
 missed : (reach : Reach) (n : ℕ) (entries : List Entry) (leads : List Lead) (u : ℕ) (decision : Decision) → AreLeads reach n entries leads →
     AreMissed leads u decision → MissesOffers reach u decision
 missed reach n entries leads u Nothing are is = tt
+missed reach n entries leads u (NothingBut one other) are is = absurd is
 missed reach n entries leads u (One at) are is = far_at reach n entries leads u at are is
 missed reach n entries leads u (Two one other) are is =
     (far_at reach n entries leads u one.at are is.0, far_at reach n entries leads u other.at are is.1)

@@ -9,7 +9,7 @@ use Rattle.route_tables.specs.BestRoutes.{IsBestTarget}
 use Rattle.route_tables.specs.Protocols.{IsRouteOf, ProtocolRoutes}
 use Rattle.route_tables.specs.declared.lane.Behind.{Behind}
 use Rattle.route_tables.specs.declared.lane.Decision.{Decision}
-use Rattle.route_tables.specs.declared.lane.Decision.TheVariants.{Nothing, One, Two, Unknown}
+use Rattle.route_tables.specs.declared.lane.Decision.TheVariants.{Nothing, NothingBut, One, Two, Unknown}
 use Rattle.route_tables.specs.declared.route.Route.{Route}
 use Rattle.route_tables.specs.declared.route.Route.TheVariants.{Towards}
 use Rattle.route_tables.specs.declared.route.Target.{Target}
@@ -19,9 +19,11 @@ pub record LeadToBest (reach : Reach) (zone n : ℕ) (routes : Route → Type 0)
   pub range : AreInRange reach offers
   pub leads : (target : Target) → IsBestTarget reach offers zone n target → routes (Towards target)
 
--- what decides the route of router u, which has these entries, where offers of which this holds decide it
+-- what decides the route of router u, which has these entries, where offers of which this holds decide it: it isn't said of
+-- routers that make the offers or are excepted
 abbrev pub DecidesRoute : ℕ → (Entry → Type 0) → (List Offer → Type 0) → Decision → Type 0
 DecidesRoute u entry lead Nothing = (e : Entry) → entry e → ⊥
+DecidesRoute u entry lead (NothingBut one other) = u ≢ one → u ≢ other → (e : Entry) → entry e → ⊥
 DecidesRoute u entry lead (One at) = u ≢ at → lead (record { at = at; asks = 0 } ∷ [])
 DecidesRoute u entry lead (Two one other) = u ≢ one.at → u ≢ other.at → lead (one ∷ other ∷ [])
 DecidesRoute u entry lead Unknown = Unit {0}
@@ -42,6 +44,7 @@ pub record IsBeyond (reach : Reach) (u at : ℕ) : Type 0 where
 -- router u makes and reaches none of the offers of the decision
 abbrev pub MissesOffers : Reach → ℕ → Decision → Type 0
 MissesOffers reach u Nothing = Unit {0}
+MissesOffers reach u (NothingBut one other) = ⊥
 MissesOffers reach u (One at) = IsBeyond reach u at
 MissesOffers reach u (Two one other) = IsBeyond reach u one.at × IsBeyond reach u other.at
 MissesOffers reach u Unknown = ⊥

@@ -112,7 +112,7 @@ fn zone_with_offers(zone: usize, decisions: &[Behind]) -> Option<usize>
 fn has_offers(decision: Decision) -> bool {
     match decision {
         Decision::One(_) | Decision::Two(_, _) => true,
-        Decision::Nothing | Decision::Unknown => false,
+        Decision::Nothing | Decision::NothingBut(_, _) | Decision::Unknown => false,
     }
 }
 

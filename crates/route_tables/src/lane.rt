@@ -1,10 +1,12 @@
 use walk_core::Offer;
 
-/// What decides the routes of all routers of a lane for a prefix, but of those that make the offers.
+/// What decides the routes of all routers of a lane for a prefix, but of those that make the offers or are excepted.
 #[derive(Clone, Copy, Debug)]
 pub enum Decision {
     /// Nothing: they have no entry.
     Nothing,
+    /// Nothing either, but of these two routers, which may be one, it isn't known.
+    NothingBut(u32, u32),
     /// The offer of this router.
     One(u32),
     /// The better of two offers, or both where they cost the same.

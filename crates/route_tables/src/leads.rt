@@ -110,6 +110,9 @@ pub(crate) fn told(leads: &[Lead], router: u32, decision: Decision) -> Option<Nu
 {
     match decision {
         Decision::Nothing => Some(Number::none()),
+        Decision::NothingBut(one, other) if one != router && other != router => {
+            Some(Number::none())
+        }
         Decision::One(at) if at != router => {
             let lead = lead_at(leads, at)?;
             Some(lead.number)
@@ -175,7 +178,7 @@ fn are_missed(leads: &[Lead], router: u32, decision: Decision) -> bool
         Decision::Two(one, other) => {
             is_missed(leads, router, one.at) && is_missed(leads, router, other.at)
         }
-        Decision::Unknown => false,
+        Decision::NothingBut(_, _) | Decision::Unknown => false,
     }
 }
 

@@ -6,7 +6,7 @@ use Rattle.walk_core.specs.declared.offers.Offer.{Offer}
 use Rattle.igp_theory.specs.Isis.{RunsLevelOne, RunsLevelTwo}
 use Rattle.route_tables.specs.declared.lane.Behind.{Behind}
 use Rattle.route_tables.specs.declared.lane.Decision.{Decision}
-use Rattle.route_tables.specs.declared.lane.Decision.TheVariants.{Nothing, One as OneOffer, Two as TwoOffers, Unknown}
+use Rattle.route_tables.specs.declared.lane.Decision.TheVariants.{Nothing, NothingBut, One as OneOffer, Two as TwoOffers, Unknown}
 use Rattle.isis_routes.specs.steps.Levels.{zone_number}
 use Rattle.isis_routes.specs.declared.destinations.Destination.{Destination}
 use Rattle.isis_routes.specs.declared.level.Level.{Level}
@@ -25,6 +25,7 @@ pub record IsOfIsisLane (net : Network) (lane u : ℕ) : Type 0 where
 -- the decision names all of the offers
 abbrev pub IsDecisionAmong : List Offer → Decision → Type 0
 IsDecisionAmong offers Nothing = ⊥
+IsDecisionAmong offers (NothingBut one other) = ⊥
 IsDecisionAmong offers (OneOffer at) = (asks : ℕ) × (offers ≡ record { at = at; asks = asks } ∷ [])
 IsDecisionAmong offers (TwoOffers one other) = offers ≡ one ∷ other ∷ []
 IsDecisionAmong offers Unknown = ⊥

@@ -6,7 +6,7 @@ use Rattle.route_core.specs.declared.entry.Entry.{Entry}
 use Rattle.route_tables.specs.Routings.{IsEntryTo}
 use Rattle.route_tables.specs.declared.lane.Behind.{Behind}
 use Rattle.route_tables.specs.declared.lane.Decision.{Decision}
-use Rattle.route_tables.specs.declared.lane.Decision.TheVariants.{Nothing, One, Two, Unknown}
+use Rattle.route_tables.specs.declared.lane.Decision.TheVariants.{Nothing, NothingBut, One, Two, Unknown}
 use Rattle.route_tables.specs.declared.leads.Lead.{Lead}
 use Rattle.route_tables.specs.declared.sharing.RouterLane.{RouterLane}
 use Rattle.route_tables.specs.steps.Sharing.{HasNumber}
@@ -66,6 +66,7 @@ pub record IsFarAt (leads : List Lead) (at : ℕ) : Type 0 where
 -- the leads tell that router u makes and reaches none of the offers of the decision
 abbrev pub AreMissed : List Lead → ℕ → Decision → Type 0
 AreMissed leads u Nothing = Unit {0}
+AreMissed leads u (NothingBut one other) = ⊥
 AreMissed leads u (One at) = (u ≢ at) × IsFarAt leads at
 AreMissed leads u (Two one other) = ((u ≢ one.at) × IsFarAt leads one.at) × ((u ≢ other.at) × IsFarAt leads other.at)
 AreMissed leads u Unknown = ⊥
@@ -73,6 +74,7 @@ AreMissed leads u Unknown = ⊥
 -- the leads tell router u this number of its entry by what decides, None where it has none
 pub data IsTold (leads : List Lead) (u : ℕ) : Decision → Option ℕ → Type 0 where
   told_nothing : IsTold leads u Nothing None
+  told_nothing_but : (one other : ℕ) → u ≢ one → u ≢ other → IsTold leads u (NothingBut one other) None
   told_one : (at : ℕ) (lead : Lead) → u ≢ at → IsLeadAt leads at lead → IsTold leads u (One at) lead.number
   told_best : (one other : Offer) (number : Option ℕ) → u ≢ one.at → u ≢ other.at → IsNumberToBest leads one other number →
       IsTold leads u (Two one other) number
