@@ -16,7 +16,7 @@ use Rattle.igp_theory.proofs.TableLaws.{listens_to_one_area}
 use Rattle.route_tables.specs.BestRoutes.{AreBestHops}
 use Rattle.route_tables.specs.Lanes.{DecidesRoute}
 use Rattle.route_tables.specs.declared.lane.Decision.{Decision}
-use Rattle.route_tables.specs.declared.lane.Decision.TheVariants.{Nothing, One, Two, Unknown}
+use Rattle.route_tables.specs.declared.lane.Decision.TheVariants.{Nothing, NothingBut, One, Two, Unknown}
 use Rattle.route_tables.specs.declared.route.Route.TheVariants.{Towards}
 use Rattle.route_tables.proofs.BestRoutes.{best_route_makes, route_by_hops}
 use Rattle.route_tables.proofs.ListFacts.{any_in_one, any_in_two, the_one}
@@ -122,7 +122,7 @@ one_alone (x ∷ []) o some few = refl
 one_alone (x ∷ y ∷ rest) o some few = absurd (omega (arith, few))
 
 -- offers of which the best make the entries lead there
-leads_by : (l : LaneOf) (u : ℕ) (p : Block) (offers : List Offer) → l.zone < length l.domain.areas → AreInRange (area_reach l.domain.areas u l.zone) offers →
+pub leads_by : (l : LaneOf) (u : ℕ) (p : Block) (offers : List Offer) → l.zone < length l.domain.areas → AreInRange (area_reach l.domain.areas u l.zone) offers →
     ((hops : List ℕ) → AreBestHops (area_reach l.domain.areas u l.zone) offers (length l.domain.net) hops → OspfEntry l.domain.net u p (Via hops)) →
     LeadsLane l u p offers
 leads_by l u p offers within range by =
@@ -135,7 +135,7 @@ leads_by l u p offers within range by =
           (best_route_makes reach zones n l.zone (reach l.zone) offers (Towards t) within refl is);
     }
 
-free_leads : (l : LaneOf) (u : ℕ) (p : Block) (o : Offer) → LeadsLane l u p (o ∷ []) → LeadsLane l u p (free o.at ∷ [])
+pub free_leads : (l : LaneOf) (u : ℕ) (p : Block) (o : Offer) → LeadsLane l u p (o ∷ []) → LeadsLane l u p (free o.at ∷ [])
 free_leads l u p o lead =
     let reach : Reach = area_reach l.domain.areas u l.zone in
     record {
@@ -149,6 +149,7 @@ few_decide : (l : LaneOf) (u : ℕ) (p : Block) (offers : List Offer) (d : Decis
     (Connected l.domain.net u p → (d ≡ Unknown) ⊎ Any (λ (o : Offer). o.at ≡ u) offers) → ((Connected l.domain.net u p → ⊥) → LeadsLane l u p offers) →
     DecidesRoute u (OspfEntry l.domain.net u p) (LeadsLane l u p) d
 few_decide l u p offers Nothing few told lead = absurd few
+few_decide l u p offers (NothingBut one other) few told lead = absurd few
 few_decide l u p offers (One at) (asks, same) told lead = λ other.
     let o : Offer = record { at = at; asks = asks } in
     free_leads l u p o (subst (LeadsLane l u p) same (lead (λ is.
@@ -215,18 +216,23 @@ outside_at l d a given offers here listeners is heard same no_part u =
     (λ n at has. no_part (subst (HasAreaPart given) (sym (number_at l.domain.areas n l.zone a at here))
     (subst (λ (parts : List AreaOffers). HasAreaPart parts n) (sym same) has))) heard
 
--- then what is announced into the area decides
+-- then what is announced into the area leads it, unless the prefix is connected there
+pub outside_leads : (l : LaneOf) (u : ℕ) (p : Block) (offers given : List Offer) → AreAreas l.domain.net l.domain.areas → IsOutside l u p offers →
+    given ≡ offers → (Connected l.domain.net u p → ⊥) → LeadsLane l u p given
+outside_leads l u p offers given are out same away =
+    let reach : Reach = area_reach l.domain.areas u l.zone in
+    let n : ℕ = out.place.area in
+    let walks : IsReach l.domain.net n u reach = reach_at l.domain.net l.domain.areas n u l.zone are out.place.at out.below in
+    leads_by l u p given out.place.at.within (heard_in_range l.domain.net l.domain.areas n p reach offers given are walks out.heard same)
+    (listened_entry l.domain.net n p u reach offers given out.no_intra out.no_range out.place.listens walks out.heard same away)
+
+-- and decides
 pub outside_decides : (l : LaneOf) (u : ℕ) (p : Block) (offers given : List Offer) (decision : Decision) → AreAreas l.domain.net l.domain.areas →
     IsOutside l u p offers → given ≡ offers → IsOfFew given decision →
     (Connected l.domain.net u p → (decision ≡ Unknown) ⊎ Any (λ (o : Offer). o.at ≡ u) given) →
     DecidesRoute u (OspfEntry l.domain.net u p) (LeadsLane l u p) decision
 outside_decides l u p offers given decision are out same few told =
-    let reach : Reach = area_reach l.domain.areas u l.zone in
-    let n : ℕ = out.place.area in
-    let walks : IsReach l.domain.net n u reach = reach_at l.domain.net l.domain.areas n u l.zone are out.place.at out.below in
-    few_decide l u p given decision few told (λ away.
-    leads_by l u p given out.place.at.within (heard_in_range l.domain.net l.domain.areas n p reach offers given are walks out.heard same)
-    (listened_entry l.domain.net n p u reach offers given out.no_intra out.no_range out.place.listens walks out.heard same away))
+    few_decide l u p given decision few told (outside_leads l u p offers given are out same)
 
 -- also that nothing is
 pub nothing_decides : (l : LaneOf) (u : ℕ) (p : Block) (offers given : List Offer) → AreAreas l.domain.net l.domain.areas → IsOutside l u p offers →

@@ -17,4 +17,5 @@ mod TwinLaws
 mod TwinFacts
 mod BorderLists
 mod LaneLaws
+mod ListenerLaws
 mod LaneTwinFacts

@@ -18,6 +18,9 @@ use std::rc::Rc;
 use walk_core::Segment;
 use zone_graph::{KnownWalks, ZoneWalks, zone_segments};
 
+/// The place of the backbone among the areas, of which it is the first.
+pub(crate) const BACKBONE: usize = 0;
+
 /// An area with its least walks, its routers and its border routers.
 #[derive(Debug, Drop)]
 pub(crate) struct AreaWalks {

@@ -1,4 +1,4 @@
-ghost use Rattle.std.specs.Prelude.{◌≡◌, ◌<◌, ◌↔◌, ℕ, length, slice_index_or, Some, IfOk, IfNone, IfSome, IsTrue};
+ghost use Rattle.std.specs.Prelude.{◌≡◌, ◌≢◌, ◌<◌, ◌↔◌, ℕ, length, slice_index_or, Some, Any, IfOk, IfNone, IfSome, IsTrue};
 ghost use Rattle.net_model.specs.Network.{HasConfiguration, IsBorderRouter};
 ghost use Rattle.ospf_routes.specs.Lists.{Exactly};
 ghost use Rattle.ospf_routes.specs.steps.AreaReach.{IsThisBorder, area_reach};
@@ -86,6 +86,15 @@ impl<'a> Domain<'a> {
         ensures known { AreAreas self.now.net self.now.areas }
     {
         self.areas().len()
+    }
+
+    /// Whether an area has border routers.
+    pub fn has_borders(&self) -> bool
+        ensures { IsTrue result ↔ Any (λ area. length area.borders ≢ 0) self.now.areas }
+    {
+        self.areas()
+            .iter()
+            .any(|area| !area.borders.as_slice().is_empty())
     }
 
     /// The area at this place.

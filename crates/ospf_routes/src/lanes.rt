@@ -56,7 +56,7 @@ fn decision_of(
 }
 
 /// One or two offers.
-fn few(offers: &[Offer]) -> Decision
+pub(crate) fn few(offers: &[Offer]) -> Decision
     ensures { IsOfFew offers.now result }
 {
     match offers {

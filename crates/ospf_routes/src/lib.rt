@@ -20,7 +20,9 @@
 //! 4. `entry.rt`: the intra-area route, else a discard, else the inter-area route (16, 11.1), by what is announced into the area
 //!    that the router listens to, which `Ospf::asked` reads; `united.rt`: several areas' hops together. `lanes.rt`: for
 //!    routers in one area alone the deciding offers are the same, so one or two are found once for each area and kind of
-//!    prefixes, of what `Ospf::decision_in` reads. All other routers are in a last lane, without decisions.
+//!    prefixes, of what `Ospf::decision_in` reads. `listeners.rt`: border routers are in a last lane, where what the backbone
+//!    offers or hears decides of most prefixes, but for the border routers of the area that a prefix is of. Routers that
+//!    listen to no area are in a lane before it, without decisions.
 //!
 //! `twins.rt` finds prefixes that have the same routes at every router, by what is offered and announced of them, and
 //! `lane_twins.rt` those of which this is so at every router in one area alone, each by the latest prefix that the same router
@@ -53,6 +55,7 @@ mod entry;
 mod lane_twins;
 mod lanes;
 mod latest;
+mod listeners;
 mod protocol;
 mod source;
 mod twins;

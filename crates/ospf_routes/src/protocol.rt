@@ -1,20 +1,22 @@
-ghost use Rattle.std.specs.Prelude.{◌≡◌, ◌+◌, ◌<◌, length, IfOk};
+ghost use Rattle.std.specs.Prelude.{◌≡◌, ◌+◌, ◌<◌, cond, length, IfOk};
 ghost use Rattle.route_tables.specs.Prefixes.{prefix_at};
 ghost use Rattle.ospf_routes.specs.steps.Areas.{AreAreas};
 ghost use Rattle.ospf_routes.specs.steps.Asked.{IsQuestion};
 ghost use Rattle.ospf_routes.specs.steps.Destinations.{IsDestinationIn, ospf_prefixes};
 ghost use Rattle.ospf_routes.specs.steps.Heard.{AreHeardAt};
-ghost use Rattle.ospf_routes.specs.steps.Lanes.{DecidesLane};
+ghost use Rattle.ospf_routes.specs.declared.areas.TheConstants.{BACKBONE};
+ghost use Rattle.ospf_routes.specs.steps.Lanes.{DecidesLane, DecidesListened};
 ghost use Rattle.ospf_routes.specs.steps.Networks.{AreEarlierIn, lane_in};
 
 use crate::OutOfMemory;
-use crate::areas::AreaWalks;
+use crate::areas::{AreaWalks, BACKBONE};
 use crate::destinations::destinations;
 use crate::domain::Domain;
 use crate::entry::{Asked, route_of};
 use crate::intra_area::Destination;
 use crate::lane_twins::{Heard, LaneTwins, all_lane_twins};
 use crate::lanes::decision;
+use crate::listeners::{Listeners, listened_decision};
 use crate::originating::all_summaries;
 use crate::ranges::{ActiveRanges, RangePrefixes, all_ranges};
 use crate::summaries::Summaries;
@@ -27,13 +29,16 @@ use std::marker::Model;
 use walk_core::{LeastWalks, Offer};
 
 /// OSPF on a network, with what its routers know, the places of the areas that they listen to, the active ranges of border
-/// routers, what these announce of each prefix, and which prefixes have the same routes, everywhere and within areas.
+/// routers and their prefixes, whether there are border routers, what these announce of each prefix, and which prefixes have the
+/// same routes, everywhere and within areas.
 #[derive(Drop)]
 pub(crate) struct Ospf<'a> {
     domain: Domain<'a>,
     destinations: Vec<Destination>,
     listens: Vec<Option<usize>>,
     ranges: Vec<ActiveRanges>,
+    ranged: RangePrefixes,
+    has_borders: bool,
     summaries: Summaries,
     twins: Vec<Option<usize>>,
     lane_twins: Vec<LaneTwins>,
@@ -49,6 +54,8 @@ impl<'a> Model for Ospf<'a> {
       destinations = x.destinations.items;
       listens = x.listens.items;
       ranges = x.ranges.items;
+      ranged = x.ranged;
+      has_borders = x.has_borders;
       summaries = x.summaries;
       twins = x.twins.items;
       lane_twins = x.lane_twins.items;
@@ -59,6 +66,8 @@ impl<'a> Model for Ospf<'a> {
       destinations = x.destinations.items;
       listens = x.listens.items;
       ranges = x.ranges.items;
+      ranged = x.ranged;
+      has_borders = x.has_borders;
       summaries = x.summaries;
       twins = x.twins.items;
       lane_twins = x.lane_twins.items;
@@ -95,11 +104,14 @@ impl<'a> Ospf<'a> {
             summaries: &summaries,
         };
         let lane_twins = all_lane_twins(alloc, heard, twins.as_slice())?;
+        let has_borders = domain.has_borders();
         Ok(Ospf {
             domain,
             destinations,
             listens,
             ranges,
+            ranged,
+            has_borders,
             summaries,
             twins,
             lane_twins,
@@ -108,13 +120,13 @@ impl<'a> Ospf<'a> {
 
     /// Of each prefix an earlier one with the same entries at every router of a lane, where one is found.
     fn earlier(&self, lane: usize) -> &[Option<usize>]
-        requires { lane < length self.now.domain.areas + 1 }
+        requires { lane < length self.now.domain.areas + cond self.now.has_borders 2 1 }
         ensures { AreEarlierIn self.now lane result.now }
     {
-        if lane == self.domain.zones() {
-            return self.twins.as_slice();
+        if lane < self.domain.zones() {
+            return self.lane_twins[lane].as_slice();
         }
-        self.lane_twins[lane].as_slice()
+        self.twins.as_slice()
     }
 
     /// What is known of the prefix at a place.
@@ -148,6 +160,25 @@ impl<'a> Ospf<'a> {
         decision(&self.domain, listens, zone, destination, heard)
     }
 
+    /// What decides the routes for the prefix at a place of border routers, which listen to the backbone. It isn't known of
+    /// active ranges.
+    fn border_decision(&self, place: usize) -> Decision
+        requires areas { AreAreas self.now.domain.net self.now.domain.areas }
+        requires place { place < length (ospf_prefixes self.now.destinations) }
+        ensures { DecidesListened (lane_in self.now BACKBONE) (prefix_at (ospf_prefixes self.now.destinations) place) result }
+    {
+        let destination = self.destination(place);
+        if self.ranged.has(destination.dest) {
+            return Decision::Unknown;
+        }
+        let listeners = Listeners {
+            domain: &self.domain,
+            listens: self.listens.as_slice(),
+            zone: BACKBONE,
+        };
+        listened_decision(listeners, destination, self.heard(place, BACKBONE))
+    }
+
     /// What is known of a router and of the prefix at a place.
     #[inline(always)]
     fn asked(&self, place: usize, router: u32) -> Asked<'_>
@@ -174,7 +205,7 @@ impl<'a> Ospf<'a> {
 }
 
 impl<'a> Protocol for Ospf<'a> {
-    ghost use Rattle.std.specs.Prelude.{◌+◌, length};
+    ghost use Rattle.std.specs.Prelude.{◌+◌, cond, length};
     ghost use Rattle.igp_theory.specs.Laws.{IsOspfNeighbor};
     ghost use Rattle.ospf_routes.specs.steps.Destinations.{ospf_prefixes};
     ghost use Rattle.ospf_routes.specs.steps.Lanes.{given_by_ospf};
@@ -185,7 +216,7 @@ impl<'a> Protocol for Ospf<'a> {
 
     ghost candidates = { λ ospf. ospf_prefixes ospf.destinations };
 
-    ghost lanes = { λ ospf. length ospf.domain.areas + 1 };
+    ghost lanes = { λ ospf. length ospf.domain.areas + cond ospf.has_borders 2 1 };
 
     fn routers(&self) -> u32 {
         self.domain.routers()
@@ -200,12 +231,13 @@ impl<'a> Protocol for Ospf<'a> {
     }
 
     fn lanes(&self) -> usize {
-        self.domain.zones() + 1
+        self.domain.zones() + if self.has_borders { 2 } else { 1 }
     }
 
     fn lane(&self, router: u32) -> usize {
         match self.listens[router as usize] {
             Some(zone) if !self.domain.is_border(router) => zone,
+            Some(zone) if zone == BACKBONE && self.has_borders => self.domain.zones() + 1,
             _ => self.domain.zones(),
         }
     }
@@ -217,6 +249,8 @@ impl<'a> Protocol for Ospf<'a> {
     fn zone_of_lane(&self, lane: usize) -> Option<usize> {
         if lane < self.domain.zones() {
             Some(lane)
+        } else if lane > self.domain.zones() {
+            Some(BACKBONE)
         } else {
             None
         }
@@ -225,6 +259,8 @@ impl<'a> Protocol for Ospf<'a> {
     fn decision(&self, lane: usize, place: usize) -> Decision {
         if lane < self.domain.zones() {
             self.decision_in(lane, place)
+        } else if lane > self.domain.zones() {
+            self.border_decision(place)
         } else {
             Decision::Unknown
         }
