@@ -5,7 +5,7 @@ use Rattle.std.proofs.lemmas.List.{get_or_past, length-append}
 use Rattle.igp_theory.specs.Loops.{IsLive}
 use Rattle.igp_theory.specs.States.{Follows}
 use Rattle.order_core.specs.Marks.{IsMarked, marked_count}
-use Rattle.loop_finder.specs.steps.Live.{HasMarkedHop, ArePeeled}
+use Rattle.loop_finder.specs.steps.Live.{HasMarkedHop, AreBounded, ArePeeled}
 use Rattle.loop_finder.specs.steps.Walks.{ReturnsNever}
 use Rattle.loop_finder.proofs.LowestSteps.{marked_cases}
 use Rattle.loop_finder.proofs.Peeling.{marked_count-set}
@@ -42,10 +42,10 @@ long_return step u h hops returns (suc k) =
     }
 
 -- where no router is marked no list of steps returns
-pub returns_never : (step : ℕ → ℕ → Type 0) (marks : List Bool) → ArePeeled step marks → ((q : ℕ) → ¬ IsMarked marks q) → ReturnsNever step
-returns_never step marks peeled bare u h hops returns =
+pub returns_never : (step : ℕ → ℕ → Type 0) (marks : List Bool) → AreBounded step marks → ((q : ℕ) → ¬ IsMarked marks q) → ReturnsNever step
+returns_never step marks bounded bare u h hops returns =
     let long : LongReturn step u (suc (length marks)) = long_return step u h hops returns (suc (length marks)) in
-    let few : length long.hops + marked_count marks ≤ length marks = peeled.bounded u long.hops u (bare u) long.follows in
+    let few : length long.hops + marked_count marks ≤ length marks = bounded u long.hops u (bare u) long.follows in
     omega (arith, few, long.many)
 
 -- from a marked router lists of steps of any length lead on

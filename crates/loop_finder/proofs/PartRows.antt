@@ -1,5 +1,5 @@
 -- How the part of a class is made of its rows.
-use Rattle.std.proofs.Common.{◌≡◌, ℕ, ◌+◌, ◌<◌, ◌↔◌, ◌⊎◌, Bool, List, [], ◌∷◌, ◌++◌, length, map, replicate, get_or, Contains}
+use Rattle.std.proofs.Common.{◌≡◌, ℕ, ◌+◌, ◌<◌, ◌≤◌, ◌↔◌, ◌⊎◌, Bool, List, [], ◌∷◌, ◌++◌, length, map, replicate, get_or, Contains}
 use Rattle.std.proofs.Common.{inl, inr, arith, ap, ◌∙◌, sym, subst, below_more, Option, Some, None, IfSome}
 use Rattle.std.specs.Bool.{OnTrue}
 use Rattle.std.proofs.lemmas.Bool.{cases_eq, cases_lt}
@@ -12,6 +12,7 @@ use Rattle.net_model.proofs.Members.{Contains-none}
 use Rattle.net_model.specs.Network.{Connected}
 use Rattle.net_model.specs.Refusals.{IsNetwork}
 use Rattle.igp_theory.specs.Forwarding.{IsTarget, MustForward}
+use Rattle.igp_theory.specs.Phases.{state_in}
 use Rattle.igp_theory.specs.declared.phase.Phase.{Phase}
 use Rattle.igp_theory.specs.declared.phase.Phase.TheVariants.{Old, Middle, New}
 use Rattle.igp_theory.proofs.LoopLaws.{old_or_new_step}
@@ -22,8 +23,8 @@ use Rattle.rib_mix.specs.Answers.{AddsAllBut, IsAlikeAt, IsAlikeToKnown}
 use Rattle.loop_finder.specs.steps.Ends.{ReadHops, AreNoHops, EndStep, HasBothSteps, hops_at}
 use Rattle.loop_finder.specs.steps.Making.{IsHopsOf, IsMaking, IsRead, IsReadAt, IsSameAt, KnowsUnlike, ReadsSeen}
 use Rattle.loop_finder.specs.steps.PartRows.{AreKept, HasHops, HasMarked, HaveHops, IsRowOf, AreFirstRows}
-use Rattle.loop_finder.specs.Parts.{PhaseHops, hops_of, no_hops, StepsOf, StepsEver, HasStepOf, AllMove, HaveReturning, IsPart}
-use Rattle.loop_finder.specs.steps.Parts.{AreAllBut, AddsUnless}
+use Rattle.loop_finder.specs.Parts.{ClassPart, PhaseHops, hops_of, no_hops, StepsOf, StepsEver, HasStepOf, AllMove, HaveReturning, IsPart}
+use Rattle.loop_finder.specs.steps.Parts.{AreAllBut, AreSteppers, AddsUnless, PartStep}
 use Rattle.loop_finder.specs.steps.Returns.{MarksAgain, MarksReturns}
 use Rattle.loop_finder.specs.Mixes.{Mix, migration_in, class_in, ClassIn, least_of, sample_of}
 use Rattle.loop_finder.specs.declared.making.Making.{Making}
@@ -247,6 +248,21 @@ AreAllBut-more Is n old new are (inr none) = subst (λ (xs : List ℕ). AreAllBu
   below = λ k d inside. let less : get_or old k d < n = are.below k d inside in omega (arith, less);
   whole = below_more (λ (u : ℕ). Contains old u ⊎ Is u) n are.whole (inr none.1);
 })
+
+-- a router that steps on in one of two states has hops by its row
+pub steppers_step : (part : ClassPart) (first last : List Phase) (steppers : List ℕ) → AreSteppers part.rows steppers
+    → (u h : ℕ) → PartStep part first last u h → Contains steppers u
+steppers_step part first last steppers are u h steps = elim (cases_lt u (length part.rows)) [
+  | inl below ↦ elim (are.whole u below) [
+    | inl among ↦ among
+    | inr bare ↦ absurd (elim steps [ inl one ↦ bare (state_in first u) h one | inr other ↦ bare (state_in last u) h other ])
+  ]
+  | inr past ↦ absurd (elim steps [ inl one ↦ none_past past (state_in first u) one | inr other ↦ none_past past (state_in last u) other ])
+]
+  where
+    none_past : length part.rows ≤ u → (phase : Phase) → ¬ Contains (hops_of (get_or part.rows u no_hops) phase) h
+    none_past past phase among =
+        none_among phase h (subst (λ (row : PhaseHops). Contains (hops_of row phase) h) (get_or_past part.rows u no_hops past) among)
 
 -- one router more was read
 pub reads_next : (c : ClassIn) (seen : List ℕ) (router : ℕ) (first before after : ReadHops) → ReadsSeen c seen first before

@@ -1,7 +1,7 @@
 -- Marks that are taken one after another.
 use Rattle.std.proofs.Common.{◌≡◌, ℕ, ◌+◌, ◌<◌, ◌≤◌, Bool, true, false, cond, List, [], ◌∷◌, length, get_or, set, arith, subst, sym, refl, ap, ◌∙◌, below_more}
 use Rattle.std.proofs.Common.{inl, inr}
-use Rattle.std.proofs.lemmas.List.{get_or-set_other, get_or_past, length-set}
+use Rattle.std.proofs.lemmas.List.{get_or-set_other, get_or-set_same, get_or_past, length-set}
 use Rattle.std.proofs.lemmas.List.Sums.{sum_by-set, count_by-le-length}
 use Rattle.std.proofs.lemmas.Bool.{false≢true, cases_lt}
 use Rattle.std.proofs.lemmas.Bool.Decides.{eqb_tells}
@@ -21,12 +21,17 @@ marked_count-set marks u within marked =
     let k : one (get_or marks u false) ≡ one true = ap one marked in
     omega (arith, sum_by-set one marks u false false within, k)
 
--- at first no router has no mark, so nothing is to be shown of one
-pub bounded_first : (step : ℕ → ℕ → Type 0) (marks : List Bool) → ((u h : ℕ) → step u h → u < length marks) →
-    ((r : ℕ) → r < length marks → IsMarked marks r) →
-    AreBounded step marks
-bounded_first step marks inside all u [] last bare follows = omega (arith, count_by-le-length (λ (b : Bool). b) marks)
-bounded_first step marks inside all u (h ∷ hops) last bare follows = absurd (bare (all u (inside u h follows.0)))
+-- where each router that steps on is marked, no list of steps leads on from another
+pub bounded_first : (step : ℕ → ℕ → Type 0) (marks : List Bool) → ((u h : ℕ) → step u h → IsMarked marks u) → AreBounded step marks
+bounded_first step marks all u [] last bare follows = omega (arith, count_by-le-length (λ (b : Bool). b) marks)
+bounded_first step marks all u (h ∷ hops) last bare follows = absurd (bare (all u h follows.0))
+
+-- a mark stays where another router is marked too
+pub still_marked : (marks : List Bool) (r u : ℕ) → r < length marks → IsMarked marks u → IsMarked (set marks r true) u
+still_marked marks r u within marked = elim (eqb_tells u r) [
+  | inl same ↦ subst (IsMarked (set marks r true)) (sym same.1) (get_or-set_same marks r true false within)
+  | inr apart ↦ get_or-set_other marks r u true false apart.1 ∙ marked
+]
 
 -- where a router steps to no marked one, its mark can be taken
 pub bounded_more : (step : ℕ → ℕ → Type 0) (marks : List Bool) (u : ℕ) → u < length marks → IsMarked marks u → ((h : ℕ) → step u h → ¬ IsMarked marks h) →

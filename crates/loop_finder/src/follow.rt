@@ -6,9 +6,9 @@ ghost use Rattle.loop_finder.specs.Rooms.{HasRoom};
 ghost use Rattle.loop_finder.specs.steps.Walks.{ReturnsNever};
 
 use crate::graph::StepGraph;
+use crate::live::returns_never;
 use crate::part::Part;
 use crate::returns::may_return;
-use crate::ring::find_ring;
 use crate::room::Room;
 use crate::span::Span;
 use rib_mix::Phase;
@@ -109,5 +109,5 @@ pub(crate) fn is_clear(part: &Part<'_>, span: &Span<'_>, routers: u32, room: &mu
         return false;
     }
     let steps = PartSteps::new(part, span, routers);
-    !find_ring(&steps, &mut room.live, &mut room.path)
+    returns_never(&steps, part.steppers(), &mut room.live)
 }

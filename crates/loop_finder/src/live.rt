@@ -1,9 +1,9 @@
-ghost use Rattle.std.specs.Prelude.{◌≡◌, ◌∷◌, [], ◌<◌, ◌≤◌, ◌^◌, ◌↔◌, ℕ, false, length, slice_set, IsTrue};
+ghost use Rattle.std.specs.Prelude.{◌≡◌, ◌∷◌, [], ◌<◌, ◌≤◌, ◌^◌, ◌↔◌, ℕ, All, Contains, false, length, slice_set, IsTrue};
 ghost use Rattle.std.specs.Bool.{OnFalse, OnTrue};
 ghost use Rattle.order_core.specs.Marks.{IsMarked, marked_count};
 ghost use Rattle.net_model.specs.Links.{lower_of};
 ghost use Rattle.loop_finder.specs.steps.Live.{AreBounded, ArePeeled, FirstMarked, HasMarkedHop, LowestMarked};
-ghost use Rattle.loop_finder.specs.steps.Walks.{LowestMarkedHop};
+ghost use Rattle.loop_finder.specs.steps.Walks.{LowestMarkedHop, ReturnsNever};
 
 use crate::graph::StepGraph;
 
@@ -21,12 +21,36 @@ pub(crate) fn mark_live<G: StepGraph>(graph: &G, live: &mut [bool])
     }
 }
 
+/// Whether no list of steps returns to a router, where it's known which routers step on. Only these are marked at first, and
+/// looked at.
+pub(crate) fn returns_never<G: StepGraph>(graph: &G, steppers: &[u32], live: &mut [bool]) -> bool
+    requires size { length live.old ≡ G.size graph.now }
+    requires below { All (λ u. u < G.size graph.now) steppers.now }
+    requires whole { (u h : ℕ) → G.step graph.now u h → Contains steppers.now u }
+    ensures { OnTrue result (ReturnsNever (G.step graph.now)) }
+{
+    mark_none(live);
+    mark_those(steppers, live);
+    peel_all(graph, steppers, live);
+    none_marked(live)
+}
+
 /// Marks every router.
 pub(crate) fn mark_all(marks: &mut [bool])
     ensures { (r : ℕ) → r < length marks.new → IsMarked marks.new r }
 {
     for mark in marks.iter_mut() {
         *mark = true;
+    }
+}
+
+/// Marks some routers.
+fn mark_those(routers: &[u32], marks: &mut [bool])
+    requires { All (λ u. u < length marks.old) routers.now }
+    ensures { All (IsMarked marks.new) routers.now }
+{
+    for router in routers {
+        marks[*router as usize] = true;
     }
 }
 
@@ -79,6 +103,47 @@ fn peel_down<G: StepGraph>(graph: &G, routers: u32, live: &mut [bool])
 {
     for place in 0..routers {
         let _ = peel_one(graph, live, routers - 1 - place);
+    }
+}
+
+/// Takes the mark from each of some routers that steps to no marked one, until none is left to be taken.
+fn peel_all<G: StepGraph>(graph: &G, routers: &[u32], live: &mut [bool])
+    requires size { length live.old ≡ G.size graph.now }
+    requires below { All (λ u. u < G.size graph.now) routers.now }
+    requires bounded { AreBounded (G.step graph.now) live.old }
+    ensures { AreBounded (G.step graph.now) live.new }
+{
+    for _ in 0..routers.len() {
+        if !peel_those(graph, routers, live) {
+            return;
+        }
+        peel_back(graph, routers, live);
+    }
+}
+
+/// Goes once over some routers and takes the mark from each that steps to no marked one; whether any had it.
+fn peel_those<G: StepGraph>(graph: &G, routers: &[u32], live: &mut [bool]) -> bool
+    requires size { length live.old ≡ G.size graph.now }
+    requires below { All (λ u. u < G.size graph.now) routers.now }
+    requires bounded { AreBounded (G.step graph.now) live.old }
+    ensures { AreBounded (G.step graph.now) live.new }
+{
+    let mut peeled = false;
+    for router in routers {
+        peeled |= peel_one(graph, live, *router);
+    }
+    peeled
+}
+
+/// Goes once over some routers from the last one back, and takes the mark from each that steps to no marked one.
+fn peel_back<G: StepGraph>(graph: &G, routers: &[u32], live: &mut [bool])
+    requires size { length live.old ≡ G.size graph.now }
+    requires below { All (λ u. u < G.size graph.now) routers.now }
+    requires bounded { AreBounded (G.step graph.now) live.old }
+    ensures { AreBounded (G.step graph.now) live.new }
+{
+    for place in 0..routers.len() {
+        let _ = peel_one(graph, live, routers[routers.len() - 1 - place]);
     }
 }
 

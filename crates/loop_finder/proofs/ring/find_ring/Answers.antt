@@ -11,4 +11,4 @@ returns-in-Some-clause-found g c =
     c.walk-place.ensures.begins c.walk-place.ensures.walk c.turn.ensures.turned
 
 pub returns-in-None-clause-none : goal.returns-in-None-clause-none
-returns-in-None-clause-none g c = returns_never (g.G.StepGraph.step c.args.graph.now) c.mark_live.new.live c.mark_live.ensures.peeled c.in-None.ensures
+returns-in-None-clause-none g c = returns_never (g.G.StepGraph.step c.args.graph.now) c.mark_live.new.live c.mark_live.ensures.peeled.bounded c.in-None.ensures
