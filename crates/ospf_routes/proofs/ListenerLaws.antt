@@ -29,7 +29,8 @@ use Rattle.ospf_routes.proofs.ZoneRoutes.{only_follows, only_none}
 -- The router
 
 -- the place of the area that it listens to
-pub listening_place : (l : LaneOf) (u : ℕ) → AreListeners l.domain.net l.domain.areas (length l.domain.net) l.listens → u < length l.domain.net →
+pub listening_place : (l : LaneOf) (u : ℕ) → AreListeners l.domain.net l.domain.areas (length l.domain.net) l.listens →
+    u < length l.domain.net →
     IsListening l.listens l.zone u → IsListenedPlace l.domain.net l.domain.areas u l.zone
 listening_place l u are below listening = subst (IsListenerAt l.domain.net l.domain.areas u) listening (are.each u below)
 
@@ -41,13 +42,16 @@ not_inside net u n m (one_area alone in_n) other none inside = other (only_insid
 -- Prefixes of one other area at most
 
 -- what is offered in another area alone gives it no intra-area route, unless it is a border router there
-no_intra_of_part : (net : Network) (d : Destination) (part : AreaOffers) (u n : ℕ) → IsDestination net d → length d.parts.items ≡ 1 →
-    Contains d.parts.items part → ListensTo net u n → part.area ≢ n → (IsBorderIn net part.area u → ⊥) → IsIntraArea net d.dest u → ⊥
+no_intra_of_part : (net : Network) (d : Destination) (part : AreaOffers) (u n : ℕ) → IsDestination net d →
+    length d.parts.items ≡ 1 →
+    Contains d.parts.items part → ListensTo net u n → part.area ≢ n → (IsBorderIn net part.area u → ⊥) →
+    IsIntraArea net d.dest u → ⊥
 no_intra_of_part net d part u n is one among listens other none =
     only_none net d part u is one among (λ cost costs. not_inside net u n part.area listens other none costs.inside)
 
 -- nor does what no area offers
-no_intra_of_none : (net : Network) (d : Destination) (u : ℕ) → IsDestination net d → length d.parts.items ≡ 0 → IsIntraArea net d.dest u → ⊥
+no_intra_of_none : (net : Network) (d : Destination) (u : ℕ) → IsDestination net d → length d.parts.items ≡ 0 →
+    IsIntraArea net d.dest u → ⊥
 no_intra_of_none net d u is empty intra =
     let best = intra.costs.best in
     let has = is.every intra.area best.at best.attained.asks best.attained.offered in
@@ -67,7 +71,8 @@ few_decide_others l u p offers Unknown few lead = tt
 
 -- and so does that there is nothing
 nothing_decides_others : (l : LaneOf) (u : ℕ) (p : Block) (d : Decision) → IsNothing d →
-    ((Excepts d u → ⊥) → (e : Entry) → OspfEntry l.domain.net u p e → ⊥) → DecidesRoute u (OspfEntry l.domain.net u p) (LeadsLane l u p) d
+    ((Excepts d u → ⊥) → (e : Entry) → OspfEntry l.domain.net u p e → ⊥) →
+    DecidesRoute u (OspfEntry l.domain.net u p) (LeadsLane l u p) d
 nothing_decides_others l u p Nothing is none = none (λ no. no)
 nothing_decides_others l u p (NothingBut one other) is none = λ first second. none (⊎_elim first second)
 nothing_decides_others l u p (One at) is none = absurd is
@@ -75,30 +80,41 @@ nothing_decides_others l u p (Two one two) is none = absurd is
 nothing_decides_others l u p Unknown is none = tt
 
 -- where it is made unknown no less is so
-few_or_unknown : (offers : List Offer) (d result : Decision) → IsOfFew offers d → (result ≡ d) ⊎ (result ≡ Unknown) → IsOfFew offers result
+few_or_unknown : (offers : List Offer) (d result : Decision) → IsOfFew offers d → (result ≡ d) ⊎ (result ≡ Unknown) →
+    IsOfFew offers result
 few_or_unknown offers d _ few (inl same) = subst (IsOfFew offers) (sym same) few
 few_or_unknown offers d _ few (inr unknown) = subst (IsOfFew offers) (sym unknown) tt
 
-heard_or_unknown : (heard : List Offer) (d result : Decision) → IsOfHeard heard d → (result ≡ d) ⊎ (result ≡ Unknown) → IsOfHeard heard result
+heard_or_unknown : (heard : List Offer) (d result : Decision) → IsOfHeard heard d → (result ≡ d) ⊎ (result ≡ Unknown) →
+    IsOfHeard heard result
 heard_or_unknown heard d _ is (inl same) = subst (IsOfHeard heard) (sym same) is
 heard_or_unknown heard d _ is (inr unknown) = subst (IsOfHeard heard) (sym unknown) (inr tt)
 
 -- Decisions
 
 -- what is announced into the area decides at a router that has no routes of its own unless it is excepted
-pub heard_decides : (l : LaneOf) (u : ℕ) (d : Destination) (heard : List Offer) (given decision : Decision) → AreAreas l.domain.net l.domain.areas →
+pub heard_decides : (l : LaneOf) (u : ℕ) (d : Destination) (heard : List Offer) (given decision : Decision) →
+    AreAreas l.domain.net l.domain.areas →
     AreListeners l.domain.net l.domain.areas (length l.domain.net) l.listens → AreHeardAt l.domain d.dest l.zone heard →
-    ((u : ℕ) → IsActiveRange l.domain.net d.dest u → ⊥) → u < length l.domain.net → IsListening l.listens l.zone u → IsOfHeard heard given →
+    ((u : ℕ) → IsActiveRange l.domain.net d.dest u → ⊥) → u < length l.domain.net → IsListening l.listens l.zone u →
+    IsOfHeard heard given →
     (decision ≡ given) ⊎ (decision ≡ Unknown) →
     (Connected l.domain.net u d.dest → Excepts decision u) → ((Excepts decision u → ⊥) → IsIntraArea l.domain.net d.dest u → ⊥) →
     DecidesRoute u (OspfEntry l.domain.net u d.dest) (LeadsLane l u d.dest) decision
 heard_decides l u d heard given decision are listeners is_heard no_range below listening is same home no_intra =
     let place = listening_place l u listeners below listening in
     let outside : (Excepts decision u → ⊥) → IsOutside l u d.dest heard =
-    λ not. record { below = below; place = place; no_range = no_range u; no_intra = no_intra not; heard = is_heard place.area place.at } in
+    λ not. record {
+      below = below;
+      place = place;
+      no_range = no_range u;
+      no_intra = no_intra not;
+      heard = is_heard place.area place.at;
+    } in
     elim (heard_or_unknown heard given decision is same) [
       | inl (empty, nothing) ↦
-          nothing_decides_others l u d.dest decision nothing (λ not. nothing_decides l u d.dest heard heard are (outside not) refl empty)
+          nothing_decides_others l u d.dest decision nothing
+          (λ not. nothing_decides l u d.dest heard heard are (outside not) refl empty)
       | inr few ↦
           few_decide_others l u d.dest heard decision few
           (λ not. outside_leads l u d.dest heard heard are (outside not) refl (λ is. not (home is)))
@@ -109,7 +125,8 @@ pub offers_decide : (l : LaneOf) (u : ℕ) (d : Destination) (part : AreaOffers)
     AreAreas l.domain.net l.domain.areas → IsDestinationIn l.domain d → u < length l.domain.net → length d.parts.items ≡ 1 →
     Contains d.parts.items part → IsAreaAt l.domain.areas part.area l.zone → given ≡ part.offers.items → IsOfFew given few →
     (decision ≡ few) ⊎ (decision ≡ Unknown) →
-    (Connected l.domain.net u d.dest → Excepts decision u) → DecidesRoute u (OspfEntry l.domain.net u d.dest) (LeadsLane l u d.dest) decision
+    (Connected l.domain.net u d.dest → Excepts decision u) →
+    DecidesRoute u (OspfEntry l.domain.net u d.dest) (LeadsLane l u d.dest) decision
 offers_decide l u d part given few decision are is below one among at same is_few either home =
     let net : Network = l.domain.net in
     let reach : Reach = area_reach l.domain.areas u l.zone in
@@ -120,21 +137,25 @@ offers_decide l u d part given few decision are is below one among at same is_fe
     (subst (AreInRange reach) (sym same) (part_in_range l.domain d.dest part u reach are.network part_is walks))
     (λ hops best.
     let route = only_follows net d part u (Some hops) is.is one among
-    (area_route_is net part.area d.dest u reach part.offers.items given walks part_is.offers same (length net) refl (Some hops) best) in
+    (area_route_is net part.area d.dest u reach part.offers.items given walks part_is.offers same (length net) refl (Some hops)
+    best) in
     intra_area (λ is. not (home is)) route.is route.hops_are))
 
 -- Homes and owners
 
 -- a home that listens is excepted
-pub home_excepted : (net : Network) (d : Destination) (homes : List ℕ) (listens : List (Option ℕ)) (zone u : ℕ) (decision : Decision) →
-    IsDestination net d → homes ≡ d.homes.items → All (λ (v : ℕ). IsListening listens zone v → Excepts decision v) homes → IsListening listens zone u →
+pub home_excepted : (net : Network) (d : Destination) (homes : List ℕ) (listens : List (Option ℕ)) (zone u : ℕ)
+    (decision : Decision) →
+    IsDestination net d → homes ≡ d.homes.items → All (λ (v : ℕ). IsListening listens zone v → Excepts decision v) homes →
+    IsListening listens zone u →
     Connected net u d.dest → Excepts decision u
 home_excepted net d homes listens zone u decision is same excepted listening connected =
     let Holds : ℕ → Type 0 = λ v. IsListening listens zone v → Excepts decision v in
     All-contains Holds d.homes.items u (subst (All Holds) same excepted) ((is.homes u).1 connected) listening
 
 -- so a border router of the one area that offers the prefix is, where all of these are
-pub part_owned : (net : Network) (d : Destination) (part : AreaOffers) (u n m : ℕ) (owners : List ℕ) (decision : Decision) → IsDestination net d →
+pub part_owned : (net : Network) (d : Destination) (part : AreaOffers) (u n m : ℕ) (owners : List ℕ) (decision : Decision) →
+    IsDestination net d →
     length d.parts.items ≡ 1 → Contains d.parts.items part → ListensTo net u n → part.area ≢ n → m ≡ part.area →
     Exactly (IsBorderIn net m) owners → All (Excepts decision) owners → (Excepts decision u → ⊥) → IsIntraArea net d.dest u → ⊥
 part_owned net d part u n m owners decision is one among listens other same exact excepted not =
@@ -142,7 +163,8 @@ part_owned net d part u n m owners decision is one among listens other same exac
     (λ border. not (All-contains (Excepts decision) owners u excepted
     ((exact u).1 (subst (λ (k : ℕ). IsBorderIn net k u) (sym same) border))))
 
-pub none_offered : (net : Network) (d : Destination) (given : List AreaOffers) (u : ℕ) → IsDestination net d → given ≡ d.parts.items → length given ≡ 0 →
+pub none_offered : (net : Network) (d : Destination) (given : List AreaOffers) (u : ℕ) → IsDestination net d →
+    given ≡ d.parts.items → length given ≡ 0 →
     IsIntraArea net d.dest u → ⊥
 none_offered net d given u is same empty =
     no_intra_of_none net d u is (subst (λ (parts : List AreaOffers). length parts ≡ 0) same empty)

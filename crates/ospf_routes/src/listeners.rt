@@ -4,7 +4,7 @@ ghost use Rattle.route_tables.specs.declared.lane.Decision.TheVariants.{Unknown}
 ghost use Rattle.ospf_routes.specs.steps.Areas.{AreAreas, AreListeners};
 ghost use Rattle.ospf_routes.specs.steps.Destinations.{IsDestinationIn};
 ghost use Rattle.ospf_routes.specs.steps.Heard.{AreHeardAt};
-ghost use Rattle.ospf_routes.specs.steps.Lanes.{DecidesListened, Excepts, IsNothing, IsOfFew, IsOfHeard};
+ghost use Rattle.ospf_routes.specs.steps.Lanes.{DecidesListened, Excepts, IsNothing, IsOfHeard, lane_of_listeners};
 
 use crate::domain::Domain;
 use crate::intra_area::{AreaOffers, Destination};
@@ -38,12 +38,7 @@ pub(crate) fn listened_decision(
     requires destination { IsDestinationIn listeners.domain.now destination.now }
     requires heard { AreHeardAt listeners.domain.now destination.now.dest listeners.zone heard.now }
     requires no_range { (u : ℕ) → IsActiveRange listeners.domain.now.net destination.now.dest u → ⊥ }
-    ensures { DecidesListened (record {
-      domain = listeners.entry.domain.now;
-      listens = listeners.entry.listens.now;
-      zone = listeners.entry.zone;
-    })
-        destination.now.dest result }
+    ensures { DecidesListened (lane_of_listeners listeners.entry) destination.now.dest result }
 {
     match destination.parts.as_slice() {
         [] => excepting(
@@ -72,12 +67,7 @@ fn part_decision(
     requires no_range { (u : ℕ) → IsActiveRange listeners.domain.now.net destination.now.dest u → ⊥ }
     requires one { length destination.now.parts.items ≡ 1 }
     requires part { Contains destination.now.parts.items part.now }
-    ensures { DecidesListened (record {
-      domain = listeners.entry.domain.now;
-      listens = listeners.entry.listens.now;
-      zone = listeners.entry.zone;
-    })
-        destination.now.dest result }
+    ensures { DecidesListened (lane_of_listeners listeners.entry) destination.now.dest result }
 {
     let homes = destination.homes.as_slice();
     if part.area == listeners.domain.area(listeners.zone).number {

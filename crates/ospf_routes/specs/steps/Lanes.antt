@@ -10,6 +10,7 @@ use Rattle.route_tables.specs.declared.lane.Decision.{Decision}
 use Rattle.route_tables.specs.declared.lane.Decision.TheVariants.{Nothing, NothingBut, One, Two, Unknown}
 use Rattle.ospf_routes.specs.declared.areas.AreaWalks.{AreaWalks}
 use Rattle.ospf_routes.specs.declared.areas.TheConstants.{BACKBONE}
+use Rattle.ospf_routes.specs.declared.listeners.Listeners.{Listeners}
 use Rattle.ospf_routes.specs.steps.AreaReach.{area_reach}
 use Rattle.ospf_routes.specs.steps.Domain.{OspfDomain}
 
@@ -60,6 +61,10 @@ LeadsLane l u p = LeadToBest (area_reach l.domain.areas u l.zone) l.zone (length
 abbrev pub DecidesLane : LaneOf → Block → Decision → Type 0
 DecidesLane l p d = (u : ℕ) → u < length l.domain.net → IsInner l.domain.net l.listens l.zone u →
     DecidesAt (given_by_ospf l.domain l.listens) l.zone u p d
+
+-- the same of an area with the routers that listen to it
+abbrev pub lane_of_listeners : Listeners → LaneOf
+lane_of_listeners listeners = record { domain = listeners.domain.now; listens = listeners.listens.now; zone = listeners.zone }
 
 -- what decides the route for p of each router that listens to this area
 abbrev pub DecidesListened : LaneOf → Block → Decision → Type 0

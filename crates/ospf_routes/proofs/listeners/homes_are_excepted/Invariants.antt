@@ -5,4 +5,5 @@ use Rattle.ospf_routes.proofs.listeners.homes_are_excepted.Given as goal
 
 abbrev pub invariant-loop-home : goal.invariant-loop-home
 invariant-loop-home l =
-    AllWithin (λ (u : ℕ). get_or l.listeners.listens.now u None ≡ Some l.listeners.zone → Excepts l.decision u) l.homes 0 l.home-index
+    AllWithin (λ (u : ℕ). get_or l.listeners.listens.now u None ≡ Some l.listeners.zone → Excepts l.decision u) l.homes 0
+    l.home-index

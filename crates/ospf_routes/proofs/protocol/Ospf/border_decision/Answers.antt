@@ -10,7 +10,8 @@ pub listened_decision-requires-clause-heard : goal.listened_decision-requires-cl
 listened_decision-requires-clause-heard c =
     let p : Block = c.destination-destination.result.now.dest in
     subst (λ (ospf : OspfNetwork). AreHeardAt ospf.domain p BACKBONE c.heard.result.now) (sym c.self.view_is)
-    (subst (λ (q : Block). AreHeardAt c.args.self.now.domain q BACKBONE c.heard.result.now) (sym c.destination-destination.ensures.dest) c.heard.ensures)
+    (subst (λ (q : Block). AreHeardAt c.args.self.now.domain q BACKBONE c.heard.result.now)
+    (sym c.destination-destination.ensures.dest) c.heard.ensures)
 
 pub listened_decision-requires-clause-no_range : goal.listened_decision-requires-clause-no_range
 listened_decision-requires-clause-no_range c = λ u active.
