@@ -77,7 +77,7 @@ fn lead_to(
     if walks.hops_to(at).is_empty() {
         return Ok(no_lead());
     }
-    let number = Number::of(number_towards(alloc, walks, at, count, pool)?)?;
+    let number = number_towards(alloc, walks, at, count, pool)?;
     Ok(Lead { distance, number })
 }
 

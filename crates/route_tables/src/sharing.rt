@@ -4,7 +4,7 @@ ghost use Rattle.route_tables.specs.Prefixes.{prefix_at};
 ghost use Rattle.walk_core.specs.Reach.{listed_hops_of};
 ghost use Rattle.route_tables.specs.Routings.{AreHopsTo, HasZoneTarget, IsEntryTo, Makes};
 ghost use Rattle.route_tables.specs.steps.Kinds.{IsToldBehind, IsToldLane};
-ghost use Rattle.route_tables.specs.steps.Sharing.{AreOverOne, HasNumber, IsNumberOf, IsRouterLane, KeepsMore};
+ghost use Rattle.route_tables.specs.steps.Sharing.{AreOverOne, HasNumber, HasSomeNumber, IsNumberOf, IsRouterLane, KeepsMore};
 ghost use Rattle.route_core.specs.declared.entry.Entry.TheVariants.{Via};
 
 use crate::OutOfMemory;
@@ -84,7 +84,7 @@ pub(crate) fn number_asked<P: Protocol>(
         (prefix_at (P.candidates protocol.now) place)) pool.new.entries.items) }
 {
     match protocol.route(alloc, place, router)? {
-        Some(route) => Number::of(number_of(alloc, protocol, router, pool, route)?),
+        Some(route) => number_of(alloc, protocol, router, pool, route),
         None => Ok(Number::none()),
     }
 }
@@ -97,21 +97,24 @@ fn number_of<P: Protocol>(
     router: u32,
     pool: &mut Pool,
     route: Route,
-) -> Result<u32, OutOfMemory>
+) -> Result<Number, OutOfMemory>
     requires router { router < (P.routes protocol.now).routers }
     requires target { HasZoneTarget ((P.routes protocol.now).reach router) (P.routes protocol.now).zones route }
     requires single { AreOverOne (P.routes protocol.now).routers pool.old.entries.items }
     ensures kept { OnOk result (KeepsMore pool.old pool.new) }
-    ensures number { IfOk result (HasNumber (Makes ((P.routes protocol.now).reach router)
+    ensures number { IfOk result (HasSomeNumber (Makes ((P.routes protocol.now).reach router)
         (P.routes protocol.now).routers route) pool.new.entries.items) }
 {
     match route {
-        Route::Drops => pool.keep(Entry::Discard),
+        Route::Drops => Number::of(pool.keep(Entry::Discard)?),
         Route::Towards(target) => {
             let walks = protocol.walks(router, target.zone);
             number_towards(alloc, walks, target.at, protocol.routers(), pool)
         }
-        Route::Through(hops) => number_through(alloc, hops.as_slice(), protocol.routers(), pool),
+        Route::Through(hops) => {
+            let number = number_through(alloc, hops.as_slice(), protocol.routers(), pool)?;
+            Number::of(number)
+        }
     }
 }
 
@@ -124,14 +127,14 @@ pub(crate) fn number_towards(
     at: u32,
     count: u32,
     pool: &mut Pool,
-) -> Result<u32, OutOfMemory>
+) -> Result<Number, OutOfMemory>
     requires { AreOverOne count pool.old.entries.items }
     ensures kept { OnOk result (KeepsMore pool.old pool.new) }
-    ensures number { IfOk result (HasNumber (IsEntryTo walks.now at count) pool.new.entries.items) }
+    ensures number { IfOk result (HasSomeNumber (IsEntryTo walks.now at count) pool.new.entries.items) }
 {
     match only_hop(walks, at) {
-        Some(hop) if hop < count => Ok(hop),
-        _ => number_over(alloc, walks, at, count, pool),
+        Some(hop) if hop < count => Number::of(hop),
+        _ => Number::of(number_over(alloc, walks, at, count, pool)?),
     }
 }
 

@@ -18,7 +18,11 @@ pub record HasNumber (wanted : Entry → Type 0) (entries : List Entry) (number 
   pub below : number < length entries
   pub is : wanted (slice_index_or entries number Discard)
 
--- and there is no number where no entry is wanted
+-- there is a number, and its entry is so
+abbrev pub HasSomeNumber : (Entry → Type 0) → List Entry → Option ℕ → Type 0
+HasSomeNumber wanted entries number = MatchOption number ⊥ (HasNumber wanted entries)
+
+-- or there is none, where no entry is wanted
 abbrev pub IsNumberOf : (Entry → Type 0) → List Entry → Option ℕ → Type 0
 IsNumberOf wanted entries number = MatchOption number ((e : Entry) → wanted e → ⊥) (HasNumber wanted entries)
 
