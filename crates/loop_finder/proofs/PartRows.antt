@@ -1,6 +1,6 @@
 -- How the part of a class is made of its rows.
 use Rattle.std.proofs.Common.{◌≡◌, ℕ, ◌+◌, ◌<◌, ◌≤◌, ◌↔◌, ◌⊎◌, Bool, List, [], ◌∷◌, ◌++◌, length, map, replicate, get_or, Contains}
-use Rattle.std.proofs.Common.{inl, inr, arith, ap, ◌∙◌, sym, subst, below_more, Option, Some, None, IfSome}
+use Rattle.std.proofs.Common.{All, inl, inr, arith, ap, ◌∙◌, sym, subst, below_more, Option, Some, None, IfSome}
 use Rattle.std.specs.Bool.{OnTrue}
 use Rattle.std.proofs.lemmas.Bool.{cases_eq, cases_lt}
 use Rattle.std.proofs.lemmas.List.{get_or_past, get_or-replicate, length_push, length-map, length-replicate}
@@ -322,3 +322,64 @@ is_read m making atom lists least knows olds news reads = record {
   news_many = news;
   each = reads_all m making.known atom making.lists lists making.changed.items knows.class.known_is reads knows.unlike;
 }
+
+-- Routers that lack a step
+
+-- what is kept of these, of n routers, once some of them were seen
+pub record AreAdded (lists : ReadHops) (n : ℕ) (start seen still : List ℕ) : Type 0 where
+  pub below : All (λ u. u < n) start → All (λ u. u < n) still
+  pub kept : (u : ℕ) → Contains start u → Contains still u
+  pub added : (u : ℕ) → Contains seen u → HasBothSteps lists u ⊎ Contains still u
+
+-- one router more
+pub AreAdded-more : (lists : ReadHops) (n : ℕ) (start seen old new : List ℕ) (u : ℕ) → u < n → AreAdded lists n start seen old
+    → AddsUnless (HasBothSteps lists u ⊎ Contains old u) u old new → AreAdded lists n start (seen ++ u ∷ []) new
+AreAdded-more lists n start seen old new u within are (inl is) = subst (AreAdded lists n start (seen ++ u ∷ [])) (sym is) (record {
+  below = λ first. All-push (λ (v : ℕ). v < n) old u (are.below first) within;
+  kept = λ v among. Contains-append_left old (u ∷ []) v (are.kept v among);
+  added = λ v among. elim (Contains-push_cases seen u v among) [
+    | inl was ↦ elim (are.added v was) [ inl both ↦ inl both | inr here ↦ inr (Contains-append_left old (u ∷ []) v here) ]
+    | inr same ↦ inr (subst (Contains (old ++ u ∷ [])) same (Contains-push old u))
+  ];
+})
+AreAdded-more lists n start seen old new u within are (inr is) = subst (AreAdded lists n start (seen ++ u ∷ [])) (sym is.0) (record {
+  below = are.below;
+  kept = are.kept;
+  added = λ v among. elim (Contains-push_cases seen u v among) [
+    | inl was ↦ are.added v was
+    | inr same ↦ subst (λ (x : ℕ). HasBothSteps lists x ⊎ Contains old x) same is.1
+  ];
+})
+
+-- the routers that lack a step for a class that is read are those that lacked one before, or changed
+pub are_still : (m : Mix) (making : Making) (atom : ℕ) (lists : ReadHops) (still : List ℕ) → KnowsUnlike m atom making
+    → ReadsSeen (class_in m atom) making.changed.items making.lists lists → All (λ u. u < length m.net) still
+    → ((u : ℕ) → Contains making.still.items u → HasBothSteps lists u ⊎ Contains still u)
+    → ((u : ℕ) → Contains making.changed.items u → HasBothSteps lists u ⊎ Contains still u)
+    → AreAllBut (HasBothSteps lists) (length m.net) still
+are_still m making atom lists still knows reads below was changed = record {
+  below = below;
+  whole = λ u router. elim (knows.unlike.whole u router) [
+    | inl among ↦ swap (changed u among)
+    | inr alike ↦ elim (reads.rest u) [
+      | inl among ↦ swap (changed u among)
+      | inr same ↦ elim (listed u making.known alike knows.class.still_is.listed u router) [
+        | inl among ↦ swap (was u among)
+        | inr both ↦ inr (both_still u same both)
+      ]
+    ]
+  ];
+}
+  where
+    swap : {P Q : Type 0} → P ⊎ Q → Q ⊎ P
+    swap (inl p) = inr p
+    swap (inr q) = inl q
+
+    both_still : (u : ℕ) → IsSameAt making.lists lists u → HasBothSteps making.lists u → HasBothSteps lists u
+    both_still u same both = (subst (λ (xs : List ℕ). 0 < length xs) same.olds both.0, subst (λ (xs : List ℕ). 0 < length xs) same.news both.1)
+
+    listed : (u : ℕ) (known : Option ℕ) → IsAlikeToKnown (migration_in m) m.classes known atom u
+        → IfSome known (λ other. AreAllBut (HasBothSteps making.lists) (length m.net) making.still.items)
+        → (v : ℕ) → v < length m.net → Contains making.still.items v ⊎ HasBothSteps making.lists v
+    listed u None alike still = absurd alike
+    listed u (Some other) alike still = still.whole

@@ -14,6 +14,7 @@
 //! | `ends`, `end_lists`, `class_hops` | the hops of a class in both networks, and where they changed |
 //! | `layers`, `chains`, `level_marks` | where a walk may return, by one search for strongly connected components, chains at once |
 //! | `making` | what is known of the two latest classes, from the nearer of which a class is read |
+//! | `still` | the routers without a hop in one of the networks |
 //! | `parts`, `part` | the parts |
 //! | `pieces`, `cutting`, `cut_check` | their pieces: a walk that returns stays in one of them, and parts share them |
 //! | `watch`, `known` | which parts a change of a router concerns, and what is known of the latest order |
@@ -49,6 +50,7 @@ mod level_marks;
 mod making;
 mod part;
 mod parts;
+mod still;
 mod watch;
 
 // the pieces of parts

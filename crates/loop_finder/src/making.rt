@@ -1,11 +1,12 @@
-ghost use Rattle.std.specs.Prelude.{◌≡◌, ◌<◌, None, Some, IfOk, OnOk, length, vec_len};
+ghost use Rattle.std.specs.Prelude.{◌≡◌, ◌<◌, [], None, Some, IfOk, OnOk, length, vec_len};
 ghost use Rattle.prefix_atoms.specs.Classes.{IsInClass};
-ghost use Rattle.loop_finder.specs.steps.Making.{IsMaking, IsRead, KnowsBoth, KnowsClass, KnowsUnlike};
+ghost use Rattle.loop_finder.specs.steps.Making.{AreStill, IsMaking, IsRead, KnowsBoth, KnowsClass, KnowsUnlike};
 ghost use Rattle.loop_finder.specs.Mixes.{mix_of, sample_of, class_in};
 
 use crate::end_lists::{EndLists, read_class};
 use crate::layers::Layers;
 use crate::level_marks::mark_returns;
+use crate::still::find_still;
 use rib_mix::{Mixed, OutOfMemory};
 use route_core::RouteSource;
 use std::alloc::Global;
@@ -39,6 +40,10 @@ pub(crate) struct Making<'m> {
     pub marks: Vec<bool>,
     /// The layers of the routers.
     pub layers: Layers,
+    /// The routers without a hop in one of the networks.
+    pub still: Vec<u32>,
+    /// Room for more of these.
+    room: Vec<u32>,
 }
 
 impl<'m> Makings<'m> {
@@ -46,6 +51,7 @@ impl<'m> Makings<'m> {
     pub fn new(alloc: Global, routers: u32) -> Result<Makings<'m>, OutOfMemory>
         ensures makings { IfOk result (λ made. IsMaking routers made.recent × IsMaking routers made.older) }
         ensures known { IfOk result (λ made. (made.recent.known ≡ None) × (made.older.known ≡ None)) }
+        ensures still { IfOk result (λ made. (made.recent.still.items ≡ []) × (made.older.still.items ≡ [])) }
     {
         let recent = Making::new(alloc, routers)?;
         let older = Making::new(alloc, routers)?;
@@ -62,12 +68,13 @@ impl<'m> Makings<'m> {
         requires makings { KnowsBoth (mix_of O.table N.table mixed.now) self.old }
         ensures makings { OnOk result (KnowsBoth (mix_of O.table N.table mixed.now) self.new) }
         ensures read { OnOk result (IsRead (class_in (mix_of O.table N.table mixed.now) atom) self.new.recent.lists) }
+        ensures still { OnOk result (AreStill (length mixed.now.net) self.new.recent) }
     {
         self.older.compare(mixed, atom)?;
         if self.older.is_far() {
             self.take_nearer(mixed, atom)?;
         }
-        self.older.read(mixed, atom);
+        self.older.read(mixed, atom)?;
         mem::swap(&mut self.older, &mut self.recent);
         Ok(())
     }
@@ -87,7 +94,7 @@ impl<'m> Makings<'m> {
         self.recent.compare(mixed, atom)?;
         if self.recent.changed.len() < self.older.changed.len() {
             mem::swap(&mut self.older, &mut self.recent);
-            self.recent.copy_from(&self.older);
+            self.recent.copy_from(&self.older)?;
         }
         Ok(())
     }
@@ -98,6 +105,7 @@ impl<'m> Making<'m> {
     fn new(alloc: Global, routers: u32) -> Result<Making<'m>, OutOfMemory>
         ensures making { IfOk result (IsMaking routers) }
         ensures known { IfOk result (λ making. making.known ≡ None) }
+        ensures still { IfOk result (λ making. making.still.items ≡ []) }
     {
         let lists = EndLists::new(alloc, routers)?;
         Ok(Making {
@@ -106,6 +114,8 @@ impl<'m> Making<'m> {
             changed: Vec::with_capacity(alloc, routers as usize)?,
             marks: vec![in alloc; false; routers as usize]?,
             layers: Layers::new(alloc, routers)?,
+            still: Vec::new(alloc),
+            room: Vec::new(alloc),
         })
     }
 
@@ -130,7 +140,7 @@ impl<'m> Making<'m> {
     }
 
     /// Takes over what is known of another class.
-    fn copy_from(&mut self, other: &Making<'m>)
+    fn copy_from(&mut self, other: &Making<'m>) -> Result<(), OutOfMemory>
         requires olds { length self.old.lists.olds ≡ length other.now.lists.olds }
         requires news { length self.old.lists.news ≡ length other.now.lists.news }
         requires marks { vec_len self.old.marks ≡ vec_len other.now.marks }
@@ -138,22 +148,33 @@ impl<'m> Making<'m> {
         ensures lists { self.new.lists ≡ other.now.lists }
         ensures marks { self.new.marks.items ≡ other.now.marks.items }
         ensures many { vec_len self.new.marks ≡ vec_len other.now.marks }
+        ensures still { OnOk result (self.new.still.items ≡ other.now.still.items) }
     {
         self.known = other.known;
         self.lists.copy_from(&other.lists);
         self.marks.copy_from_slice(other.marks.as_slice());
+        self.still.clear();
+        self.still.extend_from_slice(other.still.as_slice())?;
+        Ok(())
     }
 
     /// Reads a class, of which it's known which routers have to be read.
-    fn read<O: RouteSource, N: RouteSource>(&mut self, mixed: &'m Mixed<'_, O, N>, atom: u32)
+    fn read<O: RouteSource, N: RouteSource>(
+        &mut self,
+        mixed: &'m Mixed<'_, O, N>,
+        atom: u32,
+    ) -> Result<(), OutOfMemory>
         requires least { IsInClass mixed.now.classes atom (sample_of mixed.now.classes atom) }
         requires unlike { KnowsUnlike (mix_of O.table N.table mixed.now) atom self.old }
-        ensures class { KnowsClass (mix_of O.table N.table mixed.now) self.new }
-        ensures read { IsRead (class_in (mix_of O.table N.table mixed.now) atom) self.new.lists }
+        ensures class { OnOk result (KnowsClass (mix_of O.table N.table mixed.now) self.new) }
+        ensures read { OnOk result (IsRead (class_in (mix_of O.table N.table mixed.now) atom) self.new.lists) }
+        ensures still { OnOk result (AreStill (length mixed.now.net) self.new) }
     {
         let changed = self.changed.as_slice();
         read_class(mixed, atom, changed, &mut self.lists);
         self.known = Some(atom);
         mark_returns(&self.lists, changed, &mut self.layers, &mut self.marks);
+        find_still(&self.lists, changed, &mut self.still, &mut self.room)?;
+        Ok(())
     }
 }

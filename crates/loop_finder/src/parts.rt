@@ -1,8 +1,9 @@
 ghost use Rattle.std.specs.Prelude.{◌≡◌, ◌+◌, ◌<◌, ℕ, All, IfOk, OnOk, length};
 ghost use Rattle.std.specs.Bool.{OnTrue};
+ghost use Rattle.net_model.specs.Network.{Connected};
 ghost use Rattle.net_model.specs.Refusals.{IsNetwork};
 ghost use Rattle.loop_finder.specs.steps.Targets.{IsTargetIn};
-ghost use Rattle.loop_finder.specs.steps.Making.{IsMaking, IsRead, KnowsBoth};
+ghost use Rattle.loop_finder.specs.steps.Making.{AreStill, IsMaking, IsRead, KnowsBoth};
 ghost use Rattle.loop_finder.specs.steps.PartRows.{HasEarlierHops};
 ghost use Rattle.loop_finder.specs.Parts.{AllMove, AreParts, IsCovered};
 ghost use Rattle.loop_finder.specs.Mixes.{mix_of, sample_of, class_in};
@@ -93,6 +94,7 @@ fn add_known<'m, O: RouteSource, N: RouteSource>(
     requires target { IsTargetIn mixed.now.net (sample_of mixed.now.classes class.now.atom) class.now.target }
     requires making { IsMaking (length mixed.now.net) making.now }
     requires read { IsRead (class_in (mix_of O.table N.table mixed.now) class.now.atom) making.now.lists }
+    requires still { AreStill (length mixed.now.net) making.now }
     requires parts { AreParts (mix_of O.table N.table mixed.now) parts.old.items class.now.atom }
     ensures { OnOk result (AreParts (mix_of O.table N.table mixed.now) parts.new.items (class.now.atom + 1)) }
 {
@@ -111,12 +113,24 @@ fn all_move<O: RouteSource, N: RouteSource>(
     target: Prefix,
     making: &Making<'_>,
 ) -> bool
-    requires { IsMaking (length mixed.now.net) making.now }
+    requires { AreStill (length mixed.now.net) making.now }
     ensures { OnTrue result ((atom : ℕ) → IsTargetIn mixed.now.net (sample_of mixed.now.classes atom) target →
         IsRead (class_in (mix_of O.table N.table mixed.now) atom) making.now.lists → AllMove (class_in (mix_of O.table N.table mixed.now) atom)) }
 {
-    for router in 0..mixed.net().routers() {
-        if !making.lists.moves(router) && !mixed.originates(router, target) {
+    are_homes(mixed, target, making.still.as_slice())
+}
+
+/// Whether a prefix is connected at each of some routers.
+fn are_homes<O: RouteSource, N: RouteSource>(
+    mixed: &Mixed<'_, O, N>,
+    prefix: Prefix,
+    routers: &[u32],
+) -> bool
+    requires { All (λ u. u < length mixed.now.net) routers.now }
+    ensures { OnTrue result (All (λ u. Connected mixed.now.net u prefix) routers.now) }
+{
+    for router in routers {
+        if !mixed.originates(*router, prefix) {
             return false;
         }
     }

@@ -1,11 +1,11 @@
 -- What is read of classes, and what parts are made with.
-use Rattle.std.specs.Prelude.{◌≡◌, ℕ, ◌<◌, ◌↔◌, ◌⊎◌, List, length, vec_len, Contains, IfSome}
+use Rattle.std.specs.Prelude.{All, ◌≡◌, ℕ, ◌<◌, ◌↔◌, ◌⊎◌, List, length, vec_len, Contains, IfSome}
 use Rattle.igp_theory.specs.declared.phase.Phase.{Phase}
 use Rattle.igp_theory.specs.declared.phase.Phase.TheVariants.{Old, New}
 use Rattle.prefix_atoms.specs.Classes.{IsInClass}
 use Rattle.rib_mix.specs.Answers.{IsAlikeToKnown, IsNextOf, NextLeadsTo}
 use Rattle.rib_mix.specs.declared.next.Next.{Next}
-use Rattle.loop_finder.specs.steps.Ends.{ReadHops, EndStep, AreNoHops, hops_at}
+use Rattle.loop_finder.specs.steps.Ends.{ReadHops, EndStep, AreNoHops, HasBothSteps, hops_at}
 use Rattle.loop_finder.specs.steps.Parts.{AreAllBut}
 use Rattle.loop_finder.specs.steps.Returns.{MarksReturns}
 use Rattle.loop_finder.specs.Mixes.{Mix, migration_in, ClassIn, class_in, least_of}
@@ -56,10 +56,20 @@ pub record IsMaking (n : ℕ) (making : Making) : Type 0 where
   pub marks_many : vec_len making.marks ≡ n
   pub returns : MarksReturns (EndStep making.lists) making.marks.items
 
--- it's known which class was read, and to which routers a walk over its steps may return
+-- the routers without a step in Old or in New are listed, of n, with others maybe
+abbrev pub AreStill : ℕ → Making → Type 0
+AreStill n making = AreAllBut (HasBothSteps making.lists) n making.still.items
+
+-- where a class is known they are
+pub record IsKnownStill (n : ℕ) (making : Making) : Type 0 where
+  pub below : All (λ u. u < n) making.still.items
+  pub listed : IfSome making.known (λ atom. AreStill n making)
+
+-- it's known which class was read, which routers lack a step, and to which routers a walk over its steps may return
 pub record KnowsClass (m : Mix) (making : Making) : Type 0 where
   pub making_is : IsMaking (length m.net) making
   pub known_is : IsKnownClass m making
+  pub still_is : IsKnownStill (length m.net) making
 
 -- and which routers aren't known to do the same for another class
 pub record KnowsUnlike (m : Mix) (atom : ℕ) (making : Making) : Type 0 where

@@ -16,6 +16,7 @@ returns g c =
           returns = c.requires.class.making_is.returns;
         };
         known_is = c.requires.class.known_is;
+        still_is = record { below = c.requires.class.still_is.below; listed = c.requires.class.still_is.listed };
       };
       unlike = all_but_added (IsAlikeToKnown (migration_in m) m.classes c.args.self.now.known c.args.atom) (length m.net)
           c.clear.new.self.items c.add_unlike.new.unlike.items c.add_unlike.new.unlike.items c.clear.ensures.items refl c.in_ok-add_unlike.ensures;
