@@ -122,7 +122,8 @@ one_alone (x ∷ []) o some few = refl
 one_alone (x ∷ y ∷ rest) o some few = absurd (omega (arith, few))
 
 -- offers of which the best make the entries lead there
-pub leads_by : (l : LaneOf) (u : ℕ) (p : Block) (offers : List Offer) → l.zone < length l.domain.areas → AreInRange (area_reach l.domain.areas u l.zone) offers →
+pub leads_by : (l : LaneOf) (u : ℕ) (p : Block) (offers : List Offer) → l.zone < length l.domain.areas →
+    AreInRange (area_reach l.domain.areas u l.zone) offers →
     ((hops : List ℕ) → AreBestHops (area_reach l.domain.areas u l.zone) offers (length l.domain.net) hops → OspfEntry l.domain.net u p (Via hops)) →
     LeadsLane l u p offers
 leads_by l u p offers within range by =

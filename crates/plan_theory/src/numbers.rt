@@ -54,7 +54,7 @@ fn change_pairs(alloc: Global, routers: u32) -> Result<Vec<(u32, u32)>, OutOfMem
 }
 
 /// The number that a turn of a router has to name for the addresses of a class, wherever the routers start.
-pub fn number_at<O: RouteSource, N: RouteSource>(
+fn number_at<O: RouteSource, N: RouteSource>(
     items: Items,
     mixed: &Mixed<'_, O, N>,
     atom: u32,

@@ -16,7 +16,8 @@ use Rattle.ospf_routes.specs.declared.intra_area.Destination.{Destination}
 use Rattle.ospf_routes.specs.declared.ranges.ActiveRange.{ActiveRange}
 
 -- a network with its areas, what these offer of each prefix, the places of the areas that its routers listen to, their active
--- ranges and the prefixes of these, whether there is a lane of border routers, what they announce of each prefix, and for each prefix an earlier one with the same entries,
+-- ranges and the prefixes of these, whether there is a lane of border routers, what they announce of each prefix, and for
+-- each prefix an earlier one with the same entries,
 -- also within areas, where one is found
 pub record OspfNetwork : Type 0 where
   pub domain : OspfDomain

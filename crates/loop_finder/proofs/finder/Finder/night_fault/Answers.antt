@@ -18,7 +18,8 @@ returns-then-is_sound_start-clause-sound g c =
     rw (← c.self.view_is) (told_at_start (migration_of g.O.RouteSource.table g.N.RouteSource.table c.self.inside.subject.mixed.now)
     (state_in c.self.inside.start.items) (state_in c.args.phases.now) None [] [] refl tt
     (subst (λ (s : State). Sound (mix_of g.O.RouteSource.table g.N.RouteSource.table c.self.inside.subject.mixed.now) s)
-    (ap state_in (sym c.as_slice.ensures.value) ∙ c.if-is_sound_start.ensures.same) (subst (λ (b : Bool). OnTrue b (Sound (mix_of g.O.RouteSource.table g.N.RouteSource.table c.self.inside.subject.mixed.now)
+    (ap state_in (sym c.as_slice.ensures.value) ∙ c.if-is_sound_start.ensures.same)
+    (subst (λ (b : Bool). OnTrue b (Sound (mix_of g.O.RouteSource.table g.N.RouteSource.table c.self.inside.subject.mixed.now)
     (state_in c.self.inside.start.items))) c.if-is_sound_start.ensures.begun c.self.invariant.begun_is)) tt).0
 
 pub tag_found-requires-clause-start : goal.tag_found-requires-clause-start

@@ -16,7 +16,8 @@ pub returns-then-is_sound_start-clause-sound : goal.returns-then-is_sound_start-
 returns-then-is_sound_start-clause-sound g c =
     rw (← c.self.view_is) (
       λ none. subst (λ (s : State). Sound (mix_of g.O.RouteSource.table g.N.RouteSource.table c.self.inside.subject.mixed.now) s)
-          (ap state_in (sym c.as_slice.ensures.value) ∙ c.if-is_sound_start.ensures.same) (subst (λ (b : Bool). OnTrue b (Sound (mix_of g.O.RouteSource.table g.N.RouteSource.table c.self.inside.subject.mixed.now)
+          (ap state_in (sym c.as_slice.ensures.value) ∙ c.if-is_sound_start.ensures.same)
+          (subst (λ (b : Bool). OnTrue b (Sound (mix_of g.O.RouteSource.table g.N.RouteSource.table c.self.inside.subject.mixed.now)
           (state_in c.self.inside.start.items))) c.if-is_sound_start.ensures.begun c.self.invariant.begun_is),
       λ sound. refl,
     )
