@@ -8,6 +8,7 @@ mod IntraFacts
 mod RangeFacts
 mod SummaryFacts
 mod HeardFacts
+mod QuietFacts
 mod RouteFacts
 mod EntryFacts
 mod ProtocolFacts

@@ -1,4 +1,4 @@
-ghost use Rattle.std.specs.Prelude.{◌≡◌, ◌<◌, ◌↔◌, length, Some, All, Any, IfOk, IsTrue, OnOk};
+ghost use Rattle.std.specs.Prelude.{◌≡◌, ◌<◌, ◌↔◌, ℕ, [], length, Some, All, Any, IfOk, IsTrue, OnOk};
 ghost use Rattle.walk_core.specs.declared.offers.Offer.{Offer as OfferValue};
 ghost use Rattle.ospf_routes.specs.steps.Areas.{IsArea};
 ghost use Rattle.ospf_routes.specs.steps.Destinations.{AreOspfDestinations, IsDestinationIn};
@@ -6,7 +6,8 @@ ghost use Rattle.net_model.specs.Network.{IsBorderRouter};
 ghost use Rattle.ospf_routes.specs.Lists.{Adds, Exactly};
 ghost use Rattle.ospf_routes.specs.steps.Offered.{AreOffers};
 ghost use Rattle.ospf_routes.specs.steps.Ranges.{AreRangesBelow, HoldRanges};
-ghost use Rattle.ospf_routes.specs.steps.Heard.{AddsRow, AreSummaries, IsLeaving, IsSummaryRow};
+ghost use Rattle.net_addr.specs.Addresses.{Block};
+ghost use Rattle.ospf_routes.specs.steps.Heard.{AddsRow, AreSummaries, IsLeaving, IsQuiet, IsSummaryRow};
 ghost use Rattle.ospf_routes.specs.steps.Summarized.{Announces, IsHeard, IsOutgoing};
 
 use crate::OutOfMemory;
@@ -20,7 +21,7 @@ use crate::ranges::{ActiveRanges, RangePrefixes};
 use crate::stub_areas::{is_totally_stubby, push_defaults};
 use crate::summaries::Summaries;
 use net_addr::Prefix;
-use route_tables::push_option;
+use route_tables::{is_all_addresses, push_option};
 use std::alloc::Global;
 use walk_core::Offer;
 
@@ -98,11 +99,35 @@ fn keep_into_areas(
     ensures { OnOk result (AddsRow (IsSummaryRow boundary.entry.domain.now leaving.entry.destination.now.dest
         (length boundary.entry.domain.now.areas)) summaries.old summaries.new) }
 {
+    if is_quiet(leaving) {
+        return keep_nothing(summaries, boundary.domain);
+    }
     for zone in 0..boundary.domain.zones() {
         put_summaries(offers, boundary, boundary.domain.area(zone), leaving)?;
         summaries.keep(offers.as_slice())?;
     }
     Ok(())
+}
+
+/// Keeps that nothing is announced of a prefix, area by area.
+fn keep_nothing(summaries: &mut Summaries, domain: &Domain<'_>) -> Result<(), OutOfMemory>
+    ensures { (p : Block) → ((n : ℕ) → AreOffers (IsHeard domain.now.net p n) []) →
+        OnOk result (AddsRow (IsSummaryRow domain.now p (length domain.now.areas)) summaries.old summaries.new) }
+{
+    for _zone in 0..domain.zones() {
+        summaries.keep_empty()?;
+    }
+    Ok(())
+}
+
+/// Whether nothing is announced of a prefix into any area, as of one that ranges hide: nothing is summarized of it, and it
+/// isn't that of all addresses.
+fn is_quiet(leaving: Leaving<'_>) -> bool
+    ensures { IsTrue result → IsQuiet leaving.entry }
+{
+    leaving.routes.is_empty()
+        && leaving.backbone.is_empty()
+        && !is_all_addresses(leaving.destination.dest)
 }
 
 /// Puts the announcements of an area's routers into it in place of other offers: the subnets and ranges of other areas, and

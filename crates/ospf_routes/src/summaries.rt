@@ -58,6 +58,14 @@ impl Summaries {
         Ok(())
     }
 
+    /// Adds an empty list behind the others.
+    pub fn keep_empty(&mut self) -> Result<(), OutOfMemory>
+        ensures { OnOk result (self.new ≡ record { areas = self.old.areas; lists = self.old.lists ++ [] ∷ [] }) }
+    {
+        self.spans.push(OfferSpan { start: 0, count: 0 })?;
+        Ok(())
+    }
+
     /// How many areas there are.
     pub fn areas(&self) -> usize
         ensures { result ≡ self.now.areas }

@@ -1,6 +1,6 @@
 -- What is announced of each prefix into each area.
-use Rattle.std.specs.Prelude.{◌≡◌, ◌<◌, ◌*◌, ◌++◌, ℕ, List, [], length, slice_index_or}
-use Rattle.net_addr.specs.Addresses.{Block}
+use Rattle.std.specs.Prelude.{◌≡◌, ◌≢◌, ◌<◌, ◌*◌, ◌++◌, ℕ, List, [], length, slice_index_or}
+use Rattle.net_addr.specs.Addresses.{Block, default_prefix}
 use Rattle.route_tables.specs.Prefixes.{prefix_at}
 use Rattle.walk_core.specs.declared.offers.Offer.{Offer}
 use Rattle.igp_theory.specs.Ospf.{BackboneSummary}
@@ -43,3 +43,9 @@ pub record IsLeaving (domain : OspfDomain) (leaving : Leaving) : Type 0 where
   pub destination : IsDestinationIn domain leaving.destination.now
   pub routes : AreSummarized domain.net leaving.destination.now.dest leaving.routes.now
   pub backbone : AreOffers (BackboneSummary domain.net leaving.destination.now.dest) leaving.backbone.now
+
+-- there are none of either, and the prefix isn't that of all addresses
+pub record IsQuiet (leaving : Leaving) : Type 0 where
+  pub no_routes : length leaving.routes.now ≡ 0
+  pub no_backbone : length leaving.backbone.now ≡ 0
+  pub apart : leaving.destination.now.dest ≢ default_prefix

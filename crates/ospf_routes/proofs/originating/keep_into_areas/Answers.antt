@@ -4,7 +4,14 @@ use Rattle.ospf_routes.specs.steps.Offered.{AreOffers}
 use Rattle.ospf_routes.specs.steps.Summarized.{IsHeard}
 use Rattle.ospf_routes.specs.declared.areas.AreaWalks.{AreaWalks}
 use Rattle.ospf_routes.proofs.HeardFacts.{heard_here, row_more}
+use Rattle.ospf_routes.proofs.QuietFacts.{quiet_everywhere}
 use Rattle.ospf_routes.proofs.originating.keep_into_areas.Goals as goal
+
+pub returns-then-is_quiet : goal.returns-then-is_quiet
+returns-then-is_quiet c =
+    let leaving = c.args.leaving in
+    c.keep_nothing.ensures leaving.destination.now.dest
+    (quiet_everywhere c.args.boundary.domain.now leaving c.requires.leaving (c.is_quiet.ensures c.if-is_quiet.true))
 
 pub loop-zone-preserved : goal.loop-zone-preserved
 loop-zone-preserved c =
