@@ -11,7 +11,7 @@
 //! | `words` | the number that a word names |
 //! | `laws` | which rankings loops leave, that there is one plan, what a plan means |
 //!
-//! `number_at` takes the time of the hops of one class twice, squared.
+//! A number that a turn has to name takes the time of the hops of one class twice, squared.
 #![tactic(auto)]
 
 // What is ranked, what is planned, and the laws.
@@ -25,7 +25,7 @@ mod words;
 
 pub use items::Items;
 pub use laws::{plans_are_one, plans_mean, rankings_are_decided};
-pub use numbers::{base_pairs, number_at, number_count, number_turns};
+pub use numbers::{base_pairs, number_count, number_turns};
 pub use planned::{EndFault, Planned};
 pub use rib_mix::OutOfMemory;
 pub use words::{is_number_word, number_named};
