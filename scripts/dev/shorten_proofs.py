@@ -4,10 +4,11 @@
     scripts/dev/shorten_proofs.py CRATE [--least N] [--rounds N]
 
 CRATE is a crate that is proved, by its name. Each proof of N lines or more (3 unless said) becomes one line, `grind` with
-the lemmas that it cites; `rt check --allow-holes` tells which of them don't stand, these get their old lines back, and so on
-until all stand. A proof by equations, by `where` or by itself is left alone. Statements stay as they are, so nothing above the
-crate changes. Afterwards drop the imports that nothing uses (`rt check --fix-imports`), lay out (`rt fmt`), check, and try the
-crate's edits (`rt must-fail`): a proof that follows the code less closely may let one through that no clause refuses.
+the lemmas that it cites, a proof by cases in several equations too; `rt check --allow-holes` tells which of them don't stand,
+these get their old lines back, and so on until all stand. A proof by `where` or by itself is left alone. Statements stay as
+they are, so nothing above the crate changes. Afterwards drop the imports that nothing uses (`rt check --fix-imports`), lay out
+(`rt fmt`), check, and try the crate's edits (`rt must-fail`): a proof that follows the code less closely may let one through
+that no clause refuses.
 """
 import argparse
 import os
@@ -19,6 +20,11 @@ from typing import NamedTuple
 IMPORT = re.compile(r"^(?:pub )?use (Rattle\.[\w.]+)\.\{([^}]*)\}", re.M)
 EQUATION = re.compile(r"^([^\s(){}:=,]+)((?: [^=:]*)?) =(\s|$)")
 SIGNED = re.compile(r"^(?:pub )?([^\s(){}:=,]+) :", re.M)
+# What gives a value and proves nothing.
+VALUE = re.compile(r"(?:.*→ )?(?:List|Option|Result|ℕ|Bool|Type)\b[^≡<≤×]*$")
+VARIABLE = re.compile(r"[a-z][\w-]*")
+# Constructors that look like variables.
+CLOSED = {"true", "false", "zero", "refl", "tt"}
 WORD = re.compile(r"[^\s(){}\[\],;.]+")
 ERROR = re.compile(r"^(?:\./)?(proofs/\S+?\.antt):(\d+):\d+: error: (.*)$", re.M)
 GRIND = "use Rattle.std.proofs.lemmas.Grind.{common_steps}\n"
@@ -45,8 +51,30 @@ def lemmas_of(text):
     return found
 
 
+def left_side(line, name):
+    """The arguments of an equation, as they stand between its name and its `=`."""
+    said, found, depth = line[len(name) : line.index(" =")].strip(), [""], 0
+    for sign in said:
+        depth += (sign in "({") - (sign in ")}")
+        if sign == " " and not depth:
+            found.append("")
+        else:
+            found[-1] += sign
+    return [it for it in found if it]
+
+
+def whole_head(name, sides, signature):
+    """One equation's head in the place of several: an argument by a variable of one of them, else by its name in the type."""
+    named = [it for group in re.findall(r"\(([^():]+) :", signature.split(" : ", 1)[1]) for it in group.split()]
+    arguments = []
+    for place in range(len(sides[0])):
+        plain = [side[place] for side in sides if VARIABLE.fullmatch(side[place]) and side[place] not in CLOSED]
+        arguments.append((plain or named[place : place + 1] or [f"it_{place}"])[0])
+    return " ".join([name, *arguments, "="]) if len(set(arguments)) == len(arguments) else None
+
+
 def proofs_of(text, least):
-    """The proofs of a file that can be tried."""
+    """The proofs of a file that can be tried. Several equations that follow each other are one proof by cases."""
     lines, equations, place = text.split("\n"), {}, 0
     while place < len(lines):
         begun, first = EQUATION.match(lines[place]), place
@@ -56,13 +84,25 @@ def proofs_of(text, least):
                 place += 1
             equations.setdefault(begun[1], []).append((first, place))
     lemmas, own = lemmas_of(text), set(SIGNED.findall(text))
+    signatures = {found[1]: line for line in lines for found in [SIGNED.match(line)] if found}
     for name, spans in equations.items():
-        (first, end), *others = spans
-        words = set(WORD.findall("\n".join(lines[first:end]).split("=", 1)[1]))
-        if others or end - first < least or words & {name, "where", "grind"}:
+        first, end = spans[0][0], spans[-1][1]
+        texts = ["\n".join(lines[begun:ended]).split("=", 1)[1] for begun, ended in spans]
+        words = {word for said in texts for word in WORD.findall(said)}
+        is_whole = end - first == sum(ended - begun for begun, ended in spans)
+        if not is_whole or end - first < least or words & {name, "where", "grind"}:
             continue
-        cited = sorted(word for word in words if word in lemmas and (word[0].islower() or "-" in word) or word in own and word[0].islower())
-        yield Proof(name, first, end, lines[first][: lines[first].index(" =") + 2], cited)
+        if name not in signatures or VALUE.fullmatch(signatures[name].split(" : ", 1)[1]):
+            continue
+        head = lines[first][: lines[first].index(" =") + 2]
+        if len(spans) > 1:
+            sides = [left_side(lines[begun], name) for begun, _ in spans]
+            if len({len(it) for it in sides}) > 1:
+                continue
+            head = whole_head(name, sides, signatures[name])
+        known = {it for it in words if it in lemmas and (it[0].islower() or "-" in it) or it in own and it[0].islower()}
+        if head:
+            yield Proof(name, first, end, head, sorted(known))
 
 
 def shortened(text, proofs):
@@ -80,16 +120,27 @@ def shortened(text, proofs):
 
 
 def refused(said, tried):
-    """Those of the tried proofs, by file and name, that the prover refuses."""
-    found = set()
+    """Those of the tried proofs, by file and name, that the prover refuses, or that a refused one which wasn't tried names."""
+    found, names = set(), {}
+    for key in tried:
+        names.setdefault(key[1], set()).add(key)
     for file, line, message in ERROR.findall(said):
+        if "was not admitted" in message or "which was rejected" in message:
+            continue
         lines, place = pathlib.Path(file).read_text(encoding="utf-8").split("\n"), int(line) - 1
-        while place > 0 and not EQUATION.match(lines[place]):
-            place -= 1
-        begun, named = EQUATION.match(lines[place]), re.match(r"`([^`]+)`", message)
-        if "was not admitted" not in message:
-            found |= {(file, it[1]) for it in (begun, named) if it}
-    return found & tried
+        first, end = place, place
+        while first > 0 and not EQUATION.match(lines[first]):
+            first -= 1
+        begun, named = EQUATION.match(lines[first]), re.match(r"`([^`]+)`", message)
+        mine = {(file, it[1]) for it in (begun, named) if it} & tried
+        if not mine:
+            while place > 0 and lines[place - 1]:
+                place -= 1
+            while end < len(lines) and lines[end]:
+                end += 1
+            mine = {key for word in WORD.findall("\n".join(lines[place:end])) for key in names.get(word, ())}
+        found |= mine
+    return found
 
 
 def main():
