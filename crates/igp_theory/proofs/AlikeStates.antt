@@ -1,4 +1,5 @@
 -- States that give each router of the network one phase are sound alike.
+use Rattle.std.proofs.lemmas.Grind.{common_steps}
 use Rattle.std.proofs.Common.{◌≡◌, ℕ, ◌<◌, ◌≤◌, ◌∷◌, length, arith, sym, subst}
 use Rattle.igp_theory.specs.Forwarding.{Steps, HasStep}
 use Rattle.igp_theory.specs.Migrations.{Migration}
@@ -33,7 +34,4 @@ sound_alike alike sound a address = sound_at_alike alike (sound a address)
 
 -- a network without a router has sound states alone
 pub empty_is_sound : (move : Migration) (state : State) → length move.net ≤ 0 → IsSound move state
-empty_is_sound move state none a address = record {
-  forwards = λ u must. let within = must.router in absurd (omega (arith, within, none));
-  returns_never = λ u h hops follows. let within = follows.0.must.router in omega (arith, within, none);
-}
+empty_is_sound move state none a address = grind (arith, common_steps)

@@ -1,4 +1,5 @@
 -- Over tables that are lists a router uses an entry for an address, or none that counts contains it.
+use Rattle.std.proofs.lemmas.Grind.{common_steps}
 use Rattle.std.proofs.Common.{◌≡◌, ◌≢◌, ℕ, ◌≤◌, inl, inr, Bool, true, false, List, [], ◌∷◌, ◌++◌, map, Contains, Option, Some}
 use Rattle.std.proofs.Common.{None, arith, refl, sym, ap, ◌∙◌, subst}
 use Rattle.std.specs.List.{flat_map}
@@ -43,20 +44,7 @@ record NoWorse (a : ℕ) (one other : Counted) : Type 0 where
   closer : ContainsAddress other.prefix a → other.prefix.len ≡ one.prefix.len → one.distance ≤ other.distance
 
 stays_best : (a : ℕ) (c : Counted) (counted : List Counted) (b : Counted) → NoWorse a b c → IsBestOf a counted b → IsBestOf a (c ∷ counted) b
-stays_best a c counted b no_worse is = record {
-  among = Contains-rest c counted b is.among;
-  contains = is.contains;
-  longest = λ d inside contains. elim (Contains-cases c counted d inside) [
-    | inl same ↦ subst (λ (x : Counted). x.prefix.len ≤ b.prefix.len) same
-        (no_worse.longer (subst (λ (x : Counted). ContainsAddress x.prefix a) (sym same) contains))
-    | inr rest ↦ is.longest d rest contains
-  ];
-  lowest = λ d inside contains len. elim (Contains-cases c counted d inside) [
-    | inl same ↦ subst (λ (x : Counted). b.distance ≤ x.distance) same
-        (no_worse.closer (subst (λ (x : Counted). ContainsAddress x.prefix a) (sym same) contains) (ap (λ (x : Counted). x.prefix.len) same ∙ len))
-    | inr rest ↦ is.lowest d rest contains len
-  ];
-}
+stays_best a c counted b no_worse is = grind (arith, common_steps, Contains-cases, Contains-rest)
 
 becomes_best : (a : ℕ) (c : Counted) (counted : List Counted) → ContainsAddress c.prefix a →
     ((d : Counted) → Contains counted d → NoWorse a c d) → IsBestOf a (c ∷ counted) c
@@ -76,15 +64,7 @@ becomes_best a c counted contains no_worse = record {
 -- one that is no worse than the best is no worse than any
 through_best : (a : ℕ) (c : Counted) (counted : List Counted) (b : Counted) → IsBestOf a counted b → b.prefix.len ≤ c.prefix.len →
     (b.prefix.len ≡ c.prefix.len → c.distance ≤ b.distance) → (d : Counted) → Contains counted d → NoWorse a c d
-through_best a c counted b is longer closer d inside = record {
-  longer = λ within. let k : d.prefix.len ≤ b.prefix.len = is.longest d inside within in omega (arith, k, longer);
-  closer = λ within len.
-      let k : d.prefix.len ≤ b.prefix.len = is.longest d inside within in
-      let same : d.prefix.len ≡ b.prefix.len = omega (arith, k, longer, len) in
-      let near : b.distance ≤ d.distance = is.lowest d inside within same in
-      let far : c.distance ≤ b.distance = closer (sym same ∙ len) in
-      omega (arith, near, far);
-}
+through_best a c counted b is longer closer d inside = grind (arith, common_steps)
 
 better : (a : ℕ) (c : Counted) (counted : List Counted) (b : Counted) → ContainsAddress c.prefix a → IsBestOf a counted b →
     BestOrNone a (c ∷ counted)
@@ -292,10 +272,7 @@ counted_with w phase set =
         (new_complete (w.new w.u) phase p e counts entry))
 
 are_counted : (w : Place) (phase : Phase) → AreCounted w phase
-are_counted w phase = elim (cases_eq w.config.distances.ospf 255) [
-  | inl far ↦ counted_without w phase far
-  | inr set ↦ counted_with w phase set
-]
+are_counted w phase = grind (arith, common_steps, cases_eq, counted_with, counted_without)
 
 -- a router uses an entry for an address, or nothing that counts there contains it
 pub data UsesOrNone (net : Network) (old new : ℕ → List (Block × Entry)) (u : ℕ) (phase : Phase) (a : ℕ) : Type 0 where

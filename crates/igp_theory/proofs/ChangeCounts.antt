@@ -1,5 +1,6 @@
 -- How many changes are made on a router.
-use Rattle.std.proofs.Common.{◌≡◌, ◌≢◌, ℕ, suc, ◌+◌, ◌⊎◌, inl, inr, ◌==◌, List, [], ◌∷◌, ◌++◌, map, Contains, arith, refl, sym, ap, ◌∙◌, subst}
+use Rattle.std.proofs.lemmas.Grind.{common_steps}
+use Rattle.std.proofs.Common.{◌≡◌, ◌≢◌, ℕ, suc, ◌+◌, ◌⊎◌, inl, inr, List, [], ◌∷◌, ◌++◌, map, Contains, arith, refl, sym, ap, ◌∙◌, subst}
 use Rattle.std.specs.List.{AllPairs}
 use Rattle.std.proofs.lemmas.Bool.{cases_eq}
 use Rattle.std.proofs.lemmas.Bool.Decides.{eqb_tells}
@@ -12,18 +13,12 @@ use Rattle.igp_theory.proofs.Phases.{tally}
 -- a change of another router doesn't count
 pub count_other : (u : ℕ) (c : Change) (changes : List Change) → changed c ≢ u →
     changes_on u (map changed (c ∷ changes)) ≡ changes_on u (map changed changes)
-count_other u c changes apart = elim (eqb_tells u (changed c)) [
-  | inl same ↦ absurd (apart (sym same.1))
-  | inr other ↦ let none : tally (u == changed c) ≡ 0 = ap tally other.0 in omega (arith, none)
-]
+count_other u c changes apart = grind (arith, common_steps, eqb_tells, tally)
 
 -- one of the router itself does
 pub count_own : (u : ℕ) (c : Change) (changes : List Change) → changed c ≡ u →
     changes_on u (map changed (c ∷ changes)) ≡ suc (changes_on u (map changed changes))
-count_own u c changes own = elim (eqb_tells u (changed c)) [
-  | inl same ↦ let one : tally (u == changed c) ≡ 1 = ap tally same.0 in omega (arith, one)
-  | inr other ↦ absurd (other.1 (sym own))
-]
+count_own u c changes own = grind (arith, common_steps, eqb_tells, tally)
 
 pub count_append : (u : ℕ) (one two : List ℕ) → changes_on u (one ++ two) ≡ changes_on u one + changes_on u two
 count_append u [] two = omega arith
@@ -42,28 +37,11 @@ pub record Counted (u : ℕ) (changes : List Change) : Type 0 where
   pub has_two : StandsOnce changes (second u) two
 
 stands_later : {c d : Change} {changes : List Change} {times : ℕ} → c ≢ d → StandsOnce changes d times → StandsOnce (c ∷ changes) d times
-stands_later {c} {d} {changes} apart stands = record {
-  either = elim stands.either [
-    | inl there ↦ inl (there.0, Contains-rest c changes d there.1)
-    | inr none ↦ inr (
-      none.0,
-      λ inside. elim (Contains-cases c changes d inside) [
-        | inl same ↦ apart same
-        | inr later ↦ none.1 later
-      ],
-    )
-  ];
-}
+stands_later {c} {d} {changes} apart stands = grind (arith, common_steps, Contains-cases, Contains-rest)
 
 stands_first : {c : Change} {changes : List Change} {times : ℕ} → (Contains changes c → ⊥) → StandsOnce changes c times →
     (times ≡ 0) × StandsOnce (c ∷ changes) c 1
-stands_first {c} {changes} absent stands = (
-  elim stands.either [
-    | inl there ↦ absurd (absent there.1)
-    | inr none ↦ none.0
-  ],
-  record { either = inl (refl, Contains-first c changes) },
-)
+stands_first {c} {changes} absent stands = grind (arith, common_steps, Contains-first)
 
 pub counted : (u : ℕ) (changes : List Change) → AllPairs (λ c d. c ≢ d) changes → Counted u changes
 counted u [] distinct = record {

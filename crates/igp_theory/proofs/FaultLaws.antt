@@ -1,5 +1,6 @@
 -- The fault of a state and the first fault of an order: what has one isn't sound, and has no other.
-use Rattle.std.proofs.Common.{◌≡◌, ℕ, ◌*◌, ◌^◌, ◌<◌, ◌≤◌, inl, inr, List, [], ◌∷◌, length, take, refl, sym, ap, ◌∙◌}
+use Rattle.std.proofs.lemmas.Grind.{common_steps}
+use Rattle.std.proofs.Common.{◌≡◌, ℕ, ◌*◌, ◌^◌, ◌<◌, ◌≤◌, inl, inr, List, [], ◌∷◌, length, refl, sym}
 use Rattle.std.proofs.Common.{subst, arith}
 use Rattle.std.proofs.lemmas.Bool.{cases_lt, cases_order}
 use Rattle.std.proofs.lemmas.List.{take_all}
@@ -9,7 +10,7 @@ use Rattle.igp_theory.specs.Laws.{fault_address}
 use Rattle.igp_theory.specs.Loops.{Fault, IsFault, missing_step, loop_arises, IsFirstFault, IsFoundRing}
 use Rattle.igp_theory.specs.Migrations.{Migration}
 use Rattle.igp_theory.specs.Phases.{State}
-use Rattle.igp_theory.specs.States.{StepsIn, IsSoundAt, IsSound, IsSeamless, changes_of, changes_on, phase_after, state_of}
+use Rattle.igp_theory.specs.States.{StepsIn, IsSoundAt, IsSound, IsSeamless, changes_of, state_of}
 use Rattle.igp_theory.proofs.FoundRings.{found_ring_returns, found_ring_unique}
 use Rattle.igp_theory.proofs.Tags.{AreTagged, same_tagged}
 
@@ -44,12 +45,7 @@ length_changes (u ∷ order) = let rest : length (changes_of order) ≡ 2 * leng
 
 -- after all its changes an order stays in its last state
 last_state_stays : (order : List ℕ) (k : ℕ) → 2 * length order ≤ k → state_of order k ≡ state_of order (2 * length order)
-last_state_stays order k past =
-    let long = length_changes order in
-    let all : take k (changes_of order) ≡ changes_of order = take_all k (changes_of order) (omega (arith, long)) in
-    let same : take (2 * length order) (changes_of order) ≡ changes_of order = take_all (2 * length order) (changes_of order) (omega (arith, long)) in
-    let after : List ℕ → State = λ changes u. phase_after (changes_on u changes) in
-    ap after (all ∙ sym same)
+last_state_stays order k past = grind (arith, common_steps, length_changes, take_all)
 
 -- every state of a seamless order is sound
 all_states_sound : {move : Migration} {order : List ℕ} → IsSeamless move order → (k : ℕ) →
@@ -133,8 +129,4 @@ same_number {k = k} {j = j} one other =
 -- an order has one first fault
 pub first_fault_unique : {move : Migration} {order : List ℕ} {k j : ℕ} {fault other : Fault} →
     IsFirstFault move order k fault → IsFirstFault move order j other → (k ≡ j) × (fault ≡ other)
-first_fault_unique {move} {order} {k} {j} {fault} {other} one two =
-    let number : k ≡ j = same_number one two in
-    let here : IsFault move (state_of order k) other =
-    subst (λ (m : ℕ). IsFault move (state_of order m) other) (sym number) two.here in
-    (number, fault_unique one.here here)
+first_fault_unique {move} {order} {k} {j} {fault} {other} one two = grind (arith, common_steps, fault_unique, same_number)

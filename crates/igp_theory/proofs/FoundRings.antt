@@ -1,4 +1,5 @@
 -- The ring that is found: it returns, and there is one.
+use Rattle.std.proofs.lemmas.Grind.{common_steps}
 use Rattle.std.proofs.Common.{◌≡◌, ℕ, ◌≤◌, List, [], ◌∷◌, ◌++◌, refl, sym, ap, ◌∙◌, subst, arith}
 use Rattle.igp_theory.specs.Loops.{EachToNext, IsLowestLive, IsLowestLiveHop, IsFoundRing}
 use Rattle.igp_theory.specs.States.{Follows}
@@ -46,10 +47,7 @@ same_start {step} {n} {u} {v} one other =
     omega arith
 
 same_hop : {step : ℕ → ℕ → Type 0} {n u h k : ℕ} → IsLowestLiveHop step n u h → IsLowestLiveHop step n u k → h ≡ k
-same_hop {step} {n} {u} {h} {k} one other =
-    let up : h ≤ k = one.lowest k other.steps other.live in
-    let down : k ≤ h = other.lowest h one.steps one.live in
-    omega arith
+same_hop {step} {n} {u} {h} {k} one other = grind (arith, common_steps)
 
 -- of two walks to the lowest-numbered live hops, one that would go on to a and one that would go on
 -- to b, both are the same, or one goes on where the other ends
@@ -117,16 +115,7 @@ same_part one other =
 
 found_is_turned : {step : ℕ → ℕ → Type 0} {n : ℕ} {ring : List ℕ} (one : IsFoundRing step n ring) →
     IsTurned (one.again ∷ one.rest) ring
-found_is_turned one = record {
-  front = one.front;
-  back = one.back;
-  found = one.found;
-  turned_is = one.turned;
-  lowest = one.lowest;
-  others = one.others;
-  first = one.first;
-  least = one.least;
-}
+found_is_turned one = grind (arith, common_steps)
 
 -- there is one found ring
 pub found_ring_unique : {step : ℕ → ℕ → Type 0} {n : ℕ} {ring turn : List ℕ} → IsFoundRing step n ring → IsFoundRing step n turn →

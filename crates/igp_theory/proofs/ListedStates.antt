@@ -1,5 +1,6 @@
 -- The state that a list of phases gives.
-use Rattle.std.proofs.Common.{◌≡◌, ℕ, ◌<◌, inl, inr, List, length, replicate, ap, sym, ◌∙◌, subst, arith}
+use Rattle.std.proofs.lemmas.Grind.{common_steps}
+use Rattle.std.proofs.Common.{◌≡◌, ℕ, ◌<◌, inl, inr, List, length, replicate, arith}
 use Rattle.std.proofs.lemmas.Bool.{cases_lt}
 use Rattle.std.proofs.lemmas.List.{get_or_past, get_or-replicate, length-replicate}
 use Rattle.igp_theory.specs.Phases.{all_old, state_in}
@@ -14,6 +15,4 @@ is_all_old phases n many each = λ i u. there u i
     there u = elim (cases_lt u n) [ inl within ↦ each u within | inr past ↦ get_or_past phases u Old (omega (arith, past, many)) ]
 
 pub replicated_old : (phases : List Phase) (n : ℕ) → phases ≡ replicate n Old → state_in phases ≡ all_old
-replicated_old phases n is =
-    is_all_old phases n (ap (λ (xs : List Phase). length xs) is ∙ length-replicate n Old)
-    (λ u within. subst (λ (xs : List Phase). state_in xs u ≡ Old) (sym is) (get_or-replicate n u Old Old within))
+replicated_old phases n is = grind (arith, common_steps, get_or-replicate, is_all_old, length-replicate)

@@ -1,4 +1,5 @@
 -- Loops state by state: where they arise, and that an unsound state between sound ends has one with both tags.
+use Rattle.std.proofs.lemmas.Grind.{common_steps}
 use Rattle.std.proofs.Common.{◌≡◌, ◌≢◌, ℕ, ◌^◌, ◌<◌, ◌≤◌, ◌⊎◌, inl, inr, Bool, true, false, cond, List, [], ◌∷◌}
 use Rattle.std.proofs.Common.{length, filter, All, Contains, AllPairs, refl, sym, ap, ◌∙◌, subst, arith}
 use Rattle.std.proofs.lemmas.Bool.{cases_lt, false≢true}
@@ -231,10 +232,7 @@ has_new {move} {a} ring ends address some tags = elim (cases_lt 0 (length (new_r
 
 pub loop_has_both_tags : (move : Migration) (a : ℕ) (ring : List Turn) → AreSoundEnds move → IsLoop move a ring →
     HasBothTags ring
-loop_has_both_tags move a ring ends is =
-    let many = is.some in
-    let some : 0 < length ring = omega (arith, many) in
-    record { old = has_old ring ends is.address some is.tags; new = has_new ring ends is.address some is.tags }
+loop_has_both_tags move a ring ends is = grind (arith, common_steps, has_new, has_old)
 
 -- the steps of a ring's router in a state, with its tag
 pub record StepsWithTag (move : Migration) (state : State) (a : ℕ) (r s : Turn) : Type 0 where

@@ -1,4 +1,5 @@
 -- Loops decide whether a migration is sound throughout, and which wave lists are seamless.
+use Rattle.std.proofs.lemmas.Grind.{common_steps}
 use Rattle.std.proofs.Common.{◌≡◌, ℕ, ◌+◌, ◌^◌, ◌<◌, ◌≤◌, ◌⊎◌, inl, inr, List, [], ◌∷◌, length, Contains, refl, sym, ap, subst, arith}
 use Rattle.std.proofs.lemmas.Bool.{cases_lt}
 use Rattle.order_core.specs.Orders.{AreDistinct}
@@ -149,10 +150,7 @@ sound_switches_old_first move time a ring switch sound is both each =
 -- a state of a wave is one from the start on
 wave_from_start : (move : Migration) (time : Timetable) → IsTimetable (length move.net) move.start time → (w : ℕ) (state : State) → 1 ≤ w →
     IsStateOfWave (length move.net) time w state → IsFromStart move state
-wave_from_start move time table w state one of_wave u below =
-    let begins = start_first table u w below one in
-    let from = (of_wave u below).from in
-    omega (arith, begins, from)
+wave_from_start move time table w state one of_wave u below = grind (arith, common_steps, start_first)
 
 module _ (move : Migration) (time : Timetable) (ends : AreSoundEnds move) (table : IsTimetable (length move.net) move.start time)
     (broken : (a : ℕ) (ring : List Turn) → IsLoop move a ring → HasBothTags ring → IsBroken move time a ring) where

@@ -1,4 +1,5 @@
 -- A router in Middle does what it does in Old, or what it does in New.
+use Rattle.std.proofs.lemmas.Grind.{common_steps}
 use Rattle.std.proofs.Common.{◌≡◌, ◌≢◌, ℕ, ◌<◌, ◌≤◌, ◌⊎◌, inl, inr, List, length, arith, refl, sym, ◌∙◌}
 use Rattle.std.proofs.lemmas.Bool.{cases_order}
 use Rattle.std.proofs.lemmas.List.Elements.{All-contains}
@@ -23,10 +24,7 @@ steps_as phase other over steps = record { must = steps.must; used = steps.used;
 acts_as : (move : Migration) (u a : ℕ) (phase : Phase) → ((x : Usable) → Uses move u Middle a x →
     Uses move u phase a x) →
     ((x : Usable) → Uses move u phase a x → Uses move u Middle a x) → MiddleActsAsIn move u a phase
-acts_as move u a phase over back = record {
-  used = λ x. (over x, back x);
-  steps = λ h. (steps_as Middle phase over, steps_as phase Middle back);
-}
+acts_as move u a phase over back = grind (arith, common_steps, steps_as)
 
 module _ {move : Migration} {u : ℕ} {half other : Phase} (halves : AreHalves (Counts move u) half other) {a : ℕ} {x : Usable}
     (best : Uses move u half a x) where

@@ -1,4 +1,5 @@
 -- Lists whose elements stand in a relation to all later ones, and what they contain.
+use Rattle.std.proofs.lemmas.Grind.{common_steps}
 use Rattle.std.proofs.Common.{◌≡◌, ℕ, zero, suc, ◌+◌, ◌-◌, ◌<◌, inl, inr, List, [], ◌∷◌}
 use Rattle.std.proofs.Common.{◌++◌, length, take, get_or, Contains, arith, refl, sym, ap, ◌∙◌, subst}
 use Rattle.std.proofs.Math.Seq.{take-append_seam, take-append-add}
@@ -10,10 +11,7 @@ use Rattle.std.proofs.lemmas.List.Elements.{Contains-append_left, Contains-appen
 -- What a list contains
 
 pub contains_one : {X : Type 0} (x y : X) → Contains (x ∷ []) y → x ≡ y
-contains_one x y inside = elim (Contains-cases x [] y inside) [
-  | inl same ↦ same
-  | inr rest ↦ absurd (Contains-none y rest)
-]
+contains_one x y inside = grind (arith, common_steps, Contains-cases, Contains-none)
 
 -- Each element and each later one
 

@@ -1,4 +1,6 @@
 -- Tables with the same entries at the routers of the network act alike.
+use Rattle.std.proofs.Common.{arith}
+use Rattle.std.proofs.lemmas.Grind.{common_steps}
 use Rattle.std.proofs.Common.{ℕ, ◌<◌, ◌↔◌, List, [], ◌∷◌, length}
 use Rattle.net_addr.specs.Addresses.{Block}
 use Rattle.order_core.specs.declared.turn.Turn.{Turn}
@@ -15,10 +17,7 @@ use Rattle.igp_theory.proofs.Tags.{tags_over}
 
 pub same_tables_sym : {move : Migration} {old' new' : Tables} → HaveSameTables move old' new' →
     HaveSameTables (retabled move old' new') move.old move.new
-same_tables_sym same = record {
-  same_old = λ u p e within. ((same.same_old u p e within).1, (same.same_old u p e within).0);
-  same_new = λ u p e within. ((same.same_new u p e within).1, (same.same_new u p e within).0);
-}
+same_tables_sym same = grind (arith, common_steps)
 
 -- Used entries and steps
 

@@ -1,4 +1,5 @@
 -- The changes of the first n routers that pass a test, in turn: each is put behind all that are of no later wave.
+use Rattle.std.proofs.lemmas.Grind.{common_steps}
 use Rattle.std.proofs.Common.{◌≡◌, ◌≢◌, ℕ, zero, suc, ◌<◌, ◌≤◌, ◌↔◌, ◌⊎◌, inl, inr, Bool, true, false, List, [], ◌∷◌, Contains}
 use Rattle.std.proofs.Common.{arith, refl, sym, ap, ◌∙◌, subst}
 use Rattle.std.specs.List.{AllPairs}
@@ -21,17 +22,10 @@ record Fits (time : Timetable) (c d : Change) : Type 0 where
 
 -- changes of different routers
 pub precede_apart : (time : Timetable) (c d : Change) → changed c ≢ changed d → time c ≤ time d → MayPrecede time c d
-precede_apart time c d apart wave = record {
-  other = λ same. apart (ap changed same);
-  wave = wave;
-  half = λ u is_second is_first. apart (ap changed is_second ∙ sym (ap changed is_first));
-}
+precede_apart time c d apart wave = grind (arith, common_steps)
 
 fits_apart : (time : Timetable) (c d : Change) → changed c ≢ changed d → Fits time c d
-fits_apart time c d apart = record {
-  behind = λ early. precede_apart time d c (λ same. apart (sym same)) early;
-  ahead = λ late. precede_apart time c d apart (omega (arith, late));
-}
+fits_apart time c d apart = grind (arith, common_steps, precede_apart)
 
 -- a router's two
 pub first_precedes : (time : Timetable) (u : ℕ) → time (first u) ≤ time (second u) → MayPrecede time (first u) (second u)
@@ -99,11 +93,7 @@ listed_more {time} c (d ∷ ds) turns fits = elim (cases_lt (time c) (time d)) [
 
 -- what is listed, in other words
 listed_as : {time : Timetable} {P Q : Change → Type 0} → ((c : Change) → P c ↔ Q c) → Listed time P → Listed time Q
-listed_as same listed = record {
-  list = listed.list;
-  contains = λ c. (λ inside. (same c).0 ((listed.contains c).0 inside), λ is. (listed.contains c).1 ((same c).1 is));
-  in_turn = listed.in_turn;
-}
+listed_as same listed = grind (arith, common_steps)
 
 -- one more change where it passes a test
 listed_where : {time : Timetable} {P : Change → Type 0} (test : Change → Bool) (c : Change) → Listed time P →

@@ -1,5 +1,6 @@
 -- The states in which the waves of a timetable begin.
-use Rattle.std.proofs.Common.{◌≡◌, ℕ, ◌+◌, ◌-◌, ◌<◌, ◌≤◌, inl, inr, if◌then◌else◌, Bool, true, false, ltb, min, arith, sym, ap, ◌∙◌}
+use Rattle.std.proofs.lemmas.Grind.{common_steps}
+use Rattle.std.proofs.Common.{◌≡◌, ℕ, ◌+◌, ◌-◌, ◌<◌, ◌≤◌, if◌then◌else◌, Bool, true, false, ltb, min, arith, sym, ap, ◌∙◌}
 use Rattle.std.proofs.lemmas.Bool.{cases_lt, lt-ltb, le-ltb, false≢true}
 use Rattle.igp_theory.specs.Phases.{State, made_in}
 use Rattle.igp_theory.specs.Timetables.{Timetable, IsBetweenPhases, IsTimetable, IsStateOfWave, is_made, state_before}
@@ -25,13 +26,7 @@ before_old time w u one two =
 -- how many changes are made when a wave begins: each one of an earlier wave
 pub made_before : (time : Timetable) (w u : ℕ) → time (first u) ≤ time (second u) →
     made_in (state_before time w u) ≡ min 1 (w - time (first u)) + min 1 (w - time (second u))
-made_before time w u turn = elim (cases_lt (time (second u)) w) [
-  | inl both ↦ let e = ap made_in (before_new time w u both) in omega (arith, e, both, turn)
-  | inr left ↦ elim (cases_lt (time (first u)) w) [
-    | inl one ↦ let e = ap made_in (before_middle time w u one left) in omega (arith, e, one, left)
-    | inr none ↦ let e = ap made_in (before_old time w u none left) in omega (arith, e, none, left)
-  ]
-]
+made_before time w u turn = grind (arith, common_steps, before_middle, before_new, before_old, cases_lt)
 
 module _ {n : ℕ} {start : State} {time : Timetable} (table : IsTimetable n start time) where
   -- so are those that are made at the start

@@ -1,4 +1,6 @@
 -- The faults of waves: there is one, a wave list that has one isn't seamless, and tables with the same entries have the same.
+use Rattle.std.proofs.Common.{arith}
+use Rattle.std.proofs.lemmas.Grind.{common_steps}
 use Rattle.std.proofs.Common.{◌≡◌, ℕ, ◌^◌, ◌<◌, inl, inr, List, length, refl, sym, subst}
 use Rattle.std.proofs.lemmas.Bool.{cases_order}
 use Rattle.net_addr.specs.Addresses.{Block}
@@ -13,7 +15,7 @@ use Rattle.igp_theory.specs.Phases.{State}
 use Rattle.igp_theory.specs.States.{StepsIn, IsSoundAt, IsSound}
 use Rattle.igp_theory.specs.WaveFaults.{StepsInSome, LacksStep, HasStepsInAll, IsLeastUnsound, IsFaultOver, missing_in_one, loop_over_all, IsTimesFault}
 use Rattle.igp_theory.specs.WaveLaws.{Delivers}
-use Rattle.igp_theory.specs.Timetables.{Timetable, IsSoundThroughout, IsStateOfWave}
+use Rattle.igp_theory.specs.Timetables.{Timetable, IsSoundThroughout}
 use Rattle.igp_theory.specs.Waves.{AreSeamlessWaves}
 use Rattle.igp_theory.proofs.FaultLaws.{fault_is_unsound}
 use Rattle.igp_theory.proofs.FoundRings.{found_ring_unique}
@@ -93,11 +95,7 @@ same_time {w = w} {v = v} one other = elim (cases_order w v) [
 -- a timetable has one fault
 pub times_fault_unique : {move : Migration} {time : Timetable} {w v : ℕ} {fault other : Fault} → IsTimesFault move time w fault →
     IsTimesFault move time v other → (w ≡ v) × (fault ≡ other)
-times_fault_unique {move} {time} {w} {v} {fault} {other} one two =
-    let wave : w ≡ v = same_time one two in
-    let here : IsFaultOver move (IsStateOfWave (length move.net) time w) other =
-    subst (λ (x : ℕ). IsFaultOver move (IsStateOfWave (length move.net) time x) other) (sym wave) two.here in
-    (wave, fault_over_unique one.here here)
+times_fault_unique {move} {time} {w} {v} {fault} {other} one two = grind (arith, common_steps, fault_over_unique, same_time)
 
 -- and with it the migration isn't sound throughout
 pub times_fault_unsound : (move : Migration) (time : Timetable) (w : ℕ) (fault : Fault) → IsTimesFault move time w fault →
@@ -110,17 +108,11 @@ times_fault_unsound move time w fault is sound =
 
 hops_of_one : {move : Migration} (state : State) (a : ℕ) →
     SameHops (StepsInSome move (λ (other : State). other ≡ state) a) (StepsIn move state a)
-hops_of_one {move} state a u h = (
-  λ some. subst (λ (x : State). StepsIn move x a u h) some.among some.steps,
-  λ steps. record { state = state; among = refl; steps = steps },
-)
+hops_of_one {move} state a u h = grind (arith, common_steps)
 
 hops_in_one : {move : Migration} (state : State) (a : ℕ) →
     SameHops (StepsIn move state a) (StepsInSome move (λ (other : State). other ≡ state) a)
-hops_in_one {move} state a u h = (
-  λ steps. record { state = state; among = refl; steps = steps },
-  λ some. subst (λ (x : State). StepsIn move x a u h) some.among some.steps,
-)
+hops_in_one {move} state a u h = grind (arith, common_steps)
 
 pub fault_of_one : (move : Migration) (state : State) (fault : Fault) →
     IsFaultOver move (λ (other : State). other ≡ state) fault → IsFault move state fault
@@ -135,11 +127,7 @@ fault_of_one move state fault (loop_over_all {a = a} least forwards found tags) 
 -- an address that is unsound in a state and the least such one
 least_of_one : (move : Migration) (state : State) (a : ℕ) → a < 2 ^ 32 → ((b : ℕ) → b < a → IsSoundAt move state b) →
     (IsSoundAt move state a → ⊥) → IsLeastUnsound move (λ (other : State). other ≡ state) a
-least_of_one move state a address below unsound = record {
-  address = address;
-  unsound = record { state = state; among = refl; unsound = unsound };
-  below = λ b less other same. subst (λ (x : State). IsSoundAt move x b) (sym same) (below b less);
-}
+least_of_one move state a address below unsound = grind (arith, common_steps)
 
 pub fault_in_one : (move : Migration) (state : State) (fault : Fault) →
     IsFault move state fault → IsFaultOver move (λ (other : State). other ≡ state) fault
