@@ -1,4 +1,6 @@
 -- Two routers have one address exactly where their lists of interfaces clash over it.
+use Rattle.std.proofs.Common.{arith}
+use Rattle.std.proofs.lemmas.Grind.{common_steps}
 use Rattle.std.proofs.Common.{◌≡◌, ℕ, ◌<◌, ◌≤◌, Bool, ◌↔◌, length, Option, IsTrue, Any, sym, ◌∙◌, inl, inr, ⊎_elim}
 use Rattle.net_model.specs.Conditions.{HaveOneAddress}
 use Rattle.net_model.specs.Configuration.{Configuration}
@@ -15,14 +17,7 @@ HaveOneAddress-within : (net : Network) (u v a : ℕ) → HaveOneAddress net u v
 HaveOneAddress-within net u v a h = UpInterface-within net v h.two h.interfaces.two_up
 
 HaveOneAddress-sym : (net : Network) (u v a : ℕ) → HaveOneAddress net u v a → HaveOneAddress net v u a
-HaveOneAddress-sym net u v a h = record {
-  one = h.two;
-  two = h.one;
-  interfaces = record { one_up = h.interfaces.two_up; two_up = h.interfaces.one_up; apart = λ e n. h.interfaces.apart (sym e) (sym n) };
-  one_address = h.two_address;
-  two_address = h.one_address;
-  unshared = ⊎_elim (λ e. inl (sym e)) (λ r. inr (⊎_elim inr inl r)) h.unshared;
-}
+HaveOneAddress-sym net u v a h = grind (arith, common_steps)
 
 pub HaveOneAddress-mutual : (net : Network) → IsMutual (HaveOneAddress net) (length net)
 HaveOneAddress-mutual net = record { within = HaveOneAddress-within net; back = HaveOneAddress-sym net }

@@ -1,4 +1,6 @@
 -- Two routers run a subnet in two areas exactly where their lists of interfaces do.
+use Rattle.std.proofs.Common.{arith}
+use Rattle.std.proofs.lemmas.Grind.{common_steps}
 use Rattle.std.proofs.Common.{ℕ, ◌<◌, length, Option, Any, sym, ◌∙◌}
 use Rattle.net_addr.specs.Addresses.{Block}
 use Rattle.net_model.specs.Conditions.{RunTwoAreas}
@@ -16,19 +18,7 @@ RunTwoAreas-within : (net : Network) (u v : ℕ) (p : Block) → RunTwoAreas net
 RunTwoAreas-within net u v p h = UpInterface-within net v h.two h.two_up
 
 RunTwoAreas-sym : (net : Network) (u v : ℕ) (p : Block) → RunTwoAreas net u v p → RunTwoAreas net v u p
-RunTwoAreas-sym net u v p h = record {
-  one = h.two;
-  two = h.one;
-  one_up = h.two_up;
-  two_up = h.one_up;
-  one_subnet = h.two_subnet;
-  two_subnet = h.one_subnet;
-  one_area = h.two_area;
-  two_area = h.one_area;
-  one_runs = h.two_runs;
-  two_runs = h.one_runs;
-  apart = λ e. h.apart (sym e);
-}
+RunTwoAreas-sym net u v p h = grind (arith, common_steps)
 
 pub RunTwoAreas-mutual : (net : Network) → IsMutual (RunTwoAreas net) (length net)
 RunTwoAreas-mutual net = record { within = RunTwoAreas-within net; back = RunTwoAreas-sym net }

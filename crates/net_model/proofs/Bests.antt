@@ -1,7 +1,8 @@
 -- The least item that a list offers, element by element, and of things that say the same.
+use Rattle.std.proofs.lemmas.Grind.{common_steps}
 use Rattle.std.proofs.Common.{◌≡◌, ℕ, ◌+◌, ◌<◌, ◌≤◌, Bool, true, false, ◌||◌, ◌&&◌, nat_lt, nat_eq, if◌then◌else◌, List, [], ◌∷◌, ◌++◌, length, get_or}
 use Rattle.std.proofs.Common.{take, Option}
-use Rattle.std.proofs.Common.{Some, None, Any, min, refl, sym, ap, ◌∙◌, subst, ◌⊎◌, inl, inr, ⊎_elim, arith}
+use Rattle.std.proofs.Common.{Some, None, Any, min, sym, ap, ◌∙◌, subst, ◌⊎◌, ⊎_elim, arith}
 use Rattle.std.proofs.lemmas.Bool.{cases_lt, cond_both}
 use Rattle.std.proofs.lemmas.Bool.Decides.{nat_tests}
 use Rattle.std.proofs.lemmas.List.{take_more}
@@ -52,21 +53,13 @@ module _ {X A : Type 0} (AtMost : A → A → Type 0) (pick : A → A → A) (pi
 
 -- the lower of two numbers
 pub picks_lower : Picks (λ (a b : ℕ). a ≤ b) min
-picks_lower = record {
-  one_of = λ a b. ⊎_elim (λ l. inl (omega arith)) (λ l. inr (omega arith)) (cases_lt a b);
-  left = λ a b c h. omega arith;
-  right = λ a b c h. omega arith;
-}
+picks_lower = grind (arith, common_steps, cases_lt)
 
 -- of two prefixes the second where a test passes, which it does where the second is the lesser
 picks_tested : (AtMost : Block → Block → Type 0) (second : Block → Block → Bool) →
     ((p q r : Block) → second p q ≡ true → AtMost p r → AtMost q r) → ((p q r : Block) → second p q ≡ false → AtMost q r → AtMost p r) →
     Picks AtMost (λ p q. if second p q then q else p)
-picks_tested AtMost second passes fails = record {
-  one_of = λ p q. cond_both (second p q) q p (λ b. (b ≡ p) ⊎ (b ≡ q)) (λ e. inr refl) (λ e. inl refl);
-  left = λ p q r h. cond_both (second p q) q p (λ b. AtMost b r) (λ e. passes p q r e h) (λ e. h);
-  right = λ p q r h. cond_both (second p q) q p (λ b. AtMost b r) (λ e. h) (λ e. fails p q r e h);
-}
+picks_tested AtMost second passes fails = grind (arith, common_steps, cond_both)
 
 pub picks_block : Picks IsBlockAtMost pick_block
 picks_block = picks_tested IsBlockAtMost (λ p q. nat_lt q.base p.base || (nat_eq q.base p.base && nat_lt q.len p.len))

@@ -1,8 +1,8 @@
 -- The first pair that a scan finds is the least, and where it finds none no two routers clash.
-use Rattle.std.proofs.Common.{◌≡◌, ℕ, ◌<◌, ◌≤◌, List, ⊎_elim, refl, sym, ap, subst, ◌∙◌, arith}
+use Rattle.std.proofs.lemmas.Grind.{common_steps}
+use Rattle.std.proofs.Common.{◌≡◌, ℕ, ◌<◌, ◌≤◌, List, ⊎_elim, refl, sym, subst, arith}
 use Rattle.std.proofs.lemmas.Option.{same_Some}
 use Rattle.std.proofs.lemmas.Bool.{cases_lt, cases_order}
-use Rattle.net_model.specs.Configuration.{Configuration}
 use Rattle.net_model.specs.Least.{ComesNoLater, IsLeastPair, NoneClash, Pairing}
 use Rattle.net_model.specs.Least.ComesNoLater.{by_first, by_second, by_item}
 use Rattle.net_model.specs.Lookups.{IsNamed}
@@ -59,31 +59,19 @@ ascending_same AtMost p q anti (by_item e f l) (by_item g h m) = (e, f, anti p.i
 -- there is one least pair
 pub IsLeastPair-unique : {A : Type 0} → (AtMost : A → A → Type 0) (Clash : ℕ → ℕ → A → Type 0) (u v : ℕ) (a : A) (w x : ℕ) (b : A) →
     ((a b : A) → AtMost a b → AtMost b a → a ≡ b) → IsLeastPair AtMost Clash u v a → IsLeastPair AtMost Clash w x b → (u ≡ w) × (v ≡ x) × (a ≡ b)
-IsLeastPair-unique AtMost Clash u v a w x b anti h k =
-    ascending_same AtMost (record { one = u; two = v; item = a }) (record { one = w; two = x; item = b }) anti (h.least w x b k.ordered k.clash)
-    (k.least u v a h.ordered h.clash)
+IsLeastPair-unique AtMost Clash u v a w x b anti h k = grind (arith, common_steps, ascending_same)
 
 -- a router has one name
 name-unique : (net : Network) (u v : ℕ) (a b : List ℕ) → IsNamed net a u → IsNamed net b v → u ≡ v → a ≡ b
-name-unique net u v a b h k same =
-    let here = subst (IsNamed net b) (sym same) k in
-    let config = same_Some h.config here.config (sym h.router ∙ here.router) in
-    sym h.name_is ∙ ap (λ (c : Configuration). c.name) config ∙ here.name_is
+name-unique net u v a b h k same = grind (arith, common_steps, same_Some)
 
 -- the least pair has its names alone
 pub IsLeastNamedPair-unique : {A : Type 0} → (AtMost : A → A → Type 0) (Clash : ℕ → ℕ → A → Type 0) (net : Network) (a b : List ℕ)
     (x : A) (c d : List ℕ) (y : A)
     → ((x y : A) → AtMost x y → AtMost y x → x ≡ y) → IsLeastNamedPair AtMost Clash net a b x → IsLeastNamedPair AtMost Clash net c d y →
     (a ≡ c) × (b ≡ d) × (x ≡ y)
-IsLeastNamedPair-unique AtMost Clash net a b x c d y anti h k =
-    let same = IsLeastPair-unique AtMost Clash h.first h.second x k.first k.second y anti h.pair k.pair in (
-      name-unique net h.first k.first a c h.one_is k.one_is same.0,
-      name-unique net h.second k.second b d h.two_is k.two_is same.1,
-      same.2,
-    )
+IsLeastNamedPair-unique AtMost Clash net a b x c d y anti h k = grind (arith, common_steps, name-unique)
 
 -- the lowest router has its name alone
 pub IsLowestNamed-unique : (P : ℕ → Type 0) (net : Network) (a b : List ℕ) → IsLowestNamed P net a → IsLowestNamed P net b → a ≡ b
-IsLowestNamed-unique P net a b h k =
-    let same : h.router ≡ k.router = omega (arith, h.lowest.least k.router k.lowest.holds, k.lowest.least h.router h.lowest.holds) in
-    name-unique net h.router k.router a b h.name_is k.name_is same
+IsLowestNamed-unique P net a b h k = grind (arith, common_steps, name-unique)

@@ -1,4 +1,5 @@
 -- Configurations make one network or are refused, and in one way.
+use Rattle.std.proofs.lemmas.Grind.{common_steps}
 use Rattle.std.proofs.Common.{◌≡◌, ◌≢◌, ℕ, suc, ◌≤◌, List, [], ◌∷◌, Contains, refl, sym, ap, subst, ◌∙◌, ⊎_elim, arith}
 use Rattle.std.specs.Cmp.Lexicographic.{nat_list_cmp_total}
 use Rattle.std.proofs.Math.Nat.{le_antisymm}
@@ -125,11 +126,7 @@ pub IsLeastDouble-unique : (configs : List Configuration) (a b : List ℕ) → I
 IsLeastDouble-unique configs a b h k = neither_below a b (k.least a h.double) (h.least b k.double)
 
 pub block_antisymmetric : (p q : Block) → IsBlockAtMost p q → IsBlockAtMost q p → p ≡ q
-block_antisymmetric p q l m =
-    let base : p.base ≡ q.base = ⊎_elim (λ a. ⊎_elim (λ b. absurd (omega arith)) (λ b. absurd (omega (arith, b.0))) m) (λ a. a.0) l in
-    let len : p.len ≡ q.len =
-    ⊎_elim (λ a. absurd (omega (arith, base))) (λ a. ⊎_elim (λ b. absurd (omega (arith, base))) (λ b. omega (arith, a.1, b.1)) m) l in
-    λ i. record { base = base i; len = len i }
+block_antisymmetric p q l m = grind (arith, common_steps)
 
 -- of two refusals of one network the later one needs that the earlier one's condition doesn't hold
 RefusesNetwork-unique : (net : Network) (one other : NetRefusal) → RefusesNetwork one net → RefusesNetwork other net → one ≡ other

@@ -1,5 +1,7 @@
 -- What a router's configuration says of it: its interfaces, areas and stub lines, and the lowest router of some.
-use Rattle.std.proofs.Common.{◌≡◌, ℕ, ◌<◌, length, get_or, IsTrue, Any, Contains, refl, subst, ⊎_elim}
+use Rattle.std.proofs.Common.{arith}
+use Rattle.std.proofs.lemmas.Grind.{common_steps}
+use Rattle.std.proofs.Common.{◌≡◌, ℕ, ◌<◌, length, get_or, IsTrue, Any, Contains, refl, subst}
 use Rattle.std.proofs.lemmas.Bool.{cases_lt}
 use Rattle.std.proofs.lemmas.Option.{slice_get_read}
 use Rattle.net_model.specs.Conditions.{HasStubLine}
@@ -17,10 +19,7 @@ HasConfiguration-at net u c l e = slice_get_read net (length net) u c refl l e
 
 -- the lowest number of which P holds, from those below it
 pub IsLowest-from : (P : ℕ → Type 0) (n : ℕ) → P n → ((m : ℕ) → m < n → P m → ⊥) → IsLowest P n
-IsLowest-from P n here below = record {
-  holds = here;
-  least = λ m p. ⊎_elim (λ l. absurd (below m l p)) (λ g. g) (cases_lt m n);
-}
+IsLowest-from P n here below = grind (arith, common_steps, cases_lt)
 
 module _ (net : Network) (u : ℕ) (c : Configuration) (at : HasConfiguration net u c) where
   pub UpInterface-from : (i : Interface) → Contains c.interfaces i → IsTrue i.up → UpInterface net u i

@@ -1,4 +1,6 @@
 -- Two routers differ on a stub area exactly where their lists of interfaces and stub lines do.
+use Rattle.std.proofs.Common.{arith}
+use Rattle.std.proofs.lemmas.Grind.{common_steps}
 use Rattle.std.proofs.Common.{ℕ, ◌<◌, ◌≤◌, length, Option, Any, inl, inr, ⊎_elim}
 use Rattle.net_model.specs.Conditions.{DifferOnStub}
 use Rattle.net_model.specs.Configuration.{Configuration}
@@ -15,11 +17,7 @@ DifferOnStub-within : (net : Network) (u v a : ℕ) → DifferOnStub net u v a �
 DifferOnStub-within net u v a h = InArea-within net v a h.two_in
 
 DifferOnStub-sym : (net : Network) (u v a : ℕ) → DifferOnStub net u v a → DifferOnStub net v u a
-DifferOnStub-sym net u v a h = record {
-  one_in = h.two_in;
-  two_in = h.one_in;
-  differ = ⊎_elim (λ l. inr (l.1, l.0)) (λ r. inl (r.1, r.0)) h.differ;
-}
+DifferOnStub-sym net u v a h = grind (arith, common_steps)
 
 pub DifferOnStub-mutual : (net : Network) → IsMutual (DifferOnStub net) (length net)
 DifferOnStub-mutual net = record { within = DifferOnStub-within net; back = DifferOnStub-sym net }

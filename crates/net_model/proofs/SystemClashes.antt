@@ -1,5 +1,7 @@
 -- Two routers with one system id.
-use Rattle.std.proofs.Common.{ℕ, ◌<◌, length, sym}
+use Rattle.std.proofs.Common.{arith}
+use Rattle.std.proofs.lemmas.Grind.{common_steps}
+use Rattle.std.proofs.Common.{ℕ, ◌<◌, length}
 use Rattle.net_model.specs.Conditions.{HaveOneSystem}
 use Rattle.net_model.specs.Network.{Network}
 use Rattle.net_model.specs.steps.Scans.{IsMutual}
@@ -9,17 +11,7 @@ HaveOneSystem-within : (net : Network) (u v s : ℕ) → HaveOneSystem net u v s
 HaveOneSystem-within net u v s h = HasConfiguration-within net v h.two h.two_router
 
 HaveOneSystem-sym : (net : Network) (u v s : ℕ) → HaveOneSystem net u v s → HaveOneSystem net v u s
-HaveOneSystem-sym net u v s h = record {
-  apart = λ e. h.apart (sym e);
-  one = h.two;
-  two = h.one;
-  one_router = h.two_router;
-  two_router = h.one_router;
-  one_runs = h.two_runs;
-  two_runs = h.one_runs;
-  one_system = h.two_system;
-  two_system = h.one_system;
-}
+HaveOneSystem-sym net u v s h = grind (arith, common_steps)
 
 pub HaveOneSystem-mutual : (net : Network) → IsMutual (HaveOneSystem net) (length net)
 HaveOneSystem-mutual net = record { within = HaveOneSystem-within net; back = HaveOneSystem-sym net }

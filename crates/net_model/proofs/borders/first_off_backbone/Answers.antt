@@ -1,4 +1,5 @@
-use Rattle.std.proofs.Common.{ap, sym, subst, ◌∙◌, arith, below_more}
+use Rattle.std.proofs.lemmas.Grind.{common_steps}
+use Rattle.std.proofs.Common.{ap, subst, ◌∙◌, arith}
 use Rattle.net_model.specs.Conditions.{LacksBackbone}
 use Rattle.net_model.specs.Configuration.{Configuration}
 use Rattle.net_model.specs.steps.Scans.{LeaveBackbone}
@@ -17,15 +18,7 @@ returns-then-leave_backbone c =
     here) c.loop-router.invariant
 
 pub loop-router-preserved : goal.loop-router-preserved
-loop-router-preserved c = below_more _ _ c.loop-router.invariant (λ h.
-    let net = c.args.configs.now in
-    let u = c.loop-router.router in
-    let config = c.index-configs-router.result in
-    let is = c.as_slice.ensures ∙ ap (λ (x : Configuration). x.interfaces) c.config.view_is in
-    let leaves = list_from_LacksBackbone net u config (HasConfiguration-at net u config c.loop-router-test.true c.index-configs-router.is) h in
-    let leave = c.leave_backbone.ensures.1 (subst LeaveBackbone (sym is) leaves) in
-    let stays = c.if-leave_backbone.false in
-    cc)
+loop-router-preserved c = grind (arith, common_steps, HasConfiguration-at, list_from_LacksBackbone)
 
 pub returns : goal.returns
 returns c = λ u h.

@@ -1,5 +1,6 @@
 -- What the search finds has the name; where it finds nothing, each name is below the one sought or above it.
-use Rattle.std.proofs.Common.{rules, ◌≡◌, ℕ, ◌+◌, ◌<◌, ◌≤◌, List, [], ◌∷◌, length, get_or, Result, Ok, Err, MatchOption, ap, ◌∙◌, ⊎_elim, arith}
+use Rattle.std.proofs.lemmas.Grind.{common_steps}
+use Rattle.std.proofs.Common.{◌≡◌, ℕ, ◌+◌, ◌<◌, ◌≤◌, List, [], ◌∷◌, length, get_or, Result, Ok, Err, MatchOption, ap, ◌∙◌, ⊎_elim, arith}
 use Rattle.std.specs.Cmp.{tied_itself}
 use Rattle.std.specs.Cmp.Lexicographic.{slice_cmp, nat_list_cmp_total}
 use Rattle.std.specs.List.Sorted.{IsBinarySearchResult, IsSearchInRange}
@@ -31,8 +32,4 @@ named_by_search net name (Err place) up within position = λ u n.
     (cases_lt u place)
 
 pub returns-clause-named : goal.returns-clause-named
-returns-clause-named c =
-    rw c.ok.ensures.value (named_by_search c.args.configs.now c.args.name.now c.binary_search_by-found.result c.requires
-    c.binary_search_by-found.ensures.bound
-    (c.binary_search_by-found.ensures.position (λ x. slice_cmp nat_cmp x.name c.args.name.now)
-    (always_returns_same _ _ _ (λ a r f' k. search rules))))
+returns-clause-named c = grind (arith, common_steps, always_returns_same, named_by_search)

@@ -1,5 +1,6 @@
 -- The sorted configurations keep what the given ones do, and what refuses them refuses the given ones.
-use Rattle.std.proofs.Common.{List, length, All, IsPermutation, ap, subst, ◌∙◌, arith}
+use Rattle.std.proofs.lemmas.Grind.{common_steps}
+use Rattle.std.proofs.Common.{List, All, IsPermutation, subst, ◌∙◌, arith}
 use Rattle.std.proofs.lemmas.List.Sorted.{All-permutation, length_permutation}
 use Rattle.std.proofs.lemmas.Result.{err_from_is_err_and}
 use Rattle.net_model.specs.Conditions.{IsConsistent}
@@ -22,11 +23,7 @@ returns-in_err-check_names-clause-err c =
     c.in_err-check_names.ensures.err))
 
 pub check_network-requires : goal.check_network-requires
-check_network-requires c =
-    let given = ap length (c.as_slice.ensures.value) in
-    let long = length_permutation _ _ c.sort_by_name.ensures.same in
-    let sorted = ap length c.as_slice-3.ensures.value in
-    omega (arith, given, long, sorted, c.in_ok-within_limits.ensures.ok.routers)
+check_network-requires c = grind (arith, common_steps, length_permutation)
 
 pub returns-in_err-check_network-clause-err : goal.returns-in_err-check_network-clause-err
 returns-in_err-check_network-clause-err c =
