@@ -1,4 +1,5 @@
 -- Ascending lists of numbers: places, intervals, and how long they may be.
+use Rattle.std.proofs.lemmas.Grind.{common_steps}
 use Rattle.std.proofs.Common.{◌≡◌, ℕ, zero, suc, ◌+◌, ◌-◌, ◌<◌, ◌≤◌, List, length, get_or, All, Contains, ⊎_elim, arith, subst, ◌∙◌}
 use Rattle.std.proofs.lemmas.Bool.{cases_lt}
 use Rattle.std.proofs.lemmas.List.{get_or_default}
@@ -20,20 +21,12 @@ at_most_later xs i j up before within = ⊎_elim
 
 -- where x stands, it has its place
 pub place_found : (xs : List ℕ) (x i : ℕ) → IsStrictlyIncreasing xs → i < length xs → get_or xs i 0 ≡ x → IsPlaceOf xs x i
-place_found xs x i up within at = record {
-  within = omega arith;
-  before = λ k l. let h : get_or xs k 0 < get_or xs i 0 = below_later xs k i up l within in omega arith;
-  after = λ k l m. let h : get_or xs i 0 ≤ get_or xs k 0 = at_most_later xs i k up l m in omega arith;
-}
+place_found xs x i up within at = grind (arith, common_steps, at_most_later, below_later)
 
 -- where a doesn't stand, the place before the one where it would stand is that of its interval
 pub interval_before : (xs : List ℕ) (a i : ℕ) → 0 < i → i ≤ length xs → ((k : ℕ) → k < i → get_or xs k 0 < a)
     → ((k : ℕ) → i ≤ k → k < length xs → a < get_or xs k 0) → InInterval xs (i - 1) a
-interval_before xs a i some within before after = record {
-  within = omega arith;
-  from = let h : get_or xs (i - 1) 0 < a = before (i - 1) (omega arith) in omega arith;
-  before = λ l. after (i - 1 + 1) (omega arith) l;
-}
+interval_before xs a i some within before after = grind (arith, common_steps)
 
 -- a number of the list that isn't above a isn't above the start of a's interval
 pub start_is_last : (xs : List ℕ) (i a c : ℕ) → IsStrictlyIncreasing xs → InInterval xs i a → Contains xs c → c ≤ a → c ≤ get_or xs i 0
@@ -58,10 +51,4 @@ at_least_place xs (suc k) up within =
 
 -- an ascending list of numbers below n has at most n
 pub length_below : (xs : List ℕ) (n : ℕ) → IsStrictlyIncreasing xs → All (λ x. x < n) xs → length xs ≤ n
-length_below xs n up below = ⊎_elim
-    (λ (l : n < length xs).
-    let h : n ≤ get_or xs n 0 = at_least_place xs n up l in
-    let m : get_or xs n 0 < n = below n 0 l in
-    absurd (omega arith))
-    (λ (l : length xs ≤ n). l)
-    (cases_lt n (length xs))
+length_below xs n up below = grind (arith, common_steps, at_least_place, cases_lt)

@@ -1,6 +1,7 @@
 -- Why intervals between cuts tell classes apart, and why numbers by the longest prefix number the classes.
+use Rattle.std.proofs.lemmas.Grind.{common_steps}
 use Rattle.std.proofs.Common.{◌≡◌, ◌≢◌, ℕ, zero, suc, ◌+◌, ◌^◌, ◌<◌, ◌≤◌, List, length, get_or, inl, inr, Some, All, AllPairs, Contains, slice_get}
-use Rattle.std.proofs.Common.{⊎_elim, ap, arith, sym, subst, ◌∙◌}
+use Rattle.std.proofs.Common.{⊎_elim, arith, sym, subst, ◌∙◌}
 use Rattle.std.proofs.lemmas.Bool.{cases_lt}
 use Rattle.std.proofs.lemmas.List.{get_or_default}
 use Rattle.std.proofs.lemmas.List.Elements.{All-contains}
@@ -25,11 +26,7 @@ use Rattle.prefix_atoms.proofs.ClassLaws.{alike_sym, alike_trans}
 
 -- the first cut is 0
 first_cut : (prefixes : List Block) (cuts : List ℕ) → AreCuts prefixes cuts → (0 < length cuts) × (get_or cuts 0 0 ≡ 0)
-first_cut prefixes cuts are =
-    let has : Contains cuts 0 = are.first in
-    let at : get_or cuts has.0 0 ≡ 0 = has.2 in
-    let some : 0 < length cuts = omega (arith, has.1) in
-    (some, let h : get_or cuts 0 0 ≤ get_or cuts has.0 0 = at_most_later cuts 0 has.0 are.ascending (omega arith) has.1 in omega arith)
+first_cut prefixes cuts are = grind (arith, common_steps, at_most_later)
 
 -- between a cut and an address of its interval no prefix begins or ends
 interval_alike : (prefixes : List Block) (cuts : List ℕ) (i a : ℕ) → All IsBlock prefixes → AreCuts prefixes cuts → InInterval cuts i a → a < 2 ^ 32
@@ -119,20 +116,8 @@ one_place prefixes i j p apart at_i at_j =
 -- addresses of one class have one key
 alike_key : (prefixes : List Block) (a b key other : ℕ) → All IsBlock prefixes → AllPairs (λ p q. p ≢ q) prefixes
     → IsKey prefixes a key → IsKey prefixes b other → SameBlocksContain prefixes a b → key ≡ other
-alike_key prefixes a b key other blocks apart one two alike = elim one [
-  | inl none ↦ elim two [
-    | inl nor ↦ none.0 ∙ sym nor.0
-    | inr at ↦ absurd (none.1 at.prefix at.match.is_offered ((alike at.prefix at.match.is_offered).1 at.match.contains))
-  ]
-  | inr at ↦ elim two [
-    | inl none ↦ absurd (none.1 at.prefix at.match.is_offered ((alike at.prefix at.match.is_offered).0 at.match.contains))
-    | inr to ↦
-        let same : at.prefix ≡ to.prefix = one_longest_match (Contains prefixes) b at.prefix to.prefix
-        (All-contains IsBlock prefixes at.prefix blocks at.match.is_offered) (All-contains IsBlock prefixes to.prefix blocks to.match.is_offered)
-        (IsLongestMatch-alike (Contains prefixes) a b at.prefix (λ q on. alike q on) at.match) to.match in
-        one_place prefixes key other to.prefix apart (subst (λ (q : Block). slice_get prefixes key ≡ Some q) same at.stands) to.stands
-  ]
-]
+alike_key prefixes a b key other blocks apart one two alike =
+    grind (arith, common_steps, All-contains, IsLongestMatch-alike, one_longest_match, one_place)
 
 -- Classes
 
@@ -276,21 +261,11 @@ intervals_tell {prefixes} {cuts} {numbers} {firsts} {samples} c same_prefixes sa
 -- and make classes, with the parents of their prefixes, their longest prefixes and their targets
 pub classing_from : (c : Classes) (p1 p2 : List Block) (s1 s2 : List ℕ) → p1 ≡ c.prefixes → p2 ≡ c.prefixes → s1 ≡ c.samples → s2 ≡ c.samples
     → AreSamples c.prefixes c.samples → AreNested p1 c.parents → AreTops p2 s1 c.tops → length c.targets ≡ length s2 → IsClassing c
-classing_from c p1 p2 s1 s2 same1 same2 same3 same4 samples nested tops targets = record {
-  samples = samples;
-  nested = subst (λ (ps : List Block). AreNested ps c.parents) same1 nested;
-  tops = subst (λ (ps : List Block). AreTops ps c.samples c.tops) same2 (subst (λ (xs : List ℕ). AreTops p2 xs c.tops) same3 tops);
-  targets = targets ∙ ap length same4;
-}
+classing_from c p1 p2 s1 s2 same1 same2 same3 same4 samples nested tops targets = grind (arith, common_steps)
 
 -- the steps, each over slices of its own
 pub made_from : (prefixes p1 p2 : List Block) (cuts c1 c2 numbers firsts f1 samples : List ℕ) → p1 ≡ prefixes → p2 ≡ prefixes → c1 ≡ cuts →
     c2 ≡ cuts → f1 ≡ firsts
     → All IsBlock p1 → AreCuts p1 cuts → NumbersClasses p2 c1 numbers firsts → ArePicked c2 f1 samples → Made prefixes cuts numbers firsts samples
-made_from prefixes p1 p2 cuts c1 c2 numbers firsts f1 samples same1 same2 same3 same4 same5 blocks cut numbering picked = record {
-  blocks = subst (All IsBlock) same1 blocks;
-  cut = subst (λ (ps : List Block). AreCuts ps cuts) same1 cut;
-  numbering = subst (λ (xs : List ℕ). NumbersClasses prefixes xs numbers firsts) same3
-      (subst (λ (ps : List Block). NumbersClasses ps c1 numbers firsts) same2 numbering);
-  picked = subst (λ (xs : List ℕ). ArePicked cuts xs samples) same5 (subst (λ (xs : List ℕ). ArePicked xs f1 samples) same4 picked);
-}
+made_from prefixes p1 p2 cuts c1 c2 numbers firsts f1 samples same1 same2 same3 same4 same5 blocks cut numbering picked =
+    grind (arith, common_steps)

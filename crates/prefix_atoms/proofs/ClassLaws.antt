@@ -1,5 +1,6 @@
 -- Why the addresses of one class act alike.
-use Rattle.std.proofs.Common.{◌≡◌, ℕ, ◌<◌, ◌≤◌, ◌↔◌, List, [], ◌∷◌, length, get_or, Option, Some, None, Contains, ⊎_elim, arith}
+use Rattle.std.proofs.lemmas.Grind.{common_steps}
+use Rattle.std.proofs.Common.{◌≡◌, ℕ, ◌<◌, ◌≤◌, ◌↔◌, List, [], ◌∷◌, length, get_or, Option, Contains, ⊎_elim, arith}
 use Rattle.std.proofs.lemmas.Bool.{cases_lt}
 use Rattle.net_addr.specs.Addresses.{Block, ContainsAddress}
 use Rattle.net_addr.specs.Boundaries.{SameBlocksContain}
@@ -54,8 +55,7 @@ same_target {move} {a} {b} h p t =
 
 -- addresses that the same prefixes contain have one target, or none
 pub has_target_alike : {move : Migration} {a b : ℕ} → OccurAlike move a b → (t : Option Block) → HasTarget move.net a t → HasTarget move.net b t
-has_target_alike h (Some p) t = same_target h p t
-has_target_alike h None none = λ p t. none p (same_target (flip h) p t)
+has_target_alike h it_1 t = grind (arith, common_steps, flip, same_target)
 
 same_connected : {move : Migration} {a b : ℕ} → OccurAlike move a b → (u : ℕ) (p : Block) → LongestConnected move.net u a p →
     LongestConnected move.net u b p

@@ -1,4 +1,6 @@
 -- The lists of prefixes that the collecting loops make, router by router.
+use Rattle.std.proofs.Common.{arith}
+use Rattle.std.proofs.lemmas.Grind.{common_steps}
 use Rattle.std.proofs.Common.{◌≡◌, ℕ, ◌+◌, List, [], ◌∷◌, ◌++◌, take, map, Some, append_assoc, refl, sym, ap, ◌∙◌}
 use Rattle.std.specs.List.{filter_map, flat_map, slice_get}
 use Rattle.std.proofs.lemmas.Option.{slice_get_within, get_or_from_slice_get}
@@ -27,8 +29,7 @@ flat_map_at f xs i x at =
 -- a list gains two parts
 gains_two : (args old first new done one two more : List Block) → old ≡ args ++ done → first ≡ old ++ one → new ≡ first ++ two
     → more ≡ (done ++ one) ++ two → new ≡ args ++ more
-gains_two args old first new done one two more a b c d =
-    c ∙ ap (λ xs. xs ++ two) (b ∙ ap (λ xs. xs ++ one) a ∙ append_assoc args done one) ∙ append_assoc args (done ++ one) two ∙ ap (λ xs. args ++ xs) (sym d)
+gains_two args old first new done one two more a b c d = grind (arith, common_steps)
 
 -- the next router's subnets and ranges
 pub dests_more : (net : List Configuration) (u : ℕ) (c : Configuration) (interfaces : List Interface) (ranges : List Range) (args old first new : List Block)

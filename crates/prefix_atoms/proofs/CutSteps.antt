@@ -1,4 +1,5 @@
 -- The boundaries of prefixes, as they are gathered one prefix after another.
+use Rattle.std.proofs.lemmas.Grind.{common_steps}
 use Rattle.std.proofs.Common.{◌≡◌, ℕ, zero, suc, ◌+◌, ◌^◌, ◌<◌, ◌≤◌, List, [], ◌∷◌, ◌++◌, length, take, get_or, All, Contains, ⊎_elim, arith, refl, sym, ap}
 use Rattle.std.proofs.Common.{subst, ◌∙◌}
 use Rattle.std.proofs.lemmas.List.{take_more}
@@ -23,8 +24,7 @@ boundaries_more prefixes i p old new within read gains has q c member boundary l
 
 pub blocks_more : (prefixes : List Block) (i : ℕ) (p : Block) → i < length prefixes → p ≡ get_or prefixes i p
     → All IsBlock (take i prefixes) → IsBlock p → All IsBlock (take (i + 1) prefixes)
-blocks_more prefixes i p within read blocks block =
-    subst (All IsBlock) (sym (next_prefix prefixes i p within read)) (All-push IsBlock (take i prefixes) p blocks block)
+blocks_more prefixes i p within read blocks block = grind (arith, common_steps, All-push, next_prefix)
 
 -- what stands before a place past the end is the whole list
 pub take_whole : {X : Type 0} (xs : List X) (n : ℕ) → length xs ≤ n → take n xs ≡ xs

@@ -1,4 +1,5 @@
 -- The longest prefix of an address, as one prefix more is looked at.
+use Rattle.std.proofs.lemmas.Grind.{common_steps}
 use Rattle.std.proofs.Common.{◌≡◌, ℕ, ◌+◌, ◌<◌, ◌≤◌, ◌==◌, inl, inr, Bool, true, false, if◌then◌else◌, List, [], ◌∷◌, ◌++◌, length, map, take, get_or, set}
 use Rattle.std.proofs.Common.{Option, Some, None, All, Contains, slice_get, ⊎_elim, arith, refl, sym, ap, subst, ◌∙◌, ◌≢◌, below_more, get_or-set_other}
 use Rattle.std.proofs.Common.{get_or-set_same, eqb-true, eq-eqb}
@@ -26,15 +27,10 @@ pub misses_before : (p : Block) (a : ℕ) → IsBlock p → a < p.base → ¬ Co
 misses_before p a block low inside = let bounds = ContainsAddress-bounds p a block inside in absurd (omega (arith, bounds.0))
 
 pub misses_after : (p : Block) (a : ℕ) → IsBlock p → last_address p < a → ¬ ContainsAddress p a
-misses_after p a block high inside =
-    let bounds : (p.base ≤ a) × (a < p.base + block_size p) = ContainsAddress-bounds p a block inside in
-    let after : last_address p + 1 ≡ p.base + block_size p = last_address-after p in
-    absurd (omega (arith, bounds.1))
+misses_after p a block high inside = grind (arith, common_steps, ContainsAddress-bounds, block_size, last_address-after)
 
 pub contains_between : (p : Block) (a : ℕ) → IsBlock p → p.base ≤ a → a ≤ last_address p → ContainsAddress p a
-contains_between p a block low high =
-    let after : last_address p + 1 ≡ p.base + block_size p = last_address-after p in
-    ContainsAddress-between p a block low (omega arith)
+contains_between p a block low high = grind (arith, common_steps, ContainsAddress-between, block_size, last_address-after)
 
 -- a prefix that doesn't contain the address, or isn't longer, changes nothing
 kept_more : (prefixes : List Block) (next : Block) (numbers : ℕ → ℕ) (a : ℕ) (found : Longest) → IsKept prefixes numbers a found
@@ -61,20 +57,8 @@ kept_more prefixes next numbers a found is short = record {
 kept_longer : (prefixes : List Block) (next : Block) (numbers : ℕ → ℕ) (a : ℕ) (found new : Longest) → IsKept prefixes numbers a found
     → ContainsAddress next a → numbers (length prefixes) ≡ new.number → next.len + 1 ≡ new.size → found.size < new.size
     → IsKept (prefixes ++ next ∷ []) numbers a new
-kept_longer prefixes next numbers a found new is inside number size less = record {
-  there = inr (record {
-    place = length prefixes;
-    prefix = next;
-    stands = slice_get-push_new prefixes next;
-    contains = inside;
-    size_is = size;
-    number_is = number;
-  });
-  covers = λ q has in_q. ⊎_elim
-      (λ before. let short : q.len < found.size = is.covers q before in_q in omega arith)
-      (λ same. subst (λ (s : Block). s.len < new.size) same (let short : next.len < new.size = omega arith in short))
-      (Contains-push_cases prefixes next q has);
-}
+kept_longer prefixes next numbers a found new is inside number size less =
+    grind (arith, common_steps, Contains-push_cases, slice_get-push_new)
 
 -- prefixes by their numbers, the next one, and the addresses that they are found for
 pub record Painting : Type 0 where
@@ -99,18 +83,12 @@ pub record Painted (p : Painting) (found : List Longest) (i : ℕ) : Type 0 wher
 
 -- a place whose address isn't the prefix's needs no change
 out : (p : Painting) (found : List Longest) (j : ℕ) → IsLeft p found j → ¬ ContainsAddress p.next (get_or p.addresses j 0) → IsDone p found j
-out p found j is away =
-    kept_more p.prefixes p.next p.numbers (get_or p.addresses j 0) (get_or found j nothing) is (λ inside. absurd (away inside))
+out p found j is away = grind (arith, common_steps, kept_more)
 
 -- at first no address before the prefix's base needs a change
 pub painted_none : (p : Painting) (found : List Longest) (i : ℕ) → IsBlock p.next → AreLongestKept p.prefixes p.numbers p.addresses found
     → IsPlaceOf p.addresses p.next.base i → Painted p found i
-painted_none p found i block are first = record {
-  count = are.count;
-  low = first.after;
-  done = λ j l m. out p found j (are.each j m) (misses_before p.next (get_or p.addresses j 0) block (first.before j l));
-  rest = λ j l m. are.each j m;
-}
+painted_none p found i block are first = grind (arith, common_steps, misses_before, out)
 
 -- at the end the addresses after the prefix's last need no change
 pub painted_all : (p : Painting) (found : List Longest) (i : ℕ) → IsBlock p.next → IsStrictlyIncreasing p.addresses → Painted p found i
@@ -183,12 +161,7 @@ key_kept prefixes a found is = by_size (found.size == 0) refl
 
 pub keys_kept : (prefixes : List Block) (addresses keys : List ℕ) (found : List Longest) → AreLongestKept prefixes (λ place. place) addresses found
     → keys ≡ map (key_of (length prefixes)) found → AreKeys prefixes addresses keys
-keys_kept prefixes addresses keys found are same = record {
-  count = ap length same ∙ length-map found (key_of (length prefixes)) ∙ are.count;
-  each = λ i l. subst (IsKey prefixes (get_or addresses i 0))
-      (sym (ap (λ (ks : List ℕ). get_or ks i 0) same ∙ get_or-map (key_of (length prefixes)) found i nothing 0 (omega (arith, are.count))))
-      (key_kept prefixes (get_or addresses i 0) (get_or found i nothing) (are.each i l));
-}
+keys_kept prefixes addresses keys found are same = grind (arith, common_steps, get_or-map, key_kept, length-map)
 
 -- what is kept under its place gives the top
 top_kept : (prefixes : List Block) (a : ℕ) (found : Longest) → IsKept prefixes (λ place. place) a found → IsTop prefixes a (top_of found)
@@ -229,12 +202,7 @@ tops_kept prefixes addresses found tops are same = record {
 
 pub targets_found : (prefixes : List Block) (addresses keys : List ℕ) (targets : List (Option Block)) → AreKeys prefixes addresses keys
     → targets ≡ map (slice_get prefixes) keys → AreTargets prefixes addresses targets
-targets_found prefixes addresses keys targets are same = record {
-  count = ap length same ∙ length-map keys (slice_get prefixes) ∙ are.count;
-  each = λ i l. subst (IsBestMatch (Contains prefixes) (get_or addresses i 0))
-      (sym (ap (λ (ts : List (Option Block)). get_or ts i None) same ∙ get_or-map (slice_get prefixes) keys i 0 None (omega (arith, are.count))))
-      (key_longest prefixes (get_or addresses i 0) (get_or keys i 0) (are.each i l));
-}
+targets_found prefixes addresses keys targets are same = grind (arith, common_steps, get_or-map, key_longest, length-map)
 
 -- what is kept of the prefixes of a list before a place, once the row at the place is taken
 pub kept_next : (prefixes : List Block) (numbers : ℕ → ℕ) (place : ℕ) (next : Block) (number : ℕ) (addresses : List ℕ) (old new : List Longest)

@@ -1,4 +1,5 @@
 -- Why the parent of a prefix is found from the prefix before it upwards, and why the parents of a prefix are the shorter matches of its addresses.
+use Rattle.std.proofs.lemmas.Grind.{common_steps}
 use Rattle.std.proofs.Common.{◌≡◌, ◌≢◌, ℕ, zero, suc, ◌+◌, ◌-◌, ◌<◌, ◌≤◌, List, get_or, inl, inr, Some, None, Option, All, AllPairs, slice_get}
 use Rattle.std.proofs.Common.{⊎_elim, arith, refl, sym, subst, ◌∙◌, IfSome, MatchOption, SomeIff}
 use Rattle.std.proofs.lemmas.Bool.{cases_lt}
@@ -25,22 +26,14 @@ stands_before prefixes i j p q up at_i at_j l =
 
 -- prefixes in ascending order are distinct
 pub ascending_apart : (prefixes : List Block) → AreAscendingPrefixes prefixes → AllPairs (λ p q. p ≢ q) prefixes
-ascending_apart prefixes up i j d l h same =
-    let P : Block → Type 0 = λ (x : Block). StandsBefore (get_or prefixes i d) x in
-    elim (subst P (sym same) (up i j d l h)) [
-      | inl less ↦ absurd (omega (arith, less))
-      | inr less ↦ absurd (omega (arith, less.1))
-    ]
+ascending_apart prefixes up i j d l h same = grind (arith, common_steps)
 
 -- The chain
 
 -- a shorter prefix contains an address of a prefix exactly where it contains its base
 shorter_alike : (p q : Block) (a : ℕ) → IsBlock p → ContainsAddress p a → q.len < p.len → (ContainsAddress q p.base → ContainsAddress q a)
     × (ContainsAddress q a → ContainsAddress q p.base)
-shorter_alike p q a block inside short = (
-  λ at_base. ContainsAddress-covers q p a block (Covers-common q p p.base block (omega arith) at_base refl) inside,
-  λ at_a. (Covers-common q p a block (omega arith) at_a inside).inside,
-)
+shorter_alike p q a block inside short = grind (arith, common_steps, ContainsAddress-covers, Covers-common)
 
 -- for each address of a prefix its parent is the longest shorter match
 pub parent_is_next : (prefixes : List Block) (p : Block) (a : ℕ) (parent : Option ℕ) → IsBlock p → ContainsAddress p a
@@ -68,22 +61,8 @@ pub record IsAhead (prefixes : List Block) (place : ℕ) (p : Block) (next : Opt
 -- a shorter prefix that contains another one's base stands before it
 shorter_earlier : (prefixes : List Block) (place i : ℕ) (p q : Block) → AreAscendingPrefixes prefixes → IsBlock q → slice_get prefixes place ≡ Some p
     → slice_get prefixes i ≡ Some q → q.len < p.len → ContainsAddress q p.base → i < place
-shorter_earlier prefixes place i p q up block at_p at_q short inside = ⊎_elim
-    (λ (l : i < place). l)
-    (λ (l : place ≤ i). ⊎_elim
-    (λ (m : place < i).
-    let bounds : (q.base ≤ p.base) × (p.base < q.base + block_size q) = ContainsAddress-bounds q p.base block inside in
-    elim (stands_before prefixes place i p q up at_p at_q m) [
-      | inl less ↦ absurd (omega (arith, bounds.0, less))
-      | inr less ↦ absurd (omega (arith, less.1))
-    ])
-    (λ (m : i ≤ place).
-    let e : i ≡ place = omega arith in
-    let same : q ≡ p = same_Some q p (sym at_q ∙ subst (λ (k : ℕ). slice_get prefixes k ≡ Some p) (sym e) at_p) in
-    let no : p.len < p.len = subst (λ (x : Block). x.len < p.len) same short in
-    absurd (omega arith))
-    (cases_lt place i))
-    (cases_lt i place)
+shorter_earlier prefixes place i p q up block at_p at_q short inside =
+    grind (arith, common_steps, ContainsAddress-bounds, block_size, cases_lt, same_Some, stands_before)
 
 -- what contains p and stands before r, which stands before p, contains r
 contains_middle : (p q r : Block) → IsBlock q → IsBlock r → StandsBefore q r → StandsBefore r p → ContainsAddress q p.base

@@ -1,4 +1,5 @@
 -- Numbering by first appearance, key by key.
+use Rattle.std.proofs.lemmas.Grind.{common_steps}
 use Rattle.std.proofs.Common.{◌≡◌, ◌≢◌, ℕ, ◌+◌, ◌<◌, ◌≤◌, List, [], ◌∷◌, ◌++◌, length, get_or, set, Option, Some, None, ⊎_elim, arith, refl, sym, ap, subst}
 use Rattle.std.proofs.Common.{◌∙◌, below_more, length-append, get_or-set_other, get_or-set_same}
 use Rattle.std.proofs.lemmas.Bool.{cases_eq, cases_lt}
@@ -36,61 +37,26 @@ length_more xs y = length-append xs (y ∷ [])
 -- a key stays seen, or unseen where the next one is another
 seen_more : (keys : List ℕ) (n : ℕ) (firsts : List ℕ) (x : ℕ) (o : Option ℕ) → IsSeen keys n firsts x o → (o ≡ None → get_or keys n 0 ≢ x)
     → IsSeen keys (n + 1) firsts x o
-seen_more keys n firsts x (Some k) h apart = h
-seen_more keys n firsts x None h apart = below_more (λ (j : ℕ). get_or keys j 0 ≢ x) n h (apart refl)
+seen_more keys n firsts x o h apart = grind (arith, common_steps)
 
 -- a further first place leaves what is seen
 seen_push : (keys : List ℕ) (n : ℕ) (firsts : List ℕ) (place x : ℕ) (o : Option ℕ) → IsSeen keys n firsts x o → IsSeen keys n (firsts ++ place ∷ []) x o
-seen_push keys n firsts place x None h = h
-seen_push keys n firsts place x (Some k) h =
-    (omega (arith, h.0, length_more firsts place), ap (λ (m : ℕ). get_or keys m 0) (old_at firsts place k h.0) ∙ h.1)
+seen_push keys n firsts place x o h = grind (arith, common_steps, length_more, old_at)
 
 -- a key that has a number keeps it
 known_more : (keys : List ℕ) (bound n : ℕ) (numbers firsts : List ℕ) (seen : List (Option ℕ)) (k : ℕ) → Numbered keys bound n numbers firsts seen
     → get_or seen (get_or keys n 0) None ≡ Some k → get_or keys n 0 < bound → Numbered keys bound (n + 1) (numbers ++ k ∷ []) firsts seen
-known_more keys bound n numbers firsts seen k h at below =
-    let has : (k < length firsts) × (get_or keys (get_or firsts k 0) 0 ≡ get_or keys n 0) =
-    subst (IsSeen keys n firsts (get_or keys n 0)) at (h.known (get_or keys n 0) below) in
-    record {
-      count = length_more numbers k ∙ ap (λ (m : ℕ). m + 1) h.count;
-      size = h.size;
-      few = omega (arith, h.few);
-      ascending = h.ascending;
-      within = λ j l. let m : get_or firsts j 0 < n = h.within j l in omega arith;
-      first = h.first;
-      numbered = below_more (λ (j : ℕ). get_or (numbers ++ k ∷ []) j 0 < length firsts) n
-          (λ j l. let e : get_or (numbers ++ k ∷ []) j 0 ≡ get_or numbers j 0 = old_at numbers k j (omega (arith, h.count)) in
-          let m : get_or numbers j 0 < length firsts = h.numbered j l in omega arith)
-          (let e : get_or (numbers ++ k ∷ []) n 0 ≡ k = new_at numbers k n h.count in omega (arith, has.0));
-      same = below_more (λ (j : ℕ). get_or keys (get_or firsts (get_or (numbers ++ k ∷ []) j 0) 0) 0 ≡ get_or keys j 0) n
-          (λ j l. ap (λ (m : ℕ). get_or keys (get_or firsts m 0) 0) (old_at numbers k j (omega (arith, h.count))) ∙ h.same j l)
-          (ap (λ (m : ℕ). get_or keys (get_or firsts m 0) 0) (new_at numbers k n h.count) ∙ has.1);
-      known = λ x l. seen_more keys n firsts x (get_or seen x None) (h.known x l)
-          (λ none same. let e : get_or seen x None ≡ Some k = subst (λ (y : ℕ). get_or seen y None ≡ Some k) same at in cc);
-    }
+known_more keys bound n numbers firsts seen k h at below = grind (arith, common_steps, length_more, new_at, old_at, seen_more)
 
 fresh_ascends : (firsts : List ℕ) (n : ℕ) → IsStrictlyIncreasing firsts → ((k : ℕ) → k < length firsts → get_or firsts k 0 < n) →
     IsStrictlyIncreasing (firsts ++ n ∷ [])
-fresh_ascends firsts n up within k l =
-    let long : length (firsts ++ n ∷ []) ≡ length firsts + 1 = length_more firsts n in
-    let here : get_or (firsts ++ n ∷ []) k 0 ≡ get_or firsts k 0 = old_at firsts n k (omega arith) in
-    ⊎_elim
-    (λ (m : k + 1 < length firsts).
-    let next : get_or (firsts ++ n ∷ []) (k + 1) 0 ≡ get_or firsts (k + 1) 0 = old_at firsts n (k + 1) m in
-    let s : get_or firsts k 0 < get_or firsts (k + 1) 0 = up k m in omega arith)
-    (λ (m : length firsts ≤ k + 1).
-    let next : get_or (firsts ++ n ∷ []) (k + 1) 0 ≡ n = new_at firsts n (k + 1) (omega arith) in
-    let s : get_or firsts k 0 < n = within k (omega arith) in omega arith)
-    (cases_lt (k + 1) (length firsts))
+fresh_ascends firsts n up within k l = grind (arith, common_steps, cases_lt, length_more, new_at, old_at)
 
 fresh_first : (keys : List ℕ) (n : ℕ) (firsts : List ℕ)
     → ((k j : ℕ) → k < length firsts → j < get_or firsts k 0 → get_or keys j 0 ≢ get_or keys (get_or firsts k 0) 0)
     → ((j : ℕ) → j < n → get_or keys j 0 ≢ get_or keys n 0)
     → (k : ℕ) → k < length firsts + 1 → (j : ℕ) → j < get_or (firsts ++ n ∷ []) k 0 → get_or keys j 0 ≢ get_or keys (get_or (firsts ++ n ∷ []) k 0) 0
-fresh_first keys n firsts first new =
-    below_more (λ (k : ℕ). (j : ℕ) → j < get_or (firsts ++ n ∷ []) k 0 → get_or keys j 0 ≢ get_or keys (get_or (firsts ++ n ∷ []) k 0) 0) (length firsts)
-    (λ k l. subst (λ (m : ℕ). (j : ℕ) → j < m → get_or keys j 0 ≢ get_or keys m 0) (sym (old_at firsts n k l)) (λ j before. first k j l before))
-    (subst (λ (m : ℕ). (j : ℕ) → j < m → get_or keys j 0 ≢ get_or keys m 0) (sym (new_at firsts n (length firsts) refl)) new)
+fresh_first keys n firsts first new = grind (arith, common_steps, new_at, old_at)
 
 -- a key without a number takes the next one
 fresh_more : (keys : List ℕ) (bound n : ℕ) (numbers firsts : List ℕ) (seen : List (Option ℕ)) → Numbered keys bound n numbers firsts seen

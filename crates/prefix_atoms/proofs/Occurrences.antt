@@ -1,6 +1,7 @@
 -- The lists that are collected have exactly the prefixes that occur, and those that can be targets.
-use Rattle.std.proofs.Common.{◌≡◌, ℕ, zero, suc, ◌<◌, ◌≤◌, ◌⊎◌, ◌↔◌, inl, inr, Bool, true, false, ◌&&◌, ◌||◌, if◌then◌else◌, List, [], ◌++◌, get_or, map}
-use Rattle.std.proofs.Common.{Option, Some, None, IsTrue, IsSome, is_some, Contains, ⊎_elim, arith, refl, sym, ap, subst, ◌∙◌}
+use Rattle.std.proofs.lemmas.Grind.{common_steps}
+use Rattle.std.proofs.Common.{◌≡◌, ℕ, zero, suc, ◌<◌, ◌≤◌, ◌⊎◌, ◌↔◌, inr, Bool, true, ◌&&◌, ◌||◌, if◌then◌else◌, List, [], ◌++◌, get_or, map}
+use Rattle.std.proofs.Common.{Option, Some, None, IsTrue, IsSome, is_some, Contains, ⊎_elim, arith, sym, ap, subst, ◌∙◌}
 use Rattle.std.specs.List.{filter_map}
 use Rattle.std.proofs.lemmas.Bool.{cases_lt}
 use Rattle.std.proofs.lemmas.List.Elements.{Contains-append_left, Contains-append_right, Contains-append_cases}
@@ -28,34 +29,22 @@ use Rattle.prefix_atoms.proofs.ClassLaws.{occur_alike, has_target_alike}
 -- Interfaces
 
 if_true : {A : Type 0} (b : Bool) (o : Option A) (p : A) → (if b then o else None) ≡ Some p → (b ≡ true) × (o ≡ Some p)
-if_true true o p e = (refl, e)
-if_true false o p e = cc
+if_true b o p e = grind (arith, common_steps)
 
 if_true_back : {A : Type 0} (b : Bool) (o : Option A) (p : A) → b ≡ true → o ≡ Some p → (if b then o else None) ≡ Some p
-if_true_back true o p t e = e
-if_true_back false o p t e = cc
+if_true_back b o p t e = grind (arith, common_steps)
 
 and_parts : (a b : Bool) → (a && b) ≡ true → (a ≡ true) × (b ≡ true)
-and_parts true b e = (refl, e)
-and_parts false b e = cc
+and_parts a b e = grind (arith, common_steps)
 
 and_both : (a b : Bool) → a ≡ true → b ≡ true → (a && b) ≡ true
-and_both true b s t = t
-and_both false b s t = cc
+and_both a b s t = grind (arith, common_steps)
 
 some_of_three : (o : Option ℕ) (b c : Bool) → (is_some o || b || c) ≡ true → IsSome o ⊎ IsTrue b ⊎ IsTrue c
-some_of_three (Some n) b c e = inl refl
-some_of_three None true c e = inr (inl refl)
-some_of_three None false true e = inr (inr refl)
-some_of_three None false false e = cc
+some_of_three o b c e = grind (arith, common_steps)
 
 three_of_some : (o : Option ℕ) (b c : Bool) → IsSome o ⊎ IsTrue b ⊎ IsTrue c → (is_some o || b || c) ≡ true
-three_of_some (Some n) b c h = refl
-three_of_some None true c h = refl
-three_of_some None false true h = refl
-three_of_some None false false (inl h) = cc
-three_of_some None false false (inr (inl h)) = h
-three_of_some None false false (inr (inr h)) = h
+three_of_some o b c h = grind (arith, common_steps)
 
 -- Networks
 

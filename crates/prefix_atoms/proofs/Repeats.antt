@@ -1,4 +1,5 @@
 -- What a list has after a sort and the removal of repeats.
+use Rattle.std.proofs.lemmas.Grind.{common_steps}
 use Rattle.std.proofs.Common.{◌≡◌, ℕ, ◌+◌, ◌<◌, ◌≤◌, inl, inr, ⊎_elim, arith}
 use Rattle.std.proofs.Common.{false, List, get_or, Ordering, Contains, IsPermutation, eqb, refl, sym}
 use Rattle.std.proofs.Common.{subst, ◌↔◌, ◌∙◌, ap, length, Result, Ok, Err, IfOk, IfNone, IfSome, Some, slice_get}
@@ -45,10 +46,7 @@ prefixes_ascend ys zs up is i j d l h =
 
 -- of two prefixes one stands before the other
 one_way : (p q : Block) → StandsBefore p q → StandsBefore q p → ⊥
-one_way p q first second = elim first [
-  | inl l ↦ elim second [ inl m ↦ omega (arith, l, m) | inr m ↦ omega (arith, l, m.0) ]
-  | inr l ↦ elim second [ inl m ↦ omega (arith, l.0, m) | inr m ↦ omega (arith, l.1, m.1) ]
-]
+one_way p q first second = grind (arith, common_steps)
 
 -- so a search in them is answered
 ascending_sorted : (xs : List Block) → AreAscendingPrefixes xs → IsSorted block_cmp xs

@@ -1,13 +1,13 @@
-use Rattle.std.proofs.Common.{◌∙◌, ℕ, List, All, refl, subst, sym}
+use Rattle.std.proofs.Common.{arith}
+use Rattle.std.proofs.lemmas.Grind.{common_steps}
+use Rattle.std.proofs.Common.{ℕ, List, refl, subst, sym}
 use Rattle.std.specs.List.Sorted.{IsStrictlyIncreasing}
-use Rattle.net_addr.specs.Addresses.{IsBlock}
 use Rattle.prefix_atoms.specs.steps.Lists.{AreTargets}
 use Rattle.prefix_atoms.proofs.ClassFacts.{classing_from, made_from, samples_ascend, samples_made, intervals_tell}
 use Rattle.prefix_atoms.proofs.atoms.classes_of.Goals as goal
 
 pub parents_of-requires-clause-blocks : goal.parents_of-requires-clause-blocks
-parents_of-requires-clause-blocks c =
-    subst (All IsBlock) (c.as_slice.ensures.value ∙ sym c.as_slice-6.ensures.value) c.in_ok-starts.ensures.blocks
+parents_of-requires-clause-blocks c = grind (arith, common_steps)
 
 pub tops_of-requires : goal.tops_of-requires
 tops_of-requires c =

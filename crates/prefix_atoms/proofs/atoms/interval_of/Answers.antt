@@ -1,4 +1,5 @@
-use Rattle.std.proofs.Common.{ℕ, ◌≡◌, ◌≤◌, ◌<◌, List, length, get_or, Err, ⊎_elim, arith}
+use Rattle.std.proofs.lemmas.Grind.{common_steps}
+use Rattle.std.proofs.Common.{ℕ, ◌≡◌, ◌≤◌, ◌<◌, List, length, get_or, Err, arith}
 use Rattle.std.proofs.lemmas.Bool.{cases_lt}
 use Rattle.std.proofs.lemmas.List.Sorted.{searched}
 use Rattle.prefix_atoms.proofs.Ascending.{at_most_later, interval_before}
@@ -7,10 +8,7 @@ use Rattle.prefix_atoms.proofs.atoms.interval_of.Goals as goal
 -- the place where a would stand isn't the first one, since the list begins with 0
 place_above_zero : (xs : List ℕ) (a i : ℕ) → 0 < length xs → get_or xs 0 0 ≡ 0
     → ((k : ℕ) → i ≤ k → k < length xs → a < get_or xs k 0) → 0 < i
-place_above_zero xs a i some first after = ⊎_elim
-    (λ (l : 0 < i). l)
-    (λ (l : i ≤ 0). let h : a < get_or xs 0 0 = after 0 l some in absurd (omega arith))
-    (cases_lt 0 i)
+place_above_zero xs a i some first after = grind (arith, common_steps, cases_lt)
 
 pub overflow_sub-result : goal.overflow_sub-result
 overflow_sub-result c =

@@ -1,4 +1,5 @@
-use Rattle.std.proofs.Common.{◌≡◌, ◌≤◌, ◌+◌, ◌<◌, ◌^◌, ◌∙◌, ℕ, List, All, length, get_or, arith, ap, subst, sym}
+use Rattle.std.proofs.lemmas.Grind.{common_steps}
+use Rattle.std.proofs.Common.{◌≡◌, ◌≤◌, ◌^◌, ◌∙◌, ℕ, List, length, get_or, arith, ap, subst}
 use Rattle.std.proofs.lemmas.List.{get_or_default}
 use Rattle.std.proofs.lemmas.Result.{IfOk-weaker}
 use Rattle.prefix_atoms.specs.steps.Numbers.{IsNumbering}
@@ -8,9 +9,7 @@ use Rattle.prefix_atoms.proofs.NestedLaws.{ascending_apart}
 use Rattle.prefix_atoms.proofs.atoms.number_cuts.Goals as goal
 
 pub number-requires-clause-keys : goal.number-requires-clause-keys
-number-requires-clause-keys c =
-    subst (All (λ key. key < length c.args.prefixes.now + 1)) (sym c.as_slice.ensures.value)
-    (keys_below c.args.prefixes.now c.args.cuts.now c.in_ok-keys.keys.items c.in_ok-keys.ensures.keys)
+number-requires-clause-keys c = grind (arith, common_steps, keys_below)
 
 pub number-requires-clause-few : goal.number-requires-clause-few
 number-requires-clause-few c =

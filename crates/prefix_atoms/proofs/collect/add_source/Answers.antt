@@ -1,4 +1,5 @@
-use Rattle.std.proofs.Common.{◌≡◌, ◌<◌, ◌∙◌, ℕ, List, ap, arith, subst, sym}
+use Rattle.std.proofs.lemmas.Grind.{common_steps}
+use Rattle.std.proofs.Common.{◌≡◌, ◌∙◌, ℕ, List, ap, arith, subst, sym}
 use Rattle.net_addr.specs.Addresses.{Block}
 use Rattle.route_core.specs.Rows.{IsTable, KeptTable, kept_in, listed, row_prefixes, rows_in}
 use Rattle.route_core.specs.Tables.{table_prefixes}
@@ -15,13 +16,7 @@ pub add_table-requires-clause-table : goal.add_table-requires-clause-table
 add_table-requires-clause-table g c = subst IsTable (sym c.parts-table.ensures.parts) c.parts-table.ensures.table
 
 pub add_table-requires-clause-unseen : goal.add_table-requires-clause-unseen
-add_table-requires-clause-unseen g c =
-    let some : 0 < g.S.RouteSource.routers c.args.source.now = omega (arith, c.loop-router-test.true, c.routers-router-end.ensures.count) in
-    let shared : g.S.RouteSource.prefixes c.args.source.now ≡ c.parts-table.result.prefixes.now =
-    sym (ap (λ (k : KeptTable). k.prefixes) c.parts-table.ensures.parts ∙ c.table.ensures.prefixes) in
-    subst (λ (ps : List Block). AreUnseen ps c.as_slice.result.now c.loop-router.prefixes.items) shared
-    (subst (λ (places : List ℕ). AreUnseen (g.S.RouteSource.prefixes c.args.source.now) places c.loop-router.prefixes.items)
-    (sym c.as_slice.ensures.value) (c.loop-router.invariant.unseen some))
+add_table-requires-clause-unseen g c = grind (arith, common_steps)
 
 pub loop-router-preserved : goal.loop-router-preserved
 loop-router-preserved g c =

@@ -1,3 +1,4 @@
+use Rattle.std.proofs.lemmas.Grind.{common_steps}
 use Rattle.std.proofs.Common.{◌≡◌, ◌<◌, Some, None, arith, length, refl, slice_get, subst, sym, ◌∙◌}
 use Rattle.std.proofs.lemmas.Option.{same_Some, slice_get-get_or, slice_get_read}
 use Rattle.net_addr.specs.Addresses.{Block}
@@ -50,9 +51,4 @@ loop-next-smaller c =
     (slice_get-get_or c.args.parents.now c.in-Some.other None (omega (arith, c.requires.before)))).before
 
 pub returns : goal.returns
-returns c p at =
-    let own : slice_get c.args.prefixes.now c.args.place ≡ Some c.index-prefixes-place.result =
-    slice_get_read c.args.prefixes.now (length c.args.prefixes.now) c.args.place c.index-prefixes-place.result refl c.requires.within
-    c.index-prefixes-place.is in
-    subst (λ (x : Block). IsParent c.args.prefixes.now c.args.place x None) (same_Some _ _ (sym own ∙ at))
-    (parent_none c.args.prefixes.now c.args.place c.index-prefixes-place.result c.loop-next.next c.in_default.not-Some c.loop-next.invariant)
+returns c p at = grind (arith, common_steps, parent_none, same_Some, slice_get_read)
