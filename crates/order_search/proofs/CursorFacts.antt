@@ -1,4 +1,5 @@
 -- Cursors over the children of a branch: where they stand, the next child, and the children of all branches.
+use Rattle.std.proofs.lemmas.Grind.{common_steps}
 use Rattle.std.proofs.Common.{◌≡◌, ℕ, zero, suc, ◌+◌, ◌*◌, ◌<◌, ◌≤◌, List, [], ◌∷◌, length, get_or, drop, map, arith, sym, ap}
 use Rattle.std.proofs.Common.{◌∙◌}
 use Rattle.std.proofs.Math.Nat.{mul-le-mul}
@@ -60,11 +61,7 @@ pub children_next : (olds news : List ℕ) (above i j k before after : ℕ) → 
     after ≡ get_or news j after → k ≡ i * length news + j + 1 →
     map (child_of above) (drop (i * length news + j) (grid olds news)) ≡ child_of above (before, after) ∷ map (child_of above) (drop k (grid olds news))
 children_next olds news above i j k before after i_in j_in old new next =
-    let old_is : get_or olds i 0 ≡ before = get_or_default olds i 0 before i_in ∙ sym old in
-    let new_is : get_or news j 0 ≡ after = get_or_default news j 0 after j_in ∙ sym new in
-    children_at olds news above i j k i_in j_in next
-    ∙ ap (λ (u : ℕ). child_of above (u, get_or news j 0) ∷ map (child_of above) (drop k (grid olds news))) old_is
-    ∙ ap (λ (v : ℕ). child_of above (before, v) ∷ map (child_of above) (drop k (grid olds news))) new_is
+    grind (arith, common_steps, children_at, get_or_default)
 
 -- the row after one that ends
 pub row_ends : (i n j : ℕ) → j + 1 ≡ n → (i + 1) * n + 0 ≡ i * n + j + 1
@@ -72,6 +69,4 @@ row_ends i n j end = omega (arith, end)
 
 -- behind the last row there is no child
 pub children_end : (olds news : List ℕ) (above i j : ℕ) → i ≡ length olds → map (child_of above) (drop (i * length news + j) (grid olds news)) ≡ []
-children_end olds news above i j end =
-    let rows : length (grid olds news) ≡ i * length news = length-grid olds news ∙ ap (λ (k : ℕ). k * length news) (sym end) in
-    ap (map (child_of above)) (drop_all (i * length news + j) (grid olds news) (omega (arith, rows)))
+children_end olds news above i j end = grind (arith, common_steps, drop_all, length-grid)

@@ -1,4 +1,5 @@
 -- Fresh pairs over a base: one more, fewer, and how many there may be among n routers.
+use Rattle.std.proofs.lemmas.Grind.{common_steps}
 use Rattle.std.proofs.Common.{◌≡◌, ◌≢◌, ℕ, zero, suc, ◌+◌, ◌-◌, ◌*◌, ◌/◌, ◌%◌, ◌<◌, ◌≤◌, ◌⊎◌, inl, inr, List}
 use Rattle.std.proofs.Common.{[], ◌∷◌, ◌++◌, length, get_or, take, arith, subst, sym, refl, ap, ◌∙◌, add-one}
 use Rattle.std.specs.List.{All, AllPairs, Contains}
@@ -16,14 +17,7 @@ use Rattle.order_search.specs.steps.Waiting.{AreFresh}
 
 -- the pairs of a base are fresh
 pub AreFresh-base : (n : ℕ) (base : List Pair) → IsBase n base → AreFresh n base base
-AreFresh-base n base is = record {
-  few = is.few;
-  long = omega arith;
-  begins = take_all (length base) base (omega arith);
-  below = is.below;
-  acyclic = is.acyclic;
-  fresh = λ k from in'. absurd (omega (arith, from, in'));
-}
+AreFresh-base n base is = grind (arith, common_steps, take_all)
 
 -- the first pairs, one more
 take_suc_at : (pairs : List Pair) (m : ℕ) → m < length pairs → take (suc m) pairs ≡ take m pairs ++ get_or pairs m (0, 0) ∷ []
@@ -67,26 +61,8 @@ AreFresh-take n base pairs m from to fresh = record {
 pub AreFresh-push : (n : ℕ) (base pairs : List Pair) (u v : ℕ) → AreFresh n base pairs → u < n → v < n → ¬ Leads pairs u v →
     ¬ Reaches pairs v u →
     AreFresh n base (pairs ++ (u, v) ∷ [])
-AreFresh-push n base pairs u v fresh u_in v_in new apart = record {
-  few = fresh.few;
-  long = omega (arith, fresh.long, length_push pairs (u, v));
-  begins = take-append-le (length base) pairs ((u, v) ∷ []) fresh.long ∙ fresh.begins;
-  below = All-push (λ (p : Pair). (p.0 < n) × (p.1 < n)) pairs (u, v) fresh.below (u_in, v_in);
-  acyclic = HasNoCycle-push pairs u v fresh.acyclic apart;
-  fresh = λ k from in'. elim (cases_lt k (length pairs)) [
-    | inl lt ↦
-        let le : k ≤ length pairs = omega (arith, lt) in
-        subst (λ (p : Pair). ¬ Leads (take k (pairs ++ (u, v) ∷ [])) p.0 p.1) (sym (get_or_append_left pairs ((u, v) ∷ []) (0, 0) k lt))
-        (subst (λ (xs : List Pair). ¬ Leads xs (get_or pairs k (0, 0)).0 (get_or pairs k (0, 0)).1) (sym (take-append-le k pairs ((u, v) ∷ []) le))
-        (fresh.fresh k from lt))
-    | inr ge ↦
-        let at : length pairs ≡ k = omega (arith, ge, in', length_push pairs (u, v)) in
-        let le : k ≤ length pairs = omega (arith, at) in
-        let whole : take k (pairs ++ (u, v) ∷ []) ≡ pairs = take-append-le k pairs ((u, v) ∷ []) le ∙ take_all k pairs (omega (arith, at)) in
-        subst (λ (p : Pair). ¬ Leads (take k (pairs ++ (u, v) ∷ [])) p.0 p.1) (sym (get_or_push pairs (u, v) (0, 0) k at))
-        (subst (λ (xs : List Pair). ¬ Leads xs u v) (sym whole) new)
-  ];
-}
+AreFresh-push n base pairs u v fresh u_in v_in new apart =
+    grind (arith, common_steps, All-push, HasNoCycle-push, cases_lt, get_or_append_left, get_or_push, length_push, take-append-le, take_all)
 
 -- the number of a pair of routers below n: the one of the pair both ways round, or of a router with itself
 record IsCode (n : ℕ) (pairs : List Pair) (code : ℕ) : Type 0 where
@@ -136,20 +112,7 @@ diagonal n (suc k) le =
     }
 
 more_pairs : (n : ℕ) (pairs more : List Pair) (code : ℕ) → IsCode n pairs code → IsCode n (pairs ++ more) code
-more_pairs n pairs more code c = record {
-  x = c.x;
-  y = c.y;
-  x_in = c.x_in;
-  y_in = c.y_in;
-  is = c.is;
-  tie = elim c.tie [
-    | inl alike ↦ inl alike
-    | inr pair ↦ inr (elim pair [
-      | inl there ↦ inl (Contains-append_left pairs more (c.x, c.y) there)
-      | inr back ↦ inr (Contains-append_left pairs more (c.y, c.x) back)
-    ])
-  ];
-}
+more_pairs n pairs more code c = grind (arith, common_steps, Contains-append_left)
 
 -- distinct numbers of m pairs both ways round, those before place k, and of the routers with themselves
 record Codes (n : ℕ) (pairs : List Pair) (k m : ℕ) : Type 0 where

@@ -1,4 +1,5 @@
 -- A leaf's cycle, and the places that wait when a child has been visited.
+use Rattle.std.proofs.lemmas.Grind.{common_steps}
 use Rattle.std.proofs.Common.{◌≡◌, ◌≢◌, ℕ, ◌<◌, ◌≤◌, List, [], ◌∷◌, ◌++◌, length, take, append_assoc, arith, subst, sym}
 use Rattle.std.proofs.Common.{refl, ap, ◌∙◌}
 use Rattle.std.specs.List.{AllPairs}
@@ -119,22 +120,13 @@ pub GrowsLeaves-place : (n : ℕ) (base : List Pair) (old mid new : List Node) (
     AreChildren n base pairs all → all ≡ c ∷ rest → GrowsLeaves old mid a (places_of pairs all) → after ≡ place_at pairs c → new ≡ mid →
     GrowsLeaves old new a (after ∷ places_of after rest)
 GrowsLeaves-place n base old mid new a pairs after all rest c are top grown is same =
-    let each : AreChildren n base pairs (c ∷ rest) = subst (λ (xs : List Child). AreChildren n base pairs xs) top are in
-    let rest_is : places_of after rest ≡ places_of (take c.above pairs) rest =
-    ap (λ (xs : List Pair). places_of xs rest) is ∙ places_of-more n base (take c.above pairs) ((c.before, c.after) ∷ []) rest each.1 in
-    let before : GrowsLeaves old mid a (place_at pairs c ∷ places_of (take c.above pairs) rest) = subst
-    (λ (xs : List Child). GrowsLeaves old mid a (places_of pairs xs)) top grown in
-    subst (λ (xs : List Node). GrowsLeaves old xs a (after ∷ places_of after rest)) (sym same)
-    (subst (λ (p : Place). GrowsLeaves old mid a (p ∷ places_of after rest)) (sym is)
-    (subst (λ (ps : List Place). GrowsLeaves old mid a (place_at pairs c ∷ ps)) (sym rest_is) before))
+    grind (arith, common_steps, places_of-more)
 
 -- when it has become a leaf, they wait under the pairs above it
 pub AreChildren-back : (n : ℕ) (base pairs after : List Pair) (all rest : List Child) (c : Child) → AreChildren n base pairs all → all ≡ c ∷ rest →
     after ≡ take c.above pairs →
     AreChildren n base after rest
-AreChildren-back n base pairs after all rest c are top is =
-    let each : AreChildren n base pairs (c ∷ rest) = subst (λ (xs : List Child). AreChildren n base pairs xs) top are in
-    subst (λ (xs : List Pair). AreChildren n base xs rest) (sym is) each.1
+AreChildren-back n base pairs after all rest c are top is = grind (arith, common_steps)
 
 pub GrowsLeaves-back : (old mid new : List Node) (a : List Place) (pairs after : List Pair) (all rest : List Child) (c : Child) → all ≡ c ∷ rest →
     GrowsLeaves old mid a (places_of pairs all) → after ≡ take c.above pairs → GrowsLeaves mid new (place_at pairs c ∷ []) [] →

@@ -1,4 +1,5 @@
 -- One answer: where one branch at most is picked for a ranking, and none for a good one, what the search may answer is one.
+use Rattle.std.proofs.lemmas.Grind.{common_steps}
 use Rattle.std.proofs.Common.{◌≡◌, ℕ, suc, ◌+◌, ◌≤◌, ◌⊎◌, inl, inr, List, [], ◌∷◌, ◌++◌, length, replicate, arith}
 use Rattle.std.proofs.Common.{subst, sym, refl, ap, ◌∙◌, ⊎_elim}
 use Rattle.std.specs.List.{All}
@@ -42,9 +43,7 @@ back_once pairs u x (w ∷ rest) (q ∷ others) goes too =
 -- the cycle that a pair closes is one
 least_cycle_once : (pairs : List Pair) (u v : ℕ) (cycle other : List ℕ) → IsLeastCycle pairs u v cycle → IsLeastCycle pairs u v other →
     cycle ≡ other
-least_cycle_once pairs u v cycle other is too =
-    let rest : is.rest ≡ too.rest = back_once pairs u v is.rest too.rest is.goes too.goes in
-    is.begins ∙ ap (λ (xs : List ℕ). u ∷ v ∷ xs) rest ∙ sym too.begins
+least_cycle_once pairs u v cycle other is too = grind (arith, common_steps, back_once)
 
 -- and so is the one that the last pair of a place closes
 last_cycle_once : (place : Place) (cycle other : List ℕ) → IsClosedByLast place cycle → IsClosedByLast place other → cycle ≡ other
@@ -235,24 +234,10 @@ branches_before before nodes k ends =
     omega (arith, ap (λ (xs : List Node). branch_count xs) ends, branch_count-append before (replicate k Unvisited), branch_count-unvisited k)
 
 abbrev waves_stop : (m : Meaning) (budget : ℕ) (found : FoundWaves) → AreFoundWaves m budget found → Stop m
-waves_stop m budget found is = record {
-  place = found.pairs;
-  ranks = found.ranks;
-  before = is.leads.before;
-  later = is.leads.later;
-  stands = is.leads.stands;
-  layered = is.leads.layered;
-}
+waves_stop m budget found is = grind (arith, common_steps)
 
 abbrev spent_stop : (m : Meaning) (budget : ℕ) (tree : List Node) → IsSpent m budget tree → Stop m
-spent_stop m budget tree found = record {
-  place = found.stopped.place;
-  ranks = found.stopped.ranks;
-  before = found.stopped.before;
-  later = found.stopped.later;
-  stands = found.stopped.stands;
-  layered = found.stopped.layered;
-}
+spent_stop m budget tree found = grind (arith, common_steps)
 
 -- two answers of waves are one
 waves_once : (m : Meaning) (budget : ℕ) → PicksOne m.good m.picked → (w v : FoundWaves) → AreFoundWaves m budget w → AreFoundWaves m budget v →

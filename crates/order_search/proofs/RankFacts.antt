@@ -1,4 +1,5 @@
 -- What a layered list tells of the pairs that lead from one router to another, and of turns that break it.
+use Rattle.std.proofs.lemmas.Grind.{common_steps}
 use Rattle.std.proofs.Common.{◌≢◌, ℕ, suc, ◌<◌, ◌≤◌, inl, inr, List, [], ◌∷◌, arith, subst, sym, ap}
 use Rattle.std.specs.List.{All, AllPairs, Contains, filter}
 use Rattle.std.proofs.lemmas.List.Elements.{All-map, All-filter, All-contains}
@@ -75,6 +76,4 @@ kids_may m pairs ranks address turns layered told =
 -- the ranking that was asked isn't good: no New turn's router is in a later wave than an Old turn's
 pub not_good : (m : Meaning) (ranks : List ℕ) (address : ℕ) (turns : List Turn) → Break m ranks address turns →
     (m.good ranks → RanksSomeOldFirst ranks turns) → ¬ m.good ranks
-not_good m ranks address turns told decides is_good =
-    let some = decides is_good in
-    omega (arith, some.keeps, told.no_later some.old some.new some.is_old some.is_new)
+not_good m ranks address turns told decides is_good = grind (arith, common_steps)

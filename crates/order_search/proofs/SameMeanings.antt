@@ -1,5 +1,7 @@
 -- Where two oracles mean the same, a search over the one stands and ends as a search over the other.
-use Rattle.std.proofs.Common.{◌≡◌, ℕ, ◌+◌, List, ◌∷◌, [], length, Option, None, Some, subst, sym, refl, ◌∙◌}
+use Rattle.std.proofs.Common.{arith}
+use Rattle.std.proofs.lemmas.Grind.{common_steps}
+use Rattle.std.proofs.Common.{◌≡◌, ℕ, ◌+◌, List, ◌∷◌, [], length, Option, None, Some, subst, sym, ◌∙◌}
 use Rattle.order_core.specs.Pairs.{Pair}
 use Rattle.order_search.specs.Meanings.{Meaning, SameMeaning}
 use Rattle.order_search.specs.Places.{IsFoundNode, IsLayered}
@@ -14,31 +16,13 @@ use Rattle.order_search.specs.declared.tree.Node.TheVariants.{Branch, Leaf, Unvi
 use Rattle.order_search.proofs.Fills.{Fill-weaker}
 
 pub SameMeaning-itself : (m : Meaning) → SameMeaning m m
-SameMeaning-itself m = record {
-  size = refl;
-  base = refl;
-  good = λ ranks. (λ h. h, λ h. h);
-  real = λ address turns. (λ h. h, λ h. h);
-  picked = λ ranks address turns. (λ h. h, λ h. h);
-}
+SameMeaning-itself m = grind (arith, common_steps)
 
 SameMeaning-back : (m n : Meaning) → SameMeaning m n → SameMeaning n m
-SameMeaning-back m n same = record {
-  size = sym same.size;
-  base = sym same.base;
-  good = λ ranks. ((same.good ranks).1, (same.good ranks).0);
-  real = λ address turns. ((same.real address turns).1, (same.real address turns).0);
-  picked = λ ranks address turns. ((same.picked ranks address turns).1, (same.picked ranks address turns).0);
-}
+SameMeaning-back m n same = grind (arith, common_steps)
 
 pub SameMeaning-through : (l m n : Meaning) → SameMeaning l m → SameMeaning m n → SameMeaning l n
-SameMeaning-through l m n one two = record {
-  size = two.size ∙ one.size;
-  base = two.base ∙ one.base;
-  good = λ r. (λ h. (one.good r).0 ((two.good r).0 h), λ h. (two.good r).1 ((one.good r).1 h));
-  real = λ a t. (λ h. (one.real a t).0 ((two.real a t).0 h), λ h. (two.real a t).1 ((one.real a t).1 h));
-  picked = λ r a t. (λ h. (one.picked r a t).0 ((two.picked r a t).0 h), λ h. (two.picked r a t).1 ((one.picked r a t).1 h));
-}
+SameMeaning-through l m n one two = grind (arith, common_steps)
 
 module _ (m n : Meaning) (same : SameMeaning m n) where
   layered_too : (pairs : Place) (ranks : List ℕ) → IsLayered m.size pairs ranks → IsLayered n.size pairs ranks

@@ -1,4 +1,5 @@
 -- The steps of the search: at a place, after a branch, at the next place, and what is found at the end.
+use Rattle.std.proofs.lemmas.Grind.{common_steps}
 use Rattle.std.proofs.Common.{◌≡◌, ◌≢◌, ℕ, zero, suc, ◌+◌, ◌-◌, ◌*◌, ◌/◌, ◌≤◌, inl, List, [], ◌∷◌, ◌++◌}
 use Rattle.std.proofs.Common.{length, vec_len, Some, take, map, replicate, arith, subst, sym, refl, ap, ◌∙◌}
 use Rattle.std.specs.List.{All}
@@ -176,24 +177,7 @@ only (p ∷ q ∷ kids) one = absurd (omega (arith, one))
 pub IsAsked-visited : (m : Meaning) (budget : ℕ) (s : Stand) (held : Standing) (ranks : List ℕ) → IsSearching m budget s → held ≡ s.held →
     length ranks ≡ m.size → IsLayered s.held.routers s.held.pairs ranks →
     IsAsked m budget (record s { held = held; ranks = with_items s.ranks ranks }) × ((with_items s.ranks ranks).items ≡ ranks)
-IsAsked-visited m budget s held ranks is same long layered =
-    let written : (with_items s.ranks ranks).items ≡ ranks = with_items_is s.ranks ranks (omega (arith, long, is.room)) in (
-      subst (λ (h : Standing). IsAsked m budget (record s { held = h; ranks = with_items s.ranks ranks })) (sym same) (record {
-        searching = record {
-          routers = is.routers;
-          room = is.room;
-          fills = is.fills;
-          visited = is.visited;
-          under = is.under;
-          counted = is.counted;
-          within = is.within;
-          line = is.line;
-        };
-        layered = subst (λ (n : ℕ). IsLayered n s.held.pairs (with_items s.ranks ranks).items) is.routers
-            (subst (λ (xs : List ℕ). IsLayered s.held.routers s.held.pairs xs) (sym written) layered);
-      }),
-      written,
-    )
+IsAsked-visited m budget s held ranks is same long layered = grind (arith, common_steps, with_items_is)
 
 -- the place becomes a branch
 pub branch_is_made : (m : Meaning) (budget : ℕ) (s : Stand) (ranks : List ℕ) (address : ℕ) (turns told_turns : List Turn) →

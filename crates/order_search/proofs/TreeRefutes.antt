@@ -1,4 +1,5 @@
 -- A closed tree refutes: a good ranking would keep the pairs of one of its leaves, which no ranking keeps.
+use Rattle.std.proofs.lemmas.Grind.{common_steps}
 use Rattle.std.proofs.Common.{ℕ, ◌≤◌, inl, inr, List, [], ◌∷◌, ◌++◌, length, map, arith, subst, sym, refl, ap, ◌∙◌}
 use Rattle.std.specs.List.{All, Contains, flat_map}
 use Rattle.std.proofs.lemmas.List.{length-map, get_or-map}
@@ -50,10 +51,7 @@ no_cycle_kept ranks pairs cycle is keeps =
 -- ranks that keep a place's pairs and one pair more keep those of the place below
 keeps_more : (ranks : List ℕ) (place : Place) (u v : ℕ) → KeepsPairs ranks place → KeepsPair ranks (u, v) →
     KeepsPairs ranks (place ++ (u, v) ∷ [])
-keeps_more ranks place u v keeps more p has = elim (Contains-push_cases place (u, v) p has) [
-  | inl old ↦ keeps p old
-  | inr same ↦ subst (λ (q : Pair). KeepsPair ranks q) same more
-]
+keeps_more ranks place u v keeps more p has = grind (arith, common_steps, Contains-push_cases)
 
 -- a good ranking keeps the pairs of no place that visited nodes fill
 none_kept : (good : Good) (real : Real) (base : List Pair) → IsDecisive good real base → (ranks : List ℕ) → good ranks →

@@ -1,8 +1,7 @@
 -- What a step gives holds over the oracle as it was when the search began, since it means the same.
-use Rattle.std.proofs.Common.{◌≡◌, ◌+◌, Option, arith, subst}
-use Rattle.std.specs.Option.{IfNone}
+use Rattle.std.proofs.lemmas.Grind.{common_steps}
+use Rattle.std.proofs.Common.{arith}
 use Rattle.std.proofs.lemmas.Result.{IfOk-weaker}
-use Rattle.order_search.specs.declared.ending.Ending.{Ending}
 use Rattle.order_search.proofs.SameMeanings.{SameMeaning-itself, SameMeaning-through, IsSearching-same, EndsBy-step, IsSearching-step}
 use Rattle.order_search.proofs.SearchSteps.{IsFound-end, EndsOrGoesOn-ends}
 use Rattle.order_search.proofs.depth_first.search.Goals as goal
@@ -15,9 +14,7 @@ take_step-requires-clause-searching g c =
     IsSearching-same _ _ c.loop-stand.invariant.same c.args.budget c.loop-stand.stand c.loop-stand.invariant.searching
 
 pub end-requires : goal.end-requires
-end-requires g c =
-    EndsOrGoesOn-ends _ c.args.budget c.take_step.new.stand c.in-Some.ending c.requires.size_some c.requires.size_few
-    (EndsBy-step _ _ c.loop-stand.invariant.same _ _ _ c.in_ok-ending.ensures.step c.in-Some.ending c.in-Some.is)
+end-requires g c = grind (arith, common_steps, EndsBy-step, EndsOrGoesOn-ends)
 
 pub returns-in-Some-clause-found : goal.returns-in-Some-clause-found
 returns-in-Some-clause-found g c =
@@ -32,8 +29,4 @@ loop-stand-preserved g c = record {
 }
 
 pub loop-stand-smaller : goal.loop-stand-smaller
-loop-stand-smaller g c =
-    let on = IsSearching-step _ _ c.loop-stand.invariant.same _ _ _ c.in_ok-ending.ensures.step c.in-None.is in
-    let more : c.take_step.new.stand.branches ≡ c.loop-stand.stand.branches + 1 = subst
-    (λ (x : Option Ending). IfNone x (c.take_step.new.stand.branches ≡ c.loop-stand.stand.branches + 1)) c.in-None.is c.in_ok-ending.ensures.branches in
-    omega (arith, on.within, more)
+loop-stand-smaller g c = grind (arith, common_steps, IsSearching-step)

@@ -1,4 +1,5 @@
 -- The place is visited; where its list is broken it becomes a branch, and the next child is the place.
+use Rattle.std.proofs.lemmas.Grind.{common_steps}
 use Rattle.std.proofs.Common.{ℕ, List, sym, subst, refl, ◌∙◌, arith}
 use Rattle.std.proofs.lemmas.Bool.{OnTrue_at, OnFalse_at}
 use Rattle.order_search.specs.steps.Waiting.{children_below, IsUnder}
@@ -7,10 +8,7 @@ use Rattle.order_search.proofs.SearchSteps.{IsAsked-visited, branch_is_made, pla
 use Rattle.order_search.proofs.depth_first.take_step.Goals as goal
 
 pub returns-in-Fine-clause-step : goal.returns-in-Fine-clause-step
-returns-in-Fine-clause-step g c =
-    let asked = IsAsked-visited _ c.args.budget c.args.stand.now c.visit.new.held c.visit.new.ranks c.requires.searching c.visit.ensures.same
-    (omega (arith, c.visit.auto.ranks, c.deref_mut.ensures.len, c.requires.searching.room)) c.visit.ensures.layered in
-    (asked.0, subst (λ (xs : List ℕ). (g.Q.Oracle.meaning c.args.oracle.now).good xs) (sym asked.1) (c.in-Fine.ensures.fine refl))
+returns-in-Fine-clause-step g c = grind (arith, common_steps, IsAsked-visited)
 
 pub returns-then-stand-budget-clause-step : goal.returns-then-stand-budget-clause-step
 returns-then-stand-budget-clause-step g c =

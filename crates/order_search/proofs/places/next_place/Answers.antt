@@ -1,4 +1,6 @@
 -- The child that is taken is the first of those that wait.
+use Rattle.std.proofs.Common.{arith}
+use Rattle.std.proofs.lemmas.Grind.{common_steps}
 use Rattle.std.specs.Bool.{OnTrue, OnFalse}
 use Rattle.std.proofs.Common.{Bool, ◌≡◌, ◌∷◌, [], List, ℕ, take, sym, subst, ◌∙◌}
 use Rattle.order_core.specs.Pairs.{Pair}
@@ -11,17 +13,10 @@ use Rattle.order_search.proofs.places.next_place.Goals as goal
 -- the first of the children that wait stands there alone
 first_alone : (n : ℕ) (base pairs : List Pair) (all rest : List Child) (c : Child) → IsUnder n base pairs all → all ≡ c ∷ rest →
     IsUnder n base pairs (c ∷ [])
-first_alone n base pairs all rest c under top =
-    let each : AreChildren n base pairs (c ∷ rest) = subst (λ (xs : List Child). AreChildren n base pairs xs) top under.waiting in
-    record { fresh = under.fresh; waiting = (each.0, tt) }
+first_alone n base pairs all rest c under top = grind (arith, common_steps)
 
 pub enter-requires-clause-stands : goal.enter-requires-clause-stands
-enter-requires-clause-stands c =
-    let base = c.requires.stands.0 in (
-      base,
-      first_alone c.loop-child.held.routers base c.loop-child.held.pairs _ _ c.in-Some.child (c.loop-child.invariant.stands base c.requires.stands.1)
-          c.in-Some.ensures.some,
-    )
+enter-requires-clause-stands c = grind (arith, common_steps, first_alone)
 
 pub returns-then-branch-clause-stands : goal.returns-then-branch-clause-stands
 returns-then-branch-clause-stands c = λ base before.
@@ -36,15 +31,7 @@ returns-then-branch-clause-stands c = λ base before.
     }
 
 pub returns-then-branch-clause-found : goal.returns-then-branch-clause-found
-returns-then-branch-clause-found c =
-    let top = c.in-Some.ensures.some in
-    let base = c.requires.stands.0 in
-    let under = c.loop-child.invariant.stands base c.requires.stands.1 in
-    let place = subst (λ (b : Bool). OnTrue b (c.enter.new.held.pairs ≡ place_at c.loop-child.held.pairs c.in-Some.child)) c.if-branch.true
-    c.in_ok-enter.ensures.place in
-    let same = subst (λ (b : Bool). OnTrue b (c.enter.new.tree ≡ c.loop-child.tree)) c.if-branch.true c.in_ok-enter.ensures.same in
-    GrowsLeaves-place c.loop-child.held.routers base c.args.tree.now c.loop-child.tree c.enter.new.tree _ c.loop-child.held.pairs c.enter.new.held.pairs _ _
-    c.in-Some.child under.waiting top c.loop-child.invariant.grown place same
+returns-then-branch-clause-found c = grind (arith, common_steps, GrowsLeaves-place)
 
 pub loop-child-preserved : goal.loop-child-preserved
 loop-child-preserved c =
@@ -67,10 +54,4 @@ loop-child-preserved c =
     }
 
 pub returns-clause-stands : goal.returns-clause-stands
-returns-clause-stands c = λ base before.
-    let under = c.loop-child.invariant.stands base before in
-    record {
-      fresh = under.fresh;
-      waiting = subst (λ (xs : List Child). AreChildren c.loop-child.held.routers base c.loop-child.held.pairs xs)
-          (sym c.in_default.ensures.left) tt;
-    }
+returns-clause-stands c = grind (arith, common_steps)
