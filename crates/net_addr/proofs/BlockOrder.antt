@@ -1,5 +1,7 @@
 -- The order of prefixes as it is derived, and what a list of them has after a sort and the removal of repeats.
-use Rattle.std.proofs.Common.{◌≡◌, ◌≢◌, ◌↔◌, Bool, true, ◌&&◌, ◌==◌, List, get_or, Ordering, Contains, AllPairs, IsPermutation, eqb-true, sym, subst}
+use Rattle.std.proofs.Common.{arith}
+use Rattle.std.proofs.lemmas.Grind.{common_steps}
+use Rattle.std.proofs.Common.{◌≡◌, ◌≢◌, ◌↔◌, Bool, true, ◌&&◌, ◌==◌, List, get_or, Ordering, Contains, AllPairs, IsPermutation, sym, subst}
 use Rattle.std.specs.Cmp.{IsTotalOrder, IsEquivalence, and_equiv, on_equiv, on_total, then_total, both_tied, tied_itself, nat_cmp_total, nat_eq_equiv}
 use Rattle.std.specs.Cmp.{unsigned_ties}
 use Rattle.std.specs.Ordering.{nat_cmp, ordering_then, eq_by_cmp}
@@ -30,11 +32,7 @@ block_ties x y = both_tied (x.base == y.base) (x.len == y.len) (nat_cmp x.base y
     (unsigned_ties x.len y.len)
 
 pub block_same : (x y : Block) → block_eq x y ≡ true → x ≡ y
-block_same x y e =
-    let parts = and_parts (x.base == y.base) (x.len == y.len) e in
-    let base = eqb-true x.base y.base parts.0 in
-    let len = eqb-true x.len y.len parts.1 in
-    λ i. record { base = base i; len = len i }
+block_same x y e = grind (arith, common_steps, and_parts)
 
 -- after a sort repeats stand side by side, so that the order is strict without them
 pub sorted_once : (ys zs : List Block) → IsSorted block_cmp ys → zs ≡ dedup block_eq ys → IsStrictlySortedBy block_cmp zs

@@ -1,4 +1,5 @@
 -- Blocks of addresses as intervals, and as parts of one another.
+use Rattle.std.proofs.lemmas.Grind.{common_steps}
 use Rattle.std.proofs.Common.{◌≡◌, ℕ, ◌+◌, ◌-◌, ◌*◌, ◌/◌, ◌%◌, ◌^◌, ◌<◌, ◌≤◌, arith, sym, subst, ap, ◌∙◌}
 use Rattle.std.proofs.lemmas.Nat.{pow_pos, div-mul-add, mod-mul-add, shr-shr}
 use Rattle.net_addr.specs.Addresses.{Block, block_at, first_bits, ContainsAddress, Covers, IsBlock}
@@ -11,11 +12,7 @@ multiple_is_clear : (q n : ℕ) → 0 < n → (q * n) % n ≡ 0
 multiple_is_clear q n h = let e : q * n ≡ q * n + 0 = omega arith in ap (λ m. m % n) e ∙ mod-mul-add q n 0 h
 
 block_around : (a n len : ℕ) → len ≤ 32 → a < 2 ^ 32 → n ≡ 2 ^ (32 - len) → 0 < n → IsBlock (block_at (a / n * n) len)
-block_around a n len short below e h = record {
-  short = short;
-  address = let under : a / n * n ≤ a = omega arith in omega arith;
-  clear = subst (λ (m : ℕ). (a / n * n) % m ≡ 0) e (multiple_is_clear (a / n) n h);
-}
+block_around a n len short below e h = grind (arith, common_steps, multiple_is_clear)
 
 -- the block of a length that begins with the first bits of an address
 pub IsBlock-around : (a n len : ℕ) → len ≤ 32 → a < 2 ^ 32 → n ≡ 2 ^ (32 - len) → IsBlock (block_at (a / n * n) len)
@@ -26,11 +23,7 @@ same_quotient_bounds a b n h e same =
     let whole : n * (a / n) ≡ n * (b / n) = ap (λ m. n * m) same in (omega arith, omega arith)
 
 bounds_same_quotient : (a b n : ℕ) → 0 < n → b % n ≡ 0 → b ≤ a → a < b + n → a / n ≡ b / n
-bounds_same_quotient a b n h e low high =
-    let whole : b ≡ b / n * n = omega arith in
-    let split : a ≡ b / n * n + (a - b) = omega arith in
-    let small : a - b < n = omega arith in
-    ap (λ m. m / n) split ∙ div-mul-add (b / n) n (a - b) small
+bounds_same_quotient a b n h e low high = grind (arith, common_steps, div-mul-add)
 
 -- a block's addresses are those from its base on, as many as its size
 pub ContainsAddress-bounds : (p : Block) (a : ℕ) → IsBlock p → ContainsAddress p a → (p.base ≤ a) × (a < p.base + block_size p)
@@ -45,20 +38,10 @@ same_parts b c l m base len = ap (λ (x : ℕ). block_at x l) base ∙ ap (λ (x
 
 -- blocks of one length that contain a common address are one
 pub same_block : (p q : Block) (a : ℕ) → IsBlock p → IsBlock q → p.len ≡ q.len → ContainsAddress p a → ContainsAddress q a → p ≡ q
-same_block p q a left right same_len in_p in_q =
-    let one_size : block_size p ≡ block_size q = ap (λ (m : ℕ). 2 ^ (32 - m)) same_len in
-    let same_bits : p.base / block_size q ≡ q.base / block_size q =
-    ap (λ (m : ℕ). p.base / m) (sym one_size) ∙ sym in_p ∙ ap (λ (m : ℕ). a / m) one_size ∙ in_q in
-    let clear : p.base % block_size q ≡ 0 = ap (λ (m : ℕ). p.base % m) (sym one_size) ∙ left.clear in
-    let p_whole : p.base ≡ p.base / block_size q * block_size q = let pos = pow_pos (32 - q.len) in omega (arith, pos, clear) in
-    let q_whole : q.base ≡ q.base / block_size q * block_size q = let pos = pow_pos (32 - q.len) in omega (arith, pos, right.clear) in
-    let same_base : p.base ≡ q.base = p_whole ∙ ap (λ (m : ℕ). m * block_size q) same_bits ∙ sym q_whole in
-    same_parts p.base q.base p.len q.len same_base same_len
+same_block p q a left right same_len in_p in_q = grind (arith, common_steps, pow_pos, same_parts)
 
 first_bits_shorter : (short long a : ℕ) → short ≤ long → long ≤ 32 → first_bits short a ≡ first_bits long a / 2 ^ (long - short)
-first_bits_shorter short long a below fits =
-    let e : 32 - short ≡ (32 - long) + (long - short) = omega arith in
-    ap (λ (k : ℕ). a / 2 ^ k) e ∙ sym (shr-shr a (32 - long) (long - short))
+first_bits_shorter short long a below fits = grind (arith, common_steps, shr-shr)
 
 -- a block contains every address of a block that it covers
 pub ContainsAddress-covers : (p q : Block) (a : ℕ) → IsBlock q → Covers p q → ContainsAddress q a → ContainsAddress p a

@@ -1,5 +1,6 @@
 -- Why an interval of addresses without a boundary of a block lies inside the block or outside it.
-use Rattle.std.proofs.Common.{◌≡◌, ℕ, suc, ◌+◌, ◌-◌, ◌*◌, ◌/◌, ◌%◌, ◌^◌, ◌<◌, ◌≤◌, ◌↔◌, arith, refl, sym, ap, subst, ◌∙◌, inl, inr, ⊎_elim}
+use Rattle.std.proofs.lemmas.Grind.{common_steps}
+use Rattle.std.proofs.Common.{◌≡◌, ℕ, ◌+◌, ◌-◌, ◌*◌, ◌%◌, ◌^◌, ◌<◌, ◌≤◌, ◌↔◌, arith, refl, sym, ap, subst, ◌∙◌, inl, inr, ⊎_elim}
 use Rattle.std.proofs.lemmas.Nat.{pow_pos, pow-add, div_below, mul-le}
 use Rattle.std.proofs.lemmas.Bool.{cases_lt}
 use Rattle.net_addr.specs.Addresses.{Block, ContainsAddress, IsBlock}
@@ -7,12 +8,7 @@ use Rattle.net_addr.specs.Boundaries.{last_address, NoBoundaryBetween, BoundaryL
 use Rattle.net_addr.proofs.Blocks.{block_size, ContainsAddress-bounds, ContainsAddress-between}
 
 fits_below : (b n m : ℕ) → 0 < n → b % n ≡ 0 → b < m * n → b + n ≤ m * n
-fits_below b n m pos clear below =
-    let whole : b ≡ b / n * n = omega arith in
-    let room : b / n < m = div_below b n m pos below in
-    let step : suc (b / n) * n ≤ m * n = mul-le (suc (b / n)) n m n room (omega arith) in
-    let more : suc (b / n) * n ≡ b / n * n + n = omega arith in
-    omega arith
+fits_below b n m pos clear below = grind (arith, common_steps, div_below, mul-le)
 
 pub whole_space : (len : ℕ) → len ≤ 32 → 2 ^ len * 2 ^ (32 - len) ≡ 2 ^ 32
 whole_space len short =

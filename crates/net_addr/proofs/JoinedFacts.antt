@@ -1,10 +1,9 @@
 -- The lines of a text of whole lines and of another behind it.
+use Rattle.std.proofs.lemmas.Grind.{common_steps}
 use Rattle.std.proofs.Common.{◌≡◌, ℕ, ◌+◌, ◌<◌, Bool, true, false, cond, eqb, List, [], ◌∷◌, ◌++◌, length, map, arith, suc, refl, sym, ap, ◌∙◌}
 use Rattle.std.specs.List.{slice_split, onto_first, position_or_len}
-use Rattle.std.specs.Str.Lines.{strip_carriage_return}
 use Rattle.std.proofs.lemmas.List.{append-nil}
 use Rattle.net_addr.specs.declared.line.Line.{Line}
-use Rattle.net_addr.specs.Blanks.{indent_of}
 use Rattle.net_addr.specs.Lines.{is_line_feed, without_empty_last, line_pieces, line_of, lines_of, text_lines}
 use Rattle.net_addr.specs.JoinedLines.{is_of_whole_lines, line_further_on}
 use Rattle.net_addr.proofs.PieceFacts.{some_pieces, keeps_first, last_stays, line_pieces-first}
@@ -128,9 +127,7 @@ line_with number indent start stop = record { number = number; indent = indent; 
 
 line_of-further : (count bytes number start : ℕ) (piece : List ℕ) →
     line_of (count + number) (bytes + start) piece ≡ line_further_on count bytes (line_of number start piece)
-line_of-further count bytes number start piece =
-    let stop : bytes + start + length (strip_carriage_return piece) ≡ bytes + (start + length (strip_carriage_return piece)) = omega arith in
-    ap (λ (n : ℕ). line_with (count + number) (indent_of (strip_carriage_return piece)) (bytes + start) n) stop
+line_of-further count bytes number start piece = grind (arith, common_steps)
 
 lines_of-further : (count bytes number start : ℕ) (pieces : List (List ℕ)) →
     lines_of (count + number) (bytes + start) pieces ≡ map (line_further_on count bytes) (lines_of number start pieces)

@@ -1,4 +1,5 @@
 -- Laws of the longest match: one more prefix, other prefixes and addresses, and that there is one.
+use Rattle.std.proofs.lemmas.Grind.{common_steps}
 use Rattle.std.proofs.Common.{◌≡◌, ℕ, zero, suc, ◌<◌, ◌≤◌, ◌↔◌, List, [], ◌∷◌, ◌++◌, length, slice_get, Option, Some, None, Contains}
 use Rattle.std.proofs.Common.{refl, sym, arith, subst, ⊎_elim}
 use Rattle.std.proofs.lemmas.Bool.{cases_lt}
@@ -12,11 +13,7 @@ use Rattle.net_addr.proofs.Blocks.{same_block}
 
 -- the same prefixes on offer have the same longest match
 pub IsLongestMatch-same : (one two : Block → Type 0) (a : ℕ) (p : Block) → ((q : Block) → one q ↔ two q) → IsLongestMatch one a p → IsLongestMatch two a p
-IsLongestMatch-same one two a p same h = record {
-  is_offered = (same p).0 h.is_offered;
-  contains = h.contains;
-  longest = λ q on inside. h.longest q ((same q).1 on) inside;
-}
+IsLongestMatch-same one two a p same h = grind (arith, common_steps)
 
 pub HasNoMatch-same : (one two : Block → Type 0) (a : ℕ) → ((q : Block) → one q ↔ two q) → HasNoMatch one a → HasNoMatch two a
 HasNoMatch-same one two a same h = λ q on inside. h q ((same q).1 on) inside
@@ -24,11 +21,7 @@ HasNoMatch-same one two a same h = λ q on inside. h q ((same q).1 on) inside
 -- two addresses that the same prefixes on offer contain have the same longest match
 pub IsLongestMatch-alike : (offered : Block → Type 0) (a b : ℕ) (p : Block) → ((q : Block) → offered q → ContainsAddress q a ↔ ContainsAddress q b)
     → IsLongestMatch offered a p → IsLongestMatch offered b p
-IsLongestMatch-alike offered a b p alike h = record {
-  is_offered = h.is_offered;
-  contains = (alike p h.is_offered).0 h.contains;
-  longest = λ q on inside. h.longest q on ((alike q on).1 inside);
-}
+IsLongestMatch-alike offered a b p alike h = grind (arith, common_steps)
 
 pub HasNoMatch-alike : (offered : Block → Type 0) (a b : ℕ) → ((q : Block) → offered q → ContainsAddress q a ↔ ContainsAddress q b)
     → HasNoMatch offered a → HasNoMatch offered b
@@ -37,10 +30,7 @@ HasNoMatch-alike offered a b alike h = λ q on inside. h q on ((alike q on).1 in
 -- there is one longest match, since blocks as long that contain one address are the same
 pub one_longest_match : (offered : Block → Type 0) (a : ℕ) (p q : Block) → IsBlock p → IsBlock q → IsLongestMatch offered a p
     → IsLongestMatch offered a q → p ≡ q
-one_longest_match offered a p q block_p block_q one other =
-    let short : p.len ≤ q.len = other.longest p one.is_offered one.contains in
-    let long : q.len ≤ p.len = one.longest q other.is_offered other.contains in
-    same_block p q a block_p block_q (omega arith) one.contains other.contains
+one_longest_match offered a p q block_p block_q one other = grind (arith, common_steps, same_block)
 
 -- Places of a list
 

@@ -1,5 +1,6 @@
 -- What holds of decimal numbers.
-use Rattle.std.proofs.Common.{◌≡◌, ℕ, ◌+◌, ◌-◌, ◌*◌, ◌^◌, ◌<◌, ◌≤◌, List, [], ◌∷◌, ◌++◌, length, take, drop, get_or, arith, refl, sym, ap}
+use Rattle.std.proofs.lemmas.Grind.{common_steps}
+use Rattle.std.proofs.Common.{◌≡◌, ℕ, ◌+◌, ◌-◌, ◌*◌, ◌^◌, ◌<◌, ◌≤◌, List, [], ◌∷◌, ◌++◌, length, take, drop, get_or, arith, sym, ap}
 use Rattle.std.proofs.Common.{subst, lit<, ◌∙◌, length-append}
 use Rattle.std.proofs.lemmas.Nat.{pow-add}
 use Rattle.std.proofs.Math.Nat.{one-le-pow, le-mul_of_pos_right}
@@ -21,9 +22,7 @@ decimal_value-append (x ∷ xs) ys =
 
 -- a digit at the end of a word
 pub decimal_value-push : (xs : List ℕ) (digit : ℕ) → decimal_value (xs ++ digit ∷ []) ≡ 10 * decimal_value xs + (digit - 48)
-decimal_value-push xs digit =
-    let one : 10 ^ length (digit ∷ []) ≡ 10 = refl in
-    decimal_value-append xs (digit ∷ []) ∙ omega arith
+decimal_value-push xs digit = grind (arith, common_steps, decimal_value-append)
 
 -- one more digit of a word
 pub decimal_value_more : (word : List ℕ) (i : ℕ) → i < length word →
@@ -44,11 +43,7 @@ decimal_value-take word i =
 -- a word one of whose bytes is no digit, or whose value up to a digit is above `most`, is no numeral up to `most`
 pub no_numeral : (most : ℕ) (word : List ℕ) (i value : ℕ) → i < length word → decimal_value (take i word) ≡ value →
     ¬ (IsAsciiDigit (get_or word i 0) × (10 * value + (get_or word i 0 - 48) ≤ most)) → (n : ℕ) → ¬ (IsNumeralUpTo most word n)
-no_numeral most word i value within read off n stands =
-    off (
-      stands.numeral.digits i 0 within,
-      omega (arith, decimal_value-take word (i + 1), decimal_value_more word i within, stands.numeral.value, stands.within),
-    )
+no_numeral most word i value within read off n stands = grind (arith, common_steps, decimal_value-take, decimal_value_more)
 
 -- a word of digits, read to its end
 pub whole_numeral : (most : ℕ) (word : List ℕ) (i value : ℕ) → 0 < length word → length word ≤ i →

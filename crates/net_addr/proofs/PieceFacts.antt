@@ -1,6 +1,7 @@
 -- How a text falls into pieces, taken from its start.
-use Rattle.std.proofs.Common.{◌≡◌, ℕ, ◌+◌, ◌-◌, ◌<◌, ◌≤◌, Bool, List, [], ◌∷◌, ◌++◌, length, take, drop, append_assoc, append-nil}
-use Rattle.std.proofs.Common.{length-drop, arith, refl, sym, ap, subst, ◌∙◌, ⊎_elim}
+use Rattle.std.proofs.lemmas.Grind.{common_steps}
+use Rattle.std.proofs.Common.{◌≡◌, ℕ, ◌+◌, ◌<◌, ◌≤◌, Bool, List, [], ◌∷◌, ◌++◌, length, take, drop, append_assoc}
+use Rattle.std.proofs.Common.{arith, refl, sym, ap, ◌∙◌}
 use Rattle.std.specs.List.{slice_range, slice_split, position_or_len}
 use Rattle.std.proofs.lemmas.Bool.{cases_lt}
 use Rattle.std.proofs.lemmas.Bool.Decides.{nat_tests}
@@ -27,22 +28,7 @@ last_stays piece some = grind (arith, nat_tests)
 pub line_pieces-first : (xs : List ℕ) (n : ℕ) → n ≡ position_or_len is_line_feed xs → 0 < length xs →
     line_pieces xs ≡ take n xs ∷ line_pieces (drop (n + 1) xs)
 line_pieces-first xs n place some =
-    ⊎_elim
-    (λ (found : n < length xs).
-    let inside : position_or_len is_line_feed xs < length xs = omega arith in
-    let parts : slice_split is_line_feed xs ≡ take n xs ∷ slice_split is_line_feed (drop (n + 1) xs) =
-    subst (λ (m : ℕ). slice_split is_line_feed xs ≡ take m xs ∷ slice_split is_line_feed (drop (m + 1) xs)) (sym place)
-    (slice_split_first is_line_feed xs 0 inside) in
-    ap without_empty_last parts
-    ∙ keeps_first (take n xs) (slice_split is_line_feed (drop (n + 1) xs)) (some_pieces is_line_feed (drop (n + 1) xs)))
-    (λ (none : length xs ≤ n).
-    let whole : take n xs ≡ xs = take_all n xs none in
-    let rest : drop (n + 1) xs ≡ [] = drop_all (n + 1) xs (omega arith) in
-    ap without_empty_last (no_separator is_line_feed xs (omega arith))
-    ∙ last_stays xs some
-    ∙ ap (λ (piece : List ℕ). piece ∷ line_pieces []) (sym whole)
-    ∙ ap (λ (after : List ℕ). take n xs ∷ line_pieces after) (sym rest))
-    (cases_lt n (length xs))
+    grind (arith, common_steps, cases_lt, drop_all, keeps_first, last_stays, no_separator, slice_split_first, some_pieces, take_all)
 
 -- the first line from a place on, and the lines behind it
 pub lines_of-first : (text : List ℕ) (number start n : ℕ) → start < length text → n ≡ position_or_len is_line_feed (drop start text) →
@@ -50,20 +36,7 @@ pub lines_of-first : (text : List ℕ) (number start n : ℕ) → start < length
     lines_of number start (line_pieces (drop start text)) ≡ line_of number start (slice_range text start (start + n)) ∷ lines_of (number + 1)
     (start + n + 1) (line_pieces (drop (start + n + 1) text))
 lines_of-first text number start n inside place within =
-    let some : 0 < length (drop start text) = omega (arith, length-drop start text) in
-    let pieces : line_pieces (drop start text) ≡ take n (drop start text) ∷ line_pieces (drop (n + 1) (drop start text)) =
-    line_pieces-first (drop start text) n place some in
-    let count : length (take n (drop start text)) ≡ n = length-take-le n (drop start text) within in
-    let behind : drop (n + 1) (drop start text) ≡ drop (start + n + 1) text =
-    let far : start + (n + 1) ≡ start + n + 1 = omega arith in drop-drop (n + 1) start text ∙ ap (λ (k : ℕ). drop k text) far in
-    let part : take n (drop start text) ≡ slice_range text start (start + n) =
-    let wide : n ≡ start + n - start = omega arith in ap (λ (k : ℕ). take k (drop start text)) wide in
-    ap (lines_of number start) pieces
-    ∙ ap (λ (piece : List ℕ). line_of number start piece ∷ lines_of (number + 1) (start + length (take n (drop start text)) + 1)
-    (line_pieces (drop (n + 1) (drop start text)))) part
-    ∙ ap (λ (k : ℕ). line_of number start (slice_range text start (start + n)) ∷ lines_of (number + 1) (start + k + 1)
-    (line_pieces (drop (n + 1) (drop start text)))) count
-    ∙ ap (λ (after : List ℕ). line_of number start (slice_range text start (start + n)) ∷ lines_of (number + 1) (start + n + 1) (line_pieces after)) behind
+    grind (arith, common_steps, drop-drop, length-take-le, line_pieces-first)
 
 -- one more line of a list that is filled from the left
 pub one_more : {X : Type 0} (front rest all : List X) (x : X) (whole : List X) → front ++ whole ≡ all → whole ≡ x ∷ rest → (front ++ x ∷ []) ++ rest ≡ all
@@ -72,6 +45,4 @@ one_more front rest all x whole filled first = append_assoc front (x ∷ []) res
 -- at the end of the text no line is left
 pub lines_of-end : (text : List ℕ) (front : List Line) (number start : ℕ) →
     front ++ lines_of number start (line_pieces (drop start text)) ≡ text_lines text → length text ≤ start → front ≡ text_lines text
-lines_of-end text front number start filled end =
-    let rest : drop start text ≡ [] = drop_all start text end in
-    sym (append-nil front) ∙ ap (λ (after : List ℕ). front ++ lines_of number start (line_pieces after)) (sym rest) ∙ filled
+lines_of-end text front number start filled end = grind (arith, common_steps, drop_all)

@@ -1,6 +1,7 @@
 -- The pieces of a text stand in it one after another, so their spans hold just their bytes.
-use Rattle.std.proofs.Common.{◌≡◌, ℕ, ◌+◌, ◌-◌, ◌<◌, ◌≤◌, Bool, true, false, cond, eqb, List, [], ◌∷◌, ◌++◌, length, take, drop, get_or}
-use Rattle.std.proofs.Common.{map, append_assoc, length-drop, length-append, arith, refl, sym, ap, subst, ◌∙◌}
+use Rattle.std.proofs.lemmas.Grind.{common_steps}
+use Rattle.std.proofs.Common.{◌≡◌, ℕ, ◌+◌, ◌<◌, ◌≤◌, Bool, true, false, cond, eqb, List, [], ◌∷◌, ◌++◌, length, take, drop}
+use Rattle.std.proofs.Common.{map, length-drop, length-append, arith, refl, sym, ap, subst, ◌∙◌}
 use Rattle.std.specs.List.{slice_range, slice_split, onto_first, All}
 use Rattle.std.specs.Str.Lines.{strip_carriage_return}
 use Rattle.std.proofs.lemmas.List.{append-nil, take-append-drop, take_at, drop-drop}
@@ -27,9 +28,7 @@ StandsAt-end text start piece stands =
     omega (arith, length-drop start text, ap length stands.here, length-append piece stands.rest)
 
 pub StandsAt-bytes : (text : List ℕ) (start : ℕ) (piece : List ℕ) → StandsAt text start piece → slice_range text start (start + length piece) ≡ piece
-StandsAt-bytes text start piece stands =
-    let wide : start + length piece - start ≡ length piece = omega arith in
-    ap (λ (n : ℕ). take n (drop start text)) wide ∙ ap (take (length piece)) stands.here ∙ take_at piece stands.rest (length piece) refl
+StandsAt-bytes text start piece stands = grind (arith, common_steps, take_at)
 
 step_on : (text : List ℕ) (start x : ℕ) (xs : List ℕ) → start ≤ length text → drop start text ≡ x ∷ xs →
     (start + 1 ≤ length text) × (drop (start + 1) text ≡ xs)
@@ -89,18 +88,10 @@ start_by_take : (n : ℕ) (piece : List ℕ) → IsStartOf piece (take n piece)
 start_by_take n piece = record { end = drop n piece; joined = sym (take-append-drop n piece) }
 
 strip-start : (piece : List ℕ) → IsStartOf piece (strip_carriage_return piece)
-strip-start piece =
-    elim (eqb (get_or piece (length piece - 1) 0) 13) as (λ b. IsStartOf piece (cond b (take (length piece - 1) piece) piece)) [
-      | true ↦ start_by_take (length piece - 1) piece
-      | false ↦ record { end = []; joined = sym (append-nil piece) }
-    ]
+strip-start piece = grind (arith, common_steps, append-nil, start_by_take)
 
 StandsAt-start : (text : List ℕ) (start : ℕ) (piece part : List ℕ) → IsStartOf piece part → StandsAt text start piece → StandsAt text start part
-StandsAt-start text start piece part first stands = record {
-  rest = first.end ++ stands.rest;
-  here = stands.here ∙ ap (λ (w : List ℕ). w ++ stands.rest) first.joined ∙ append_assoc part first.end stands.rest;
-  inside = stands.inside;
-}
+StandsAt-start text start piece part first stands = grind (arith, common_steps)
 
 -- the spans of lines hold the bytes of their pieces without a carriage return
 lines_of-texts : (text : List ℕ) (number start : ℕ) (pieces : List (List ℕ)) → ArePlaced text start pieces →

@@ -1,5 +1,7 @@
 -- Lists of which some element has a property.
-use Rattle.std.proofs.Common.{◌≡◌, ℕ, ◌+◌, ◌<◌, ◌⊎◌, inl, inr, ⊎_elim, List, [], ◌∷◌, ◌++◌, length, take, get_or, sym, ap, subst, ◌∙◌}
+use Rattle.std.proofs.Common.{arith}
+use Rattle.std.proofs.lemmas.Grind.{common_steps}
+use Rattle.std.proofs.Common.{◌≡◌, ℕ, ◌+◌, ◌<◌, ◌⊎◌, List, [], ◌∷◌, ◌++◌, length, take, get_or, sym, ap, ◌∙◌}
 use Rattle.std.specs.List.{Any, Contains}
 use Rattle.std.proofs.lemmas.List.{take_more}
 use Rattle.std.proofs.lemmas.List.Elements.{Contains-append_left, Contains-push_cases}
@@ -21,9 +23,7 @@ any_left P front y any =
     let f = any_in P front any in any_of P (front ++ y ∷ []) f.item (Contains-append_left front (y ∷ []) f.item f.among) f.holds
 
 pub any_cases : {Y : Type 0} (P : Y → Type 0) (front : List Y) (y : Y) → Any P (front ++ y ∷ []) → Any P front ⊎ P y
-any_cases P front y any =
-    let f = any_in P (front ++ y ∷ []) any in
-    ⊎_elim (λ among. inl (any_of P front f.item among f.holds)) (λ same. inr (subst P (sym same) f.holds)) (Contains-push_cases front y f.item f.among)
+any_cases P front y any = grind (arith, common_steps, Contains-push_cases, any_in, any_of)
 
 pub one_more : {Y : Type 0} (ys : List Y) (i : ℕ) (y : Y) → i < length ys → y ≡ get_or ys i y → take i ys ++ y ∷ [] ≡ take (i + 1) ys
 one_more {Y} ys i y within is = sym (take_more ys i y within ∙ ap (λ (z : Y). take i ys ++ z ∷ []) (sym is))

@@ -1,6 +1,7 @@
 -- How the words of a span are found one after another.
-use Rattle.std.proofs.Common.{◌≡◌, ℕ, ◌+◌, ◌-◌, ◌<◌, ◌≤◌, Bool, true, false, cond, ltb, List, [], ◌∷◌, ◌++◌, length, take, drop, map}
-use Rattle.std.proofs.Common.{append-nil, append_assoc, arith, refl, sym, ap, subst, ◌∙◌, ⊎_elim}
+use Rattle.std.proofs.lemmas.Grind.{common_steps}
+use Rattle.std.proofs.Common.{◌≡◌, ℕ, ◌+◌, ◌-◌, ◌≤◌, Bool, true, false, cond, ltb, List, [], ◌∷◌, ◌++◌, length, take, drop, map}
+use Rattle.std.proofs.Common.{append_assoc, arith, refl, sym, ap, ◌∙◌}
 use Rattle.std.specs.List.{slice_range, slice_split, position_or_len, filter, All}
 use Rattle.std.proofs.lemmas.Bool.{cases_lt}
 use Rattle.std.proofs.lemmas.Bool.Decides.{nat_tests}
@@ -26,25 +27,7 @@ pub words_first : (xs : List ℕ) (start n : ℕ) → n ≡ position_or_len is_b
     filter has_bytes (spans_of start (slice_split is_blank xs)) ≡ filter has_bytes (span_at start (start + n) ∷ []) ++ filter has_bytes
     (spans_of (start + n + 1) (slice_split is_blank (drop (n + 1) xs)))
 words_first xs start n place within =
-    ⊎_elim
-    (λ (found : n < length xs).
-    let inside : position_or_len is_blank xs < length xs = omega arith in
-    let parts : slice_split is_blank xs ≡ take n xs ∷ slice_split is_blank (drop (n + 1) xs) =
-    subst (λ (m : ℕ). slice_split is_blank xs ≡ take m xs ∷ slice_split is_blank (drop (m + 1) xs)) (sym place) (slice_split_first is_blank xs 0 inside) in
-    let count : length (take n xs) ≡ n = length-take-le n xs within in
-    ap (λ (pieces : List (List ℕ)). filter has_bytes (spans_of start pieces)) parts
-    ∙ ap (λ (k : ℕ). filter has_bytes (span_at start (start + k) ∷ spans_of (start + k + 1) (slice_split is_blank (drop (n + 1) xs)))) count
-    ∙ filter-append has_bytes (span_at start (start + n) ∷ []) (spans_of (start + n + 1) (slice_split is_blank (drop (n + 1) xs))))
-    (λ (none : length xs ≤ n).
-    let all : n ≡ length xs = omega arith in
-    let rest : drop (n + 1) xs ≡ [] = drop_all (n + 1) xs (omega arith) in
-    ap (λ (pieces : List (List ℕ)). filter has_bytes (spans_of start pieces)) (no_separator is_blank xs (omega arith))
-    ∙ ap (λ (k : ℕ). filter has_bytes (span_at start (start + k) ∷ [])) (sym all)
-    ∙ sym (append-nil (filter has_bytes (span_at start (start + n) ∷ [])))
-    ∙ ap (λ (w : List Span). filter has_bytes (span_at start (start + n) ∷ []) ++ w) (sym (no_word (start + n + 1)))
-    ∙ ap (λ (after : List ℕ). filter has_bytes (span_at start (start + n) ∷ []) ++ filter has_bytes
-    (spans_of (start + n + 1) (slice_split is_blank after))) (sym rest))
-    (cases_lt n (length xs))
+    grind (arith, common_steps, cases_lt, drop_all, filter-append, length-take-le, no_separator, no_word, slice_split_first)
 
 -- what is left of a span behind a piece
 pub slice_range-drop : (text : List ℕ) (start stop n : ℕ) → drop (n + 1) (slice_range text start stop) ≡ slice_range text (start + n + 1) stop
@@ -72,13 +55,7 @@ words_more text front all start stop n place within filled =
 -- at the end of a span no word is left
 pub words_end : (text : List ℕ) (front all : List Span) (start stop : ℕ) → stop ≤ start →
     front ++ filter has_bytes (spans_of start (slice_split is_blank (slice_range text start stop))) ≡ all → front ≡ all
-words_end text front all start stop end filled =
-    let none : stop - start ≡ 0 = omega arith in
-    let rest : slice_range text start stop ≡ [] = ap (λ (n : ℕ). take n (drop start text)) none in
-    sym (append-nil front)
-    ∙ ap (λ (w : List Span). front ++ w) (sym (no_word start))
-    ∙ ap (λ (after : List ℕ). front ++ filter has_bytes (spans_of start (slice_split is_blank after))) (sym rest)
-    ∙ filled
+words_end text front all start stop end filled = grind (arith, common_steps, no_word)
 
 same_test : (start n : ℕ) → ltb start (start + n) ≡ ltb 0 n
 same_test start n = grind (arith, nat_tests)
