@@ -1,4 +1,5 @@
 -- The wave list of seats that were read.
+use Rattle.std.proofs.lemmas.Grind.{common_steps}
 use Rattle.std.proofs.Common.{◌≡◌, ℕ, ◌<◌, List, [], ◌∷◌, length, get_or, Contains, refl, sym, ap, subst, ◌∙◌, arith}
 use Rattle.std.specs.List.{AllZip}
 use Rattle.std.proofs.lemmas.List.{get_or_default}
@@ -20,10 +21,7 @@ use Rattle.step_scripts.proofs.WaveLineFacts.{Says, wave_some}
 use Rattle.step_scripts.proofs.WaveLists.{in_all, one_wave}
 
 one_alone : (wave : List ℕ) (u v : ℕ) → length wave ≡ 1 → Contains wave u → Contains wave v → u ≡ v
-one_alone wave u v long c d =
-    let first : c.0 ≡ 0 = omega (arith, c.1, long) in
-    let second : d.0 ≡ 0 = omega (arith, d.1, long) in
-    sym (subst (λ k. get_or wave k u ≡ u) first c.2) ∙ get_or_default wave 0 u v (omega (arith, long)) ∙ subst (λ k. get_or wave k v ≡ v) second d.2
+one_alone wave u v long c d = grind (arith, common_steps, get_or_default)
 
 -- in version 1 a wave is one name
 one_name : (line : List ℕ) (wave : List (List ℕ)) → Says One line wave → length wave ≡ 1

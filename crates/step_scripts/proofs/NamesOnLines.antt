@@ -1,5 +1,6 @@
 -- Names on a line, one by one.
-use Rattle.std.proofs.Common.{ℕ, ◌+◌, ◌<◌, List, [], ◌∷◌, ◌++◌, length, get_or, take, map, Bor, Contains, sym, subst, arith}
+use Rattle.std.proofs.lemmas.Grind.{common_steps}
+use Rattle.std.proofs.Common.{ℕ, ◌+◌, ◌<◌, List, [], ◌∷◌, ◌++◌, length, get_or, take, map, Bor, Contains, subst, arith}
 use Rattle.std.specs.List.{AllZip}
 use Rattle.std.proofs.lemmas.List.{get_or-map, length-map, map_more}
 use Rattle.std.proofs.lemmas.List.Elements.{Contains-get_or}
@@ -26,6 +27,4 @@ unknown_at net names i d l none =
 pub named_more : (net : Network) (names : List (Bor (List ℕ))) (i : ℕ) (d : Bor (List ℕ)) (routers : List ℕ) (u : ℕ) → i < length names →
     AllZip (IsNamed net) (bytes_all (take i names)) routers → IsNamed net (get_or names i d).now u →
     AllZip (IsNamed net) (bytes_all (take (i + 1) names)) (routers ++ u ∷ [])
-named_more net names i d routers u l before here =
-    subst (λ some. AllZip (IsNamed net) some (routers ++ u ∷ [])) (sym (map_more (λ (name : Bor (List ℕ)). name.now) names i d l))
-    (all_zipped_more (IsNamed net) (bytes_all (take i names)) routers (get_or names i d).now u before here)
+named_more net names i d routers u l before here = grind (arith, common_steps, all_zipped_more, map_more)

@@ -1,13 +1,14 @@
 -- How far the lines after the header have been read.
-use Rattle.std.proofs.Common.{◌≡◌, Bool, true, false, cond, eqb, ℕ, zero, suc, ◌+◌, ◌<◌, ◌≤◌, None, List, [], ◌∷◌, ◌++◌, length}
+use Rattle.std.proofs.lemmas.Grind.{common_steps}
+use Rattle.std.proofs.Common.{◌≡◌, Bool, cond, eqb, ℕ, zero, suc, ◌+◌, ◌<◌, ◌≤◌, None, List, [], ◌∷◌, ◌++◌, length}
 use Rattle.std.proofs.Common.{get_or, take, drop, sym, ap, subst, ◌∙◌, arith}
-use Rattle.std.specs.List.{All, AllZip, slice_split}
+use Rattle.std.specs.List.{All, AllZip}
 use Rattle.std.proofs.lemmas.List.{append-nil, get_or_default, take_more, get_or-map, length-map, length-take-le}
 use Rattle.std.proofs.lemmas.List.Elements.{All-tail}
 use Rattle.std.proofs.lemmas.List.Splits.{length-slice_split}
 use Rattle.std.proofs.lemmas.List.Sums.{count_by-le-length}
 use Rattle.std.proofs.lemmas.Slice.Zip.{AllZip-long}
-use Rattle.net_addr.specs.Lines.{is_line_feed, line_pieces, line_texts, lines_of, text_lines, without_empty_last}
+use Rattle.net_addr.specs.Lines.{line_pieces, line_texts, lines_of, text_lines, without_empty_last}
 use Rattle.net_addr.specs.Spans.{bytes_of, LiesIn}
 use Rattle.net_addr.specs.declared.line.Line.{Line}
 use Rattle.net_addr.proofs.JoinedFacts.{lines_of-length}
@@ -40,8 +41,7 @@ numbered : (text : List ℕ) (k : ℕ) (d : Line) → k < length (text_lines tex
 numbered text k d l = let step = numbered_from 1 0 (line_pieces text) k d l in omega (arith, step)
 
 one_few : (empty : Bool) (piece : List ℕ) → length (cond empty [] (piece ∷ [])) ≤ 1
-one_few true piece = omega arith
-one_few false piece = omega arith
+one_few empty piece = grind (arith, common_steps)
 
 pieces_few : (pieces : List (List ℕ)) → length (without_empty_last pieces) ≤ length pieces
 pieces_few [] = omega arith
@@ -50,15 +50,7 @@ pieces_few (piece ∷ next ∷ more) = omega (arith, pieces_few (next ∷ more))
 
 -- a text has no more lines than bytes, and one
 pub lines_few : (text : List ℕ) (lines : List Line) → lines ≡ text_lines text → length lines ≤ length text + 1
-lines_few text lines are =
-    omega (
-      arith,
-      ap length are,
-      lines_of-length 1 0 (line_pieces text),
-      pieces_few (slice_split is_line_feed text),
-      length-slice_split is_line_feed text,
-      count_by-le-length is_line_feed text,
-    )
+lines_few text lines are = grind (arith, common_steps, count_by-le-length, length-slice_split, lines_of-length, pieces_few)
 
 -- the lines after a first line that is a header
 pub entries_from : (text : List ℕ) (version : Version) (lines entries : List Line) (first : Line) → lines ≡ text_lines text →
@@ -79,8 +71,7 @@ entries_from text version lines entries first exact inside texts parts is = reco
 pub count_lines : (text : List ℕ) (version : Version) (lines entries : List Line) → bytes_of_lines text lines ≡ line_texts text →
     AreFileEntries version text entries →
     length lines + 1 ≡ length (bytes_of_lines text entries) + 2
-count_lines text version lines entries texts are =
-    omega (arith, length-map lines (λ (line : Line). bytes_of text line.span), ap length (texts ∙ are.lines))
+count_lines text version lines entries texts are = grind (arith, common_steps, length-map)
 
 module _ (net : Network) (network : NamesAscend net) (version : Version) (text : List ℕ) (entries : List Line)
     (are : AreFileEntries version text entries) where

@@ -1,12 +1,11 @@
 -- The comments of changes in a script: one for each change of its flat run, with its number and its router.
+use Rattle.std.proofs.lemmas.Grind.{common_steps}
 use Rattle.std.proofs.Common.{◌≡◌, ℕ, zero, suc, ◌+◌, ◌^◌, ◌<◌, Bool, true, false, ◌&&◌, if◌then◌else◌, List, [], ◌∷◌, ◌++◌, length}
-use Rattle.std.proofs.Common.{filter, get_or, Option, Some, None, slice_get, refl, ap, ◌∙◌, append-nil, arith}
-use Rattle.std.specs.Prelude.{decimal}
+use Rattle.std.proofs.Common.{filter, Option, Some, slice_get, refl, ap, ◌∙◌, append-nil, arith}
 use Rattle.std.specs.Char.{is_ascii_digit, IsAsciiDigit}
 use Rattle.std.proofs.lemmas.Bool.Decides.{nat_tests}
 use Rattle.std.proofs.lemmas.List.{get_or_append_left}
 use Rattle.std.proofs.lemmas.List.Elements.{filter-append}
-use Rattle.net_addr.specs.Numerals.{IsNumeral}
 use Rattle.net_model.specs.Configuration.{Configuration}
 use Rattle.net_model.specs.Network.{Network}
 use Rattle.net_model.specs.declared.bounds.TheConstants.{ISIS_DISTANCE}
@@ -27,10 +26,7 @@ digit_true : (b : ℕ) → IsAsciiDigit b → is_ascii_digit b ≡ true
 digit_true b h = grind (arith, nat_tests)
 
 comment_is : (number : ℕ) (name : List ℕ) → number < 2 ^ 64 → is_change_comment (change_comment number name) ≡ true
-comment_is number name fits =
-    let numeral : IsNumeral (decimal number) number = decimal-IsNumeral number fits in
-    ap is_ascii_digit (get_or_append_left (decimal number) (32 ∷ name ++ []) 0 0 numeral.some)
-    ∙ digit_true (get_or (decimal number) 0 0) (numeral.digits 0 0 numeral.some)
+comment_is number name fits = grind (arith, common_steps, decimal-IsNumeral, digit_true, get_or_append_left)
 
 none_isis : (c : Configuration) → filter is_change_comment (isis_change_lines c) ≡ []
 none_isis c = by_isis c.isis c.tag
@@ -42,17 +38,14 @@ none_isis c = by_isis c.isis c.tag
     by_isis true (b ∷ tag) = refl
 
 none_process : (process : Option ℕ) → filter is_change_comment (ospf_change_lines process) ≡ []
-none_process None = refl
-none_process (Some process) = refl
+none_process process = grind (arith, common_steps)
 
 none_by : (f : Configuration → List (List ℕ)) → ((c : Configuration) → filter is_change_comment (f c) ≡ []) → (o : Option Configuration) →
     filter is_change_comment (by_configuration f o) ≡ []
-none_by f each None = refl
-none_by f each (Some c) = each c
+none_by f each o = grind (arith, common_steps)
 
 none_in_change : (net : Network) (c : Change) → filter is_change_comment (change_lines net c) ≡ []
-none_in_change net (first u) = none_by isis_change_lines none_isis (slice_get net u)
-none_in_change net (second u) = none_by (λ c. ospf_change_lines c.process) (λ c. none_process c.process) (slice_get net u)
+none_in_change net c = grind (arith, common_steps, none_by, none_isis, none_process)
 
 none_in_waves : (version : Version) (ranks : List ℕ) (c : Change) (more : List (List ℕ)) →
     filter is_change_comment (wave_comments version ranks c ++ more) ≡ filter is_change_comment more
@@ -79,12 +72,7 @@ numbered net made (c ∷ changes) = change_comment (made + 1) (name_on net (chan
 
 in_part : (m : Scripted) (number : ℕ) (c : Change) → number < 2 ^ 64 →
     filter is_change_comment (change_part m number c) ≡ change_comment number (name_on m.net (changed c)) ∷ []
-in_part m number c fits =
-    let comment : List ℕ = change_comment number (name_on m.net (changed c)) in
-    none_in_waves m.version m.ranks c (comment ∷ change_lines m.net c)
-    ∙ ap (λ (b : Bool). if b then comment ∷ filter is_change_comment (change_lines m.net c) else filter is_change_comment (change_lines m.net c))
-    (comment_is number (name_on m.net (changed c)) fits)
-    ∙ ap (λ l. comment ∷ l) (none_in_change m.net c)
+in_part m number c fits = grind (arith, common_steps, comment_is, none_in_change, none_in_waves)
 
 in_parts : (m : Scripted) (made : ℕ) (changes : List Change) → made + length changes < 2 ^ 64 →
     filter is_change_comment (change_parts m made changes) ≡ numbered m.net made changes

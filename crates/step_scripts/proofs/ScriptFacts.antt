@@ -1,7 +1,8 @@
 -- The parts of a script, one after the other, and their lines without comments.
-use Rattle.std.proofs.Common.{◌≡◌, ℕ, suc, ◌+◌, ◌*◌, ◌<◌, ◌≤◌, Bool, true, false, not, ◌&&◌, if◌then◌else◌, List, []}
-use Rattle.std.proofs.Common.{◌∷◌, ◌++◌, length, filter, get_or, take, drop, Option, Some, None, slice_get, refl, sym, ap, ◌∙◌, append_assoc}
-use Rattle.std.proofs.Common.{append-nil, arith}
+use Rattle.std.proofs.lemmas.Grind.{common_steps}
+use Rattle.std.proofs.Common.{◌≡◌, ℕ, suc, ◌+◌, ◌*◌, ◌<◌, Bool, true, false, not, ◌&&◌, if◌then◌else◌, List, []}
+use Rattle.std.proofs.Common.{◌∷◌, ◌++◌, length, filter, get_or, take, drop, Option, refl, sym, ap, ◌∙◌, append_assoc}
+use Rattle.std.proofs.Common.{arith}
 use Rattle.std.specs.List.{flat_map}
 use Rattle.std.proofs.lemmas.List.{take-append-drop, take_more, length-take-le}
 use Rattle.std.proofs.lemmas.List.Concat.{flat_map-append}
@@ -10,13 +11,13 @@ use Rattle.net_model.specs.Configuration.{Configuration}
 use Rattle.net_model.specs.Network.{Network}
 use Rattle.net_model.specs.declared.bounds.TheConstants.{ISIS_DISTANCE}
 use Rattle.order_core.specs.Rankings.{rank_of, flat_of}
-use Rattle.igp_theory.specs.Changes.{Change, first, second, changed}
+use Rattle.igp_theory.specs.Changes.{Change, first, second}
 use Rattle.igp_theory.specs.Waves.{run_along}
 use Rattle.igp_theory.proofs.FlatOrders.{run_length}
 use Rattle.printed_lines.specs.Texts.{text_of}
 use Rattle.printed_lines.proofs.TextSteps.{text_of-append}
 use Rattle.step_scripts.specs.declared.version.Version.{Version}
-use Rattle.step_scripts.specs.Scripts.{isis_head, distance_line, name_on, change_comment, isis_change_lines, ospf_change_lines, by_configuration, change_lines}
+use Rattle.step_scripts.specs.Scripts.{isis_head, distance_line, isis_change_lines, ospf_change_lines, by_configuration, change_lines}
 use Rattle.step_scripts.specs.Scripts.{wave_comment, wave_comments, shows_waves, opens_wave, change_part, change_parts, end_lines, is_comment}
 use Rattle.step_scripts.specs.Scripts.{Scripted, scripted}
 use Rattle.step_scripts.specs.ScriptLaws.{IsFrontOfScript}
@@ -40,26 +41,7 @@ pub text_more : (m : Scripted) (order : List ℕ) (place u d : ℕ) → place < 
     ≡ (text_of (change_parts m 0 (run_along (take place order))) ++ text_of (change_part m (2 * place + 1) (first u)))
     ++ text_of (change_part m (2 * place + 2) (second u))
 text_more m order place u d within is =
-    let before : List ℕ = take place order in
-    let long : length (run_along before) ≡ 2 * place =
-    run_length before ∙ ap (λ k. 2 * k) (length-take-le place order (let e : place ≤ length order = omega (arith, within) in e)) in
-    let taken : take (place + 1) order ≡ before ++ u ∷ [] = take_more order place d within ∙ ap (λ v. before ++ v ∷ []) (sym is) in
-    let run : run_along (take (place + 1) order) ≡ run_along before ++ first u ∷ second u ∷ [] =
-    ap run_along taken ∙ flat_map-append (λ (v : ℕ). first v ∷ second v ∷ []) before (u ∷ []) in
-    let one : List (List ℕ) = change_part m (2 * place + 1) (first u) in
-    let two : List (List ℕ) = change_part m (2 * place + 2) (second u) in
-    let parts : change_parts m (2 * place) (first u ∷ second u ∷ []) ≡ one ++ two =
-    ap (λ l. one ++ l) (append-nil (change_part m (2 * place + 1 + 1) (second u)) ∙ ap (λ k. change_part m k (second u))
-    (let e : 2 * place + 1 + 1 ≡ 2 * place + 2 = omega arith in e)) in
-    ap (λ r. text_of (change_parts m 0 r)) run
-    ∙ ap text_of (parts_append m 0 (run_along before) (first u ∷ second u ∷ []))
-    ∙ text_of-append (change_parts m 0 (run_along before)) (change_parts m (0 + length (run_along before))
-    (first u ∷ second u ∷ []))
-    ∙ ap (λ k. text_of (change_parts m 0 (run_along before)) ++ text_of (change_parts m k (first u ∷ second u ∷ [])))
-    (let e : 0 + length (run_along before) ≡ 2 * place = omega (arith, long) in e)
-    ∙ ap (λ l. text_of (change_parts m 0 (run_along before)) ++ text_of l) parts
-    ∙ ap (λ l. text_of (change_parts m 0 (run_along before)) ++ l) (text_of-append one two)
-    ∙ sym (append_assoc (text_of (change_parts m 0 (run_along before))) (text_of one) (text_of two))
+    grind (arith, common_steps, flat_map-append, length-take-le, parts_append, run_length, take_more, text_of-append)
 
 -- ---- lines without comments ----
 
@@ -79,17 +61,14 @@ plain_isis c = by_isis c.isis c.tag
     by_isis true tag = ap (λ (b : Bool). if b then isis_head tag ∷ distance_line ISIS_DISTANCE ∷ [] else distance_line ISIS_DISTANCE ∷ []) (by_tag tag)
 
 plain_process : (process : Option ℕ) → filter plain (ospf_change_lines process) ≡ ospf_change_lines process
-plain_process None = refl
-plain_process (Some process) = refl
+plain_process process = grind (arith, common_steps)
 
 plain_by : (f : Configuration → List (List ℕ)) → ((c : Configuration) → filter plain (f c) ≡ f c) → (o : Option Configuration) →
     filter plain (by_configuration f o) ≡ by_configuration f o
-plain_by f each None = refl
-plain_by f each (Some c) = each c
+plain_by f each o = grind (arith, common_steps)
 
 plain_change : (net : Network) (c : Change) → filter plain (change_lines net c) ≡ change_lines net c
-plain_change net (first u) = plain_by isis_change_lines plain_isis (slice_get net u)
-plain_change net (second u) = plain_by (λ c. ospf_change_lines c.process) (λ c. plain_process c.process) (slice_get net u)
+plain_change net c = grind (arith, common_steps, plain_by, plain_isis, plain_process)
 
 plain_wave : (version : Version) (ranks : List ℕ) (c : Change) (more : List (List ℕ)) →
     filter plain (wave_comments version ranks c ++ more) ≡ filter plain more
@@ -102,8 +81,7 @@ plain_wave version ranks (second u) more = refl
 
 plain_part : (m : Scripted) (number : ℕ) (c : Change) →
     filter plain (change_part m number c) ≡ change_lines m.net c
-plain_part m number c =
-    plain_wave m.version m.ranks c (change_comment number (name_on m.net (changed c)) ∷ change_lines m.net c) ∙ plain_change m.net c
+plain_part m number c = grind (arith, common_steps, plain_change, plain_wave)
 
 plain_parts : (m : Scripted) (made : ℕ) (changes : List Change) →
     filter plain (change_parts m made changes) ≡ flat_map (change_lines m.net) changes

@@ -1,11 +1,11 @@
 -- What is printed of a wave list reads back.
-use Rattle.std.proofs.Common.{◌≡◌, ◌≢◌, ℕ, ◌+◌, ◌<◌, Bool, true, false, cond, Some, None, List, [], ◌∷◌, ◌++◌, length, get_or}
+use Rattle.std.proofs.lemmas.Grind.{common_steps}
+use Rattle.std.proofs.Common.{◌≡◌, ◌≢◌, ℕ, ◌+◌, ◌<◌, true, false, Some, List, [], ◌∷◌, ◌++◌, length, get_or}
 use Rattle.std.proofs.Common.{map, Contains, refl, sym, ap, subst, ◌∙◌, ⊎_elim, arith, append-nil}
 use Rattle.std.specs.Prelude.{codes, bytes_eq, nat_lt}
 use Rattle.std.specs.List.{All, AllZip, list_all, slice_split}
 use Rattle.std.proofs.lemmas.Bool.{and_from, cases_lt, lt-ltb, ltb-true}
 use Rattle.std.proofs.lemmas.Bool.Decides.{nat_tests}
-use Rattle.std.proofs.lemmas.Grind.{flat_map-append}
 use Rattle.std.proofs.lemmas.List.{append_assoc, get_or-map, get_or_past, length-map, map_push}
 use Rattle.std.proofs.lemmas.Option.{get_or_from_slice_get}
 use Rattle.std.proofs.lemmas.Slice.Zip.{AllZip-long}
@@ -29,7 +29,7 @@ use Rattle.printed_lines.specs.Words.{IsWordByte, IsPrintedWord, spaced, joined}
 use Rattle.printed_lines.specs.Texts.{IsPrintedLine, text_of}
 use Rattle.printed_lines.proofs.LineFacts.{lines_read_back}
 use Rattle.printed_lines.proofs.WordFacts.{words_make_lines}
-use Rattle.step_scripts.specs.WaveLines.{header_of, are_names, named_pieces, names_behind}
+use Rattle.step_scripts.specs.WaveLines.{header_of, are_names, names_behind}
 use Rattle.step_scripts.specs.WaveFiles.{all_in, wave_at, AreOfEach, AreWaves, NamesWaves}
 use Rattle.step_scripts.specs.WavesTexts.{waves_in, AreOneOfEach, names_at, named_line, wave_lines, wave_list_text, waves_text}
 use Rattle.step_scripts.specs.declared.version.Version.TheVariants.{Two}
@@ -57,30 +57,20 @@ pieces_are word (next ∷ more) fine others =
 
 -- words that are printed are names
 names_are : (words : List (List ℕ)) → 0 < length words → All IsPrintedWord words → are_names words ≡ true
-names_are words some fine =
-    and_from (nat_lt 0 (length words)) (list_all (λ name. nat_lt 0 (length name)) words) (lt-ltb 0 (length words) some)
-    (list_all-from_AllPass (λ name. nat_lt 0 (length name)) words
-    (All-weaker IsPrintedWord (λ word. nat_lt 0 (length word) ≡ true) (λ word its. lt-ltb 0 (length word) its.some) words fine))
+names_are words some fine = grind (arith, common_steps, All-weaker, and_from, list_all-from_AllPass, lt-ltb)
 
 -- a word and names, joined by one blank each, have these names behind this word
 behind_joined : (word : List ℕ) (names : List (List ℕ)) → bytes_eq word word ≡ true → IsPrintedWord word → 0 < length names →
     All IsPrintedWord names →
     names_behind word (joined (word ∷ names)) ≡ Some names
-behind_joined word names same fine some words =
-    ap (named_pieces word) (pieces_are word names fine words)
-    ∙ ap (λ (b : Bool). cond b (Some names) None) (and_from (bytes_eq word word) (are_names names) same (names_are names some words))
+behind_joined word names same fine some words = grind (arith, common_steps, and_from, names_are, pieces_are)
 
 -- a word of bytes above the blanks can be printed
 above_blanks : (b : ℕ) → 32 < b → IsWordByte b
-above_blanks b l =
-    record { no_space = λ e. omega (arith, e, l); no_tab = λ e. omega (arith, e, l); no_feed = λ e. omega (arith, e, l); no_return = λ e. omega (arith, e, l) }
+above_blanks b l = grind (arith, common_steps)
 
 pub plain_word : (word : List ℕ) → 0 < length word → list_all (λ b. nat_lt 32 b) word ≡ true → IsPrintedWord word
-plain_word word some all = record {
-  some = some;
-  bytes = All-weaker (λ b. nat_lt 32 b ≡ true) IsWordByte (λ b above. above_blanks b (ltb-true 32 b above)) word
-      (AllPass-from_list_all (λ b. nat_lt 32 b) word all);
-}
+plain_word word some all = grind (arith, common_steps, All-weaker, AllPass-from_list_all, above_blanks, ltb-true)
 
 name_byte : (b : ℕ) → IsNameByte b → IsWordByte b
 name_byte b is = above_blanks b (omega (arith, is))
@@ -93,10 +83,7 @@ chain_word : IsPrintedWord (codes "chain")
 chain_word = plain_word (codes "chain") (omega arith) refl
 
 header_line : IsPrintedLine (header_of Two)
-header_line =
-    (words_make_lines (codes "order" ∷ codes "2" ∷ [])
-    (All-cons IsPrintedWord (codes "order") (codes "2" ∷ []) (plain_word (codes "order") (omega arith) refl)
-    (All-cons IsPrintedWord (codes "2") [] (plain_word (codes "2") (omega arith) refl) (All-nil IsPrintedWord)))).0
+header_line = grind (arith, common_steps, All-cons, All-nil, plain_word, words_make_lines)
 
 -- what holds of each wave of a ranking
 each_wave : (ranks : List ℕ) (P : List ℕ → Type 0) → ((w : ℕ) → w < wave_count ranks → P (wave_of ranks w)) → All P (waves_in ranks)
@@ -150,17 +137,7 @@ chain_routers ranks chain n long each k d l =
 pub text_more : (names : List (List ℕ)) (ranks : List ℕ) (w : ℕ) →
     text_of (header_of Two ∷ wave_lines names (map (wave_of ranks) (numbers_below w))) ++ named_line names (codes "wave") (wave_of ranks w) ++ 10 ∷ []
     ≡ text_of (header_of Two ∷ wave_lines names (map (wave_of ranks) (numbers_below (w + 1))))
-text_more names ranks w =
-    let lines = wave_lines names (map (wave_of ranks) (numbers_below w)) in
-    let line = named_line names (codes "wave") (wave_of ranks w) in
-    let more : wave_lines names (map (wave_of ranks) (numbers_below (w + 1))) ≡ lines ++ line ∷ [] =
-    ap (λ l. wave_lines names (map (wave_of ranks) l)) (numbers_more w)
-    ∙ ap (wave_lines names) (map_push (wave_of ranks) (numbers_below w) w)
-    ∙ map_push (named_line names (codes "wave")) (map (wave_of ranks) (numbers_below w)) (wave_of ranks w) in
-    append_assoc (text_of (header_of Two ∷ lines)) line (10 ∷ [])
-    ∙ ap (λ l. text_of (header_of Two ∷ lines) ++ l) (sym (append-nil (line ++ 10 ∷ [])))
-    ∙ sym (flat_map-append (λ (l : List ℕ). l ++ 10 ∷ []) (header_of Two ∷ lines) (line ∷ []))
-    ∙ ap (λ l. text_of (header_of Two ∷ l)) (sym more)
+text_more names ranks w = grind (arith, common_steps, append_assoc, map_push, numbers_more)
 
 module _ (net : Network) (network : IsNetwork net) where
   abbrev Below : ℕ → Type 0

@@ -1,15 +1,14 @@
 -- What a line of an order file can say: a wave or a chain, and not both.
-use Rattle.std.proofs.Common.{◌≡◌, ℕ, ◌<◌, Bool, true, false, cond, ◌&&◌, Option, Some, None, List, [], ◌∷◌, length, refl, sym}
-use Rattle.std.proofs.Common.{ap, subst, arith}
+use Rattle.std.proofs.lemmas.Grind.{common_steps}
+use Rattle.std.proofs.Common.{◌≡◌, ℕ, ◌<◌, Bool, true, cond, ◌&&◌, Option, Some, None, List, [], ◌∷◌, length, refl}
+use Rattle.std.proofs.Common.{ap, arith}
 use Rattle.std.specs.Prelude.{codes, bytes_eq}
-use Rattle.std.specs.List.{AllZip, slice_split}
+use Rattle.std.specs.List.{AllZip}
 use Rattle.std.proofs.lemmas.Bool.{and_parts}
 use Rattle.std.proofs.lemmas.Slice.Eq.{bytes_eq-Decides}
-use Rattle.net_addr.specs.Blanks.{is_blank}
 use Rattle.step_scripts.specs.WaveLines.{header_of, are_names, named_pieces, wave_on, chain_on, waves_on, chains_on}
 use Rattle.step_scripts.specs.WaveFiles.{MayFollowWaves}
 use Rattle.step_scripts.specs.declared.version.Version.{Version}
-use Rattle.step_scripts.specs.declared.version.Version.TheVariants.{One, Two}
 
 -- a line is the wave of these names
 abbrev pub Says : Version → List ℕ → List (List ℕ) → Type 0
@@ -27,10 +26,7 @@ pub record IsBehind (word first : List ℕ) (rest names : List (List ℕ)) : Typ
 
 behind : (word first : List ℕ) (rest names : List (List ℕ)) (b : Bool) → (bytes_eq first word && are_names rest) ≡ b →
     cond b (Some rest) None ≡ Some names → IsBehind word first rest names
-behind word first rest names true is same =
-    let both = and_parts (bytes_eq first word) (are_names rest) is in
-    record { word_is = (bytes_eq-Decides first word).0 both.0; names_are = cc; are = both.1 }
-behind word first rest names false is same = absurd cc
+behind word first rest names b is same = grind (arith, common_steps, and_parts, bytes_eq-Decides)
 
 pub behind_first : (word first : List ℕ) (rest names : List (List ℕ)) → named_pieces word (first ∷ rest) ≡ Some names →
     IsBehind word first rest names
@@ -38,15 +34,11 @@ behind_first word first rest names same = behind word first rest names (bytes_eq
 
 another_word : (pieces : List (List ℕ)) (names : List (List ℕ)) → named_pieces (codes "chain") pieces ≡ Some names →
     named_pieces (codes "wave") pieces ≡ None
-another_word [] names same = absurd cc
-another_word (first ∷ rest) names same =
-    let word = (behind_first (codes "chain") first rest names same).word_is in
-    subst (λ w. named_pieces (codes "wave") (w ∷ rest) ≡ None) (sym word) refl
+another_word pieces names same = grind (arith, common_steps, behind_first)
 
 -- a chain is no wave
 pub chain_no_wave : (version : Version) (line : List ℕ) (names : List (List ℕ)) → chain_on version line ≡ Some names → wave_on version line ≡ None
-chain_no_wave One line names same = absurd cc
-chain_no_wave Two line names same = another_word (slice_split is_blank line) names same
+chain_no_wave version line names same = grind (arith, common_steps, another_word)
 
 -- a wave is no chain
 pub wave_no_chain : (version : Version) (line : List ℕ) (names : List (List ℕ)) → Says version line names → chain_on version line ≡ None
@@ -61,8 +53,7 @@ some_behind word pieces names same = grind arith
 
 -- a wave has a name
 pub wave_some : (version : Version) (line : List ℕ) (names : List (List ℕ)) → Says version line names → 0 < length names
-wave_some One line names says = let same : line ∷ [] ≡ names = cc in subst (λ l. 0 < length l) same (omega arith)
-wave_some Two line names says = some_behind (codes "wave") (slice_split is_blank line) names says
+wave_some version line names says = grind (arith, common_steps, some_behind)
 
 -- the waves of lines that are waves
 pub waves_of : (version : Version) (lines : List (List ℕ)) (waves : List (List (List ℕ))) → AllZip (Says version) lines waves →
@@ -83,6 +74,4 @@ no_chains version (line ∷ lines) (wave ∷ waves) each = rw (wave_no_chain ver
 -- no wave is in what may end
 pub end_no_wave : (version : Version) (waves : List (List (List ℕ))) (ending : List (List ℕ)) → MayFollowWaves version waves ending →
     waves_on version ending ≡ []
-end_no_wave version waves [] ends = refl
-end_no_wave version waves (line ∷ []) ends = rw (chain_no_wave version line ends.names ends.chain) refl
-end_no_wave version waves (line ∷ next ∷ more) ends = absurd ends
+end_no_wave version waves ending ends = grind (arith, common_steps, chain_no_wave)

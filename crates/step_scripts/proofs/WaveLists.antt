@@ -1,4 +1,5 @@
 -- Waves of distinct routers: in which one a router stands.
+use Rattle.std.proofs.lemmas.Grind.{common_steps}
 use Rattle.std.proofs.Common.{◌≡◌, ◌≢◌, ℕ, zero, suc, ◌+◌, ◌<◌, List, [], ◌∷◌, ◌++◌, length, length-set, get_or, set, take, Contains, refl, sym}
 use Rattle.std.proofs.Common.{Option, Some, None, MatchOption, ap, subst, ◌∙◌, inl, inr, ⊎_elim, arith}
 use Rattle.std.proofs.lemmas.Bool.{cases_eq}
@@ -86,10 +87,7 @@ noted_more routers i d w before places within are = record {
 
 -- who is in a wave is in the same one of more waves
 in_more : (seats : List (List ℕ)) (wave : List ℕ) (u w : ℕ) → IsIn seats u w → IsIn (seats ++ wave ∷ []) u w
-in_more seats wave u w is = record {
-  within = omega (arith, length_push seats wave, is.within);
-  among = subst (λ (l : List ℕ). Contains l u) (sym (get_or_append_left seats (wave ∷ []) [] w is.within)) is.among;
-}
+in_more seats wave u w is = grind (arith, common_steps, get_or_append_left, length_push)
 
 -- places are known of one more wave, once its routers are noted
 pub places_more : (seats : List (List ℕ)) (wave : List ℕ) (before after : List (Option ℕ)) → KnowPlaces seats before →

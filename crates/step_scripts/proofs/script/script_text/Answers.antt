@@ -1,3 +1,4 @@
+use Rattle.std.proofs.lemmas.Grind.{common_steps}
 use Rattle.std.proofs.Common.{◌≡◌, ◌<◌, ℕ, ◌+◌, ◌*◌, List, ◌++◌, length, get_or, Contains, sym, ap, subst, ◌∙◌, arith}
 use Rattle.std.proofs.lemmas.List.Elements.{Contains-get_or}
 use Rattle.order_core.specs.Rankings.{flat_of}
@@ -18,14 +19,10 @@ flat_below ranks flat count place same each within =
     omega (arith, below, each)
 
 pub with_first-requires-clause-router : goal.with_first-requires-clause-router
-with_first-requires-clause-router c =
-    flat_below c.args.waves.now c.flat-router-items.result.now (length c.args.net.now) c.loop-place.place c.flat-router-items.ensures
-    c.requires c.loop-place-test.true
+with_first-requires-clause-router c = grind (arith, common_steps, flat_below)
 
 pub with_second-requires : goal.with_second-requires
-with_second-requires c =
-    flat_below c.args.waves.now c.flat-router-items.result.now (length c.args.net.now) c.loop-place.place c.flat-router-items.ensures
-    c.requires c.loop-place-test.true
+with_second-requires c = grind (arith, common_steps, flat_below)
 
 pub loop-place-preserved : goal.loop-place-preserved
 loop-place-preserved c =

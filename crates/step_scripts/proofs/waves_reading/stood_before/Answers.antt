@@ -1,4 +1,6 @@
-use Rattle.std.proofs.Common.{refl, ⊎_elim}
+use Rattle.std.proofs.Common.{arith}
+use Rattle.std.proofs.lemmas.Grind.{common_steps}
+use Rattle.std.proofs.Common.{refl}
 use Rattle.std.proofs.lemmas.List.Elements.{Contains-append_cases, Contains-append_left, Contains-append_right}
 use Rattle.step_scripts.specs.WaveFiles.{all_in}
 use Rattle.step_scripts.proofs.WaveLists.{in_all}
@@ -11,9 +13,4 @@ returns-in-Some c = (
 )
 
 pub returns-in-None : goal.returns-in-None
-returns-in-None c = (
-  λ has. Contains-append_right (all_in c.args.seats.now) c.args.before.now c.args.router (c.is_listed.ensures.0 has),
-  λ has.
-      ⊎_elim (λ seated. absurd (c.in-None.ensures seated)) (λ before. c.is_listed.ensures.1 before)
-      (Contains-append_cases (all_in c.args.seats.now) c.args.before.now c.args.router has),
-)
+returns-in-None c = grind (arith, common_steps, Contains-append_cases, Contains-append_right)
