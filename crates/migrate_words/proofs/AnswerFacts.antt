@@ -1,5 +1,7 @@
 -- From what `clap` answers to the answer to the words.
-use Rattle.std.proofs.Common.{◌≡◌, ◌⊎◌, ◌∙◌, List, Result, Ok, Err, [], inl, inr, sym, subst}
+use Rattle.std.proofs.Common.{arith}
+use Rattle.std.proofs.lemmas.Grind.{common_steps}
+use Rattle.std.proofs.Common.{◌≡◌, ◌⊎◌, ◌∙◌, List, Result, Ok, Err, [], sym, subst}
 use Rattle.clap.specs.Words.{IsAmong, Kinds, Text, fault_of, subcommand_of, subcommand_rows_of}
 use Rattle.clap.specs.declared.error.kind.ErrorKind.{ErrorKind}
 use Rattle.clap.specs.declared.error.kind.ErrorKind.TheVariants as kind
@@ -28,7 +30,4 @@ among_none cause kinds none among = subst (IsAmong cause) none among
 -- an error other than want of memory has a kind that the command line refuses the words for
 pub refusal_of_error : (words : List Text) (cause : ErrorKind) (refused : WordsRefused)
     → ((cause ≡ kind.OutOfMemory) ⊎ IsAmong cause (fault_of command_line words)) → IsToldCause cause refused → IsRefusal words refused
-refusal_of_error words cause (Words detail) (inl memory) other = λ taken. other memory
-refusal_of_error words cause (Words detail) (inr among) other = λ taken. among_none cause (fault_of command_line words) taken among
-refusal_of_error words cause Number fails none = absurd none
-refusal_of_error words cause OutOfMemory fails told = tt
+refusal_of_error words cause refused fails other = grind (arith, common_steps, among_none)

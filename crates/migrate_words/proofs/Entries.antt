@@ -1,4 +1,6 @@
 -- The entries of the table of subcommands, and the usage lines of the commands.
+use Rattle.std.proofs.Common.{arith}
+use Rattle.std.proofs.lemmas.Grind.{common_steps}
 use Rattle.std.proofs.Common.{◌≡◌, ◌∙◌, ℕ, ◌≤◌, Bool, true, false, cond, List, [], ◌∷◌, Option, Some, length, map, take, refl, drop, get_or}
 use Rattle.std.proofs.Common.{sym, ap, ap₂, true≢false}
 use Rattle.std.proofs.lemmas.List.{take_all}
@@ -12,7 +14,6 @@ use Rattle.migrate_words.specs.Usages.{Usage, kinds, usage_of}
 use Rattle.migrate_words.specs.steps.LineSteps.{bare_line}
 use Rattle.migrate_words.specs.steps.Seen.{IsOfTable, kind_of_entry, usage_seen}
 use Rattle.migrate_words.specs.declared.command.CommandKind.{CommandKind}
-use Rattle.migrate_words.specs.declared.command.CommandKind.TheVariants.{Check}
 use Rattle.migrate_words.specs.declared.subcommands.Subcommand.{Subcommand}
 use Rattle.migrate_words.proofs.RowFacts.{some_is}
 
@@ -41,10 +42,7 @@ pub whole_of_entries : (entries : List Subcommand) (i : ℕ) → map kind_of_ent
     → length entries ≤ i →
     fold with_entry bare_line (take i entries) ≡ command_line
 unfolding command_line
-whole_of_entries entries i are all end =
-    ap (λ (some : List Subcommand). fold with_entry bare_line some) (take_all i entries end)
-    ∙ fold_entries bare_line entries all
-    ∙ ap (λ (some : List CommandKind). fold (λ a kind. with_subcommand a (command_shape kind)) bare_line some) are
+whole_of_entries entries i are all end = grind (arith, common_steps, fold_entries, take_all)
 
 -- an entry is found by the word of its command
 pub find_entry : (entries : List Subcommand) (word : Text) → All IsOfTable entries →
@@ -73,8 +71,7 @@ find_holds P test (x ∷ rest) all = go (find_holds P test rest (All-tail P x re
 
 -- the word of a command finds it among all commands
 pub kind_found : (kind : CommandKind) → find (λ k. bytes_eq (usage_of k).word (usage_of kind).word) kinds ≡ Some kind
-kind_found Check = refl
-kind_found kind = refl
+kind_found kind = grind (arith, common_steps)
 
 -- what is found passes the test
 pub found_passes : {X : Type 0} (test : X → Bool) (xs : List X) (x : X) → find test xs ≡ Some x → test x ≡ true
@@ -88,6 +85,4 @@ found_passes test (y ∷ rest) x found = go (found_passes test rest x) (test y) 
 
 -- so a word is that of one command
 pub same_kind : (kind other : CommandKind) → (usage_of kind).word ≡ (usage_of other).word → kind ≡ other
-same_kind kind other same =
-    some_is kind other
-    (sym (kind_found kind) ∙ ap (λ (word : Text). find (λ k. bytes_eq (usage_of k).word word) kinds) same ∙ kind_found other)
+same_kind kind other same = grind (arith, common_steps, kind_found, some_is)

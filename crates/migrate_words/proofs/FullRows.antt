@@ -1,4 +1,5 @@
 -- Each row that the parse of a subcommand comes to has a value.
+use Rattle.std.proofs.lemmas.Grind.{common_steps}
 use Rattle.std.proofs.Common.{◌≡◌, ℕ, zero, suc, Bool, cond, true, false, List, [], ◌∷◌, ◌++◌, Option, Some, None, length, refl, sym, ap, subst}
 use Rattle.std.proofs.Common.{arith, true≢false}
 use Rattle.std.specs.List.{find, fold}
@@ -8,21 +9,20 @@ use Rattle.std.specs.Str.{bytes_eq, chars}
 use Rattle.clap.specs.Words.{Kinds, Row, Rule, Shape, Text}
 use Rattle.clap.specs.Kinds.{or_else}
 use Rattle.clap.specs.Lexer.{long_of, short_of}
-use Rattle.clap.specs.Walk.{Held, Outcome, Step, Waiting, Walk, action_of, after_flag, after_step, arg_by_id, arg_by_index, arg_by_long, arg_by_short}
+use Rattle.clap.specs.Walk.{Held, Outcome, Step, Waiting, Walk, after_flag, after_step, arg_by_id, arg_by_index, arg_by_long, arg_by_short}
 use Rattle.clap.specs.Walk.{at_row, attached_value, bundle, bundle_met, bundle_step, default_rows, done, flag_met, has_row, idle, is_pending}
-use Rattle.clap.specs.Walk.{long_met, long_or_other, more_values, next, nothing_held, option, option_met, option_word, plain, plain_word, positional}
+use Rattle.clap.specs.Walk.{long_met, long_or_other, next, nothing_held, option, option_met, option_word, plain, plain_word, positional}
 use Rattle.clap.specs.Walk.{reacted, reading_by, refused, rows_after, settled, settled_rows, short_met, short_or_plain, subcommand}
-use Rattle.clap.specs.Walk.{subcommand_or_other, takes_several, takes_values, to_positional, trailing, used, used_as, used_by_id, value, waits, walk}
-use Rattle.clap.specs.Walk.{walk_from, walked, walked_from, with_default, with_values, word_met}
+use Rattle.clap.specs.Walk.{subcommand_or_other, takes_several, takes_values, to_positional, trailing, used, used_as, used_by_id, value, waits}
+use Rattle.clap.specs.Walk.{walked, walked_from, with_default, with_values, word_met}
 use Rattle.clap.specs.Faults.{bundle_fault, bundle_step_fault, flag_word_fault, flags_fault, level_fault, long_fault, option_fault, other_fault}
 use Rattle.clap.specs.Faults.{positional_fault, react_fault, settle_fault, short_fault, step_fault, stray_fault, turn_fault, use_fault, walk_fault}
 use Rattle.clap.specs.Faults.{word_fault}
 use Rattle.clap.specs.declared.builder.action.ArgAction.{ArgAction}
-use Rattle.clap.specs.declared.builder.action.ArgAction.TheVariants.{Set, Append, SetTrue, SetFalse, Count}
 use Rattle.clap.specs.declared.builder.value_parser.Reading.{Reading}
 use Rattle.clap.specs.declared.error.kind.ErrorKind.TheVariants as kind
 use Rattle.clap.specs.declared.parser.matches.ValueSource.{ValueSource}
-use Rattle.clap.specs.declared.parser.matches.ValueSource.TheVariants.{CommandLine, DefaultValue}
+use Rattle.clap.specs.declared.parser.matches.ValueSource.TheVariants.{DefaultValue}
 use Rattle.migrate_words.proofs.RowFacts.{some_is}
 
 -- ---- lists and kinds of faults
@@ -40,12 +40,10 @@ cons_not_nil x xs e = let none : length (x ∷ xs) ≡ 0 = ap length e in absurd
 
 -- no fault of two steps is no fault of either
 pub first_none : (first second : Kinds) → or_else first second ≡ [] → first ≡ []
-first_none [] second e = refl
-first_none (k ∷ ks) second e = e
+first_none first second e = grind (arith, common_steps)
 
 pub second_none : (first second : Kinds) → or_else first second ≡ [] → second ≡ []
-second_none [] second e = e
-second_none (k ∷ ks) second e = absurd (cons_not_nil k ks e)
+second_none first second e = grind (arith, common_steps, cons_not_nil)
 
 -- ---- rows
 
@@ -68,21 +66,14 @@ full_at_row id change missing (r ∷ rs) changes made full = go (bytes_eq r.id i
 
 full_with_values : (id : Text) (how : Reading) (source : ValueSource) (v : Text) (vs : List Text) (rows : List Row) → Full rows
     → Full (with_values id how source (v ∷ vs) rows)
-full_with_values id how source v vs rows full =
-    full_at_row id (more_values source (v ∷ vs)) (record { id = id; values = v ∷ vs; count = None; source = Some source; reading = how } ∷ []) rows
-    (λ r has. (some_after r.values v vs, tt)) (tt, tt) full
+full_with_values id how source v vs rows full = grind (arith, common_steps, full_at_row, some_after)
 
 full_without : (id : Text) (rows : List Row) → Full rows → Full (at_row id (λ _. []) [] rows)
 full_without id rows full = full_at_row id (λ _. []) [] rows (λ r has. tt) tt full
 
 full_used_as : (action : ArgAction) (id : Text) (how : Reading) (v : Text) (vs : List Text) (rows : List Row) → Full rows
     → Full (used_as action id how (v ∷ vs) rows)
-full_used_as Set id how v vs rows full = full_with_values id how CommandLine v vs _ (full_without id rows full)
-full_used_as SetTrue id how v vs rows full = full_with_values id how CommandLine v vs _ (full_without id rows full)
-full_used_as SetFalse id how v vs rows full = full_with_values id how CommandLine v vs _ (full_without id rows full)
-full_used_as Append id how v vs rows full = full_with_values id how CommandLine v vs rows full
-full_used_as Count id how v vs rows full = full_with_values id how CommandLine v vs _ (full_without id rows full)
-full_used_as _ id how v vs rows full = full
+full_used_as action id how v vs rows full = grind (arith, common_steps, full_with_values, full_without)
 
 full_default : (rows : List Row) (a : Rule) → Full rows → Full (with_default rows a)
 full_default rows a full = go (has_row a.id rows) a.defaults
@@ -115,8 +106,7 @@ found_wants test (r ∷ rest) a all found = go (found_wants test rest a all.1) (
 
 full_used : (again : Bool) (a : Rule) (values : List Text) (rows : List Row) → WantsValue a → use_fault again a values rows ≡ [] → Full rows
     → Full (used a values rows)
-full_used again a [] rows wants taken full = absurd (wants again rows taken)
-full_used again a (v ∷ vs) rows wants taken full = full_used_as (action_of a) a.id (reading_by a) v vs rows full
+full_used again a values rows wants taken full = grind (arith, common_steps, full_used_as)
 
 -- ---- the walk
 
@@ -137,8 +127,7 @@ full_reacted : (c : List Rule) (again : Bool) (a : Rule) (values : List Text) (h
     → react_fault c again a values h ≡ [] → Full h.rows
     → Full (reacted c a values h).rows
 full_reacted c again a values h all wants taken full =
-    full_used again a values (settled c h).rows wants (second_none (settle_fault c again h) _ taken)
-    (full_settled c again h all (first_none (settle_fault c again h) _ taken) full)
+    grind (arith, common_steps, first_none, full_settled, full_used, second_none)
 
 full_option : (c : List Rule) (again : Bool) (a : Rule) (v : Option Text) (h : Held) → AllWant c → WantsValue a → option_fault c again a v h ≡ [] → Full h.rows
     → Full (option_met c a v h).0.rows
@@ -275,10 +264,4 @@ full_walk s (word ∷ rest) w all taken full =
 
 -- where the subcommand takes the words, each of its rows has a value
 pub full_rows : (s : Shape) (words : List Text) → AllWant s.rules → level_fault s [] nothing_held words false [] ≡ [] → Full (rows_after s.rules [] words)
-full_rows s words all taken =
-    let walks = first_none (walk_fault s [] (walk_from nothing_held) words) _ taken in
-    let ends = second_none (walk_fault s [] (walk_from nothing_held) words) _ taken in
-    let end = (walk s.rules [] nothing_held words).held in
-    full_defaults s.rules (settled s.rules end).rows
-    (full_settled s.rules s.args_override_self end all (first_none (settle_fault s.rules s.args_override_self end) _ ends)
-    (full_walk s words (walk_from nothing_held) all walks tt))
+full_rows s words all taken = grind (arith, common_steps, first_none, full_defaults, full_settled, full_walk, second_none)

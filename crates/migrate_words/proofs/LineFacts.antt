@@ -1,6 +1,8 @@
 -- The command line as it is made, and that it is one of those whose matches and refusals `clap` states exactly.
-use Rattle.std.proofs.Common.{◌≡◌, ◌∙◌, ℕ, ◌+◌, ◌<◌, ◌≤◌, true, List, [], ◌∷◌, ◌++◌, length, map, take, get_or, refl, sym, ap}
-use Rattle.std.proofs.Common.{append-nil, append_assoc}
+use Rattle.std.proofs.Common.{arith}
+use Rattle.std.proofs.lemmas.Grind.{common_steps}
+use Rattle.std.proofs.Common.{◌≡◌, ℕ, ◌+◌, ◌<◌, ◌≤◌, true, List, [], ◌∷◌, length, map, take, get_or, refl, sym, ap}
+use Rattle.std.proofs.Common.{append-nil}
 use Rattle.std.proofs.lemmas.List.{map-append, take_more, take_all}
 use Rattle.clap.specs.Words.{Rule, Shape, is_simple, is_simple_and_free}
 use Rattle.migrate_words.specs.CommandLine.{command_line, one_text}
@@ -24,16 +26,9 @@ no_arguments shape = ap (λ (rules : List Rule). record shape { rules = rules })
 pub one_more_file : (shape : Shape) (files : List OwnFile) (i : ℕ) (d : OwnFile) → i < length files →
     with_arguments (with_arguments shape (map one_text (argument_names (take i files)))) (one_text (get_or files i d).name.now ∷ [])
     ≡ with_arguments shape (map one_text (argument_names (take (i + 1) files)))
-one_more_file shape files i d within =
-    let rule_of_file = λ (file : OwnFile). one_text file.name.now in
-    let names : map one_text (argument_names (take (i + 1) files)) ≡ map one_text (argument_names (take i files)) ++ one_text
-    (get_or files i d).name.now ∷ [] =
-    simp (take_more files i d within, map-append) in
-    ap (λ (rules : List Rule). record shape { rules = rules }) (append_assoc shape.rules _ _)
-    ∙ ap (λ (rules : List Rule). with_arguments shape rules) (sym names)
+one_more_file shape files i d within = grind (arith, common_steps, map-append, take_more)
 
 -- all of them
 pub whole_line : (shape : Shape) (files : List OwnFile) (i : ℕ) → length files ≤ i →
     with_arguments shape (map one_text (argument_names (take i files))) ≡ with_arguments shape (map one_text (argument_names files))
-whole_line shape files i end = ap (λ (some : List OwnFile). with_arguments shape (map one_text (argument_names some)))
-    (take_all i files end)
+whole_line shape files i end = grind (arith, common_steps, take_all)

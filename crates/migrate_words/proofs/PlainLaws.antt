@@ -1,16 +1,16 @@
 -- Plain words are taken, with just their values.
+use Rattle.std.proofs.lemmas.Grind.{common_steps}
 use Rattle.std.proofs.Common.{◌≡◌, ◌∙◌, ℕ, ◌+◌, ◌<◌, ◌≤◌, Bool, cond, true, false, nat_lt, List, [], ◌∷◌, ◌++◌, Option, Some}
 use Rattle.std.proofs.Common.{None, length, map, refl, sym, ap, ap₂}
-use Rattle.std.proofs.Common.{subst, append-nil, append_assoc, arith, codes, true≢false}
+use Rattle.std.proofs.Common.{subst, append-nil, append_assoc, arith, codes}
 use Rattle.std.proofs.lemmas.Bool.{ltb-true, ne_eqb}
 use Rattle.std.proofs.lemmas.List.{map-append}
 use Rattle.std.proofs.lemmas.List.Elements.{All-head}
 use Rattle.std.proofs.lemmas.List.Folds.{find-append, list_any-append}
 use Rattle.std.proofs.lemmas.Slice.Eq.{bytes_eq-Decides}
-use Rattle.std.specs.Char.{IsAsciiDigit}
 use Rattle.std.specs.List.{All, find, fold, list_any}
-use Rattle.std.specs.Option.{option_map_or, option_or}
-use Rattle.std.specs.Prelude.{◌&&◌, ◌||◌, if◌then◌else◌, is_some, nat_le, not, option_and_then, option_map, slice_get}
+use Rattle.std.specs.Option.{option_map_or}
+use Rattle.std.specs.Prelude.{◌&&◌, ◌||◌, if◌then◌else◌, not, option_and_then, option_map, slice_get}
 use Rattle.clap.proofs.OnLiterals.{clap_on_literals}
 use Rattle.clap.proofs.WalkLemmas.{both}
 use Rattle.clap.specs.Facts.{explicit_source}
@@ -21,14 +21,12 @@ use Rattle.clap.specs.Simple.{filled, filled_from, help_rule, with_index}
 use Rattle.clap.specs.Takes.{is_given}
 use Rattle.clap.specs.Kinds.{or_else}
 use Rattle.clap.specs.Faults.{check_fault, defaults_fault, given_default_fault, step_fault}
-use Rattle.clap.specs.declared.error.kind.ErrorKind.TheVariants as kind
 use Rattle.net_addr.specs.Numerals.{IsNumeral}
-use Rattle.ios_lines.specs.IsisLines.{is_area_address}
 use Rattle.net_model.specs.declared.config.Levels.{Levels}
 use Rattle.design_file.specs.Values.{is_area, levels_named}
 use Rattle.migrate_words.specs.Asked.{AreGivenLevels, Asks, HasConfigs, HaveTexts, IsGivenArea, IsGivenNumber, IsGivenScheme}
 use Rattle.migrate_words.specs.Schemes.{AskedScheme, scheme_of, usual_scheme}
-use Rattle.migrate_words.specs.CommandLine.{area_option, budget_option, command_line, config_rules, level_option, number_rules, one_text, rules_of}
+use Rattle.migrate_words.specs.CommandLine.{area_option, budget_option, command_line, config_rules, level_option, number_rules, one_text}
 use Rattle.migrate_words.specs.Laws.{PlainWordsLaw}
 use Rattle.migrate_words.specs.PlainWords.{ArePlainConfigs, IsPlainName, WritesArea, WritesLevels, WritesNumber}
 use Rattle.migrate_words.specs.PlainWords.{area, budget, level, no_number, options, routers, usual_area, usual_budget, usual_levels, wave_size}
@@ -79,27 +77,7 @@ record AreApart (line : Usage) : Type 0 where
   no_level : is_new (names_of line) (codes "L") ≡ true
 
 apart : (line : Usage) → are_apart line ≡ true → AreApart line
-apart line test =
-    let names : List Text = names_of line in
-    let first = both (nat_lt (length line.own) 900) _ test in
-    let second = both (are_new (codes "N" ∷ []) names) _ first.1 in
-    let third = both (are_new [] names) _ second.1 in
-    let fourth = both (is_new names (codes "N")) _ third.1 in
-    let fifth = both (are_new (codes "AREA" ∷ []) names) _ fourth.1 in
-    let sixth = both (are_new (codes "L" ∷ []) names) _ fifth.1 in
-    let seventh = both (are_new (codes "AREA" ∷ codes "L" ∷ []) names) _ sixth.1 in
-    let last = both (is_new names (codes "AREA")) _ seventh.1 in
-    record {
-      few = ltb-true _ _ first.0;
-      behind_number = second.0;
-      alone = third.0;
-      no_number = fourth.0;
-      behind_area = fifth.0;
-      behind_level = sixth.0;
-      behind_both = seventh.0;
-      no_area = last.0;
-      no_level = last.1;
-    }
+apart line test = grind (arith, common_steps, are_new, both, is_new, ltb-true)
 
 -- so it is of each command
 each_apart : (kind : CommandKind) → are_apart (usage_of kind) ≡ true
@@ -109,14 +87,7 @@ each_apart kind = refl
 -- ---- no argument has a default
 
 no_defaults : OfArguments (λ a. a.defaults ≡ [])
-no_defaults = record {
-  text = λ id i. refl;
-  budget = λ i. refl;
-  area = λ i. refl;
-  level = λ i. refl;
-  files = λ i. refl;
-  help = λ i. refl;
-}
+no_defaults = grind (arith, common_steps)
 
 default_stays : (rows : List Row) (a : Rule) → a.defaults ≡ [] → with_default rows a ≡ rows
 default_stays rows a none =
@@ -151,10 +122,7 @@ row_found : (final front after : List Row) (id : Text) (values : List Text) → 
     → has_row id front ≡ false
     → find (row_named id) final ≡ Some (text_row id values)
 row_found final front after id values are none =
-    ap (find (row_named id)) are ∙ find-append (row_named id) front (text_row id values ∷ after)
-    ∙ ap (λ (o : Option Row). option_or o (find (row_named id) (text_row id values ∷ after)))
-    (find_none (row_named id) front none)
-    ∙ ap (λ (b : Bool). cond b (Some (text_row id values)) (find (row_named id) after)) ((bytes_eq-Decides id id).1 refl)
+    grind (arith, common_steps, bytes_eq-Decides, find-append, find_none, row_named, text_row)
 
 given_of : (id : Text) (final : List Row) (values : List Text) → find (row_named id) final ≡ Some (text_row id values)
     → not (is_given id final) ≡ false
@@ -267,8 +235,7 @@ module _ (word : Text) (own : List Text) (configs : ConfigFiles) where
 
 -- a numeral begins with a digit
 numeral_plain : (word : Text) (n : ℕ) → IsNumeral word n → IsPlainName word
-numeral_plain [] n numeral = absurd (omega (arith, numeral.some))
-numeral_plain (x ∷ xs) n numeral = λ hyphen. let digit = All-head IsAsciiDigit x xs numeral.digits in omega (arith, digit, hyphen)
+numeral_plain word n numeral = grind (arith, common_steps, All-head)
 
 -- a number that is the first argument of a line, a text of its own
 number_front : (own : List Text) (configs : ConfigFiles)
@@ -298,16 +265,10 @@ module _ (word : Text) (own : List Text) (configs : ConfigFiles) where
 
 -- an area begins with a digit, and so does a word for levels
 area_plain : (word : Text) → is_area word ≡ true → IsPlainName word
-area_plain [] is = absurd (true≢false (sym is))
-area_plain (x ∷ []) is = absurd (true≢false (sym (both (nat_le 1 32) (is_area_address (x ∷ [])) is).1))
-area_plain (x ∷ y ∷ ys) is = λ hyphen.
-    let at = subst (λ (b : ℕ). is_area_address (b ∷ y ∷ ys) ≡ true) hyphen (both _ (is_area_address (x ∷ y ∷ ys)) is).1 in
-    true≢false (sym at)
+area_plain word is = grind (arith, common_steps, both)
 
 level_plain : (word : Text) (levels : Levels) → levels_named word ≡ Some levels → IsPlainName word
-level_plain [] levels is = absurd (true≢false (sym (ap is_some is)))
-level_plain (x ∷ xs) levels is = λ hyphen.
-    true≢false (sym (ap is_some (subst (λ (b : ℕ). levels_named (b ∷ xs) ≡ Some levels) hyphen is)))
+level_plain word levels is = grind (arith, common_steps)
 
 -- ---- the options of a design
 
@@ -577,33 +538,20 @@ config_rows Several names = file_rows names
 config_rows Networks names = text_rows network_names names
 
 adds_rows : (rows : List Row) (names : List Text) → adds rows names ≡ rows ++ file_rows names
-adds_rows rows [] = sym (append-nil rows)
-adds_rows rows (first ∷ others) = refl
+adds_rows rows names = grind (arith, common_steps)
 
 added_rows : (configs : ConfigFiles) (rows : List Row) (names : List Text) → added configs rows names ≡ rows ++ config_rows configs names
-added_rows NoConfigs rows names = adds_rows rows names
-added_rows Several rows names = adds_rows rows names
-added_rows Networks rows names = refl
+added_rows configs rows names = grind (arith, common_steps, adds_rows)
 
 config_names : (configs : ConfigFiles) (names : List Text) → ArePlainConfigs configs names
     → row_ids (config_rows configs names) ≡ config_ids configs
-config_names NoConfigs names plain = ap (λ (all : List Text). row_ids (file_rows all)) plain
-config_names Several [] plain = absurd (plain.some refl)
-config_names Several (first ∷ others) plain = refl
-config_names Networks names plain = text_ids network_names names plain.two
+config_names configs names plain = grind (arith, common_steps, row_ids, text_ids)
 
 -- no required argument is missing
 none_missing : (line : Usage) (rows : List Row) → list_any (lacks rows) (number_rules line.number) ≡ false
     → list_any (lacks rows) (map one_text line.own) ≡ false
     → list_any (lacks rows) (config_rules line.configs) ≡ false → check_fault (built_line line) rows false ≡ []
-none_missing line rows number own configs =
-    let either = λ (a b : Bool). a || b in
-    let front = list_any-append (lacks rows) (number_rules line.number) (map one_text line.own) ∙ ap₂ either number own in
-    let given = list_any-append (lacks rows) (number_rules line.number ++ map one_text line.own) (config_rules line.configs)
-    ∙ ap₂ either front configs in
-    let all = list_any-append (lacks rows) (rules_of line) (help_rule ∷ []) ∙ ap₂ either given refl in
-    ap (λ (b : Bool). if b then kind.MissingRequiredArgument ∷ [] else [])
-    (lacks_filled rows 1 (rules_of line ++ help_rule ∷ []) ∙ all)
+none_missing line rows number own configs = grind (arith, common_steps, lacks, lacks_filled, list_any-append)
 
 -- the line takes plain words, with these rows, and they give the command
 record PlainLine (line : Usage) (words own configs : List Text) (n : ℕ) (scheme : AskedScheme) : Type 0 where

@@ -1,4 +1,5 @@
 -- The rows that plain words come to, and where the arguments of a line stand.
+use Rattle.std.proofs.lemmas.Grind.{common_steps}
 use Rattle.std.proofs.Common.{◌≡◌, ◌∙◌, ℕ, ◌+◌, ◌<◌, ◌≤◌, Bool, cond, true, false, List, [], ◌∷◌, ◌++◌, Option, Some, None}
 use Rattle.std.proofs.Common.{length, map, min, refl, sym, ap}
 use Rattle.std.proofs.Common.{subst, append-nil, append_assoc, arith, codes, eq-eqb, true≢false}
@@ -96,32 +97,16 @@ abbrev pub text_at : ℕ → Text → Rule
 text_at place id = with_index place (filled (one_text id))
 
 pub takes_text : (place : ℕ) (id : Text) → TakesText (text_at place id) id
-takes_text place id = record {
-  named = refl;
-  used = λ text rows none. set_used id text rows none;
-  fits = λ text rows none. set_fits (has_row id rows) none;
-}
+takes_text place id = grind (arith, common_steps, set_fits, set_used)
 
 pub takes_budget : (place : ℕ) → TakesText (with_index place (filled budget_option)) (codes "N")
-takes_budget place = record {
-  named = refl;
-  used = λ text rows none. set_used (codes "N") text rows none;
-  fits = λ text rows none. set_fits (has_row (codes "N") rows) none;
-}
+takes_budget place = grind (arith, common_steps, set_fits, set_used)
 
 pub takes_area : (place : ℕ) → TakesText (with_index place (filled area_option)) (codes "AREA")
-takes_area place = record {
-  named = refl;
-  used = λ text rows none. set_used (codes "AREA") text rows none;
-  fits = λ text rows none. set_fits (has_row (codes "AREA") rows) none;
-}
+takes_area place = grind (arith, common_steps, set_fits, set_used)
 
 pub takes_level : (place : ℕ) → TakesText (with_index place (filled level_option)) (codes "L")
-takes_level place = record {
-  named = refl;
-  used = λ text rows none. set_used (codes "L") text rows none;
-  fits = λ text rows none. set_fits (has_row (codes "L") rows) none;
-}
+takes_level place = grind (arith, common_steps, set_fits, set_used)
 
 -- the built argument of the configuration files, at its place
 abbrev pub files_at : ℕ → Rule
@@ -141,11 +126,7 @@ added Networks rows names = rows ++ text_rows network_names names
 -- one more file
 pub one_more_config : (place : ℕ) (rows : List Row) (seen : List Text) (v : Text) → has_row (codes "CONFIG") rows ≡ false
     → used (files_at place) (v ∷ []) (adds rows seen) ≡ adds rows (seen ++ v ∷ [])
-one_more_config place rows [] v none =
-    at_no_row (codes "CONFIG") (more_values CommandLine (v ∷ [])) (text_row (codes "CONFIG") (v ∷ []) ∷ []) rows none
-one_more_config place rows (first ∷ seen) v none =
-    at_row_behind (codes "CONFIG") (more_values CommandLine (v ∷ [])) (text_row (codes "CONFIG") (v ∷ []) ∷ []) rows
-    (text_row (codes "CONFIG") (first ∷ seen) ∷ []) none
+one_more_config place rows seen v none = grind (arith, common_steps, at_no_row, at_row_behind)
 
 -- ---- places
 

@@ -1,4 +1,5 @@
 -- How the parse of a subcommand walks over plain words.
+use Rattle.std.proofs.lemmas.Grind.{common_steps}
 use Rattle.std.proofs.Common.{◌≡◌, ◌∙◌, ℕ, ◌+◌, Bool, cond, true, false, List, [], ◌∷◌, ◌++◌, Option, Some, None, length, min}
 use Rattle.std.proofs.Common.{refl, sym, ap, ap₂, subst}
 use Rattle.std.proofs.Common.{append-nil, append_assoc, arith, codes}
@@ -12,14 +13,14 @@ use Rattle.std.proofs.lemmas.List.Elements.{All-head, All-tail}
 use Rattle.std.proofs.Math.Bool.{and-false}
 use Rattle.clap.proofs.WalkLemmas.{both}
 use Rattle.clap.specs.Words.{Row, Rule, Shape, Text}
-use Rattle.clap.specs.Walk.{Held, Step, Waiting, Walk, after_step, arg_by_id, arg_by_index, has_row, idle, is_multiple}
+use Rattle.clap.specs.Walk.{Held, Waiting, Walk, arg_by_id, arg_by_index, has_row, idle, is_multiple}
 use Rattle.clap.specs.Walk.{is_pending, long_or_other}
 use Rattle.clap.specs.Walk.{next_position, plain_word, positional, positional_held, pushed, settled, short_or_plain}
 use Rattle.clap.specs.Walk.{subcommand_or_other, takes_several}
 use Rattle.clap.specs.Walk.{to_positional, trailing, used_by_id, value, walked, word_met}
 use Rattle.clap.specs.Kinds.{or_else}
-use Rattle.clap.specs.Lexer.{long_of, long_of_rest, short_of, short_of_rest, strip_byte, usize_max}
-use Rattle.clap.specs.Faults.{bundle_fault, flag_word_fault, other_fault, positional_fault, settle_fault, step_fault, stray_fault}
+use Rattle.clap.specs.Lexer.{long_of, short_of, short_of_rest, strip_byte, usize_max}
+use Rattle.clap.specs.Faults.{bundle_fault, flag_word_fault, other_fault, positional_fault, settle_fault, step_fault}
 use Rattle.clap.specs.Faults.{turn_fault}
 use Rattle.clap.specs.Faults.{use_fault, walk_fault, word_fault}
 use Rattle.migrate_words.specs.PlainWords.{ArePlainConfigs, IsPlainName}
@@ -46,8 +47,7 @@ no_dashes : (x : ℕ) (xs : Text) → (x == 45) ≡ false → bytes_eq (x ∷ xs
 no_dashes x xs plain = ap (λ (b : Bool). b && bytes_eq xs (45 ∷ [])) plain
 
 no_long : (x : ℕ) (xs : Text) → (x == 45) ≡ false → long_of (x ∷ xs) ≡ None
-no_long x xs plain = ap (λ (o : Option Text). option_and_then long_of_rest (option_and_then (strip_byte 45) o))
-    (strip_none x xs plain)
+no_long x xs plain = grind (arith, common_steps, strip_none)
 
 no_short : (x : ℕ) (xs : Text) → (x == 45) ≡ false → short_of (x ∷ xs) ≡ None
 no_short x xs plain = ap (λ (o : Option Text). option_and_then short_of_rest o) (strip_none x xs plain)
@@ -62,8 +62,7 @@ other_plain c waiting place x xs h plain =
 
 met_plain : (c : List Rule) (several : Bool) (place x : ℕ) (xs : Text) (h : Held) → (x == 45) ≡ false
     → word_met c [] false (waits several) place (x ∷ xs) h ≡ (h, value)
-met_plain c true place x xs h plain = other_plain c positional place x xs h plain
-met_plain c false place x xs h plain = other_plain c idle place x xs h plain
+met_plain c several place x xs h plain = grind (arith, common_steps, other_plain)
 
 pub no_fault : (s : Shape) (x : ℕ) (xs : Text) (h : Held) → (x == 45) ≡ false → other_fault s None (x ∷ xs) h ≡ []
 no_fault s x xs h plain =
@@ -75,20 +74,16 @@ no_fault s x xs h plain =
 
 word_plain : (s : Shape) (several : Bool) (x : ℕ) (xs : Text) (h : Held) → (x == 45) ≡ false
     → word_fault s [] false (waits several) (x ∷ xs) h ≡ []
-word_plain s true x xs h plain = no_fault s x xs h plain
-word_plain s false x xs h plain = no_fault s x xs h plain
+word_plain s several x xs h plain = grind (arith, common_steps, no_fault)
 
 walked_plain : (c : List Rule) (several : Bool) (place x : ℕ) (xs : Text) (h : Held) → (x == 45) ≡ false
     → walked c [] (before h several place) (x ∷ xs) ≡ to_positional c (arg_by_index c place) (x ∷ xs) (before h several place) h
 unfolding walked
-walked_plain c several place x xs h plain = ap (λ (p : Held × Step). after_step c (x ∷ xs) (before h several place) p.0 p.1)
-    (met_plain c several place x xs h plain)
+walked_plain c several place x xs h plain = grind (arith, common_steps, met_plain)
 
 turn_plain : (s : Shape) (several : Bool) (place x : ℕ) (xs : Text) (h : Held) → (x == 45) ≡ false
     → turn_fault s [] (before h several place) (x ∷ xs) ≡ step_fault s place h value
-turn_plain s several place x xs h plain =
-    ap₂ or_else (word_plain s several x xs h plain)
-    (ap (λ (p : Held × Step). step_fault s place p.0 p.1) (met_plain s.rules several place x xs h plain))
+turn_plain s several place x xs h plain = grind (arith, common_steps, met_plain, word_plain)
 
 -- the walk takes the words and what is held at its end, and comes to these rows
 pub record Ends (s : Shape) (w : Walk) (words : List Text) (rows : List Row) : Type 0 where
@@ -115,15 +110,7 @@ pub ends_after_plain : (s : Shape) (h : Held) (several : Bool) (place : ℕ) (a 
     → Ends s (before (positional_held s.rules a (x ∷ xs) h) (is_multiple a) (next_position a place)) rest rows
     → Ends s (before h several place) ((x ∷ xs) ∷ rest) rows
 ends_after_plain s h several place a x xs rest rows plain found stays taken ends =
-    let w : Walk = before h several place in
-    let after : Walk = before (positional_held s.rules a (x ∷ xs) h) (is_multiple a) (next_position a place) in
-    let goes : to_positional s.rules (Some a) (x ∷ xs) w h ≡ after = ap (λ (t : Bool). record after { is_trailing = t }) stays in
-    ends_after s w after (x ∷ xs) rest rows
-    (turn_plain s several place x xs h plain
-    ∙ ap (λ (o : Option Rule). option_map_or (λ b. positional_fault s.rules s.args_override_self b h) o
-    (stray_fault s)) found ∙ taken)
-    (walked_plain s.rules several place x xs h plain ∙ ap (λ (o : Option Rule). to_positional s.rules o (x ∷ xs) w h) found
-    ∙ goes) ends
+    grind (arith, common_steps, ends_after, turn_plain, walked_plain)
 
 -- ---- what is held
 
@@ -143,22 +130,13 @@ pub record Settles (s : Shape) (h : Held) (rows : List Row) : Type 0 where
 pub text_settles : (s : Shape) (a : Rule) (id text : Text) (rows : List Row) → s.args_override_self ≡ false
     → arg_by_id s.rules id ≡ Some a → TakesText a id
     → has_row id rows ≡ false → Settles s (held_text rows id text) (rows ++ text_row id (text ∷ []) ∷ [])
-text_settles s a id text rows once found takes none = record {
-  fits = ap (λ (o : Option Rule). option_map_or (λ b. use_fault s.args_override_self b (text ∷ []) rows) o []) found
-      ∙ ap (λ (again : Bool). use_fault again a (text ∷ []) rows) once ∙ takes.fits text rows none;
-  held = ap (λ (o : Option Rule). held_rows (used_by_id o (text ∷ []) rows)) found ∙ ap held_rows (takes.used text rows none);
-}
+text_settles s a id text rows once found takes none = grind (arith, common_steps)
 
 -- no word is left
 ends_now : (s : Shape) (h : Held) (several : Bool) (place : ℕ) (rows : List Row) → Settles s h rows
     → Ends s (before h several place) [] rows
 unfolding walk_fault
-ends_now s h several place rows settles = record {
-  walks = refl;
-  settles = settles.fits;
-  rows_are = ap
-      (λ (after : Held). after.rows) settles.held;
-}
+ends_now s h several place rows settles = grind (arith, common_steps)
 
 -- a plain word waits to be used by the argument of its place
 pub ends_after_word : (s : Shape) (h : Held) (rows : List Row) (several : Bool) (place : ℕ) (a : Rule) (x : ℕ) (xs : Text)

@@ -1,5 +1,6 @@
 -- What words ask for is within the ranges of the command line.
-use Rattle.std.proofs.Common.{◌≡◌, ℕ, ◌<◌, ◌∙◌, Bool, true, false, List, [], ◌∷◌, Option, Some, None, length, refl, sym, ap}
+use Rattle.std.proofs.lemmas.Grind.{common_steps}
+use Rattle.std.proofs.Common.{◌≡◌, ℕ, ◌<◌, ◌∙◌, true, List, [], ◌∷◌, Option, Some, None, length, refl, sym, ap}
 use Rattle.std.proofs.Common.{subst, arith, true≢false, codes}
 use Rattle.std.proofs.lemmas.List.Elements.{length_all_zip}
 use Rattle.std.specs.List.{find}
@@ -10,11 +11,9 @@ use Rattle.design_file.specs.Values.{is_area}
 use Rattle.migrate_words.specs.Asked.{AreConfigsInRange, HasConfigs, HasText, IsGivenArea, IsGivenNumber, IsGivenScheme, IsNumberInRange}
 use Rattle.migrate_words.specs.Laws.{RangesLaw}
 use Rattle.migrate_words.specs.Schemes.{AskedScheme}
-use Rattle.migrate_words.specs.Usages.{network_names, usage_of}
+use Rattle.migrate_words.specs.Usages.{usage_of}
 use Rattle.migrate_words.specs.declared.subcommands.ConfigFiles.{ConfigFiles}
-use Rattle.migrate_words.specs.declared.subcommands.ConfigFiles.TheVariants.{NoConfigs, Several, Networks}
 use Rattle.migrate_words.specs.declared.subcommands.NumberTaken.{NumberTaken}
-use Rattle.migrate_words.specs.declared.subcommands.NumberTaken.TheVariants.{NoNumber, Budget, Routers, DesignOptions, WaveSize}
 use Rattle.migrate_words.proofs.FullRows.{Full, HasSome}
 use Rattle.migrate_words.proofs.BuiltLines.{built_of, enters_line}
 use Rattle.migrate_words.proofs.RowFacts.{some_is}
@@ -36,29 +35,17 @@ some_values id rows values full all = go (find (row_named id) rows) refl all
         (subst (λ (some : List Text). HasSome some) (some_is r.values values e) (found_full (row_named id) rows r full found))
 
 number_in_range : (number : NumberTaken) (word : Option Text) (n : ℕ) → IsGivenNumber number word n → IsNumberInRange number n
-number_in_range NoNumber word n is = is
-number_in_range Budget None n is = (omega (arith, is), omega (arith, is))
-number_in_range Budget (Some word) n is = (is.above, is.numeral.within)
-number_in_range Routers None n is = absurd is
-number_in_range Routers (Some word) n is = (is.above, is.numeral.within)
-number_in_range WaveSize None n is = absurd is
-number_in_range WaveSize (Some word) n is = (is.above, is.numeral.within)
-number_in_range DesignOptions word n is = is
+number_in_range number word n is = grind (arith, common_steps)
 
 given_area : (word : Option Text) (area : Text) → IsGivenArea word area → is_area area ≡ true
-given_area None area is = ap is_area is
-given_area (Some word) area is = ap is_area is.0 ∙ is.1
+given_area word area is = grind (arith, common_steps)
 
 area_in_range : (number : NumberTaken) (rows : List Row) (scheme : AskedScheme) → IsGivenScheme number rows scheme → is_area scheme.area ≡ true
-area_in_range DesignOptions rows scheme is = given_area (first_of (codes "AREA") rows) scheme.area is.0
-area_in_range NoNumber rows scheme is = ap (λ (s : AskedScheme). is_area s.area) is
-area_in_range _ rows scheme is = ap (λ (s : AskedScheme). is_area s.area) is
+area_in_range number rows scheme is = grind (arith, common_steps, given_area)
 
 configs_in_range : (configs : ConfigFiles) (rows : List Row) (names : List Text) → Full rows → HasConfigs configs rows names
     → AreConfigsInRange configs names
-configs_in_range Several rows names full has = some_values (codes "CONFIG") rows names full has
-configs_in_range NoConfigs rows names full has = has
-configs_in_range Networks rows names full has = sym (length_all_zip (HasText rows) network_names names has)
+configs_in_range configs rows names full has = grind (arith, common_steps, length_all_zip, some_values)
 
 pub ranges : RangesLaw
 ranges words command asks =

@@ -1,6 +1,7 @@
 -- What is read of words, part by part.
+use Rattle.std.proofs.lemmas.Grind.{common_steps}
 use Rattle.std.proofs.Common.{◌≡◌, ◌∙◌, ℕ, zero, suc, ◌+◌, ◌<◌, List, [], ◌∷◌, ◌++◌, Result, Some, Ok, Err, length, take, get_or}
-use Rattle.std.proofs.Common.{sym, ap, subst, arith}
+use Rattle.std.proofs.Common.{ap, arith}
 use Rattle.std.proofs.lemmas.List.{map-append, take_more}
 use Rattle.std.proofs.lemmas.Slice.Eq.{bytes_eq-Decides}
 use Rattle.std.specs.List.{find}
@@ -33,11 +34,7 @@ pub one_more_text : (rows : List Row) (files : List OwnFile) (i : ℕ) (d : OwnF
     → i < length files →
     HaveTexts rows (argument_names (take i files)) texts → HasText rows (get_or files i d).name.now text →
     HaveTexts rows (argument_names (take (i + 1) files)) (texts ++ text ∷ [])
-one_more_text rows files i d texts text within have has =
-    let names : argument_names (take (i + 1) files) ≡ argument_names (take i files) ++ (get_or files i d).name.now ∷ [] =
-    simp (take_more files i d within, map-append) in
-    subst (λ (some : List Text). HaveTexts rows some (texts ++ text ∷ [])) (sym names)
-    (AllZip-push (HasText rows) (argument_names (take i files)) texts (get_or files i d).name.now text have has)
+one_more_text rows files i d texts text within have has = grind (arith, common_steps, AllZip-push, map-append, take_more)
 
 -- where all files have texts, each one has
 pub text_of_file : (rows : List Row) (files : List OwnFile) (i : ℕ) (d : OwnFile) → i < length files → (texts : List Text)
@@ -70,7 +67,4 @@ kind_of_name name kind rows found command is =
 pub name_of_kind : (name : Text) (kind : CommandKind) (rows : List Row)
     → find (λ k. bytes_eq (usage_of k).word name) kinds ≡ Some kind →
     (command : Command) → NamesCommand name rows command → IsOfKind kind rows command
-name_of_kind name kind rows found command names =
-    let same : Some command.kind ≡ Some kind = sym (kind_found command.kind)
-    ∙ ap (λ (word : Text). find (λ k. bytes_eq (usage_of k).word word) kinds) names.0 ∙ found in
-    (some_is command.kind kind same, names.1)
+name_of_kind name kind rows found command names = grind (arith, common_steps, kind_found, some_is)

@@ -1,11 +1,13 @@
 -- Words that the command line takes ask for a command, or a value of them is off.
+use Rattle.std.proofs.Common.{arith}
+use Rattle.std.proofs.lemmas.Grind.{common_steps}
 use Rattle.std.proofs.Common.{◌≡◌, ◌⊎◌, ◌∙◌, inl, inr, ℕ, Bool, cond, true, false, List, [], ◌∷◌, ◌++◌, Option, Some, None, map, refl, sym, ap}
 use Rattle.std.proofs.Common.{subst, true≢false, codes}
 use Rattle.std.proofs.lemmas.Bool.{not-false}
 use Rattle.std.proofs.lemmas.List.Folds.{list_any-append}
 use Rattle.std.specs.List.{find, list_any}
 use Rattle.std.specs.Option.{is_some, option_map_or}
-use Rattle.std.specs.Prelude.{◌&&◌, ◌||◌, not, option_and_then, option_map, slice_get}
+use Rattle.std.specs.Prelude.{◌&&◌, ◌||◌, not, option_map, slice_get}
 use Rattle.std.specs.Str.{bytes_eq}
 use Rattle.clap.specs.Facts.{explicit_source}
 use Rattle.clap.specs.Words.{Row, Rule, Shape, Text, first_of}
@@ -24,7 +26,6 @@ use Rattle.migrate_words.specs.Schemes.{AskedScheme, scheme_of, usual_scheme}
 use Rattle.migrate_words.specs.Laws.{NumbersLaw}
 use Rattle.migrate_words.specs.Usages.{Usage, network_names, usage_of}
 use Rattle.migrate_words.specs.declared.command.Command.{Command}
-use Rattle.migrate_words.specs.declared.command.CommandKind.{CommandKind}
 use Rattle.migrate_words.specs.declared.subcommands.ConfigFiles.{ConfigFiles}
 use Rattle.migrate_words.specs.declared.subcommands.ConfigFiles.TheVariants.{NoConfigs, Several, Networks}
 use Rattle.migrate_words.specs.declared.subcommands.NumberTaken.{NumberTaken}
@@ -37,16 +38,13 @@ use Rattle.migrate_words.proofs.RowFacts.{some_is}
 -- ---- what is required is there
 
 or_left : (a b : Bool) → (a || b) ≡ false → a ≡ false
-or_left true b e = e
-or_left false b e = refl
+or_left a b e = grind (arith, common_steps)
 
 or_right : (a b : Bool) → (a || b) ≡ false → b ≡ false
-or_right true b e = absurd (true≢false e)
-or_right false b e = e
+or_right a b e = grind (arith, common_steps)
 
 cond_none : (b : Bool) (k : ErrorKind) → cond b (k ∷ []) [] ≡ [] → b ≡ false
-cond_none true k e = absurd (cons_not_nil k [] e)
-cond_none false k e = refl
+cond_none b k e = grind (arith, common_steps, cons_not_nil)
 
 -- the argument is required, and isn't given
 abbrev pub lacks : List Row → Rule → Bool
@@ -111,10 +109,7 @@ first_some [] none = absurd none
 first_some (text ∷ rest) some = (text, refl)
 
 has_text : (id : Text) (rows : List Row) → Full rows → is_given id rows ≡ true → (text : Text) × HasText rows id text
-has_text id rows full given =
-    let row = given_row id rows given in
-    let first = first_some row.0.values (found_full (row_named id) rows row.0 full row.1) in
-    (first.0, ap (λ (o : Option Row). option_and_then (λ r. slice_get r.values 0) o) row.1 ∙ first.1)
+has_text id rows full given = grind (arith, common_steps, first_some, found_full, given_row)
 
 have_texts : (rows : List Row) → Full rows → (ids : List Text) → list_any (lacks rows) (map one_text ids) ≡ false
     → (texts : List Text) × HaveTexts rows ids texts
@@ -134,14 +129,7 @@ has_configs Networks rows full none = have_texts rows full network_names none
 
 -- each argument wants a value
 pub all_want : OfArguments WantsValue
-all_want = record {
-  text = λ id i again rows e. cons_not_nil _ _ e;
-  budget = λ i again rows e. cons_not_nil _ _ e;
-  area = λ i again rows e. cons_not_nil _ _ e;
-  level = λ i again rows e. cons_not_nil _ _ e;
-  files = λ i again rows e. cons_not_nil _ _ e;
-  help = λ i again rows e. cons_not_nil _ _ e;
-}
+all_want = grind (arith, common_steps, cons_not_nil)
 
 -- so the rows of a line that takes the words have values
 pub line_full : (usage : Usage) (words : List Text) → level_fault (built_line usage) [] nothing_held words false [] ≡ []
@@ -237,13 +225,7 @@ off_gives_nothing _ rows (level_off word options has bad) n scheme is of =
     true≢false (ap is_some (sym levels ∙ bad))
 
 off_asks_nothing : (words : List Text) → HasValueOff words → (command : Command) → ¬ Asks words command
-off_asks_nothing words off command asks =
-    let same = some_is ((usage_of off.kind).word, off.rows) ((usage_of command.kind).word, asks.rows)
-    (sym off.entered ∙ asks.entered) in
-    let kind = same_kind off.kind command.kind (ap (λ (p : Text × List Row). p.0) same) in
-    let its = subst (λ (rows : List Row). IsValueOff (usage_of off.kind).number rows) (ap (λ (p : Text × List Row). p.1) same) off.off in
-    let of = subst (λ (k : CommandKind). IsValueOff (usage_of k).number asks.rows) kind its in
-    off_gives_nothing (usage_of command.kind).number asks.rows of command.number command.scheme asks.given.number asks.given.scheme
+off_asks_nothing words off command asks = grind (arith, common_steps, off_gives_nothing, same_kind, some_is)
 
 pub numbers : NumbersLaw
 numbers words = record { off = value_off words; none = off_asks_nothing words }

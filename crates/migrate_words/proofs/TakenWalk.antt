@@ -1,4 +1,6 @@
 -- Where the command line takes the words, it enters a subcommand other than `help`, which takes the words that are left.
+use Rattle.std.proofs.Common.{arith}
+use Rattle.std.proofs.lemmas.Grind.{common_steps}
 use Rattle.std.proofs.Common.{◌≡◌, ℕ, Bool, cond, true, false, List, [], ◌∷◌, Option, Some, None, refl, sym, true≢false, codes}
 use Rattle.std.specs.List.{fold}
 use Rattle.std.specs.Option.{is_some, option_map_or}
@@ -6,9 +8,9 @@ use Rattle.std.specs.Prelude.{◌&&◌, find, not, option_map}
 use Rattle.std.specs.Str.{bytes_eq}
 use Rattle.clap.specs.Words.{App, Row, Rule, Shape, Text, built, subcommand_of}
 use Rattle.clap.specs.Kinds.{or_else}
-use Rattle.clap.specs.Lexer.{long_of, short_of}
-use Rattle.clap.specs.Walk.{Held, Names, Outcome, Step, Waiting, Walk, after_flag, after_step, answers_to, arg_by_index, arg_by_long, bundle, done}
-use Rattle.clap.specs.Walk.{finished, idle, long_met, long_or_other, next, nothing_held, option, plain, plain_word, positional, refused, rows_after}
+use Rattle.clap.specs.Lexer.{long_of}
+use Rattle.clap.specs.Walk.{Held, Names, Outcome, Step, Waiting, Walk, after_flag, after_step, answers_to, arg_by_index, done}
+use Rattle.clap.specs.Walk.{finished, idle, long_or_other, next, nothing_held, option, plain, plain_word, positional, refused, rows_after}
 use Rattle.clap.specs.Walk.{settled, short_or_plain, subcommand, subcommand_met, subcommand_or_other, to_positional, trailing, value, waits, walk}
 use Rattle.clap.specs.Walk.{walk_from, walked, walked_from, word_met}
 use Rattle.clap.specs.Simple.{entered, label_of, names_of, rows_at}
@@ -44,12 +46,10 @@ flag_other c waiting word h plain = plain_other c waiting word h
 flag_other c waiting word h refused = plain_other c waiting word h
 
 short_other : (c : List Rule) (waiting : Waiting) (word : Text) (flags : Option Text) (h : Held) → StepsToOther (short_or_plain c waiting word flags h).1
-short_other c waiting word None h = plain_other c waiting word h
-short_other c waiting word (Some flags) h = flag_other c waiting word _ (bundle c flags h).1
+short_other c waiting word flags h = grind (arith, common_steps, flag_other, plain_other)
 
 long_other : (c : List Rule) (waiting : Waiting) (word : Text) (p : Option (Text × Option Text)) (h : Held) → StepsToOther (long_or_other c waiting word p h).1
-long_other c waiting word None h = short_other c waiting word (short_of word) h
-long_other c waiting word (Some p) h = flag_other c waiting word _ (long_met c (arg_by_long c p.0) p.1 h).1
+long_other c waiting word p h = grind (arith, common_steps, flag_other, short_other)
 
 word_other : (s : Shape) (names : Names) (is_trailing : Bool) (waiting : Waiting) (place : ℕ) (word : Text) (h : Held) → s.disable_help_subcommand ≡ false
     → word_fault s names is_trailing waiting word h ≡ [] → StepsToOther (word_met s.rules names is_trailing waiting place word h).1
@@ -133,8 +133,7 @@ finds_line a (Some p) stops has taken = go (find (λ s. answers_to p.0 (label_of
 -- a required subcommand is there
 has_subcommand : (rows : List Row) (has : Bool) → check_fault (built command_line).top rows has ≡ [] → has ≡ true
 unfolding command_line
-has_subcommand rows true e = refl
-has_subcommand rows false e = absurd (cons_not_nil _ _ e)
+has_subcommand rows has e = grind (arith, common_steps, cons_not_nil)
 
 pub line_of_taken : (words : List Text) → AreTaken words → FindsLine (built command_line) (subcommand_of command_line words)
 unfolding command_line

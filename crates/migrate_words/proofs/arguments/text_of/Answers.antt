@@ -1,3 +1,5 @@
+use Rattle.std.proofs.Common.{arith}
+use Rattle.std.proofs.lemmas.Grind.{common_steps}
 use Rattle.std.proofs.Common.{◌∙◌, sym}
 use Rattle.clap.specs.Words.{found_of}
 use Rattle.clap.proofs.WalkLemmas.{first_value-rows}
@@ -8,5 +10,4 @@ pub returns-in-Some : goal.returns-in-Some
 returns-in-Some c = sym (first_value-rows (found_of c.args.given.now) c.args.argument.now) ∙ sym c.in-Some.ensures
 
 pub returns-in-None : goal.returns-in-None
-returns-in-None c = λ u h. some_not_none u _
-    (sym (first_value-rows (found_of c.args.given.now) c.args.argument.now) ∙ sym c.in-None.ensures) h
+returns-in-None c = grind (arith, common_steps, first_value-rows, some_not_none)

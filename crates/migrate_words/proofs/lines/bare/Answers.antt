@@ -1,12 +1,6 @@
-use Rattle.std.proofs.Common.{◌∙◌, ap}
-use Rattle.clap.specs.Simple.{app_of_fields}
-use Rattle.clap.specs.declared.builder.command.Command.{Command}
-use Rattle.clap.specs.declared.builder.command.Command.TheOpen.{Command-F}
+use Rattle.std.proofs.Common.{arith}
+use Rattle.std.proofs.lemmas.Grind.{common_steps}
 use Rattle.migrate_words.proofs.lines.bare.Goals as goal
 
 pub returns : goal.returns
-returns c =
-    let globals = λ (f : Command-F Command). f.has_globals in (
-      ap app_of_fields c.override_usage.ensures ∙ ap app_of_fields c.about.ensures ∙ c.new.ensures.app,
-      ap globals c.override_usage.ensures ∙ ap globals c.about.ensures ∙ c.new.ensures.local,
-    )
+returns c = grind (arith, common_steps)

@@ -1,3 +1,5 @@
+use Rattle.std.proofs.Common.{arith}
+use Rattle.std.proofs.lemmas.Grind.{common_steps}
 use Rattle.std.proofs.Common.{sym, subst}
 use Rattle.std.proofs.lemmas.List.Sums.{fold_more}
 use Rattle.clap.specs.Words.{App}
@@ -15,9 +17,4 @@ loop-entry-preserved c =
     (c.in_ok-line.ensures _ _ c.loop-entry.invariant c.in_ok-subcommand.ensures)
 
 pub returns : goal.returns
-returns c =
-    let table = c.subcommands-entry-items in
-    subst (λ (whole : App). IsWhole whole c.loop-entry.line)
-    (whole_of_entries table.result.now c.loop-entry.entry-index table.ensures.kinds
-    (of_table table.result.now table.ensures.usages)
-    c.loop-entry-test.false) c.loop-entry.invariant
+returns c = grind (arith, common_steps, of_table, whole_of_entries)

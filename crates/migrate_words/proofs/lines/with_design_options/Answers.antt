@@ -1,6 +1,6 @@
-use Rattle.std.proofs.Common.{List, ◌∷◌, [], ap, append_assoc, subst}
+use Rattle.std.proofs.Common.{List, ◌∷◌, [], append_assoc, subst}
 use Rattle.std.proofs.lemmas.Result.{IfOk-weaker}
-use Rattle.clap.specs.Words.{Rule, Shape}
+use Rattle.clap.specs.Words.{Rule}
 use Rattle.migrate_words.specs.CommandLine.{area_option, level_option}
 use Rattle.migrate_words.specs.steps.LineSteps.{IsLine}
 use Rattle.migrate_words.proofs.lines.with_design_options.Goals as goal

@@ -1,11 +1,12 @@
-use Rattle.std.proofs.Common.{◌∙◌, List, Option, ap, sym, subst}
+use Rattle.std.proofs.Common.{arith}
+use Rattle.std.proofs.lemmas.Grind.{common_steps}
+use Rattle.std.proofs.Common.{◌∙◌, List, ap}
 use Rattle.std.specs.List.{find}
-use Rattle.std.specs.Option.{IfSome, option_map}
+use Rattle.std.specs.Option.{option_map}
 use Rattle.std.specs.Str.{bytes_eq}
 use Rattle.migrate_words.specs.Usages.{usage_of}
-use Rattle.migrate_words.specs.steps.Seen.{IsOfTable, kind_of_entry}
+use Rattle.migrate_words.specs.steps.Seen.{kind_of_entry}
 use Rattle.migrate_words.specs.declared.command.CommandKind.{CommandKind}
-use Rattle.migrate_words.specs.declared.subcommands.Subcommand.{Subcommand}
 use Rattle.migrate_words.proofs.Entries.{find_entry, find_holds, of_table}
 use Rattle.migrate_words.proofs.reading.entry_of.Goals as goal
 
@@ -16,7 +17,4 @@ returns-clause-kind c =
     ∙ ap (λ (some : List CommandKind). find (λ kind. bytes_eq (usage_of kind).word c.args.word.now) some) table.ensures.kinds
 
 pub returns-clause-usage : goal.returns-clause-usage
-returns-clause-usage c =
-    subst (λ (found : Option Subcommand). IfSome found IsOfTable) (sym c.first_of.ensures)
-    (find_holds IsOfTable
-    (λ entry. bytes_eq entry.word.now c.args.word.now) c.subcommands.result.now (of_table c.subcommands.result.now c.subcommands.ensures.usages))
+returns-clause-usage c = grind (arith, common_steps, find_holds, of_table)
