@@ -234,10 +234,24 @@ branches_before before nodes k ends =
     omega (arith, ap (λ (xs : List Node). branch_count xs) ends, branch_count-append before (replicate k Unvisited), branch_count-unvisited k)
 
 abbrev waves_stop : (m : Meaning) (budget : ℕ) (found : FoundWaves) → AreFoundWaves m budget found → Stop m
-waves_stop m budget found is = grind (arith, common_steps)
+waves_stop m budget found is = record {
+  place = found.pairs;
+  ranks = found.ranks;
+  before = is.leads.before;
+  later = is.leads.later;
+  stands = is.leads.stands;
+  layered = is.leads.layered;
+}
 
 abbrev spent_stop : (m : Meaning) (budget : ℕ) (tree : List Node) → IsSpent m budget tree → Stop m
-spent_stop m budget tree found = grind (arith, common_steps)
+spent_stop m budget tree found = record {
+  place = found.stopped.place;
+  ranks = found.stopped.ranks;
+  before = found.stopped.before;
+  later = found.stopped.later;
+  stands = found.stopped.stands;
+  layered = found.stopped.layered;
+}
 
 -- two answers of waves are one
 waves_once : (m : Meaning) (budget : ℕ) → PicksOne m.good m.picked → (w v : FoundWaves) → AreFoundWaves m budget w → AreFoundWaves m budget v →

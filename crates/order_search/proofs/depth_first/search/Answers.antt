@@ -6,15 +6,9 @@ use Rattle.order_search.proofs.SameMeanings.{SameMeaning-itself, SameMeaning-thr
 use Rattle.order_search.proofs.SearchSteps.{IsFound-end, EndsOrGoesOn-ends}
 use Rattle.order_search.proofs.depth_first.search.Goals as goal
 
-pub loop-stand-init : goal.loop-stand-init
-loop-stand-init g c = record { searching = c.in_ok-stand.ensures c.args.budget; same = SameMeaning-itself _ }
-
 pub take_step-requires-clause-searching : goal.take_step-requires-clause-searching
 take_step-requires-clause-searching g c =
     IsSearching-same _ _ c.loop-stand.invariant.same c.args.budget c.loop-stand.stand c.loop-stand.invariant.searching
-
-pub end-requires : goal.end-requires
-end-requires g c = grind (arith, common_steps, EndsBy-step, EndsOrGoesOn-ends)
 
 pub returns-in-Some-clause-found : goal.returns-in-Some-clause-found
 returns-in-Some-clause-found g c =
@@ -27,6 +21,3 @@ loop-stand-preserved g c = record {
   searching = IsSearching-step _ _ c.loop-stand.invariant.same _ _ _ c.in_ok-ending.ensures.step c.in-None.is;
   same = SameMeaning-through _ _ _ c.loop-stand.invariant.same c.take_step.ensures.same;
 }
-
-pub loop-stand-smaller : goal.loop-stand-smaller
-loop-stand-smaller g c = grind (arith, common_steps, IsSearching-step)

@@ -7,9 +7,6 @@ use Rattle.order_search.proofs.RankFacts.{not_good}
 use Rattle.order_search.proofs.SearchSteps.{IsAsked-visited, branch_is_made, place_is_next, tree_is_closed}
 use Rattle.order_search.proofs.depth_first.take_step.Goals as goal
 
-pub returns-in-Fine-clause-step : goal.returns-in-Fine-clause-step
-returns-in-Fine-clause-step g c = grind (arith, common_steps, IsAsked-visited)
-
 pub returns-then-stand-budget-clause-step : goal.returns-then-stand-budget-clause-step
 returns-then-stand-budget-clause-step g c =
     let asked = IsAsked-visited _ c.args.budget c.args.stand.now c.visit.new.held c.visit.new.ranks c.requires.searching c.visit.ensures.same

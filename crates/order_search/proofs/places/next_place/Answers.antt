@@ -15,9 +15,6 @@ first_alone : (n : ℕ) (base pairs : List Pair) (all rest : List Child) (c : Ch
     IsUnder n base pairs (c ∷ [])
 first_alone n base pairs all rest c under top = grind (arith, common_steps)
 
-pub enter-requires-clause-stands : goal.enter-requires-clause-stands
-enter-requires-clause-stands c = grind (arith, common_steps, first_alone)
-
 pub returns-then-branch-clause-stands : goal.returns-then-branch-clause-stands
 returns-then-branch-clause-stands c = λ base before.
     let top = c.in-Some.ensures.some in
@@ -52,6 +49,3 @@ loop-child-preserved c =
       grown = GrowsLeaves-back c.args.tree.now c.loop-child.tree c.enter.new.tree _ c.loop-child.held.pairs c.enter.new.held.pairs _ _ c.in-Some.child top
           c.loop-child.invariant.grown back leaf;
     }
-
-pub returns-clause-stands : goal.returns-clause-stands
-returns-clause-stands c = grind (arith, common_steps)

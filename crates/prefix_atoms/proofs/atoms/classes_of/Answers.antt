@@ -6,9 +6,6 @@ use Rattle.prefix_atoms.specs.steps.Lists.{AreTargets}
 use Rattle.prefix_atoms.proofs.ClassFacts.{classing_from, made_from, samples_ascend, samples_made, intervals_tell}
 use Rattle.prefix_atoms.proofs.atoms.classes_of.Goals as goal
 
-pub parents_of-requires-clause-blocks : goal.parents_of-requires-clause-blocks
-parents_of-requires-clause-blocks c = grind (arith, common_steps)
-
 pub tops_of-requires : goal.tops_of-requires
 tops_of-requires c =
     let made = made_from _ _ _ _ _ _ _ _ _ _ c.as_slice.ensures.value c.as_slice-2.ensures.value c.as_slice-3.ensures.value c.as_slice-4.ensures.value

@@ -8,9 +8,6 @@ use Rattle.prefix_atoms.proofs.ClassFacts.{keys_below, numbers_classes}
 use Rattle.prefix_atoms.proofs.NestedLaws.{ascending_apart}
 use Rattle.prefix_atoms.proofs.atoms.number_cuts.Goals as goal
 
-pub number-requires-clause-keys : goal.number-requires-clause-keys
-number-requires-clause-keys c = grind (arith, common_steps, keys_below)
-
 pub number-requires-clause-few : goal.number-requires-clause-few
 number-requires-clause-few c =
     let many : length c.as_slice.result.now ≡ length c.args.cuts.now = ap length c.as_slice.ensures.value ∙ c.in_ok-keys.ensures.keys.count in

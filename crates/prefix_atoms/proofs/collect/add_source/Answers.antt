@@ -12,12 +12,6 @@ use Rattle.prefix_atoms.proofs.collect.add_source.Goals as goal
 pub loop-router-init : goal.loop-router-init
 loop-router-init g c = record { gains = gains_nothing _; unseen = λ some. unseen_first _ _ _ (c.in_ok-unseen.ensures some) }
 
-pub add_table-requires-clause-table : goal.add_table-requires-clause-table
-add_table-requires-clause-table g c = subst IsTable (sym c.parts-table.ensures.parts) c.parts-table.ensures.table
-
-pub add_table-requires-clause-unseen : goal.add_table-requires-clause-unseen
-add_table-requires-clause-unseen g c = grind (arith, common_steps)
-
 pub loop-router-preserved : goal.loop-router-preserved
 loop-router-preserved g c =
     let kept : KeptTable = kept_in c.parts-table.result in

@@ -3,8 +3,5 @@ use Rattle.std.proofs.lemmas.Grind.{common_steps}
 use Rattle.prefix_atoms.proofs.Repeats.{prefix_found, prefix_missed}
 use Rattle.prefix_atoms.proofs.distinct.place_of_prefix.Goals as goal
 
-pub returns-clause-found : goal.returns-clause-found
-returns-clause-found c = grind (arith, common_steps, prefix_found)
-
 pub returns-clause-missed : goal.returns-clause-missed
 returns-clause-missed c up = grind (arith, common_steps, prefix_missed)

@@ -4,13 +4,6 @@ use Rattle.prefix_atoms.specs.steps.Lists.{IsPlaceOf}
 use Rattle.prefix_atoms.proofs.LongestSteps.{painted_none, painted_more, painted_all}
 use Rattle.prefix_atoms.proofs.longest.take_prefix.Goals as goal
 
-pub loop-i-init : goal.loop-i-init
-loop-i-init c = record {
-  count = c.requires.count;
-  painted = λ ps numbers are number. painted_none _ c.args.found.now.items c.number_near-start.result c.base-base.ensures.block are
-      (subst (λ (b : ℕ). IsPlaceOf c.args.addresses.now b c.number_near-start.result) c.base-base.ensures.value c.number_near-start.ensures);
-}
-
 pub loop-i-preserved : goal.loop-i-preserved
 loop-i-preserved c =
     let last : c.last-last.result ≡ last_address c.args.prefix = c.last-last.ensures in
