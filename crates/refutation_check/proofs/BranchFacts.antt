@@ -1,5 +1,6 @@
 -- Why a branch is wrong: the lowest kind, where those below it were looked at.
-use Rattle.std.proofs.Common.{◌≡◌, ℕ, ◌<◌, ◌≤◌, List, length, get_or, Any, Option, arith, subst}
+use Rattle.std.proofs.lemmas.Grind.{common_steps}
+use Rattle.std.proofs.Common.{◌≡◌, ℕ, ◌<◌, ◌≤◌, List, length, Any, Option, arith, subst}
 use Rattle.std.specs.List.{All}
 use Rattle.std.specs.Option.{IfSome}
 use Rattle.std.proofs.lemmas.List.{get_or_default}
@@ -30,8 +31,7 @@ originated_block net p network o =
 
 -- an address has one target
 pub one_target : (net : Network) (a : ℕ) (p q : Block) → IsNetwork net → IsTarget net a p → IsTarget net a q → p ≡ q
-one_target net a p q network one two =
-    one_longest_match (IsOriginated net) a p q (originated_block net p network one.is_offered) (originated_block net q network two.is_offered) one two
+one_target net a p q network one two = grind (arith, common_steps, one_longest_match, originated_block)
 
 -- the router of some turn originates the prefix
 abbrev pub SomeOriginates : Network → List Turn → Block → Type 0
@@ -105,9 +105,4 @@ one_sided_lowest move a turns p network target none round sided = record { wrong
 pub all_must : (net : Network) (a : ℕ) (turns : List Turn) (p : Block) → IsTarget net a p → ¬ SomeOriginates net turns p →
     All (λ (turn : Turn). turn.router < length net) turns
     → All (λ (turn : Turn). MustForward net a turn.router) turns
-all_must net a turns p target none below = λ k d within. record {
-  router = below k d within;
-  target = p;
-  is_target = target;
-  away = λ there. none (k, get_or turns k d, within, get_or_default turns k (get_or turns k d) d within, there);
-}
+all_must net a turns p target none below = grind (arith, common_steps, get_or_default)

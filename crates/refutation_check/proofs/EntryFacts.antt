@@ -1,19 +1,19 @@
 -- The lines behind the header of a text.
-use Rattle.std.proofs.Common.{◌≡◌, ℕ, ◌+◌, ◌-◌, ◌^◌, ◌<◌, ◌≤◌, Bool, true, false, cond, eqb, List, [], ◌∷◌}
-use Rattle.std.proofs.Common.{length, arith, refl, sym, ap, ◌∙◌, subst}
-use Rattle.std.specs.List.{All, slice_split}
+use Rattle.std.proofs.lemmas.Grind.{common_steps}
+use Rattle.std.proofs.Common.{◌≡◌, ℕ, ◌+◌, ◌-◌, ◌^◌, ◌<◌, ◌≤◌, Bool, cond, eqb, List, [], ◌∷◌}
+use Rattle.std.proofs.Common.{length, arith, sym, ap, ◌∙◌, subst}
+use Rattle.std.specs.List.{All}
 use Rattle.std.proofs.lemmas.List.Elements.{All-tail}
 use Rattle.std.proofs.lemmas.List.Splits.{length-slice_split}
 use Rattle.std.proofs.lemmas.List.Sums.{count_by-le-length}
-use Rattle.net_addr.specs.Lines.{is_line_feed, line_pieces, line_texts, text_lines, without_empty_last}
+use Rattle.net_addr.specs.Lines.{line_texts, text_lines, without_empty_last}
 use Rattle.net_addr.specs.Spans.{bytes_of, LiesIn}
 use Rattle.net_addr.specs.declared.line.Line.{Line}
 use Rattle.net_addr.proofs.JoinedFacts.{lines_of-length}
 use Rattle.refutation_check.specs.steps.Reading.{StandBehind, line_bytes}
 
 one_few : (empty : Bool) (piece : List ℕ) → length (cond empty [] (piece ∷ [])) ≤ 1
-one_few true piece = omega arith
-one_few false piece = omega arith
+one_few empty piece = grind (arith, common_steps)
 
 pieces_few : (pieces : List (List ℕ)) → length (without_empty_last pieces) ≤ length pieces
 pieces_few [] = omega arith
@@ -22,14 +22,7 @@ pieces_few (piece ∷ next ∷ more) = omega (arith, pieces_few (next ∷ more))
 
 -- a text has no more lines than bytes, and one
 lines_few : (text : List ℕ) → length (text_lines text) ≤ length text + 1
-lines_few text =
-    omega (
-      arith,
-      lines_of-length 1 0 (line_pieces text),
-      pieces_few (slice_split is_line_feed text),
-      length-slice_split is_line_feed text,
-      count_by-le-length is_line_feed text,
-    )
+lines_few text = grind (arith, common_steps, count_by-le-length, length-slice_split, lines_of-length, pieces_few)
 
 -- the lines after a first line that is the header
 pub stand_behind : (text header : List ℕ) (lines entries : List Line) (first : Line) → line_bytes text lines ≡ line_texts text →
@@ -49,5 +42,4 @@ entries_few text lines entries first short exact parts = omega (arith, lines_few
 
 -- where no line is counted there is none
 pub none_left : (lines : List Line) → length lines ≡ 0 → lines ≡ []
-none_left [] none = refl
-none_left (line ∷ lines) none = absurd (omega (arith, none))
+none_left lines none = grind (arith, common_steps)

@@ -1,4 +1,5 @@
 -- From the verdict on the lines of nodes to that on the text.
+use Rattle.std.proofs.lemmas.Grind.{common_steps}
 use Rattle.std.proofs.Common.{◌≡◌, ℕ, ◌+◌, ◌*◌, ◌<◌, List, [], ◌∷◌, ◌++◌, get_or, length, map, replicate, take, arith, sym, ap}
 use Rattle.std.proofs.lemmas.List.{take_more}
 use Rattle.std.proofs.lemmas.List.Elements.{All-map, All-nil, Contains-get_or}
@@ -13,8 +14,7 @@ use Rattle.net_addr.specs.Addresses.{Block}
 use Rattle.net_addr.specs.Lines.{line_texts}
 use Rattle.route_core.specs.declared.entry.Entry.{Entry}
 use Rattle.rib_mix.specs.Mixture.{Mixture, migration_of}
-use Rattle.igp_theory.specs.Migrations.{Migration, started}
-use Rattle.igp_theory.specs.Phases.{State}
+use Rattle.igp_theory.specs.Migrations.{Migration}
 use Rattle.igp_theory.proofs.ListedStates.{replicated_old}
 use Rattle.igp_theory.specs.declared.phase.Phase.{Phase}
 use Rattle.igp_theory.specs.declared.phase.Phase.TheVariants.{Old}
@@ -52,5 +52,4 @@ pair_more base i d within = ap (λ (place : List Pair). place ∷ []) (sym (take
 -- so a migration from that start is the one from all Old
 pub old_started : {O N : Type 0} (old : O → ℕ → List (Block × Entry)) (new : N → ℕ → List (Block × Entry)) (m : Mixture O N) (phases : List Phase) (n : ℕ) →
     phases ≡ replicate n Old → started_of old new m phases ≡ migration_of old new m
-old_started old new m phases n is =
-    ap (λ (start : State). started start (migration_of old new m)) (replicated_old phases n is)
+old_started old new m phases n is = grind (arith, common_steps, replicated_old)

@@ -1,6 +1,7 @@
 -- What a filter keeps, and words joined with a blank before each.
+use Rattle.std.proofs.lemmas.Grind.{common_steps}
 use Rattle.std.proofs.Common.{◌≡◌, ℕ, zero, suc, ◌+◌, ◌<◌, ◌≤◌, Bool, true, false, cond, List, [], ◌∷◌, ◌++◌, length, get_or, take, map}
-use Rattle.std.proofs.Common.{arith, refl, sym, ap, ◌∙◌, append_assoc, subst}
+use Rattle.std.proofs.Common.{arith, refl, sym, ◌∙◌, subst}
 use Rattle.std.specs.List.{All, filter}
 use Rattle.std.proofs.lemmas.List.{take_all, take_more, length-map, map-append, append-nil}
 use Rattle.std.proofs.lemmas.List.Concat.{flat_map-append}
@@ -12,10 +13,7 @@ use Rattle.printed_lines.specs.Words.{spaced}
 use Rattle.printed_lines.proofs.TextSteps.{last_line, text_of-append}
 
 kept : {A : Type 0} (p : A → Bool) (x : A) (xs : List A) (b : Bool) → p x ≡ b → length (filter p (x ∷ xs)) ≡ cond b 1 0 + length (filter p xs)
-kept p x xs true e = let one : suc (length (filter p xs)) ≡ 1 + length (filter p xs) = omega arith in ap
-    (λ (c : Bool). length (cond c (x ∷ filter p xs) (filter p xs))) e ∙ one
-kept p x xs false e = let none : length (filter p xs) ≡ 0 + length (filter p xs) = omega arith in ap
-    (λ (c : Bool). length (cond c (x ∷ filter p xs) (filter p xs))) e ∙ none
+kept p x xs b e = grind (arith, common_steps)
 
 -- an item that passes is kept
 pub some_kept : {A : Type 0} (p : A → Bool) (xs : List A) (k : ℕ) (d : A) → k < length xs → p (get_or xs k d) ≡ true → 0 < length (filter p xs)
@@ -45,29 +43,11 @@ pub spaced_more : {A : Type 0} (word : A → List ℕ) (xs : List A) (i : ℕ) (
     line ≡ start ++ spaced (map word (take i xs))
     → line ++ 32 ∷ word (get_or xs i d) ≡ start ++ spaced (map word (take (i + 1) xs))
 spaced_more {A} word xs i d start line within so_far =
-    let front = take i xs in
-    let x = get_or xs i d in
-    let more : spaced (map word (take (i + 1) xs)) ≡ spaced (map word front) ++ 32 ∷ word x =
-    ap (λ (l : List A). spaced (map word l)) (take_more xs i d within)
-    ∙ ap spaced (map-append word front (x ∷ []))
-    ∙ flat_map-append (λ (w : List ℕ). 32 ∷ w) (map word front) (word x ∷ [])
-    ∙ ap (λ (l : List ℕ). spaced (map word front) ++ 32 ∷ l) (append-nil (word x)) in
-    ap (λ (l : List ℕ). l ++ 32 ∷ word x) so_far
-    ∙ append_assoc start (spaced (map word front)) (32 ∷ word x)
-    ∙ ap (λ (l : List ℕ). start ++ l) (sym more)
+    grind (arith, common_steps, append-nil, flat_map-append, map-append, take_more)
 
 -- one line more
 pub text_more : {A : Type 0} (line : A → List ℕ) (xs : List A) (i : ℕ) (d : A) (start text : List ℕ) → i < length xs →
     text ≡ start ++ text_of (map line (take i xs))
     → (text ++ line (get_or xs i d)) ++ 10 ∷ [] ≡ start ++ text_of (map line (take (i + 1) xs))
 text_more {A} line xs i d start text within so_far =
-    let front : List (List ℕ) = map line (take i xs) in
-    let last : List ℕ = line (get_or xs i d) in
-    let more : text_of (map line (take (i + 1) xs)) ≡ text_of front ++ text_of (last ∷ []) =
-    ap (λ (l : List A). text_of (map line l)) (take_more xs i d within)
-    ∙ ap text_of (map-append line (take i xs) (get_or xs i d ∷ []))
-    ∙ text_of-append front (last ∷ []) in
-    last_line text last last refl
-    ∙ ap (λ (l : List ℕ). l ++ text_of (last ∷ [])) so_far
-    ∙ append_assoc start (text_of front) (text_of (last ∷ []))
-    ∙ ap (λ (l : List ℕ). start ++ l) (sym more)
+    grind (arith, common_steps, last_line, map-append, take_more, text_of-append)

@@ -1,4 +1,5 @@
 -- The way down and up a path: one branch deeper, past a last child, on to a next child.
+use Rattle.std.proofs.lemmas.Grind.{common_steps}
 use Rattle.std.proofs.Common.{◌≡◌, ℕ, ◌-◌, ◌<◌, Bool, List, [], ◌∷◌, ◌++◌, length, get_or, take, drop, map, reverse, All, Contains}
 use Rattle.std.proofs.Common.{cond, arith, sym, ap, ◌∙◌, subst, length-append}
 use Rattle.std.proofs.lemmas.List.{get_or_append_left}
@@ -47,21 +48,14 @@ children_below n turns below = λ k d within. each (get_or (child_pairs turns) k
 pub deeper : (n : ℕ) (pairs after : List Pair) (cursors more : List (List Pair)) (c : List Pair) → GoesAlong n pairs cursors →
     0 < length c → AreBelow n c →
     after ≡ pairs ++ take 1 c → more ≡ cursors ++ c ∷ [] → GoesAlong n after more
-deeper n pairs after cursors more c goes some below assumed pushed = record {
-  along = assumed ∙ ap (λ (l : List Pair). l ++ take 1 c) goes.along ∙ sym (along_more c (reverse cursors) some)
-      ∙ ap pairs_along (sym (ap (λ (l : List (List Pair)). reverse l) pushed ∙ reverse-push cursors c));
-  below = subst (λ (l : List (List Pair)). All (λ (left : List Pair). AreBelow n left) l) (sym pushed)
-      (All-push (λ (left : List Pair). AreBelow n left) cursors c goes.below below);
-}
+deeper n pairs after cursors more c goes some below assumed pushed =
+    grind (arith, common_steps, All-push, along_more, reverse-push)
 
 pub deeper_left : (is_open : Bool) (cursors more : List (List Pair)) (c children : List Pair) (place : Place) (left : List Place) → c ≡ children →
     0 < length c → more ≡ cursors ++ c ∷ []
     → cond is_open (places_from (reverse cursors)) [] ≡ place ∷ left →
     cond is_open (places_from (reverse more)) [] ≡ map (λ (p : Pair). place ++ p ∷ []) children ++ left
-deeper_left is_open cursors more c children place left is some pushed first =
-    ap (λ (l : List (List Pair)). cond is_open (places_from l) []) (ap (λ (l : List (List Pair)). reverse l) pushed ∙ reverse-push cursors c)
-    ∙ entered is_open c (reverse cursors) place left some first
-    ∙ ap (λ (l : List Pair). map (λ (p : Pair). place ++ p ∷ []) l ++ left) is
+deeper_left is_open cursors more c children place left is some pushed first = grind (arith, common_steps, entered, reverse-push)
 
 module _ (n : ℕ) (pairs : List Pair) (cursors fewer first : List (List Pair)) (c : List Pair) (way : IsWayUp n pairs cursors first)
     (popped : cursors ≡ fewer ++ c ∷ []) (some : 0 < length c) where

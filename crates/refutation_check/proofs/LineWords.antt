@@ -1,5 +1,6 @@
 -- Words joined by one blank each.
-use Rattle.std.proofs.Common.{◌≡◌, ◌≢◌, ℕ, suc, ◌+◌, ◌<◌, ◌≤◌, Bool, cond, ltb, List, [], ◌∷◌, length, arith, refl, sym, ap}
+use Rattle.std.proofs.lemmas.Grind.{common_steps}
+use Rattle.std.proofs.Common.{◌≡◌, ◌≢◌, ℕ, ◌+◌, ◌<◌, ◌≤◌, ltb, List, [], ◌∷◌, length, arith, refl, sym, ap}
 use Rattle.std.proofs.Common.{◌∙◌, subst}
 use Rattle.std.specs.List.{filter, count_by}
 use Rattle.std.proofs.lemmas.Bool.Decides.{Decides-ltb}
@@ -14,9 +15,7 @@ abbrev filled : List (List ℕ) → List (List ℕ)
 filled pieces = filter (λ (piece : List ℕ). ltb 0 (length piece)) pieces
 
 filled-cons : (b : ℕ) (piece : List ℕ) (pieces : List (List ℕ)) → filled ((b ∷ piece) ∷ pieces) ≡ (b ∷ piece) ∷ filled pieces
-filled-cons b piece pieces =
-    let some : 0 < suc (length piece) = omega arith in
-    ap (λ (c : Bool). cond c ((b ∷ piece) ∷ filled pieces) (filled pieces)) ((Decides-ltb 0 (suc (length piece))).1 some)
+filled-cons b piece pieces = grind (arith, common_steps, Decides-ltb)
 
 filled-few : (pieces : List (List ℕ)) → length (filled pieces) ≤ length pieces
 filled-few [] = omega arith

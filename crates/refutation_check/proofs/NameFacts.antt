@@ -1,6 +1,7 @@
 -- Words that say distinct routers, one by one: one more, and where no further one is said.
+use Rattle.std.proofs.lemmas.Grind.{common_steps}
 use Rattle.std.proofs.Common.{◌≡◌, ◌≢◌, ℕ, zero, suc, ◌+◌, ◌-◌, ◌<◌, List, [], ◌∷◌, ◌++◌, length, get_or, take, map}
-use Rattle.std.proofs.Common.{Contains, AllPairs, arith, sym, ap, ◌∙◌, subst, length-append}
+use Rattle.std.proofs.Common.{Contains, AllPairs, arith, sym, ◌∙◌, subst}
 use Rattle.std.specs.List.{AllZip}
 use Rattle.std.proofs.lemmas.List.{take_more, take_at, get_or-take, get_or-map, get_or_default, length-map, length-take-le, map-id}
 use Rattle.std.proofs.lemmas.List.Quantifiers.{all_pairs_push}
@@ -15,7 +16,7 @@ use Rattle.order_core.specs.declared.turn.Turn.{Turn}
 use Rattle.plan_theory.specs.declared.items.Items.{Items}
 use Rattle.plan_theory.specs.Numbers.{NamesNumber}
 use Rattle.plan_theory.proofs.NumberWords.{NamesNumber-unique}
-use Rattle.refutation_check.specs.TreeLines.{IsEntry, IsSomeEntry, SaysTurn, letter_of}
+use Rattle.refutation_check.specs.TreeLines.{IsEntry, IsSomeEntry, SaysTurn}
 use Rattle.refutation_check.specs.steps.Names.{SayTurns, NameNumbers, IsFurtherTurn, IsFurtherNumber, SaysNoFurtherTurn, NamesNoFurtherNumber}
 
 -- what is related to an item at a place
@@ -49,10 +50,7 @@ no_further R key same words front others i d within said all distinct known =
 
 -- a name is what stands before the colon and the letter
 entry_name : (word name : List ℕ) (tag : Tag) → IsEntry word name tag → name ≡ take (length word - 2) word
-entry_name word name tag is =
-    let long : length name ≡ length word - 2 =
-    omega (arith, ap (λ (l : List ℕ). length l) is.written, length-append name (58 ∷ letter_of tag ∷ [])) in
-    sym (ap (λ (l : List ℕ). take (length word - 2) l) is.written ∙ take_at name (58 ∷ letter_of tag ∷ []) (length word - 2) long)
+entry_name word name tag is = grind (arith, common_steps, take_at)
 
 pub one_name : (word one two : List ℕ) (s t : Tag) → IsEntry word one s → IsEntry word two t → one ≡ two
 one_name word one two s t first second = entry_name word one s first ∙ sym (entry_name word two t second)

@@ -1,4 +1,5 @@
 -- A text has one verdict. Each verdict tells how far the lines are right, and two of them tell it alike: where one goes on, no line is wrong.
+use Rattle.std.proofs.lemmas.Grind.{common_steps}
 use Rattle.std.proofs.Common.{◌≡◌, ℕ, ◌+◌, ◌-◌, ◌<◌, List, [], ◌∷◌, ◌++◌, length, get_or, map, take, All, ⊎_elim, arith, refl, sym, ap, ◌∙◌}
 use Rattle.std.proofs.Common.{subst, length-append}
 use Rattle.std.specs.List.{AllZip}
@@ -134,13 +135,7 @@ abbrev by_number : List WrongKind
 by_number = Form ∷ Form ∷ Router ∷ Address ∷ Originator ∷ Step ∷ OneSided ∷ NotAssumed ∷ []
 
 is_numbered : (k : WrongKind) → get_or by_number (kind_number k) Form ≡ k
-is_numbered Form = refl
-is_numbered Router = refl
-is_numbered Address = refl
-is_numbered Originator = refl
-is_numbered Step = refl
-is_numbered OneSided = refl
-is_numbered NotAssumed = refl
+is_numbered k = grind (arith, common_steps)
 
 one_kind : (k l : WrongKind) → kind_number k ≡ kind_number l → k ≡ l
 one_kind k l e = sym (is_numbered k) ∙ ap (λ (n : ℕ). get_or by_number n Form) e ∙ is_numbered l

@@ -1,7 +1,8 @@
 -- How often pairs are assumed.
+use Rattle.std.proofs.lemmas.Grind.{common_steps}
 use Rattle.std.proofs.Common.{◌≡◌, ◌≢◌, ℕ, ◌+◌, ◌*◌, ◌-◌, ◌<◌, ◌≤◌, ◌⊎◌, ◌↔◌, inl, inr, Bool, true, false}
-use Rattle.std.proofs.Common.{cond, eqb, ◌&&◌, List, [], ◌∷◌, ◌++◌, length, length-append, get_or, set, Contains, arith, refl, sym, ap}
-use Rattle.std.proofs.Common.{◌∙◌, subst, eqb-true, eq-eqb}
+use Rattle.std.proofs.Common.{cond, eqb, List, [], ◌∷◌, ◌++◌, length, length-append, get_or, set, Contains, arith, refl, sym, ap}
+use Rattle.std.proofs.Common.{◌∙◌, subst}
 use Rattle.std.proofs.lemmas.Bool.{false≢true}
 use Rattle.std.proofs.lemmas.List.{get_or_append_left, get_or_read, get_or-set_same, get_or-set_other, length-set}
 use Rattle.std.proofs.lemmas.List.Elements.{All-contains, Contains-push}
@@ -23,18 +24,7 @@ abbrev TellsPair : ℕ → ℕ → Pair → Type 0
 TellsPair u v p = ((is_pair u v p ≡ true) × (p ≡ pair_of u v)) ⊎ ((is_pair u v p ≡ false) × (p ≢ pair_of u v))
 
 is_pair_cases : (u v : ℕ) (p : Pair) (a b : Bool) → eqb p.0 u ≡ a → eqb p.1 v ≡ b → TellsPair u v p
-is_pair_cases u v p true true e f = inl (
-  ap (λ (x : Bool). x && eqb p.1 v) e ∙ f,
-  ap (λ (x : ℕ). pair_of x p.1) (eqb-true p.0 u e) ∙ ap (λ (y : ℕ). pair_of u y) (eqb-true p.1 v f),
-)
-is_pair_cases u v p true false e f = inr (
-  ap (λ (x : Bool). x && eqb p.1 v) e ∙ f,
-  λ same. false≢true (sym f ∙ eq-eqb p.1 v (ap (λ (q : Pair). q.1) same)),
-)
-is_pair_cases u v p false b e f = inr (
-  ap (λ (x : Bool). x && eqb p.1 v) e,
-  λ same. false≢true (sym e ∙ eq-eqb p.0 u (ap (λ (q : Pair). q.0) same)),
-)
+is_pair_cases u v p a b e f = grind (arith, common_steps, false≢true)
 
 pub pair_cases : (u v : ℕ) (p : Pair) → TellsPair u v p
 pair_cases u v p = is_pair_cases u v p (eqb p.0 u) (eqb p.1 v) refl refl
@@ -143,9 +133,7 @@ counted_last n pairs counts a b a_in b_in are = omega (arith, times-push pairs (
 
 read_at : (n a b place r : ℕ) (counts : List ℕ) (pairs : List Pair) → a < n → b < n → place ≡ a * n + b → r ≡ get_or counts place r →
     ArePairCounts n pairs counts → r ≡ get_or counts (a * n + b) 0
-read_at n a b place r counts pairs a_in b_in at read are =
-    let within : place < length counts = omega (arith, mul-add-lt a n b n a_in b_in, are.many, at) in
-    get_or_read counts place r within read 0 ∙ ap (λ (k : ℕ). get_or counts k 0) at
+read_at n a b place r counts pairs a_in b_in at read are = grind (arith, common_steps, get_or_read, mul-add-lt)
 
 pub few_at : (n a b place r : ℕ) (counts : List ℕ) (pairs : List Pair) → a < n → b < n → place ≡ a * n + b → r ≡ get_or counts place r →
     ArePairCounts n pairs counts → r ≤ length pairs
@@ -183,8 +171,7 @@ held_at n a b place r counts pairs a_in b_in at read are =
 
 -- pairs of routers below a number, and the last of them taken off
 pub below_last : (n : ℕ) (pairs front : List Pair) (p : Pair) → pairs ≡ front ++ p ∷ [] → AreBelow n pairs → (p.0 < n) × (p.1 < n)
-below_last n pairs front p e below =
-    All-contains (λ (q : Pair). (q.0 < n) × (q.1 < n)) pairs p below (subst (λ (l : List Pair). Contains l p) (sym e) (Contains-push front p))
+below_last n pairs front p e below = grind (arith, common_steps, All-contains, Contains-push)
 
 pub below_front : (n : ℕ) (pairs front : List Pair) (p : Pair) → pairs ≡ front ++ p ∷ [] → AreBelow n pairs → AreBelow n front
 below_front n pairs front p e below = λ k d within.

@@ -1,5 +1,6 @@
 -- A printed tree reads back.
-use Rattle.std.proofs.Common.{◌≡◌, ◌≢◌, ℕ, ◌+◌, ◌*◌, ◌/◌, ◌%◌, ◌^◌, ◌<◌, Bool, true, false, ◌||◌, eqb, List, [], ◌∷◌, ◌++◌, length, get_or, map, codes}
+use Rattle.std.proofs.lemmas.Grind.{common_steps}
+use Rattle.std.proofs.Common.{◌≡◌, ◌≢◌, ℕ, ◌+◌, ◌*◌, ◌/◌, ◌%◌, ◌^◌, ◌<◌, Bool, true, false, eqb, List, [], ◌∷◌, ◌++◌, length, get_or, map, codes}
 use Rattle.std.proofs.Common.{arith, refl, sym, ap, ◌∙◌, subst}
 use Rattle.std.specs.List.{All, AllZip, slice_split}
 use Rattle.std.proofs.lemmas.Bool.Decides.{Decides-eqb}
@@ -15,7 +16,6 @@ use Rattle.net_model.specs.Refusals.{IsNetwork}
 use Rattle.net_model.specs.RouterNames.{names_of}
 use Rattle.net_model.proofs.NetworkFacts.{HasConfiguration-keeps}
 use Rattle.order_core.specs.declared.turn.Tag.{Tag}
-use Rattle.order_core.specs.declared.turn.Tag.TheVariants.{Old, New, Both}
 use Rattle.order_core.specs.declared.turn.Turn.{Turn}
 use Rattle.order_search.specs.declared.tree.Node.{Node}
 use Rattle.order_search.specs.declared.tree.Node.TheVariants.{Branch, Leaf, Unvisited}
@@ -43,10 +43,7 @@ other_byte a b apart = by_test (eqb a b) (Decides-eqb a b).0
     by_test false is = refl
 
 no_blanks : (word : List ℕ) → IsPrintedWord word → All (λ b. is_blank b ≡ false) word
-no_blanks word fine =
-    All-weaker IsWordByte (λ b. is_blank b ≡ false) (λ b is. ap (λ (t : Bool). t || eqb b 9) (other_byte b 32 is.no_space)
-    ∙ other_byte b 9 is.no_tab) word
-    fine.bytes
+no_blanks word fine = grind (arith, common_steps, All-weaker, other_byte)
 
 pieces-joined : (word : List ℕ) (more : List (List ℕ)) → IsPrintedWord word → All IsPrintedWord more →
     slice_split is_blank (word ++ spaced more) ≡ word ∷ more
@@ -68,9 +65,7 @@ name_byte b is = IsWordByte-above_blank b (above is)
     above x = grind arith
 
 letter_byte : (t : Tag) → IsPrintedWord (letter_of t ∷ [])
-letter_byte Old = record { some = omega arith; bytes = All-cons IsWordByte 79 [] (IsWordByte-above_blank 79 (omega arith)) (All-nil IsWordByte) }
-letter_byte New = record { some = omega arith; bytes = All-cons IsWordByte 78 [] (IsWordByte-above_blank 78 (omega arith)) (All-nil IsWordByte) }
-letter_byte Both = record { some = omega arith; bytes = All-cons IsWordByte 66 [] (IsWordByte-above_blank 66 (omega arith)) (All-nil IsWordByte) }
+letter_byte t = grind (arith, common_steps, All-cons, All-nil, IsWordByte-above_blank)
 
 -- words of bytes above the blank
 pub above_blank : (word : List ℕ) → 0 < length word → All (λ b. 32 < b) word → IsPrintedWord word
@@ -101,15 +96,11 @@ name_word net network u within =
 
 -- the router of a number below their count is one of the network
 router_below : (items : Items) (n number : ℕ) → number < size_of items n → ranked_router items number < n
-router_below Routers n number below = below
-router_below Changes n number below = omega (arith, below)
+router_below items n number below = grind (arith, common_steps)
 
 -- the digit of a change is a word
 pub digit_word : (c : ℕ) → IsPrintedWord ((48 + c) ∷ [])
-digit_word c = record {
-  some = omega arith;
-  bytes = All-cons IsWordByte (48 + c) [] (IsWordByte-above_blank (48 + c) (omega arith)) (All-nil IsWordByte);
-}
+digit_word c = grind (arith, common_steps, All-cons, All-nil, IsWordByte-above_blank)
 
 module _ (net : Network) (network : IsNetwork net) where
   -- what a leaf says of a number is a word of its form, and names it
@@ -195,8 +186,7 @@ open_is_word = above_blank (codes "open") (omega arith) (grind arith)
 
 -- a branch that reads back is of an address, and a leaf of distinct numbers
 address_fits : (items : Items) (a : ℕ) (turns : List Turn) → IsPrintedNode (as_said items (Branch a turns)) → a < 2 ^ 32
-address_fits Routers a turns made = made.0
-address_fits Changes a turns made = made.0
+address_fits items a turns made = grind (arith, common_steps)
 
 module _ (net : Network) (network : IsNetwork net) (items : Items) where
   -- the words of a node are words
@@ -302,12 +292,7 @@ two_is_word : IsPrintedWord (codes "2")
 two_is_word = above_blank (codes "2") (omega arith) (grind arith)
 
 header_is : (items : Items) → IsPrintedLine (tree_header_of items)
-header_is Routers =
-    (words_make_lines (codes "tree" ∷ codes "1" ∷ [])
-    (All-cons IsPrintedWord (codes "tree") (codes "1" ∷ []) tree_is_word (All-cons IsPrintedWord (codes "1") [] one_is_word (All-nil IsPrintedWord)))).0
-header_is Changes =
-    (words_make_lines (codes "tree" ∷ codes "2" ∷ [])
-    (All-cons IsPrintedWord (codes "tree") (codes "2" ∷ []) tree_is_word (All-cons IsPrintedWord (codes "2") [] two_is_word (All-nil IsPrintedWord)))).0
+header_is items = grind (arith, common_steps, All-cons, All-nil, one_is_word, tree_is_word, two_is_word, words_make_lines)
 
 pub trees_read_back : (items : Items) (net : Network) (nodes : List Node) → IsNetwork net → All (NodeBelow (size_of items (length net))) nodes →
     All (λ node. IsPrintedNode (as_said items node)) nodes → ReadsAsNodes items net (ranked_tree_text items (names_of net) nodes) nodes

@@ -1,4 +1,5 @@
 -- How far a tree file has been read: one line more, and what the first wrong line is.
+use Rattle.std.proofs.lemmas.Grind.{common_steps}
 use Rattle.std.proofs.Common.{◌≡◌, ℕ, ◌+◌, ◌<◌, ◌≤◌, List, [], ◌∷◌, ◌++◌, length, get_or, take, drop, map}
 use Rattle.std.proofs.Common.{arith, refl, sym, ap, ◌∙◌, subst}
 use Rattle.std.specs.List.{All, AllZip}
@@ -80,9 +81,7 @@ all_visited (Unvisited ∷ nodes) none = absurd (omega (arith, none))
 -- how many lines were read
 pub read_long : (items : Items) (move : Migration) (lines : List (List ℕ)) (reading : Reading) (i : ℕ) → i ≤ length lines →
     (read : HasReadLines items move (take i lines) reading) → length read.nodes ≡ i
-read_long items move lines reading i within read =
-    AllZip-long (λ (line : List ℕ) (node : Node). SaysNode items move.net (pieces_of line) (as_said items node)) (take i lines) read.nodes read.right.said
-    ∙ length-take-le i lines within
+read_long items move lines reading i within read = grind (arith, common_steps, AllZip-long, length-take-le)
 
 -- One line more
 
@@ -167,20 +166,7 @@ wrong_end items move lines reading read left_some = by_left reading.walk.left re
 pub whole_is : (items : Items) (move : Migration) (first : ℕ) (lines : List (List ℕ)) (reading : Reading) (verdict : Verdict) →
     HasReadLines items move lines reading → reading.walk.left ≡ []
     → IsWholeVerdict reading.tally verdict → IsLinesVerdict items move first lines verdict
-whole_is items move first lines reading (Closed branches leaves) read whole w = record {
-  nodes = read.nodes;
-  right = subst (λ (ps : List Place). AreRightLines items move lines read.nodes ps) whole read.right;
-  visited = all_visited read.nodes (sym read.counted.unvisited ∙ w.0);
-  branches_are = w.1 ∙ read.counted.branches;
-  leaves_are = w.2 ∙ read.counted.leaves;
-}
-whole_is items move first lines reading (Unfinished unvisited) read whole w = record {
-  nodes = read.nodes;
-  right = subst (λ (ps : List Place). AreRightLines items move lines read.nodes ps) whole read.right;
-  some = w.0;
-  unvisited_are = w.1 ∙ read.counted.unvisited;
-}
-whole_is items move first lines reading (Wrong line kind) read whole w = absurd w
+whole_is items move first lines reading verdict read whole w = grind (arith, common_steps, all_visited)
 
 -- A line that isn't taken
 
@@ -232,36 +218,30 @@ module _ (items : Items) (move : Migration) (network : IsNetwork move.net) (plac
 -- what came of a node at the first open place
 pub taken_there : (items : Items) (move : Migration) (places after : List Place) (said : Node) → ¬ (places ≡ []) →
     ((place : Place) (left : List Place) → places ≡ place ∷ left → IsTaken items move (place ∷ left) after said) → IsTaken items move places after said
-taken_there items move [] after said some taken = absurd (some refl)
-taken_there items move (place ∷ left) after said some taken = taken place left refl
+taken_there items move places after said some taken = grind (arith, common_steps)
 
 pub not_there : (items : Items) (move : Migration) (places : List Place) (line : List ℕ) (kind : WrongKind) → ¬ (places ≡ [])
     → ((place : Place) (left : List Place) → places ≡ place ∷ left → IsLowestKind (WrongWords items move place (pieces_of line)) kind) →
     IsNotTaken items move places line kind
-not_there items move [] line kind some wrong = absurd (some refl)
-not_there items move (place ∷ left) line kind some wrong = wrong place left refl
+not_there items move places line kind some wrong = grind (arith, common_steps)
 
 -- what came of a node, where it is a branch, a leaf or an unvisited place
 
 -- a branch by the routers of its turns
 branch_said : (items : Items) (move : Migration) (a : ℕ) (turns numbered : List Turn) → (ranked items move).ring numbered ≡ turns →
     as_said items (Branch a numbered) ≡ Branch a turns
-branch_said Routers move a turns numbered is = ap (λ (l : List Turn). Branch a l) is
-branch_said Changes move a turns numbered is = ap (λ (l : List Turn). Branch a l) is
+branch_said items move a turns numbered is = grind (arith, common_steps)
 
 leaf_said : (items : Items) (cycle : List ℕ) → as_said items (Leaf cycle) ≡ Leaf cycle
-leaf_said Routers cycle = refl
-leaf_said Changes cycle = refl
+leaf_said items cycle = grind (arith, common_steps)
 
 open_said : (items : Items) → as_said items Unvisited ≡ Unvisited
-open_said Routers = refl
-open_said Changes = refl
+open_said items = grind (arith, common_steps)
 
 -- the numbers of turns have their tags
 pub numbers_have_both : (items : Items) (move : Migration) (turns numbered : List Turn) → (ranked items move).ring numbered ≡ turns →
     HasBothTags turns → HasBothTags numbered
-numbers_have_both Routers move turns numbered same both = subst HasBothTags (sym same) both
-numbers_have_both Changes move turns numbered same both = both_of_map by_router (λ t. refl) numbered (subst HasBothTags (sym same) both)
+numbers_have_both items move turns numbered same both = grind (arith, common_steps, both_of_map)
 
 pub branch_taken : (items : Items) (move : Migration) (place : Place) (left after : List Place) (node : Node) (a : ℕ)
     (turns shown named numbered : List Turn) →
@@ -298,24 +278,14 @@ leaf_taken items move place left after node cycle shown is shows ringed round be
 
 pub open_taken : (items : Items) (move : Migration) (place : Place) (left after : List Place) (node : Node) → node ≡ Unvisited → after ≡ left →
     IsTaken items move (place ∷ left) after node
-open_taken items move place left after node is behind =
-    subst (λ (n : Node). IsTaken items move (place ∷ left) after n) (sym is)
-    (record { node = Unvisited; is_said = open_said items; right = tt; below = behind })
+open_taken items move place left after node is behind = grind (arith, common_steps, open_said)
 
 -- The end of a text
 
 -- before the first line nothing is read
 pub read_none : (items : Items) (move : Migration) (reading : Reading) → reading.walk.left ≡ base_of items (length move.net) ∷ [] →
     reading.tally ≡ record { branches = 0; leaves = 0; unvisited = 0 } → HasReadLines items move [] reading
-read_none items move reading left tally = record {
-  nodes = [];
-  right = record { said = tt; fills = sym left };
-  counted = record {
-    branches = ap (λ (t : Tally). t.branches) tally;
-    leaves = ap (λ (t : Tally). t.leaves) tally;
-    unvisited = ap (λ (t : Tally). t.unvisited) tally;
-  };
-}
+read_none items move reading left tally = grind (arith, common_steps)
 
 -- the verdict behind the last line
 pub end_is : (items : Items) (move : Migration) (first : ℕ) (lines : List (List ℕ)) (reading : Reading) (next : ℕ) (verdict : Verdict) →
@@ -334,5 +304,4 @@ end_is items move first lines reading next (Wrong line kind) read n w = record {
 -- the verdict where a line is wrong
 pub wrong_from : (items : Items) (move : Migration) (first : ℕ) (lines : List (List ℕ)) (found : WrongLine) (verdict : Verdict) →
     verdict ≡ Wrong (found.place + first) found.kind → IsFirstWrongOf items move lines found → IsLinesVerdict items move first lines verdict
-wrong_from items move first lines found verdict is wrong =
-    subst (IsLinesVerdict items move first lines) (sym is) (record { place = found.place; line_is = refl; wrong = wrong })
+wrong_from items move first lines found verdict is wrong = grind (arith, common_steps)

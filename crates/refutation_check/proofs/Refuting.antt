@@ -1,5 +1,7 @@
 -- A closed tree whose branches are loops of the network refutes every ranking, and every list of the changes.
-use Rattle.std.proofs.Common.{◌≡◌, ℕ, List, [], ◌∷◌, length, refl, sym, subst}
+use Rattle.std.proofs.Common.{arith}
+use Rattle.std.proofs.lemmas.Grind.{common_steps}
+use Rattle.std.proofs.Common.{◌≡◌, ℕ, List, [], ◌∷◌, length, sym, subst}
 use Rattle.igp_theory.specs.LoopLaws.{BeginsOld}
 use Rattle.igp_theory.specs.Migrations.{Migration}
 use Rattle.order_core.specs.Pairs.{Pair}
@@ -9,7 +11,7 @@ use Rattle.plan_theory.specs.Laws.{HasNoneSound}
 use Rattle.plan_theory.specs.Ranked.{CanRank, base_of, ranked}
 use Rattle.plan_theory.specs.WavesMeaning.{night_meaning}
 use Rattle.plan_theory.specs.declared.items.Items.{Items}
-use Rattle.plan_theory.specs.declared.items.Items.TheVariants.{Routers, Changes}
+use Rattle.plan_theory.specs.declared.items.Items.TheVariants.{Routers}
 use Rattle.plan_theory.proofs.Decided.{rankings_decided}
 use Rattle.plan_theory.proofs.ItemsServe.{items_ask, items_serve}
 use Rattle.plan_theory.proofs.Meaning.{none_seamless, none_without_rankings}
@@ -19,8 +21,7 @@ use Rattle.refutation_check.specs.declared.verdict.Verdict.TheVariants.{Closed, 
 
 -- what a search asks begins with the pairs that every ranking keeps
 pub asked_base : (items : Items) (move : Migration) → (night_meaning items move).base ≡ base_of items (length move.net)
-asked_base Routers move = refl
-asked_base Changes move = refl
+asked_base items move = grind (arith, common_steps)
 
 module _ (items : Items) (move : Migration) (can : CanRank items move) where
   -- no ranking is good, since loops decide which ones are
@@ -43,9 +44,7 @@ module _ (items : Items) (move : Migration) (can : CanRank items move) where
 
 -- where routers are ranked and every one begins in Old, no wave list and no order is seamless
 refutes_old : (move : Migration) (verdict : Verdict) → BeginsOld move → LeavesNoneWhereClosed Routers move verdict → RefutesWhereClosed move verdict
-refutes_old move (Closed branches leaves) begins none = none_seamless move begins none
-refutes_old move (Unfinished unvisited) begins none = tt
-refutes_old move (Wrong line kind) begins none = tt
+refutes_old move verdict begins none = grind (arith, common_steps, none_seamless)
 
 pub verdict_refutes : (move : Migration) (text : List ℕ) (verdict : Verdict) → BeginsOld move → IsTextVerdict move text verdict →
     RefutesWhereClosed move verdict

@@ -1,4 +1,5 @@
 -- Tree files from a start: what a closed one means, that a text has one verdict, and that what is printed reads back.
+use Rattle.std.proofs.lemmas.Grind.{common_steps}
 use Rattle.std.proofs.Common.{◌≡◌, ℕ, ◌+◌, List, [], ◌∷◌, length, get_or, map, codes, arith, refl, sym, ap, ◌∙◌, subst}
 use Rattle.std.specs.List.{All, AllZip}
 use Rattle.std.proofs.lemmas.List.Elements.{All-cons, All-map, All-nil, All-weaker}
@@ -25,7 +26,7 @@ use Rattle.refutation_check.specs.TreeTexts.{IsPrintedNode, NodeBelow, node_line
 use Rattle.refutation_check.specs.Verdicts.{AreRightLines, IsLinesVerdict}
 use Rattle.refutation_check.specs.WrongLines.{IsLowestKind}
 use Rattle.refutation_check.specs.declared.verdict.Verdict.{Verdict}
-use Rattle.refutation_check.specs.declared.verdict.Verdict.TheVariants.{Closed, Unfinished, Wrong}
+use Rattle.refutation_check.specs.declared.verdict.Verdict.TheVariants.{Closed, Wrong}
 use Rattle.refutation_check.specs.declared.verdict.WrongKind.{WrongKind}
 use Rattle.refutation_check.proofs.DoneWords.{done_all, many_names, one_start, says_right}
 use Rattle.refutation_check.proofs.OneVerdict.{one_lines_verdict, one_lowest}
@@ -49,10 +50,7 @@ started_refutes move lines branches leaves (from_start start verdict begins) = r
 }
 
 pub rest_refutes : (move : Migration) (text : List ℕ) (verdict : Verdict) → IsRestVerdict move text verdict → LeavesNoRestWhereClosed move text verdict
-rest_refutes move text (Closed branches leaves) (behind_rest_header verdict is) =
-    record { lines = is.lines; text_is = is.text_is; holds = started_refutes move is.lines branches leaves is.holds }
-rest_refutes move text (Unfinished unvisited) is = tt
-rest_refutes move text (Wrong line kind) is = tt
+rest_refutes move text verdict is = grind (arith, common_steps, started_refutes)
 
 -- One verdict
 
@@ -117,9 +115,7 @@ start_is_word : IsPrintedWord (codes "start")
 start_is_word = above_blank (codes "start") (omega arith) (grind arith)
 
 header_is_line : IsPrintedLine rest_tree_header
-header_is_line =
-    (words_make_lines (codes "tree" ∷ codes "3" ∷ [])
-    (All-cons IsPrintedWord (codes "tree") (codes "3" ∷ []) tree_is_word (All-cons IsPrintedWord (codes "3") [] three_is_word (All-nil IsPrintedWord)))).0
+header_is_line = grind (arith, common_steps, All-cons, All-nil, three_is_word, tree_is_word, words_make_lines)
 
 module _ (net : Network) (network : IsNetwork net) (start : List Phase) where
   words_are : All IsPrintedWord (start_words (names_of net) start)
@@ -159,11 +155,7 @@ module _ (net : Network) (network : IsNetwork net) (start : List Phase) where
 -- nodes that fill a tree have the verdict of their counts
 whole_verdict : (move : Migration) (lines : List (List ℕ)) (nodes : List Node) (verdict : Verdict) → AreRightLines Routers move lines nodes [] →
     IsWholeTree nodes verdict → IsLinesVerdict Routers move 3 lines verdict
-whole_verdict move lines nodes (Closed branches leaves) right whole =
-    record { nodes = nodes; right = right; visited = whole.0; branches_are = whole.1; leaves_are = whole.2 }
-whole_verdict move lines nodes (Unfinished unvisited) right whole =
-    record { nodes = nodes; right = right; some = whole.0; unvisited_are = whole.1 }
-whole_verdict move lines nodes (Wrong line kind) right whole = absurd whole
+whole_verdict move lines nodes verdict right whole = grind (arith, common_steps)
 
 pub rest_reads_back : (move : Migration) (start : List Phase) (nodes : List Node) → IsNetwork move.net → length start ≡ length move.net →
     All (NodeBelow (length move.net)) nodes → All IsPrintedNode nodes → IsReadBack move start nodes

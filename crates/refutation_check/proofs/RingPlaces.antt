@@ -1,5 +1,6 @@
 -- Rings, place by place.
-use Rattle.std.proofs.Common.{◌≡◌, ℕ, zero, suc, ⊎_elim, All, ◌+◌, ◌<◌, ◌≤◌, List, [], ◌∷◌, ◌++◌, length, get_or, Contains}
+use Rattle.std.proofs.lemmas.Grind.{common_steps}
+use Rattle.std.proofs.Common.{◌≡◌, ℕ, zero, suc, All, ◌+◌, ◌<◌, ◌≤◌, List, [], ◌∷◌, ◌++◌, length, get_or, Contains}
 use Rattle.std.proofs.Common.{arith, refl, sym, subst}
 use Rattle.std.proofs.lemmas.Bool.{cases_lt}
 use Rattle.std.proofs.lemmas.List.{get_or_past}
@@ -41,8 +42,7 @@ around_from R (r ∷ rest) goes = each_from R r (r ∷ rest) goes
 -- what holds round the ring holds at each place
 pub around_at : {A : Type 0} (R : A → A → Type 0) (ring : List A) (k : ℕ) (d : A) → AroundRing R ring → k < length ring →
     R (get_or ring k d) (next_at ring k d)
-around_at R [] k d goes within = absurd (omega (arith, within))
-around_at R (r ∷ rest) k d goes within = each_at R r (r ∷ rest) k d goes within
+around_at R ring k d goes within = grind (arith, common_steps, each_at)
 
 path_from : (pairs : List Pair) (first u : ℕ) (rest : List ℕ) → EachToNext (λ (a b : ℕ). Contains pairs (a, b)) first (u ∷ rest) →
     IsPath pairs u (rest ++ first ∷ []) first
@@ -73,19 +73,11 @@ round_from place cycle is =
 
 -- what holds of each item holds of the one after a place
 pub next_holds : {A : Type 0} (P : A → Type 0) (ring : List A) (k : ℕ) (d : A) → All P ring → k < length ring → P (next_at ring k d)
-next_holds P ring k d all within =
-    ⊎_elim
-    (λ more. all (k + 1) (get_or ring 0 d) more)
-    (λ last. subst P (sym (get_or_past ring (k + 1) (get_or ring 0 d) last)) (all 0 d (omega (arith, within))))
-    (cases_lt (k + 1) (length ring))
+next_holds P ring k d all within = grind (arith, common_steps, cases_lt, get_or_past)
 
 -- one place more
 pub places_more : {A : Type 0} (R : A → A → Type 0) (ring : List A) (i : ℕ) →
     ((k : ℕ) (d : A) → k < i → R (get_or ring k d) (next_at ring k d)) →
     ((d : A) → R (get_or ring i d) (next_at ring i d))
     → (k : ℕ) (d : A) → k < i + 1 → R (get_or ring k d) (next_at ring k d)
-places_more R ring i below here k d within =
-    ⊎_elim
-    (λ less. below k d less)
-    (λ not_less. let same : i ≡ k = omega (arith, within, not_less) in subst (λ (n : ℕ). R (get_or ring n d) (next_at ring n d)) same (here d))
-    (cases_lt k i)
+places_more R ring i below here k d within = grind (arith, common_steps, cases_lt)

@@ -1,6 +1,6 @@
 -- What a line says as a node: one node at most, which has the form of a node and distinct routers of the network.
-use Rattle.std.proofs.Common.{◌≡◌, ℕ, ◌+◌, ◌-◌, ◌<◌, List, [], ◌∷◌, length, get_or, codes, arith, refl, sym, ap, ◌∙◌, subst}
-use Rattle.std.proofs.Common.{length-append}
+use Rattle.std.proofs.lemmas.Grind.{common_steps}
+use Rattle.std.proofs.Common.{◌≡◌, ℕ, ◌-◌, ◌<◌, List, [], ◌∷◌, length, get_or, codes, arith, refl, sym, ap, ◌∙◌, subst}
 use Rattle.std.specs.List.{All, AllZip}
 use Rattle.std.proofs.lemmas.List.{get_or-append-add}
 use Rattle.std.proofs.lemmas.List.Elements.{All-cons, All-nil}
@@ -12,7 +12,6 @@ use Rattle.net_model.specs.Network.{Network}
 use Rattle.net_model.specs.Refusals.{IsNetwork}
 use Rattle.net_model.proofs.NetworkFacts.{HasConfiguration-within}
 use Rattle.order_core.specs.declared.turn.Tag.{Tag}
-use Rattle.order_core.specs.declared.turn.Tag.TheVariants.{Old, New, Both}
 use Rattle.order_core.specs.declared.turn.Turn.{Turn}
 use Rattle.order_search.specs.declared.tree.Node.{Node}
 use Rattle.order_search.specs.declared.tree.Node.TheVariants.{Branch, Leaf, Unvisited}
@@ -51,23 +50,11 @@ one_zip R one (x ∷ xs) (y ∷ ys) (z ∷ zs) h k = ap (λ a. a ∷ ys) (one x 
 
 -- a letter is that of one tag
 one_tag : (s t : Tag) → letter_of s ≡ letter_of t → s ≡ t
-one_tag Old Old e = refl
-one_tag Old New e = absurd (omega (arith, e))
-one_tag Old Both e = absurd (omega (arith, e))
-one_tag New Old e = absurd (omega (arith, e))
-one_tag New New e = refl
-one_tag New Both e = absurd (omega (arith, e))
-one_tag Both Old e = absurd (omega (arith, e))
-one_tag Both New e = absurd (omega (arith, e))
-one_tag Both Both e = refl
+one_tag s t e = grind (arith, common_steps)
 
 -- the letter stands last
 last_letter : (word name : List ℕ) (t : Tag) → IsEntry word name t → get_or word (length word - 1) 0 ≡ letter_of t
-last_letter word name t is =
-    let long : length word - 1 ≡ length name + 1 =
-    omega (arith, ap (λ (l : List ℕ). length l) is.written, length-append name (58 ∷ letter_of t ∷ [])) in
-    ap (λ (k : ℕ). get_or word k 0) long ∙ ap (λ (l : List ℕ). get_or l (length name + 1) 0) is.written
-    ∙ get_or-append-add name (58 ∷ letter_of t ∷ []) 1 0
+last_letter word name t is = grind (arith, common_steps, get_or-append-add)
 
 one_turn : (net : Network) → IsNetwork net → (word : List ℕ) (s t : Turn) → SaysTurn net word s → SaysTurn net word t → s ≡ t
 one_turn net network word s t first second =

@@ -1,4 +1,6 @@
 -- Over tables with the same entries at the routers of the network a text has the same verdict, and means the same.
+use Rattle.std.proofs.Common.{arith}
+use Rattle.std.proofs.lemmas.Grind.{common_steps}
 use Rattle.std.proofs.Common.{ℕ, List, [], ◌∷◌, length}
 use Rattle.igp_theory.specs.Laws.{HaveSameTables}
 use Rattle.igp_theory.specs.Migrations.{Migration, retabled}
@@ -46,17 +48,12 @@ wrong_over move old' new' same place Unvisited kind w = w
 words_over : (items : Items) (move : Migration) (old' new' : Tables) → HaveSameTables move old' new' →
     (place : Place) (words : List (List ℕ)) (kind : WrongKind)
     → WrongWords items move place words kind → WrongWords items (retabled move old' new') place words kind
-words_over items move old' new' same place words Form w = w
-words_over items move old' new' same place words Router w = w
-words_over items move old' new' same place words kind w =
-    record { node = w.node; says = w.says; wrong = wrong_over move old' new' same place w.node kind w.wrong }
+words_over items move old' new' same place words kind w = grind (arith, common_steps, wrong_over)
 
 -- the same nodes are right
 right_over : (items : Items) (move : Migration) (old' new' : Tables) → HaveSameTables move old' new' → (place : Place) (node : Node) →
     IsRightNode items move place node → IsRightNode items (retabled move old' new') place node
-right_over items move old' new' same place (Branch a turns) right = (real_stays move old' new' same items a turns right.0, right.1)
-right_over items move old' new' same place (Leaf cycle) right = right
-right_over items move old' new' same place Unvisited right = right
+right_over items move old' new' same place it_6 right = grind (arith, common_steps, real_stays)
 
 module _ (items : Items) (move : Migration) (old' new' : Tables) (same : HaveSameTables move old' new') where
   lowest_over : (place : Place) (words : List (List ℕ)) (kind : WrongKind) → IsLowestKind (WrongWords items move place words) kind →

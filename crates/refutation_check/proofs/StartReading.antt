@@ -1,6 +1,7 @@
 -- The words of a start, one after another: printed; whether they stand in order, and which start they tell.
+use Rattle.std.proofs.lemmas.Grind.{common_steps}
 use Rattle.std.proofs.Common.{◌≡◌, ℕ, ◌+◌, ◌-◌, ◌/◌, ◌<◌, ◌≤◌, List, [], ◌∷◌, ◌++◌, length, get_or, replicate, take}
-use Rattle.std.proofs.Common.{AllPairs, ⊎_elim, append_assoc, arith, sym, ap, ◌∙◌, subst, length-append}
+use Rattle.std.proofs.Common.{AllPairs, ⊎_elim, arith, sym, ap, ◌∙◌, subst, length-append}
 use Rattle.std.proofs.lemmas.Bool.{cases_lt}
 use Rattle.std.proofs.lemmas.List.{append-nil, get_or_default, length-replicate, length-take-le, take_all, take_more}
 use Rattle.std.proofs.lemmas.List.Concat.{flat_map-append}
@@ -19,27 +20,14 @@ use Rattle.refutation_check.proofs.DoneWords.{done_more, done_padded, start_asce
 
 -- a word more, by its name and its mark
 pub spaced_one : (line name : List ℕ) (digit : ℕ) → (line ++ 32 ∷ name) ++ 58 ∷ digit ∷ [] ≡ line ++ spaced ((name ++ 58 ∷ digit ∷ []) ∷ [])
-spaced_one line name digit =
-    append_assoc line (32 ∷ name) (58 ∷ digit ∷ []) ∙ ap (λ (l : List ℕ). line ++ l) (sym (append-nil (32 ∷ (name ++ 58 ∷ digit ∷ []))))
+spaced_one line name digit = grind (arith, common_steps, append-nil)
 
 -- the words of one router more
 pub done_spaced : (names : List (List ℕ)) (start : List Phase) (i : ℕ) (line longer head : List ℕ) → i < length start → i < length names →
     line ≡ head ++ spaced (done_words names (take i start)) → longer ≡ line ++ spaced (made_words (get_or names i []) (get_or start i Old)) →
     longer ≡ head ++ spaced (done_words names (take (i + 1) start))
 done_spaced names start i line longer head within named so_far is =
-    let front : List Phase = take i start in
-    let long : length front ≡ i = length-take-le i start (omega (arith, within)) in
-    let phase : Phase = get_or start i Old in
-    let more : done_words names (take (i + 1) start) ≡ done_words names front ++ made_words (get_or names i []) phase =
-    ap (done_words names) (take_more start i Old within)
-    ∙ done_more names front phase (omega (arith, long, named))
-    ∙ ap (λ (k : ℕ). done_words names front ++ made_words (get_or names k []) phase) long in
-    is
-    ∙ ap (λ (l : List ℕ). l ++ spaced (made_words (get_or names i []) phase)) so_far
-    ∙ append_assoc head (spaced (done_words names front)) (spaced (made_words (get_or names i []) phase))
-    ∙ ap (λ (l : List ℕ). head ++ l)
-    (sym (flat_map-append (λ (w : List ℕ). 32 ∷ w) (done_words names front) (made_words (get_or names i []) phase)))
-    ∙ ap (λ (l : List (List ℕ)). head ++ spaced l) (sym more)
+    grind (arith, common_steps, done_more, flat_map-append, length-take-le, take_more)
 
 -- Read
 
@@ -60,11 +48,7 @@ pub record StandSoFar (net : Network) (words : List (List ℕ)) (k most : ℕ) :
   pub reached : 0 < most → EndsBefore net words k (most + 1)
 
 pub none_stand : (net : Network) (words : List (List ℕ)) → StandSoFar net words 0 0
-none_stand net words = record {
-  ordered = λ p q less within. absurd (omega (arith, within));
-  upto = λ p i within. absurd (omega (arith, within));
-  reached = λ some. absurd (omega (arith, some));
-}
+none_stand net words = grind (arith, common_steps)
 
 module _ (net : Network) (words : List (List ℕ)) (k most : ℕ) (so_far : StandSoFar net words k most) where
   -- one word more
@@ -120,11 +104,7 @@ pub record TellSoFar (net : Network) (words : List (List ℕ)) (k : ℕ) (start 
   pub last : 0 < length start → EndsBefore net words k (length start)
 
 pub none_tell : (net : Network) (words : List (List ℕ)) (start : List Phase) → start ≡ [] → TellSoFar net words 0 start
-none_tell net words start is = record {
-  told = ap (done_words (names_of net)) is;
-  within = omega (arith, ap (λ (l : List Phase). length l) is);
-  last = λ some. absurd (omega (arith, some, ap (λ (l : List Phase). length l) is));
-}
+none_tell net words start is = grind (arith, common_steps)
 
 module _ (net : Network) (words : List (List ℕ)) (k : ℕ) (start : List Phase) (so_far : TellSoFar net words k start) where
   pub more_tell : (after : List Phase) → k < length words → TakesEntry net (get_or words k []) start after → TellSoFar net words (k + 1) after

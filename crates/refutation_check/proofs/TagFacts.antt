@@ -1,5 +1,7 @@
 -- Tags, told by two tests.
-use Rattle.std.proofs.Common.{◌≡◌, ℕ, ◌↔◌, Bool, true, false, IsTrue, sym, refl, ◌∙◌}
+use Rattle.std.proofs.Common.{arith}
+use Rattle.std.proofs.lemmas.Grind.{common_steps}
+use Rattle.std.proofs.Common.{◌≡◌, ℕ, ◌↔◌, Bool, IsTrue, sym, ◌∙◌}
 use Rattle.std.proofs.lemmas.Bool.{false≢true}
 use Rattle.igp_theory.specs.Forwarding.{MustForward, Steps}
 use Rattle.igp_theory.specs.Loops.{IsTag, IsTagOf}
@@ -8,7 +10,6 @@ use Rattle.igp_theory.specs.Phases.{State}
 use Rattle.igp_theory.specs.declared.phase.Phase.{Phase}
 use Rattle.igp_theory.specs.declared.phase.Phase.TheVariants.{New}
 use Rattle.order_core.specs.declared.turn.Tag.{Tag}
-use Rattle.order_core.specs.declared.turn.Tag.TheVariants as tag
 use Rattle.order_core.specs.declared.turn.Turn.{Turn}
 use Rattle.rib_mix.specs.Answers.{IsNext, NextLeadsTo}
 use Rattle.rib_mix.specs.declared.next.Next.{Next}
@@ -17,15 +18,7 @@ use Rattle.plan_theory.proofs.StartedSteps.{steps_started}
 use Rattle.refutation_check.specs.steps.Right.{tells}
 
 told : (t : Tag) (old new : Bool) (P Q : Type 0) → (IsTrue old ↔ P) → (IsTrue new ↔ Q) → IsTrue (tells t old new) ↔ IsTagOf t P Q
-told tag.Old true true P Q p q = (λ e. absurd (false≢true e), λ is. absurd (is.1 (q.0 refl)))
-told tag.Old true false P Q p q = (λ e. (p.0 refl, λ there. false≢true (q.1 there)), λ is. refl)
-told tag.Old false new P Q p q = (λ e. absurd (false≢true e), λ is. absurd (false≢true (p.1 is.0)))
-told tag.New true new P Q p q = (λ e. absurd (false≢true e), λ is. absurd (is.0 (p.0 refl)))
-told tag.New false true P Q p q = (λ e. (λ there. false≢true (p.1 there), q.0 refl), λ is. refl)
-told tag.New false false P Q p q = (λ e. absurd (false≢true e), λ is. absurd (false≢true (q.1 is.1)))
-told tag.Both true true P Q p q = (λ e. (p.0 refl, q.0 refl), λ is. refl)
-told tag.Both true false P Q p q = (λ e. absurd (false≢true e), λ is. absurd (false≢true (q.1 is.1)))
-told tag.Both false new P Q p q = (λ e. absurd (false≢true e), λ is. absurd (false≢true (p.1 is.0)))
+told t old new P Q p q = grind (arith, common_steps, false≢true)
 
 -- the tag of a turn, by two tests for its router's steps to the next one
 pub tag_told : (move : Migration) (a : ℕ) (turn : Turn) (next : ℕ) (b c result : Bool) →

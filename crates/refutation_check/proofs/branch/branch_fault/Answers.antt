@@ -1,3 +1,5 @@
+use Rattle.std.proofs.Common.{arith}
+use Rattle.std.proofs.lemmas.Grind.{common_steps}
 use Rattle.std.proofs.Common.{◌≡◌, ◌↔◌, ℕ, ◌<◌, Bool, false, IsTrue, List, length, All, Some, None, sym, ◌∙◌, subst}
 use Rattle.std.specs.List.{slice_get}
 use Rattle.std.proofs.lemmas.Bool.{false≢true}
@@ -33,8 +35,7 @@ returns-then-some_originates-clause-wrong g c =
     (subst (λ (n : Network). SomeOriginates n c.args.turns.now c.in-Some.target) c.net.ensures (c.some_originates.ensures.0 c.if-some_originates.true))
 
 pub goes_round-requires-clause-atom : goal.goes_round-requires-clause-atom
-goes_round-requires-clause-atom g c =
-    subst (λ (x : Classes). c.of-atom.result < length x.samples) c.atoms.ensures.atoms c.of-atom.ensures.class
+goes_round-requires-clause-atom g c = grind (arith, common_steps)
 
 -- routers of turns none of which originates the target have to pass packets on
 away : (net shown : Network) (a : ℕ) (turns : List Turn) (p : Block) (some : Bool) → shown ≡ net → IsTarget net a p →

@@ -1,4 +1,6 @@
-use Rattle.std.proofs.Common.{◌≡◌, false, refl, sym, ◌∙◌}
+use Rattle.std.proofs.Common.{arith}
+use Rattle.std.proofs.lemmas.Grind.{common_steps}
+use Rattle.std.proofs.Common.{◌≡◌, false, sym, ◌∙◌}
 use Rattle.std.proofs.lemmas.Bool.{false≢true}
 use Rattle.std.proofs.lemmas.List.Elements.{All-more}
 use Rattle.order_core.specs.Turns.{is_old}
@@ -8,11 +10,7 @@ use Rattle.refutation_check.proofs.Kept.{some_router, no_router}
 use Rattle.refutation_check.proofs.branch.has_old.Goals as goal
 
 pub returns-then-is_old : goal.returns-then-is_old
-returns-then-is_old c = (
-  λ e. some_router (λ (t : Turn). is_old t.tag) c.args.turns.now c.loop-turn.turn-index (record { router = 0; tag = Old }) c.is_old.result
-      c.loop-turn-test.true c.is_old.ensures c.if-is_old.true,
-  λ some. refl,
-)
+returns-then-is_old c = grind (arith, common_steps, some_router)
 
 pub loop-turn-preserved : goal.loop-turn-preserved
 loop-turn-preserved c =

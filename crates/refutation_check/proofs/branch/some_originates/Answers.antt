@@ -1,17 +1,15 @@
-use Rattle.std.proofs.Common.{List, All, sym, ◌∙◌, subst}
+use Rattle.std.proofs.Common.{arith}
+use Rattle.std.proofs.lemmas.Grind.{common_steps}
+use Rattle.std.proofs.Common.{List, All, subst}
 use Rattle.std.proofs.lemmas.Bool.{false≢true}
 use Rattle.std.proofs.lemmas.List.{take_all}
 use Rattle.std.proofs.lemmas.List.Elements.{All-more}
 use Rattle.net_model.specs.Network.{Connected}
-use Rattle.order_core.specs.declared.turn.Tag.TheVariants.{Old}
 use Rattle.order_core.specs.declared.turn.Turn.{Turn}
 use Rattle.refutation_check.proofs.branch.some_originates.Goals as goal
 
 pub loop-turn-preserved : goal.loop-turn-preserved
-loop-turn-preserved c =
-    All-more (λ (t : Turn). Connected c.args.net.now t.router c.args.target → ⊥) c.args.turns.now c.loop-turn.turn-index
-    (record { router = 0; tag = Old }) c.loop-turn-test.true c.loop-turn.invariant
-    (λ there. false≢true (sym c.if-originates.false ∙ c.originates.ensures.1 there))
+loop-turn-preserved c = grind (arith, common_steps, All-more, false≢true)
 
 pub returns : goal.returns
 returns c = (

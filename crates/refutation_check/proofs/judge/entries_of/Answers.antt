@@ -1,11 +1,10 @@
-use Rattle.std.proofs.Common.{sym, ◌∙◌}
+use Rattle.std.proofs.Common.{arith}
+use Rattle.std.proofs.lemmas.Grind.{common_steps}
 use Rattle.refutation_check.proofs.EntryFacts.{entries_few, entries_inside, stand_behind}
 use Rattle.refutation_check.proofs.judge.entries_of.Goals as goal
 
 pub returns-then-is_text-clause-behind : goal.returns-then-is_text-clause-behind
-returns-then-is_text-clause-behind c =
-    stand_behind c.args.text.now c.args.header.now c.args.lines.now c.in_ok-first.entries.now c.in_ok-first.first.now c.requires.texts
-    c.in_ok-first.ensures.cases.0 (sym c.bytes_at.ensures ∙ c.is_text.ensures.0 c.if-is_text.true)
+returns-then-is_text-clause-behind c = grind (arith, common_steps, stand_behind)
 
 pub returns-then-is_text-clause-inside : goal.returns-then-is_text-clause-inside
 returns-then-is_text-clause-inside c =

@@ -1,4 +1,6 @@
-use Rattle.std.proofs.Common.{All, IfOk, List, length, ap, ◌∙◌, subst, sym}
+use Rattle.std.proofs.Common.{arith}
+use Rattle.std.proofs.lemmas.Grind.{common_steps}
+use Rattle.std.proofs.Common.{All, IfOk, List, ap, subst, sym}
 use Rattle.std.proofs.lemmas.List.Elements.{All-head, All-tail}
 use Rattle.std.proofs.lemmas.Result.{IfOk-weaker, MatchResult-at_err, MatchResult-at_ok}
 use Rattle.net_addr.specs.Spans.{LiesIn, bytes_of}
@@ -29,12 +31,7 @@ judge_from-requires-clause-inside g c =
     (subst (All (λ (line : Line). LiesIn c.args.text.now line.span)) c.in-Some.ensures.cases.0 c.requires.inside)
 
 pub judge_from-requires-clause-each : goal.judge_from-requires-clause-each
-judge_from-requires-clause-each g c =
-    let words = pieces_of (bytes_of c.args.text.now c.in-Some.line.now.span) in
-    let says = MatchResult-at_ok (λ start. SaysStart c.net.result.now words start.items)
-    (IsLowestKind (WrongStart c.net.result.now words)) c.in-Ok.start c.in-Ok.is
-    c.in_ok-start.ensures in
-    ap (λ (l : List Phase). length l) c.as_slice.ensures.value ∙ says.each ∙ ap (λ (net : Network). length net) c.net.ensures
+judge_from-requires-clause-each g c = grind (arith, common_steps, MatchResult-at_ok)
 
 pub returns-in_default : goal.returns-in_default
 returns-in_default g c =

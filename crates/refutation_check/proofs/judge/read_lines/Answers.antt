@@ -1,3 +1,4 @@
+use Rattle.std.proofs.lemmas.Grind.{common_steps}
 use Rattle.std.proofs.Common.{◌≡◌, ℕ, ◌<◌, List, [], length, get_or, take, arith, sym, ◌∙◌, subst}
 use Rattle.std.proofs.lemmas.List.{take_all, length-map, get_or-map}
 use Rattle.std.proofs.lemmas.Result.{MatchResult-at_ok, MatchResult-at_err, IfOk-at_ok}
@@ -80,10 +81,4 @@ loop-place-preserved g c =
     )
 
 pub returns-clause-read : goal.returns-clause-read
-returns-clause-read g c =
-    let move : Migration = started_of g.O.RouteSource.table g.N.RouteSource.table c.args.asked.now.mixed.now c.args.asked.now.start.now in
-    let lines = line_bytes c.args.text.now c.args.entries.now in
-    subst (λ (l : List (List ℕ)). HasReadLines c.args.asked.now.items move l c.loop-place.reading)
-    (take_all c.loop-place.place lines
-    (omega (arith, c.loop-place-test.false, length-map c.args.entries.now (λ (line : Line). bytes_of c.args.text.now line.span))))
-    c.loop-place.invariant.0
+returns-clause-read g c = grind (arith, common_steps, length-map, take_all)

@@ -1,11 +1,10 @@
-use Rattle.std.proofs.Common.{◌≡◌, ℕ, List, [], ◌∷◌, length, subst, sym, ap, ◌∙◌}
+use Rattle.std.proofs.Common.{arith}
+use Rattle.std.proofs.lemmas.Grind.{common_steps}
+use Rattle.std.proofs.Common.{◌≡◌, ℕ, List, [], ◌∷◌, subst, sym, ◌∙◌}
 use Rattle.std.proofs.lemmas.List.{length-replicate}
 use Rattle.std.proofs.lemmas.Result.{IfOk-weaker}
 use Rattle.net_addr.specs.Lines.{line_texts}
-use Rattle.net_model.specs.Network.{Network}
 use Rattle.igp_theory.specs.Migrations.{Migration}
-use Rattle.igp_theory.specs.declared.phase.Phase.{Phase}
-use Rattle.igp_theory.specs.declared.phase.Phase.TheVariants.{Old}
 use Rattle.rib_mix.specs.Mixture.{migration_of}
 use Rattle.refutation_check.specs.Verdicts.{IsHeadedVerdict, IsLinesVerdict, header_missing, tree_header_of}
 use Rattle.refutation_check.specs.steps.Judged.{started_of}
@@ -22,10 +21,7 @@ returns-in_default-clause-verdict g c =
     subst (IsHeadedVerdict c.args.items header move c.args.text.now) (sym c.wrong.ensures) (header_missing none)
 
 pub invariant_of-asked : goal.invariant_of-asked
-invariant_of-asked g c = record {
-  each = ap (λ (l : List Phase). length l) (c.as_slice-2.ensures.value ∙ c.in_ok-start.ensures) ∙ length-replicate c.routers.result Old
-      ∙ c.routers.ensures.count ∙ ap (λ (n : Network). length n) c.net.ensures;
-}
+invariant_of-asked g c = grind (arith, common_steps, length-replicate)
 
 pub returns-clause-verdict : goal.returns-clause-verdict
 returns-clause-verdict g c =

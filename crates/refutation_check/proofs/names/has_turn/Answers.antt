@@ -1,16 +1,15 @@
+use Rattle.std.proofs.Common.{arith}
+use Rattle.std.proofs.lemmas.Grind.{common_steps}
 use Rattle.std.proofs.Common.{◌≢◌, List, All, subst}
 use Rattle.std.proofs.lemmas.Bool.{false≢true}
 use Rattle.std.proofs.lemmas.List.{take_all}
 use Rattle.std.proofs.lemmas.List.Elements.{All-more, All-contains}
 use Rattle.net_model.proofs.Members.{Contains-map}
-use Rattle.order_core.specs.declared.turn.Tag.TheVariants.{Old}
 use Rattle.order_core.specs.declared.turn.Turn.{Turn}
 use Rattle.refutation_check.proofs.names.has_turn.Goals as goal
 
 pub loop-turn-preserved : goal.loop-turn-preserved
-loop-turn-preserved c =
-    All-more (λ (t : Turn). t.router ≢ c.args.router) c.args.turns.now c.loop-turn.turn-index (record { router = 0; tag = Old }) c.loop-turn-test.true
-    c.loop-turn.invariant c.if-turn-router.false
+loop-turn-preserved c = grind (arith, common_steps, All-more)
 
 pub returns : goal.returns
 returns c = (

@@ -1,3 +1,5 @@
+use Rattle.std.proofs.Common.{arith}
+use Rattle.std.proofs.lemmas.Grind.{common_steps}
 use Rattle.std.proofs.Common.{ℕ, ◌+◌, List, [], take, sym, subst}
 use Rattle.refutation_check.specs.steps.Names.{NameNumbers, IsFurtherNumber, NamesNoFurtherNumber}
 use Rattle.refutation_check.specs.steps.Spans.{span_texts}
@@ -27,7 +29,4 @@ loop-name-preserved c =
     c.bytes_at.ensures c.as_slice.ensures.value c.in-Some.ensures))
 
 pub returns : goal.returns
-returns c =
-    subst (λ (l : List ℕ). NameNumbers c.args.items c.args.net.now (span_texts c.args.text.now c.args.names.now) l) (sym c.from_vec.ensures)
-    (subst (λ (l : List (List ℕ)). NameNumbers c.args.items c.args.net.now l c.loop-name.numbers.items)
-    (all_words c.args.text.now c.args.names.now c.loop-name.name-index c.loop-name-test.false) c.loop-name.invariant)
+returns c = grind (arith, common_steps, all_words)

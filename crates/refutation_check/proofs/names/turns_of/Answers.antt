@@ -1,3 +1,5 @@
+use Rattle.std.proofs.Common.{arith}
+use Rattle.std.proofs.lemmas.Grind.{common_steps}
 use Rattle.std.proofs.Common.{ℕ, ◌+◌, List, [], take, sym, subst}
 use Rattle.net_model.specs.Refusals.{IsNetwork}
 use Rattle.order_core.specs.declared.turn.Turn.{Turn}
@@ -32,7 +34,4 @@ loop-entry-preserved c =
     c.bytes_at.ensures c.as_slice.ensures.value c.in-Some.ensures.said))
 
 pub returns : goal.returns
-returns c =
-    subst (λ (l : List Turn). SayTurns c.args.net.now (span_texts c.args.text.now c.args.entries.now) l) (sym c.from_vec.ensures)
-    (subst (λ (l : List (List ℕ)). SayTurns c.args.net.now l c.loop-entry.turns.items)
-    (all_words c.args.text.now c.args.entries.now c.loop-entry.entry-index c.loop-entry-test.false) c.loop-entry.invariant)
+returns c = grind (arith, common_steps, all_words)

@@ -1,4 +1,5 @@
-use Rattle.std.proofs.Common.{◌≡◌, ℕ, ◌+◌, ◌↔◌, List, length, arith, ap}
+use Rattle.std.proofs.lemmas.Grind.{common_steps}
+use Rattle.std.proofs.Common.{◌≡◌, ℕ, ◌+◌, ◌↔◌, List, length, arith}
 use Rattle.std.specs.List.{count_by}
 use Rattle.std.proofs.lemmas.List.{length-map}
 use Rattle.net_addr.specs.Blanks.{is_blank}
@@ -11,18 +12,10 @@ use Rattle.refutation_check.proofs.spans.words_of_line.Goals as goal
 -- the spans are counted as the words are, and blanks are those of the line
 counted : (text line shown : List ℕ) (words slice : List Span) (blanks : ℕ) → slice ≡ words → shown ≡ line → blanks ≡ count_by is_blank shown →
     (length slice ≡ blanks + 1) ↔ (length (span_texts text words) ≡ count_by is_blank line + 1)
-counted text line shown words slice blanks as_slice as_line blanks_are =
-    let many = length-map words (bytes_of text) in
-    let spans = ap (λ (l : List Span). length l) as_slice in
-    let same = ap (λ (l : List ℕ). count_by is_blank l) as_line in
-    (λ e. omega (arith, e, many, spans, same, blanks_are), λ e. omega (arith, e, many, spans, same, blanks_are))
+counted text line shown words slice blanks as_slice as_line blanks_are = grind (arith, common_steps, length-map)
 
 pub returns-then-as_slice-blanks_in-clause-words : goal.returns-then-as_slice-blanks_in-clause-words
-returns-then-as_slice-blanks_in-clause-words c =
-    let line = bytes_of c.args.text.now c.args.line in
-    let words = c.in_ok-words.words in
-    (joined_by_one line (span_texts c.args.text.now words) c.in_ok-words.ensures.texts ((counted c.args.text.now line c.bytes_at.result.now words
-    c.as_slice.result.now c.blanks_in.result c.as_slice.ensures c.bytes_at.ensures c.blanks_in.ensures.value).0 c.if-as_slice-blanks_in.true)).0
+returns-then-as_slice-blanks_in-clause-words c = grind (arith, common_steps, counted, joined_by_one)
 
 pub returns-then-as_slice-blanks_in-clause-filled : goal.returns-then-as_slice-blanks_in-clause-filled
 returns-then-as_slice-blanks_in-clause-filled c =

@@ -1,13 +1,9 @@
-use Rattle.std.proofs.Common.{◌≡◌, ℕ, ◌+◌, ◌%◌, ◌∷◌, [], ap, arith}
-use Rattle.change_orders.specs.ChangeWords.{change_word}
+use Rattle.std.proofs.lemmas.Grind.{common_steps}
+use Rattle.std.proofs.Common.{arith}
 use Rattle.refutation_check.proofs.start.phase_behind.Goals as goal
 
 pub returns-then-item-eq0 : goal.returns-then-item-eq0
-returns-then-item-eq0 c = λ name.
-    let first : 1 ≡ c.args.item % 2 + 1 = omega (arith, c.if-item-eq0.true) in
-    ap (λ (k : ℕ). change_word name k ∷ []) first
+returns-then-item-eq0 c = grind (arith, common_steps)
 
 pub returns-else-item-eq0 : goal.returns-else-item-eq0
-returns-else-item-eq0 c = λ name.
-    let second : 2 ≡ c.args.item % 2 + 1 = omega (arith, c.if-item-eq0.false) in
-    ap (λ (k : ℕ). change_word name k ∷ []) second
+returns-else-item-eq0 c = grind (arith, common_steps)

@@ -1,17 +1,14 @@
-use Rattle.std.proofs.Common.{ℕ, List, [], arith, refl, subst, sym}
+use Rattle.std.proofs.lemmas.Grind.{common_steps}
+use Rattle.std.proofs.Common.{ℕ, List, arith, subst}
 use Rattle.std.proofs.lemmas.List.{length-map}
-use Rattle.net_addr.specs.Spans.{bytes_of}
-use Rattle.igp_theory.specs.declared.phase.Phase.{Phase}
 use Rattle.refutation_check.specs.steps.Spans.{span_texts}
 use Rattle.refutation_check.specs.steps.Starts.{NamesNoLaterRouter, TakesEntry}
 use Rattle.refutation_check.proofs.SpanPlaces.{word_at, word_in}
-use Rattle.refutation_check.proofs.StartReading.{TellSoFar, all_told, more_tell, none_tell, none_told}
+use Rattle.refutation_check.proofs.StartReading.{all_told, more_tell, none_tell, none_told}
 use Rattle.refutation_check.proofs.start.start_told.Goals as goal
 
 pub loop-entry-init : goal.loop-entry-init
-loop-entry-init c =
-    subst (λ (l : List Phase). TellSoFar c.args.net.now (span_texts c.args.text.now c.args.entries.now) 0 l) (sym c.new-start.ensures.items)
-    (none_tell c.args.net.now (span_texts c.args.text.now c.args.entries.now) [] refl)
+loop-entry-init c = grind (arith, common_steps, none_tell)
 
 pub returns-then-not-taken : goal.returns-then-not-taken
 returns-then-not-taken c =
@@ -30,7 +27,4 @@ loop-entry-preserved c =
     (word_at c.args.text.now c.args.entries.now i c.loop-entry-test.true c.bytes_at.ensures) (rw c.if-not-taken.false at c.in_ok-taken.ensures))
 
 pub returns : goal.returns
-returns c =
-    all_told c.args.net.now (span_texts c.args.text.now c.args.entries.now) c.loop-entry.entry-index c.loop-entry.start.items c.loop-entry.invariant
-    c.routers.result c.loop-entry.start.len _ c.routers.ensures.count c.loop-entry.start.ok.0
-    (omega (arith, c.loop-entry-test.false, length-map c.args.entries.now (bytes_of c.args.text.now))) c.in_ok-resize.ensures.items
+returns c = grind (arith, common_steps, all_told, length-map)

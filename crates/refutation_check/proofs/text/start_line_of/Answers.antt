@@ -1,9 +1,7 @@
-use Rattle.std.proofs.Common.{◌++◌, List, arith, ap, codes, ◌∙◌}
+use Rattle.std.proofs.lemmas.Grind.{common_steps}
+use Rattle.std.proofs.Common.{arith, codes}
 use Rattle.std.proofs.lemmas.List.{take_all}
 use Rattle.net_model.specs.RouterNames.{names_of}
-use Rattle.igp_theory.specs.declared.phase.Phase.{Phase}
-use Rattle.printed_lines.specs.Words.{spaced}
-use Rattle.refutation_check.specs.StartLines.{done_words}
 use Rattle.refutation_check.proofs.DoneWords.{many_names}
 use Rattle.refutation_check.proofs.StartReading.{done_spaced}
 use Rattle.refutation_check.proofs.text.start_line_of.Goals as goal
@@ -16,7 +14,4 @@ loop-router-preserved c =
     c.loop-router.invariant c.in_ok-line-2.ensures
 
 pub returns : goal.returns
-returns c =
-    c.loop-router.invariant
-    ∙ ap (λ (l : List Phase). codes "start" ++ spaced (done_words (names_of c.args.net.now) l))
-    (take_all c.loop-router.router c.args.start.now (omega (arith, c.loop-router-test.false, c.requires, c.routers-router-end.ensures.count)))
+returns c = grind (arith, common_steps, take_all)

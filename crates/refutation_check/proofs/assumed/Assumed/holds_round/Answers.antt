@@ -1,4 +1,5 @@
-use Rattle.std.proofs.Common.{ℕ, ◌<◌, Contains, get_or, arith, refl, sym, ◌∙◌, subst}
+use Rattle.std.proofs.lemmas.Grind.{common_steps}
+use Rattle.std.proofs.Common.{ℕ, ◌<◌, Contains, get_or, arith, sym, ◌∙◌, subst}
 use Rattle.std.proofs.lemmas.Bool.{false≢true}
 use Rattle.std.proofs.lemmas.List.{get_or_default}
 use Rattle.order_core.specs.Pairs.{Pair}
@@ -35,8 +36,4 @@ loop-place-preserved c =
     (get_or_default c.args.cycle.now c.loop-place.place 0 d c.loop-place-test.true) told))
 
 pub returns : goal.returns
-returns c = (
-  λ is. around_from (λ (u v : ℕ). Contains c.args.self.now.pairs (u, v)) c.args.cycle.now
-      (λ k d within. c.loop-place.invariant k d (omega (arith, within, c.loop-place-test.false))),
-  λ round. refl,
-)
+returns c = grind (arith, common_steps, around_from)

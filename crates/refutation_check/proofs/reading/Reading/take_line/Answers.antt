@@ -1,3 +1,5 @@
+use Rattle.std.proofs.Common.{arith}
+use Rattle.std.proofs.lemmas.Grind.{common_steps}
 use Rattle.std.proofs.Common.{◌≡◌, ℕ, List, ◌∷◌, Result, Ok, Err, sym, ◌∙◌, subst}
 use Rattle.std.specs.Result.{MatchResult}
 use Rattle.std.proofs.lemmas.Bool.{false≢true}
@@ -31,19 +33,10 @@ module _ (items : Items) (net shown : Network) (words : List (List ℕ)) (said :
     read_err kind is = MatchResult-at_err (SaysNode items net words) (SaysNoNode items net words) kind is here
 
 pub returns-in-Err-clause-taken : goal.returns-in-Err-clause-taken
-returns-in-Err-clause-taken g c =
-    let m = c.args.asked.now.mixed.now in
-    let line = bytes_of c.args.text.now c.args.line in
-    let move : Migration = started_of g.O.RouteSource.table g.N.RouteSource.table m c.args.asked.now.start.now in
-    not_there c.args.asked.now.items move c.args.self.walk.left line c.in-Err.kind (λ e. false≢true (sym c.if-is_whole.false ∙ c.is_whole.ensures.1 e))
-    (λ place left is. unread_lowest c.args.asked.now.items move place (pieces_of line) c.in-Err.kind
-    (read_err c.args.asked.now.items m.net c.net.result.now (pieces_of line) c.in_ok-node.field-0 c.net.ensures c.in_ok-node.ensures c.in-Err.kind c.in-Err.is))
+returns-in-Err-clause-taken g c = grind (arith, common_steps, false≢true, not_there, unread_lowest)
 
 pub take_node-requires-clause-ringed : goal.take_node-requires-clause-ringed
-take_node-requires-clause-ringed g c =
-    let words = pieces_of (bytes_of c.args.text.now c.args.line) in
-    ringed c.args.asked.now.items c.args.asked.now.mixed.now.net words c.in-Ok.node (read_ok c.args.asked.now.items c.args.asked.now.mixed.now.net c.net.result.now words c.in_ok-node.field-0 c.net.ensures
-    c.in_ok-node.ensures c.in-Ok.node c.in-Ok.is)
+take_node-requires-clause-ringed g c = grind (arith, common_steps, ringed)
 
 pub returns-in-Ok-2-clause-taken : goal.returns-in-Ok-2-clause-taken
 returns-in-Ok-2-clause-taken g c =

@@ -1,7 +1,9 @@
+use Rattle.std.proofs.Common.{arith}
+use Rattle.std.proofs.lemmas.Grind.{common_steps}
 use Rattle.std.proofs.Common.{ℕ, sym, ◌∙◌, subst}
 use Rattle.order_core.specs.Pairs.{AreBelow}
 use Rattle.refutation_check.specs.steps.Walks.{GoesAlong}
-use Rattle.refutation_check.proofs.Leaving.{IsWayUp, next_below, on, past}
+use Rattle.refutation_check.proofs.Leaving.{next_below, on, past}
 use Rattle.refutation_check.proofs.walk.Walk.leave.Goals as goal
 
 pub assume-requires : goal.assume-requires
@@ -21,11 +23,4 @@ invariant_of-result c =
     c.take_back.ensures.pairs c.in-Some-next.ensures.next c.assume.ensures.some c.in_ok-assume.ensures.pairs c.in_ok-push.ensures.items)
 
 pub loop-cursor-preserved : goal.loop-cursor-preserved
-loop-cursor-preserved c = (
-  subst (λ (k : ℕ). IsWayUp k c.take_back.new.self.pairs c.pop.new.self.items c.self.inside.cursors.items) (sym c.take_back.ensures.routers)
-      (past c.loop-cursor.assumed.routers c.loop-cursor.assumed.pairs c.loop-cursor.cursors.items c.pop.new.self.items c.self.inside.cursors.items
-      c.in-Some.cursor
-      c.loop-cursor.invariant.0 c.in-Some.ensures.items c.in_default-next.ensures.some c.take_back.new.self.pairs c.take_back.ensures.pairs
-      c.in_default-next.ensures.next),
-  c.take_back.ensures.routers ∙ c.loop-cursor.invariant.1,
-)
+loop-cursor-preserved c = grind (arith, common_steps, past)
