@@ -170,15 +170,11 @@ new_sound w New c inside =
 
 old_complete : (entries : List (Block × Entry)) (phase : Phase) (p : Block) (d : ℕ) (e : Entry) → OldCounts phase → Contains entries (p, e) →
     Contains (old_counted phase d entries) (counted_at p d (of_old e))
-old_complete entries Old p d e counts inside = Contains-in_map (λ (x : Block × Entry). counted_at x.0 d (of_old x.1)) entries (p, e) inside
-old_complete entries Middle p d e counts inside = Contains-in_map (λ (x : Block × Entry). counted_at x.0 d (of_old x.1)) entries (p, e) inside
-old_complete entries New p d e counts inside = absurd counts
+old_complete entries phase p d e counts inside = grind (arith, common_steps, Contains-in_map)
 
 new_complete : (entries : List (Block × Entry)) (phase : Phase) (p : Block) (e : Entry) → NewCounts phase → Contains entries (p, e) →
     Contains (new_counted phase entries) (counted_at p 115 (of_new e))
-new_complete entries Old p e counts inside = absurd counts
-new_complete entries Middle p e counts inside = Contains-in_map (λ (x : Block × Entry). counted_at x.0 115 (of_new x.1)) entries (p, e) inside
-new_complete entries New p e counts inside = Contains-in_map (λ (x : Block × Entry). counted_at x.0 115 (of_new x.1)) entries (p, e) inside
+new_complete entries phase p e counts inside = grind (arith, common_steps, Contains-in_map)
 
 -- what counts at a router: what is connected, what the old table has and what the new one has
 abbrev connected_list : Place → List Counted
@@ -201,11 +197,7 @@ one_config w c has = same_Some c w.config (sym has ∙ w.has)
 
 subnet_complete : (up : Bool) (subnet : Option Block) (p : Block) → up ≡ true → subnet ≡ Some p →
     Contains (subnet_counted up subnet) (counted_at p 0 connected)
-subnet_complete true (Some q) p is_up is_subnet =
-    subst (λ (x : Block). Contains (subnet_counted true (Some q)) (counted_at x 0 connected)) (same_Some q p is_subnet)
-    (Contains-first (counted_at q 0 connected) [])
-subnet_complete true None p is_up is_subnet = cc
-subnet_complete false subnet p is_up is_subnet = cc
+subnet_complete up subnet p is_up is_subnet = grind (arith, common_steps, Contains-first, same_Some)
 
 connected_complete : (w : Place) (p : Block) → Connected w.net w.u p → Contains (connected_list w) (counted_at p 0 connected)
 connected_complete w p is =

@@ -1,5 +1,6 @@
 -- What sound means: lists of steps are short, and lead on until an originator is reached.
-use Rattle.std.proofs.Common.{refl, Option, Some, None, IsTrue, ap, ◌∙◌, ◌≡◌, ◌≢◌, ℕ, zero, suc, ◌+◌, ◌^◌, ◌<◌, ◌≤◌}
+use Rattle.std.proofs.lemmas.Grind.{common_steps}
+use Rattle.std.proofs.Common.{refl, Option, Some, IsTrue, ap, ◌∙◌, ◌≡◌, ◌≢◌, ℕ, zero, suc, ◌+◌, ◌^◌, ◌<◌, ◌≤◌}
 use Rattle.std.proofs.Common.{◌⊎◌, inl, inr, List, [], ◌∷◌, ◌++◌, length, Contains, arith, sym, subst}
 use Rattle.std.specs.List.{AllPairs}
 use Rattle.std.proofs.lemmas.Bool.{cases_eq, cases_Bool, eqb-true, false≢true}
@@ -128,14 +129,7 @@ short_lists step n inside never u hops v below follows = elim (distinct_or_retur
 -- Whether a prefix is connected at a router
 
 subnet_or_not : (subnet : Option Block) (p : Block) → (subnet ≡ Some p) ⊎ (subnet ≡ Some p → ⊥)
-subnet_or_not None p = inr (λ same. cc)
-subnet_or_not (Some q) p = elim (cases_eq q.base p.base) [
-  | inl base ↦ elim (cases_eq q.len p.len) [
-    | inl len ↦ inl (λ i. Some (record { base = base i; len = len i }))
-    | inr apart ↦ inr (λ same. apart (ap (λ (b : Block). b.len) (same_Some q p same)))
-  ]
-  | inr apart ↦ inr (λ same. apart (ap (λ (b : Block). b.base) (same_Some q p same)))
-]
+subnet_or_not subnet p = grind (arith, common_steps, cases_eq, same_Some)
 
 -- one of some interfaces is up with this subnet, or none is
 record UpWith (interfaces : List Interface) (p : Block) : Type 0 where

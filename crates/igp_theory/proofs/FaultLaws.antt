@@ -26,8 +26,7 @@ fault_is_unsound (loop_arises address below forwards found tags) sound =
 
 fault_has_address : {move : Migration} {state : State} {fault : Fault} → IsFault move state fault →
     fault_address fault < 2 ^ 32
-fault_has_address (missing_step address below must lacks lowest) = address
-fault_has_address (loop_arises address below forwards found tags) = address
+fault_has_address it_0 = grind (arith, common_steps)
 
 fault_is_least : {move : Migration} {state : State} {fault : Fault} → IsFault move state fault →
     (b : ℕ) → b < fault_address fault → IsSoundAt move state b

@@ -1,4 +1,5 @@
 -- The flat order of a wave list, and its run.
+use Rattle.std.proofs.lemmas.Grind.{common_steps}
 use Rattle.std.proofs.Common.{◌≡◌, ◌≢◌, ℕ, ◌+◌, ◌*◌, ◌<◌, ◌≤◌, ◌↔◌, inl, inr, if◌then◌else◌, Bool, true, false, List, [], ◌∷◌, length, map, take}
 use Rattle.std.proofs.Common.{Contains, arith, refl, sym, ap, ◌∙◌, subst, zero-add}
 use Rattle.std.specs.List.{AllPairs, flat_map}
@@ -58,12 +59,7 @@ pub record InWaveOrder (ranks : List ℕ) (u v : ℕ) : Type 0 where
 -- What is left of a router
 
 left_own : (phase : Phase) (u : ℕ) (c : Change) → Contains (left_in phase u) c → changed c ≡ u
-left_own Old u c inside = elim (Contains-cases (first u) (second u ∷ []) c inside) [
-  | inl one ↦ sym (ap changed one)
-  | inr rest ↦ sym (ap changed (contains_one (second u) c rest))
-]
-left_own Middle u c inside = sym (ap changed (contains_one (second u) c inside))
-left_own New u c inside = absurd (Contains-none c inside)
+left_own phase u c inside = grind (arith, common_steps, Contains-cases, Contains-none, contains_one)
 
 left_or_made : (phase : Phase) (c : Change) → Contains (left_in phase (changed c)) c ↔ (is_made phase c ≡ false)
 left_or_made Old (first u) = (λ inside. refl, λ left. Contains-first (first u) (second u ∷ []))

@@ -65,14 +65,10 @@ turn_passes p (r ∷ rest) t inside is = by_test (λ later. turn_passes p rest t
     ]
 
 old_alone : (s : Tag) → is_old s ≡ true → s ≡ tag.Old
-old_alone tag.Old is = refl
-old_alone tag.New is = absurd (false≢true is)
-old_alone tag.Both is = absurd (false≢true is)
+old_alone s is = grind (arith, common_steps, false≢true)
 
 new_alone : (s : Tag) → is_new s ≡ true → s ≡ tag.New
-new_alone tag.Old is = absurd (false≢true is)
-new_alone tag.New is = refl
-new_alone tag.Both is = absurd (false≢true is)
+new_alone s is = grind (arith, common_steps, false≢true)
 
 pub old_turn : (ring : List Turn) (u : ℕ) → Contains (old_routers ring) u → TurnOf ring tag.Old u
 old_turn ring u inside = turn_passed is_old tag.Old old_alone ring u inside
@@ -146,21 +142,15 @@ NewSteps move a turn next = Steps move turn.router New a next
 
 -- a tag other than Old has a step in New, a tag other than New one at the start
 new_step : (old new : Type 0) (t : Tag) → IsTagOf t old new → (t ≡ tag.Old → ⊥) → new
-new_step old new tag.Old is other = absurd (other refl)
-new_step old new tag.New is other = is.1
-new_step old new tag.Both is other = is.1
+new_step old new t is other = grind (arith, common_steps)
 
 old_step : (old new : Type 0) (t : Tag) → IsTagOf t old new → (t ≡ tag.New → ⊥) → old
-old_step old new tag.Old is other = is.0
-old_step old new tag.New is other = absurd (other refl)
-old_step old new tag.Both is other = is.0
+old_step old new t is other = grind (arith, common_steps)
 
 -- each router of a loop is one of the network
 pub tag_inside : (move : Migration) (u a h : ℕ) (start : Phase) (t : Tag) →
     IsTagOf t (Steps move u start a h) (Steps move u New a h) → u < length move.net
-tag_inside move u a h start tag.Old is = is.0.must.router
-tag_inside move u a h start tag.New is = is.1.must.router
-tag_inside move u a h start tag.Both is = is.0.must.router
+tag_inside move u a h start t is = grind (arith, common_steps)
 
 pub loop_inside : (move : Migration) (a : ℕ) (turns : List Turn) → IsLoop move a turns → All (λ (t : Turn). t.router < length move.net) turns
 loop_inside move a turns is =
@@ -189,8 +179,7 @@ ring_is_unsound {move} state {a} ring some arises sound =
 
 pub arising_is_unsound : (move : Migration) (state : State) (a : ℕ) (ring : List Turn) → IsLoop move a ring →
     Arises move state a ring → IsSound move state → ⊥
-arising_is_unsound move state a ring is arises sound =
-    let some = is.some in ring_is_unsound state ring (omega (arith, some)) arises (sound a is.address)
+arising_is_unsound move state a ring is arises sound = grind (arith, common_steps, ring_is_unsound)
 
 -- Between sound ends
 
@@ -249,14 +238,10 @@ steps_with_tags {move} state {a} ring tags arises r inside =
 
 -- a router tagged Old doesn't step to the next one in New, and one tagged New doesn't at the start
 not_new : (old new : Type 0) (t : Tag) → t ≡ tag.Old → IsTagOf t old new → new → ⊥
-not_new old new tag.Old same is steps = is.1 steps
-not_new old new tag.New same is steps = cc
-not_new old new tag.Both same is steps = cc
+not_new old new t same is steps = grind (arith, common_steps)
 
 not_old : (old new : Type 0) (t : Tag) → t ≡ tag.New → IsTagOf t old new → old → ⊥
-not_old old new tag.Old same is steps = cc
-not_old old new tag.New same is steps = is.0 steps
-not_old old new tag.Both same is steps = cc
+not_old old new t same is steps = grind (arith, common_steps)
 
 pub old_is_early : (move : Migration) (state : State) (a : ℕ) (ring : List Turn) →
     AreTagged move a ring → Arises move state a ring → (u : ℕ) → Contains (old_routers ring) u → state u ≢ New

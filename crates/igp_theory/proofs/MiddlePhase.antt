@@ -1,6 +1,6 @@
 -- A router in Middle does what it does in Old, or what it does in New.
 use Rattle.std.proofs.lemmas.Grind.{common_steps}
-use Rattle.std.proofs.Common.{◌≡◌, ◌≢◌, ℕ, ◌<◌, ◌≤◌, ◌⊎◌, inl, inr, List, length, arith, refl, sym, ◌∙◌}
+use Rattle.std.proofs.Common.{◌≡◌, ◌≢◌, ℕ, ◌<◌, ◌≤◌, ◌⊎◌, inl, inr, List, length, arith, sym, ◌∙◌}
 use Rattle.std.proofs.lemmas.Bool.{cases_order}
 use Rattle.std.proofs.lemmas.List.Elements.{All-contains}
 use Rattle.std.proofs.lemmas.Option.{get_or_from_slice_get, slice_get_cases, slice_get_within}
@@ -83,14 +83,10 @@ abbrev ApartAt : Network → ℕ → Type 0
 ApartAt net u = (c : Configuration) → HasConfiguration net u c → (1 ≤ c.distances.ospf) × (c.distances.ospf ≢ 115)
 
 old_distance : {move : Migration} {u d : ℕ} {p : Block} {x : Usable} → ApartAt move.net u → Counts move u Old p d x → d ≢ 115
-old_distance apart (connected_counts is) same = omega (arith, same)
-old_distance apart (old_counts counts c has is set entry) same = (apart c has).1 (is ∙ same)
-old_distance apart (new_counts counts entry) same = absurd counts
+old_distance apart it_1 same = grind (arith, common_steps)
 
 new_distance : {move : Migration} {u d : ℕ} {p : Block} {x : Usable} → Counts move u New p d x → (d ≡ 0) ⊎ (d ≡ 115)
-new_distance (connected_counts is) = inl refl
-new_distance (old_counts counts c has is set entry) = absurd counts
-new_distance (new_counts counts entry) = inr refl
+new_distance it_0 = grind (arith, common_steps)
 
 -- what counts in Middle at distance 0 is connected, so it counts in Old
 near_counts : {move : Migration} {u d : ℕ} {p : Block} {x : Usable} → ApartAt move.net u → d ≡ 0 → Counts move u Middle p d x →

@@ -1,4 +1,5 @@
 -- An order as a wave list of ones: it has its ranks, and one run.
+use Rattle.std.proofs.lemmas.Grind.{common_steps}
 use Rattle.std.proofs.Common.{◌≡◌, ◌≢◌, ℕ, zero, suc, ◌+◌, ◌<◌, ◌⊎◌, inl, inr, ◌==◌, if◌then◌else◌, Bool, List, []}
 use Rattle.std.proofs.Common.{◌∷◌, length, map, take, min, get_or, Contains, ◌*◌, false, refl, sym, ap, ◌∙◌, subst, arith}
 use Rattle.std.specs.List.{AllPairs}
@@ -10,7 +11,7 @@ use Rattle.order_core.specs.Orders.{IsOrder}
 use Rattle.order_core.specs.Rankings.{IsRanking, numbers_below}
 use Rattle.order_core.proofs.Orders.{order_length}
 use Rattle.igp_theory.specs.Migrations.{Migration}
-use Rattle.igp_theory.specs.Changes.{Change, first, second, changed}
+use Rattle.igp_theory.specs.Changes.{Change, changed}
 use Rattle.igp_theory.specs.LoopLaws.{BeginsOld}
 use Rattle.igp_theory.specs.Phases.{State}
 use Rattle.igp_theory.specs.States.{IsSeamless}
@@ -100,10 +101,7 @@ same_in_turn {X} R (x ∷ xs) (y ∷ ys) one two apart over back =
         absurd (apart z z here here own own)
 
 one_way : (time : Timetable) (c d : Change) → changed c ≡ changed d → MayPrecede time c d → MayPrecede time d c → ⊥
-one_way time (first u) (first v) same one two = one.other (ap first same)
-one_way time (second u) (second v) same one two = one.other (ap second same)
-one_way time (first u) (second v) same one two = two.half v refl (ap first same)
-one_way time (second u) (first v) same one two = one.half u refl (ap first (sym same))
+one_way time c d same one two = grind (arith, common_steps)
 
 pub order_has_one_run : (n : ℕ) (start : State) (order ranks : List ℕ) (run : List Change) → IsOrder n order → AreOnes order ranks →
     IsRun n (router_times start ranks) run → run ≡ run_from start order

@@ -1,5 +1,6 @@
 -- Phases by how many of a router's changes are made in them.
-use Rattle.std.proofs.Common.{◌≡◌, ℕ, zero, suc, ◌+◌, ◌≤◌, ◌⊎◌, inl, inr, if◌then◌else◌, Bool, true, min, arith, refl, sym, ap, ◌∙◌}
+use Rattle.std.proofs.lemmas.Grind.{common_steps}
+use Rattle.std.proofs.Common.{◌≡◌, ℕ, ◌+◌, ◌≤◌, ◌⊎◌, inl, inr, if◌then◌else◌, Bool, true, min, arith, sym, ap, ◌∙◌}
 use Rattle.igp_theory.specs.Forwarding.{Steps}
 use Rattle.igp_theory.specs.Migrations.{Migration}
 use Rattle.igp_theory.specs.Phases.{made_in}
@@ -12,19 +13,13 @@ use Rattle.igp_theory.proofs.LoopLaws.{old_or_new_step}
 
 -- at most two changes are made in a phase, and they lead to it
 pub made_in_few : (phase : Phase) → made_in phase ≤ 2
-made_in_few Old = omega arith
-made_in_few Middle = omega arith
-made_in_few New = omega arith
+made_in_few phase = grind (arith, common_steps)
 
 pub phase_reached : (phase : Phase) → phase_after (made_in phase) ≡ phase
-phase_reached Old = refl
-phase_reached Middle = refl
-phase_reached New = refl
+phase_reached phase = grind (arith, common_steps)
 
 pub made_after : (k : ℕ) → made_in (phase_after k) ≡ min 2 k
-made_after zero = omega arith
-made_after (suc zero) = omega arith
-made_after (suc (suc k)) = omega arith
+made_after k = grind (arith, common_steps)
 
 -- how many changes a fact counts
 abbrev pub tally : Bool → ℕ
@@ -32,15 +27,11 @@ tally b = if b then 1 else 0
 
 -- the changes that are made in a phase, one by one
 pub made_one_by_one : (phase : Phase) (u : ℕ) → made_in phase ≡ tally (is_made phase (first u)) + tally (is_made phase (second u))
-made_one_by_one Old u = omega arith
-made_one_by_one Middle u = omega arith
-made_one_by_one New u = omega arith
+made_one_by_one phase u = grind (arith, common_steps)
 
 -- where a router's second change is made, so is its first
 pub second_after_first : (phase : Phase) (u : ℕ) → is_made phase (second u) ≡ true → is_made phase (first u) ≡ true
-second_after_first Old u made = made
-second_after_first Middle u made = refl
-second_after_first New u made = refl
+second_after_first phase u made = grind (arith, common_steps)
 
 -- phases in which as many changes are made are one
 pub phases_same : (one other : Phase) → made_in one ≡ made_in other → one ≡ other

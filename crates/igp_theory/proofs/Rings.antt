@@ -1,4 +1,5 @@
 -- Rings: each element and the next one.
+use Rattle.std.proofs.lemmas.Grind.{common_steps}
 use Rattle.std.proofs.Common.{◌≡◌, ◌≢◌, ℕ, zero, suc, ◌<◌, ◌≤◌, ◌⊎◌, inl, inr, List, [], ◌∷◌, ◌++◌, length, Contains}
 use Rattle.std.proofs.Common.{AllPairs, refl, sym, ap, ◌∙◌, subst, arith}
 use Rattle.std.proofs.lemmas.List.{append-nil}
@@ -182,8 +183,7 @@ around_of_routers step [] goes = tt
 around_of_routers step (r ∷ rest) goes = each_of_routers step r (r ∷ rest) goes
 
 pub some_turn : (ring : List Turn) (u : ℕ) (others : List ℕ) → routers_of ring ≡ u ∷ others → 0 < length ring
-some_turn [] u others begins = cc
-some_turn (t ∷ ring) u others begins = omega arith
+some_turn ring u others begins = grind (arith, common_steps)
 
 routers_contain : (ring : List Turn) (t : Turn) → Contains ring t → Contains (routers_of ring) t.router
 routers_contain [] t inside = absurd (Contains-none t inside)

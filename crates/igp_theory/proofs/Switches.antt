@@ -1,4 +1,5 @@
 -- The waves in which the turns of a loop are switched.
+use Rattle.std.proofs.lemmas.Grind.{common_steps}
 use Rattle.std.proofs.Common.{◌≡◌, ℕ, ◌+◌, ◌<◌, ◌≤◌, ◌↔◌, inl, inr, if◌then◌else◌, List, arith, refl, sym, ap, ◌∙◌, subst}
 use Rattle.std.proofs.lemmas.Bool.{cases_lt}
 use Rattle.order_core.specs.Rankings.{rank_of}
@@ -49,8 +50,7 @@ switches move time a turn next k some steps tagged = record {
 
 -- phases that are one step alike
 same_steps : {move : Migration} {u a h : ℕ} (one other : Phase) → one ≡ other → Steps move u one a h ↔ Steps move u other a h
-same_steps {move} {u} {a} {h} one other same =
-    (subst (λ phase. Steps move u phase a h) same, subst (λ phase. Steps move u phase a h) (sym same))
+same_steps {move} {u} {a} {h} one other same = grind (arith, common_steps)
 
 -- Routers
 
@@ -139,7 +139,4 @@ change_switches move ranks a turn next c begins tagged in_order is =
     (at_switch move (change_times ranks) a turn.router next begins in_order c is) tagged
 
 pub one_switch : (move : Migration) (u a : ℕ) (c d : Change) → IsSwitch move u a c → IsSwitch move u a d → c ≡ d
-one_switch move u a _ _ (at_first as_new) (at_first also) = refl
-one_switch move u a _ _ (at_first as_new) (at_second as_old not_new) = absurd (not_new as_new)
-one_switch move u a _ _ (at_second as_old not_new) (at_first as_new) = absurd (not_new as_new)
-one_switch move u a _ _ (at_second as_old not_new) (at_second also never) = refl
+one_switch move u a c d it_5 it_6 = grind (arith, common_steps)

@@ -1,5 +1,6 @@
 -- Both protocols' tables: one entry for a prefix, whose hops are neighbors.
-use Rattle.std.proofs.Common.{◌≡◌, ℕ, zero, suc, ◌<◌, ◌↔◌, ◌⊎◌, inl, inr, Bool, true, false, ◌==◌, List, [], ◌∷◌, Contains}
+use Rattle.std.proofs.lemmas.Grind.{common_steps}
+use Rattle.std.proofs.Common.{◌≡◌, ℕ, suc, ◌<◌, ◌↔◌, ◌⊎◌, inl, inr, Bool, true, false, ◌==◌, List, [], ◌∷◌, Contains}
 use Rattle.std.proofs.Common.{refl, sym, ◌∙◌, ap, subst, arith}
 use Rattle.std.specs.List.{AllPairs}
 use Rattle.std.proofs.lemmas.List.Kept.{AllPairs-from_increasing}
@@ -26,8 +27,7 @@ use Rattle.igp_theory.specs.Routes.{ForwardsTo, EntryLeadsTo}
 
 -- what a list contains is its first element or in the rest
 contains_cases : (x : ℕ) (xs : List ℕ) (h : ℕ) → Contains (x ∷ xs) h → (x ≡ h) ⊎ Contains xs h
-contains_cases x xs h (zero, within, at) = inl at
-contains_cases x xs h (suc k, within, at) = inr (k, omega arith, at)
+contains_cases x xs h it_3 = grind (arith, common_steps)
 
 contains_more : (x : ℕ) (xs : List ℕ) (h : ℕ) → Contains xs h → Contains (x ∷ xs) h
 contains_more x xs h (k, within, at) = (suc k, omega arith, at)

@@ -1,8 +1,9 @@
 -- The tags of a ring are determined by its routers.
+use Rattle.std.proofs.Common.{arith}
+use Rattle.std.proofs.lemmas.Grind.{common_steps}
 use Rattle.std.proofs.Common.{◌≡◌, ℕ, ◌↔◌, List, [], ◌∷◌, refl, sym, subst}
 use Rattle.order_core.specs.Turns.{routers_of}
 use Rattle.order_core.specs.declared.turn.Tag.{Tag}
-use Rattle.order_core.specs.declared.turn.Tag.TheVariants.{Old, New, Both}
 use Rattle.order_core.specs.declared.turn.Turn.{Turn}
 use Rattle.igp_theory.specs.Forwarding.{Steps}
 use Rattle.igp_theory.specs.Loops.{IsTagOf, IsTag, EachToNext, AroundRing}
@@ -11,21 +12,11 @@ use Rattle.igp_theory.specs.declared.phase.Phase.TheVariants as phase
 
 -- two phases have one tag
 same_tag : (s t : Tag) (old new : Type 0) → IsTagOf s old new → IsTagOf t old new → s ≡ t
-same_tag Old Old old new one other = refl
-same_tag Old New old new one other = absurd (other.0 one.0)
-same_tag Old Both old new one other = absurd (one.1 other.1)
-same_tag New Old old new one other = absurd (one.0 other.0)
-same_tag New New old new one other = refl
-same_tag New Both old new one other = absurd (one.0 other.0)
-same_tag Both Old old new one other = absurd (other.1 one.1)
-same_tag Both New old new one other = absurd (other.0 one.0)
-same_tag Both Both old new one other = refl
+same_tag s t old new one other = grind (arith, common_steps)
 
 -- phases that do the same have the same tag
 pub tags_over : (t : Tag) {old new old' new' : Type 0} → old ↔ old' → new ↔ new' → IsTagOf t old new → IsTagOf t old' new'
-tags_over Old first second is = (first.0 is.0, λ new'. is.1 (second.1 new'))
-tags_over New first second is = (λ old'. is.0 (first.1 old'), second.0 is.1)
-tags_over Both first second is = (first.0 is.0, second.0 is.1)
+tags_over t first second is = grind (arith, common_steps)
 
 -- a router has one tag towards the next
 same_turn : {move : Migration} {a : ℕ} (r s : Turn) (next other : ℕ) → r.router ≡ s.router → next ≡ other →

@@ -16,12 +16,10 @@ pub before_new : (time : Timetable) (w u : ℕ) → time (second u) < w → stat
 before_new time w u made = ap (λ b. if b then New else if ltb (time (first u)) w then Middle else Old) (lt-ltb (time (second u)) w made)
 
 pub before_middle : (time : Timetable) (w u : ℕ) → time (first u) < w → w ≤ time (second u) → state_before time w u ≡ Middle
-before_middle time w u made left =
-    ap (λ b. phase_by b (ltb (time (first u)) w)) (le-ltb (time (second u)) w left) ∙ ap (phase_by false) (lt-ltb (time (first u)) w made)
+before_middle time w u made left = grind (arith, common_steps, le-ltb, lt-ltb)
 
 pub before_old : (time : Timetable) (w u : ℕ) → w ≤ time (first u) → w ≤ time (second u) → state_before time w u ≡ Old
-before_old time w u one two =
-    ap (λ b. phase_by b (ltb (time (first u)) w)) (le-ltb (time (second u)) w two) ∙ ap (phase_by false) (le-ltb (time (first u)) w one)
+before_old time w u one two = grind (arith, common_steps, le-ltb)
 
 -- how many changes are made when a wave begins: each one of an earlier wave
 pub made_before : (time : Timetable) (w u : ℕ) → time (first u) ≤ time (second u) →

@@ -1,4 +1,6 @@
 -- Loops wave by wave: a ring over all states of a wave arises in one of them.
+use Rattle.std.proofs.Common.{arith}
+use Rattle.std.proofs.lemmas.Grind.{common_steps}
 use Rattle.std.proofs.Common.{◌≡◌, ◌≢◌, ℕ, ◌+◌, ◌<◌, ◌≤◌, ◌⊎◌, inl, inr, List, [], ◌∷◌, length, AllPairs, refl, sym, ◌∙◌, subst}
 use Rattle.std.proofs.lemmas.Bool.{cases_eq}
 use Rattle.order_core.specs.Orders.{AreDistinct}
@@ -41,12 +43,10 @@ pick (inl here) one other = one
 pick (inr there) one other = other
 
 pick_first : {P Q : Type 0} (either : P ⊎ Q) (one other : Phase) → (Q → ⊥) → pick either one other ≡ one
-pick_first (inl here) one other not = refl
-pick_first (inr there) one other not = absurd (not there)
+pick_first either one other not = grind (arith, common_steps)
 
 pick_second : {P Q : Type 0} (either : P ⊎ Q) (one other : Phase) → (P → ⊥) → pick either one other ≡ other
-pick_second (inl here) one other not = absurd (not here)
-pick_second (inr there) one other not = refl
+pick_second either one other not = grind (arith, common_steps)
 
 abbrev put : ℕ → Phase → State → State
 put u phase state v = pick (cases_eq v u) phase (state v)
