@@ -1,9 +1,7 @@
 -- What a step gives holds over the oracle as it was when the search began, since it means the same.
-use Rattle.std.proofs.lemmas.Grind.{common_steps}
-use Rattle.std.proofs.Common.{arith}
 use Rattle.std.proofs.lemmas.Result.{IfOk-weaker}
-use Rattle.order_search.proofs.SameMeanings.{SameMeaning-itself, SameMeaning-through, IsSearching-same, EndsBy-step, IsSearching-step}
-use Rattle.order_search.proofs.SearchSteps.{IsFound-end, EndsOrGoesOn-ends}
+use Rattle.order_search.proofs.SameMeanings.{SameMeaning-through, IsSearching-same, EndsBy-step, IsSearching-step}
+use Rattle.order_search.proofs.SearchSteps.{IsFound-end}
 use Rattle.order_search.proofs.depth_first.search.Goals as goal
 
 pub take_step-requires-clause-searching : goal.take_step-requires-clause-searching

@@ -1,5 +1,4 @@
 -- The place is visited; where its list is broken it becomes a branch, and the next child is the place.
-use Rattle.std.proofs.lemmas.Grind.{common_steps}
 use Rattle.std.proofs.Common.{ℕ, List, sym, subst, refl, ◌∙◌, arith}
 use Rattle.std.proofs.lemmas.Bool.{OnTrue_at, OnFalse_at}
 use Rattle.order_search.specs.steps.Waiting.{children_below, IsUnder}

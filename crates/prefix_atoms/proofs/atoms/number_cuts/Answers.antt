@@ -1,10 +1,9 @@
-use Rattle.std.proofs.lemmas.Grind.{common_steps}
 use Rattle.std.proofs.Common.{◌≡◌, ◌≤◌, ◌^◌, ◌∙◌, ℕ, List, length, get_or, arith, ap, subst}
 use Rattle.std.proofs.lemmas.List.{get_or_default}
 use Rattle.std.proofs.lemmas.Result.{IfOk-weaker}
 use Rattle.prefix_atoms.specs.steps.Numbers.{IsNumbering}
 use Rattle.prefix_atoms.proofs.Ascending.{length_below}
-use Rattle.prefix_atoms.proofs.ClassFacts.{keys_below, numbers_classes}
+use Rattle.prefix_atoms.proofs.ClassFacts.{numbers_classes}
 use Rattle.prefix_atoms.proofs.NestedLaws.{ascending_apart}
 use Rattle.prefix_atoms.proofs.atoms.number_cuts.Goals as goal
 

@@ -1,7 +1,6 @@
-use Rattle.std.proofs.lemmas.Grind.{common_steps}
-use Rattle.std.proofs.Common.{◌≡◌, ◌∙◌, ℕ, List, ap, arith, subst, sym}
+use Rattle.std.proofs.Common.{◌≡◌, ◌∙◌, ℕ, List, ap, arith, subst}
 use Rattle.net_addr.specs.Addresses.{Block}
-use Rattle.route_core.specs.Rows.{IsTable, KeptTable, kept_in, listed, row_prefixes, rows_in}
+use Rattle.route_core.specs.Rows.{KeptTable, kept_in, listed, row_prefixes, rows_in}
 use Rattle.route_core.specs.Tables.{table_prefixes}
 use Rattle.route_core.proofs.RowLaws.{prefixes_of_rows}
 use Rattle.prefix_atoms.specs.steps.Lists.{source_prefixes, AreUnseen, GainsPrefixes}

@@ -1,7 +1,6 @@
-use Rattle.std.proofs.Common.{◌≡◌, ◌≤◌, ◌<◌, ◌+◌, ℕ, get_or, arith, ap, sym, subst, ◌∙◌}
+use Rattle.std.proofs.Common.{◌≡◌, ◌≤◌, ◌<◌, ◌+◌, ℕ, get_or, arith, ap, sym, ◌∙◌}
 use Rattle.net_addr.specs.Boundaries.{last_address}
-use Rattle.prefix_atoms.specs.steps.Lists.{IsPlaceOf}
-use Rattle.prefix_atoms.proofs.LongestSteps.{painted_none, painted_more, painted_all}
+use Rattle.prefix_atoms.proofs.LongestSteps.{painted_more, painted_all}
 use Rattle.prefix_atoms.proofs.longest.take_prefix.Goals as goal
 
 pub loop-i-preserved : goal.loop-i-preserved
