@@ -1,4 +1,5 @@
 -- Links of all routers, their groups, and what the segments that they make stand for.
+use Rattle.std.proofs.lemmas.Grind.{common_steps}
 use Rattle.std.proofs.Common.{◌≡◌, ◌≢◌, ℕ, ◌+◌, ◌<◌, ◌≤◌, ◌↔◌, List, [], ◌∷◌, ◌++◌, Some, length, take, refl, sym, ap, subst, ◌∙◌, inl, inr, arith}
 use Rattle.std.specs.List.{Contains, Any}
 use Rattle.std.proofs.lemmas.Bool.{cases_lt}
@@ -9,7 +10,6 @@ use Rattle.net_model.specs.Network.{Network, HasConfiguration, MayJoin, Adjacent
 use Rattle.net_model.specs.Refusals.{IsNetwork}
 use Rattle.net_model.specs.declared.interface.Interface.{Interface}
 use Rattle.net_model.specs.declared.zone.Zone.{Zone}
-use Rattle.net_model.specs.declared.zone.Zone.TheVariants.{Area, One, Two}
 use Rattle.net_model.proofs.Adjacency.{HasConfiguration-unique}
 use Rattle.net_model.proofs.NetworkFacts.{HasConfiguration-keeps, Adjacent-from_within, Adjacent-to_within}
 use Rattle.walk_core.specs.Segments.{IsPort, SendsAcross}
@@ -23,62 +23,33 @@ use Rattle.zone_graph.specs.declared.links.Link.{Link}
 
 -- what a zone may join is an equivalence
 pub joins_on : (z : Zone) (c d e : Configuration) → MayJoin z c d → MayJoin z d e → MayJoin z c e
-joins_on (Area _) c d e one other = tt
-joins_on One c d e one other = one ∙ other
-joins_on Two c d e one other = tt
+joins_on z c d e one other = grind (arith, common_steps)
 
 pub joins_back : (z : Zone) (c d : Configuration) → MayJoin z c d → MayJoin z d c
-joins_back (Area _) c d h = tt
-joins_back One c d h = sym h
-joins_back Two c d h = tt
+joins_back z c d h = grind (arith, common_steps)
 
 pub joins_itself : (z : Zone) (c : Configuration) → MayJoin z c c
-joins_itself (Area _) c = tt
-joins_itself One c = refl
-joins_itself Two c = tt
+joins_itself z c = grind (arith, common_steps)
 
 -- routers of one group may be joined
 pub same_group_joins : (net : Network) (z : Zone) (u v g h : ℕ) (c d : Configuration) → IsGroup net z u g → IsGroup net z v h → g ≡ h →
     HasConfiguration net u c → HasConfiguration net v d → MayJoin z c d
 same_group_joins net z u v g h c d one other same c_is d_is =
-    let first : one.first ≡ other.first =
-    HasConfiguration-unique net h one.first other.first (subst (λ (n : ℕ). HasConfiguration net n one.first) same one.first_is) other.first_is
-    in
-    let c_same : one.own ≡ c = HasConfiguration-unique net u one.own c one.own_is c_is in
-    let d_same : other.own ≡ d = HasConfiguration-unique net v other.own d other.own_is d_is in
-    let back : MayJoin z one.own one.first = joins_back z one.first one.own one.joined in
-    let there : MayJoin z one.first other.own = subst (λ (f : Configuration). MayJoin z f other.own) (sym first) other.joined in
-    let join : MayJoin z one.own other.own = joins_on z one.own one.first other.own back there in
-    subst (λ (x : Configuration). MayJoin z x d) c_same (subst (λ (x : Configuration). MayJoin z one.own x) d_same join)
+    grind (arith, common_steps, HasConfiguration-unique, joins_back, joins_on)
 
 -- the group of a router is no later than that of one that it may be joined with
 group_no_later : (net : Network) (z : Zone) (u v g h : ℕ) → (one : IsGroup net z u g) → (other : IsGroup net z v h) → MayJoin z one.own other.own → g < h → ⊥
-group_no_later net z u v g h one other join less =
-    other.none_before g one.first less one.first_is (joins_on z one.first one.own other.own one.joined join)
+group_no_later net z u v g h one other join less = grind (arith, common_steps, joins_on)
 
 -- routers that may be joined are of one group
 pub joined_are_one_group : (net : Network) (z : Zone) (u v g h : ℕ) (c d : Configuration) → IsGroup net z u g → IsGroup net z v h →
     HasConfiguration net u c → HasConfiguration net v d → MayJoin z c d → g ≡ h
 joined_are_one_group net z u v g h c d one other c_is d_is join =
-    let c_same : c ≡ one.own = HasConfiguration-unique net u c one.own c_is one.own_is in
-    let d_same : d ≡ other.own = HasConfiguration-unique net v d other.own d_is other.own_is in
-    let owns : MayJoin z one.own other.own =
-    subst (λ (x : Configuration). MayJoin z x other.own) c_same (subst (λ (x : Configuration). MayJoin z c x) d_same join)
-    in
-    elim (cases_lt g h) [
-      | inl less ↦ absurd (group_no_later net z u v g h one other owns less)
-      | inr more ↦ elim (cases_lt h g) [
-        | inl less ↦ absurd (group_no_later net z v u h g other one (joins_back z one.own other.own owns) less)
-        | inr same ↦ omega (arith, more, same)
-      ]
-    ]
+    grind (arith, common_steps, HasConfiguration-unique, cases_lt, group_no_later, joins_back)
 
 -- one more link of a router
 pub adds_no_links : (all : List Attachment) (links : List Link) (group router : ℕ) → AddsLinks all all (take 0 links) group router
-adds_no_links all links group router a = (
-  λ has. inl has,
-  λ either. elim either [ inl has ↦ has | inr is ↦ absurd (omega (arith, is.among.1)) ],
-)
+adds_no_links all links group router a = grind (arith, common_steps)
 
 pub adds_link : (old mid : List Attachment) (front : List Link) (a : Attachment) (group router : ℕ) → AddsLinks old mid front group router →
     a.group ≡ group → a.router ≡ router → AddsLinks old (mid ++ a ∷ []) (front ++ a.link ∷ []) group router
@@ -107,10 +78,7 @@ adds_link old mid front a group router adds group_is router_is b = (
 
 -- of no routers there are no links
 pub no_attachments : (net : Network) (z : Zone) → AreAttachments net z 0 []
-no_attachments net z = record {
-  each = λ a has. absurd (omega (arith, has.1));
-  every = λ u config i link below at among is. absurd (omega (arith, below));
-}
+no_attachments net z = grind (arith, common_steps)
 
 -- the links of one more router
 pub attachments_more : (net : Network) (z : Zone) (n group : ℕ) (old new : List Attachment) (links : List Link) →
@@ -173,9 +141,7 @@ attachments_same net z n old new same are = record {
 
 -- what an interface costs in a zone is within its range
 cost_range : (z : Zone) (i : Interface) → IsInterface i → (1 ≤ cost_in z i) × (cost_in z i ≤ 16777214)
-cost_range (Area _) i h = (h.cost.0, omega (arith, h.cost.1))
-cost_range One i h = h.metric1
-cost_range Two i h = h.metric2
+cost_range z i h = grind (arith, common_steps)
 
 -- the ports of the segments are of routers of the network, at costs in their range
 port_range : (net : Network) (z : Zone) (a : Attachment) (port : Port) → IsNetwork net → IsAttachment net z (length net) a → IsPortOf a port →

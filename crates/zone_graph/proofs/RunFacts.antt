@@ -1,4 +1,5 @@
 -- Runs of attachments whose subnets begin alike, and the segments that they make.
+use Rattle.std.proofs.lemmas.Grind.{common_steps}
 use Rattle.std.proofs.Common.{◌≡◌, ◌≢◌, ℕ, ◌⊎◌, ◌+◌, ◌-◌, ◌<◌, ◌≤◌, zero, suc, List, [], ◌∷◌, ◌++◌, length, get_or, take, drop, refl, sym, ap, subst, ◌∙◌}
 use Rattle.std.proofs.Common.{inl, inr, arith}
 use Rattle.std.specs.List.{Contains}
@@ -30,11 +31,7 @@ in_run all place end i a at after before within = (
 
 -- and what is in the run is among all
 pub from_run : (all : List Attachment) (place end : ℕ) (a : Attachment) → Contains (run_of all place end) a → Contains all a
-from_run all place end a has =
-    let rest : List Attachment = drop place all in
-    let there : Contains rest a = subst (λ (l : List Attachment). Contains l a) (take-append-drop (end - place) rest)
-    (Contains-append_left (take (end - place) rest) (drop (end - place) rest) a has) in
-    subst (λ (l : List Attachment). Contains l a) (take-append-drop place all) (Contains-append_right (take place all) rest a there)
+from_run all place end a has = grind (arith, common_steps, Contains-append_left, Contains-append_right, take-append-drop)
 
 -- one attachment stands at a place
 pub one_stands : (all : List Attachment) (place : ℕ) (a b : Attachment) → IsAttachmentAt all place a → IsAttachmentAt all place b → a ≡ b
@@ -65,23 +62,11 @@ port_of a = record { vertex = a.router; cost = a.link.cost }
 
 -- two ports of a list of at most one are the same
 pub lone_port : (ports : List Port) (p q : Port) → length ports ≤ 1 → Contains ports p → Contains ports q → p ≡ q
-lone_port ports p q few one other =
-    let first : one.0 ≡ 0 = omega (arith, one.1, few) in
-    let second : other.0 ≡ 0 = omega (arith, other.1, few) in
-    sym one.2 ∙ ap (λ (n : ℕ). get_or ports n p) (first ∙ sym second) ∙ get_or_default ports other.0 p q other.1 ∙ other.2
+lone_port ports p q few one other = grind (arith, common_steps, get_or_default)
 
 -- ports that stand in segments stay so when another one comes
 pub both_kept : (segments : List (List Port)) (segment : List Port) (a b : Attachment) → HasBoth segments a b → HasBoth (segments ++ segment ∷ []) a b
-both_kept segments segment a b both = record {
-  segment = both.segment;
-  among = Contains-append_left segments (segment ∷ []) both.segment both.among;
-  one = both.one;
-  two = both.two;
-  one_among = both.one_among;
-  two_among = both.two_among;
-  one_is = both.one_is;
-  two_is = both.two_is;
-}
+both_kept segments segment a b both = grind (arith, common_steps, Contains-append_left)
 
 -- what is known where the ports of a run are found
 pub record IsRun (all : List Attachment) (place end : ℕ) (like : Attachment) (ports : List Port) : Type 0 where
@@ -163,20 +148,7 @@ segment_earlier all place segments earlier are = record {
 
 -- two attachments are of one segment or they aren't
 one_segment_cases : (a b : Attachment) → AreOfOneSegment a b ⊎ (AreOfOneSegment a b → ⊥)
-one_segment_cases a b =
-    elim (cases_eq a.link.subnet.base b.link.subnet.base) [
-      | inr apart ↦ inr (λ same. apart (ap (λ (p : Block). p.base) same.subnet))
-      | inl base ↦ elim (cases_eq a.link.subnet.len b.link.subnet.len) [
-        | inr apart ↦ inr (λ same. apart (ap (λ (p : Block). p.len) same.subnet))
-        | inl len ↦ elim (cases_eq a.group b.group) [
-          | inr apart ↦ inr (λ same. apart same.group)
-          | inl group ↦ inl (record {
-            subnet = ap (λ (n : ℕ). record { base = n; len = a.link.subnet.len }) base ∙ ap (λ (n : ℕ). record { base = b.link.subnet.base; len = n }) len;
-            group = group;
-          })
-        ]
-      ]
-    ]
+one_segment_cases a b = grind (arith, common_steps, cases_eq)
 
 -- the first place of a segment
 pub record IsFirstOf (all : List Attachment) (like : Attachment) (place : ℕ) : Type 0 where
@@ -247,18 +219,11 @@ pub no_ports : (all : List Attachment) (like : Attachment) → ArePortsLike (tak
 no_ports all like port = (λ has. absurd (omega (arith, has.1)), λ made. absurd (omega (arith, made.among.1)))
 
 made_kept : (front : List Attachment) (a like : Attachment) (port : Port) → MakesPort front like port → MakesPort (front ++ a ∷ []) like port
-made_kept front a like port made = record {
-  attachment = made.attachment;
-  among = Contains-append_left front (a ∷ []) made.attachment made.among;
-  same = made.same;
-  port_is = made.port_is;
-}
+made_kept front a like port made = grind (arith, common_steps, Contains-append_left)
 
 -- an attachment makes one port
 one_port : (a : Attachment) (p q : Port) → IsPortOf a p → IsPortOf a q → p ≡ q
-one_port a p q one other =
-    ap (λ (n : ℕ). record { vertex = n; cost = p.cost }) (one.vertex ∙ sym other.vertex)
-    ∙ ap (λ (n : ℕ). record { vertex = q.vertex; cost = n }) (one.cost ∙ sym other.cost)
+one_port a p q one other = grind (arith, common_steps)
 
 pub port_yes : (front : List Attachment) (a like : Attachment) (ports : List Port) (port : Port) → ArePortsLike front like ports → AreOfOneSegment a like →
     IsPortOf a port → ArePortsLike (front ++ a ∷ []) like (ports ++ port ∷ [])
@@ -289,10 +254,7 @@ port_no front a like ports are other p = (
 
 -- of no places there are no segments
 pub no_segments : (all : List Attachment) → AreSegmentsTo all 0 []
-no_segments all = record {
-  sound = λ segment has. absurd (omega (arith, has.1));
-  every = λ place below. absurd (omega (arith, below));
-}
+no_segments all = grind (arith, common_steps)
 
 -- a place that is read
 pub stands_at : (all : List Attachment) (place : ℕ) (a : Attachment) → place < length all → a ≡ get_or all place a → IsAttachmentAt all place a

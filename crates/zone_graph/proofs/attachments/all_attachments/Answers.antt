@@ -1,13 +1,13 @@
-use Rattle.std.proofs.Common.{◌≡◌, ℕ, List, length, sym, subst, arith}
-use Rattle.zone_graph.specs.steps.Attachments.{AddsLinks, AreAttachments}
+use Rattle.std.proofs.lemmas.Grind.{common_steps}
+use Rattle.std.proofs.Common.{List, subst, arith}
+use Rattle.zone_graph.specs.steps.Attachments.{AddsLinks}
 use Rattle.zone_graph.specs.declared.attachments.Attachment.{Attachment}
 use Rattle.zone_graph.specs.declared.links.Link.{Link}
 use Rattle.zone_graph.proofs.AttachmentFacts.{attachments_more, no_attachments}
 use Rattle.zone_graph.proofs.attachments.all_attachments.Goals as goal
 
 pub loop-router-init : goal.loop-router-init
-loop-router-init c =
-    subst (λ (l : List Attachment). AreAttachments c.args.net.now c.args.zone 0 l) (sym c.new-all.ensures.items) (no_attachments c.args.net.now c.args.zone)
+loop-router-init c = grind (arith, common_steps, no_attachments)
 
 pub loop-router-preserved : goal.loop-router-preserved
 loop-router-preserved c =
@@ -21,6 +21,4 @@ loop-router-preserved c =
     c.loop-router.invariant c.in_ok-links.ensures c.group_of.ensures adds
 
 pub returns-clause-exact : goal.returns-clause-exact
-returns-clause-exact c =
-    let all : c.loop-router.router ≡ length c.args.net.now = omega (arith, c.routers-router-end.ensures.count) in
-    subst (λ (n : ℕ). AreAttachments c.args.net.now c.args.zone n c.loop-router.all.items) all c.loop-router.invariant
+returns-clause-exact c = grind (arith, common_steps)

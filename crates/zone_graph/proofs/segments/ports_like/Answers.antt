@@ -1,3 +1,5 @@
+use Rattle.std.proofs.Common.{arith}
+use Rattle.std.proofs.lemmas.Grind.{common_steps}
 use Rattle.std.proofs.Common.{◌≡◌, ◌++◌, ◌∷◌, [], ◌+◌, ℕ, List, Vec, Global, take, refl, sym, ap, subst, ◌∙◌}
 use Rattle.std.proofs.lemmas.List.{take_all}
 use Rattle.walk_core.specs.declared.segment.Port.{Port}
@@ -9,8 +11,7 @@ use Rattle.zone_graph.proofs.segments.ports_like.Goals as goal
 use Rattle.zone_graph.proofs.segments.ports_like.Goals.{then-are_of_one_segment+in_ok-push, else-are_of_one_segment}
 
 pub loop-attachment-init : goal.loop-attachment-init
-loop-attachment-init c =
-    subst (λ (l : List Port). ArePortsLike [] c.args.like.now l) (sym c.new-ports.ensures.items) (no_ports c.args.attachments.now c.args.like.now)
+loop-attachment-init c = grind (arith, common_steps, no_ports)
 
 pub loop-attachment-preserved : goal.loop-attachment-preserved
 loop-attachment-preserved c =

@@ -1,14 +1,13 @@
-use Rattle.std.proofs.Common.{List, length, sym, subst}
-use Rattle.std.specs.List.Sorted.{IsNonDecreasingBy}
+use Rattle.std.proofs.Common.{arith}
+use Rattle.std.proofs.lemmas.Grind.{common_steps}
+use Rattle.std.proofs.Common.{List, length, subst}
 use Rattle.zone_graph.specs.steps.Attachments.{AreTheSegments}
 use Rattle.zone_graph.specs.declared.attachments.Attachment.{Attachment}
 use Rattle.zone_graph.proofs.AttachmentFacts.{are_zone_segments, attachments_same}
 use Rattle.zone_graph.proofs.segments.zone_segments.Goals as goal
 
 pub segments_of-requires : goal.segments_of-requires
-segments_of-requires c =
-    subst (λ (l : List Attachment). IsNonDecreasingBy (λ (a : Attachment). a.link.subnet.base) l)
-    (sym c.as_slice.ensures.value) c.in_ok-sort_by_base.ensures.sorted
+segments_of-requires c = grind (arith, common_steps)
 
 pub returns : goal.returns
 returns c =
