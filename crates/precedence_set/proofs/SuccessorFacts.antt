@@ -38,19 +38,7 @@ numbers_from-below u s (p ∷ pairs) i has = by_test (eqb p.0 u) (numbers_from u
 
 IsFirstFrom-earlier : (pairs : List Pair) (u s : ℕ) (r : Option ℕ) → (pair_at pairs s).0 ≢ u → IsFirstFrom pairs u (suc s) r →
     IsFirstFrom pairs u s r
-IsFirstFrom-earlier pairs u s None other first = λ j le lt. elim (cases_lt s j) [
-  | inl after ↦ first j (omega (arith, after)) lt
-  | inr here ↦ let same : s ≡ j = omega (arith, le, here) in subst (λ (k : ℕ). (pair_at pairs k).0 ≢ u) same other
-]
-IsFirstFrom-earlier pairs u s (Some i) other first = (
-  omega (arith, first.0),
-  first.1,
-  first.2,
-  λ j le lt. elim (cases_lt s j) [
-    | inl after ↦ first.3 j (omega (arith, after)) lt
-    | inr here ↦ let same : s ≡ j = omega (arith, le, here) in subst (λ (k : ℕ). (pair_at pairs k).0 ≢ u) same other
-  ],
-)
+IsFirstFrom-earlier pairs u s r other first = grind (arith, common_steps, cases_lt, first)
 
 first_from : (pairs : List Pair) (u s : ℕ) (ys : List Pair) → ((j : ℕ) → j < length ys → pair_at pairs (s + j) ≡ pair_at ys j) →
     s + length ys ≡ length pairs → IsFirstFrom pairs u s (first_node (numbers_from u s ys))
@@ -158,8 +146,7 @@ left_after pairs (Some i) = suc (length pairs) - i
 
 pub left_after-smaller : (pairs : List Pair) (x i : ℕ) (next : Option ℕ) → i < length pairs → IsFirstFrom pairs x (suc i) next →
     left_after pairs next < left_after pairs (Some i)
-left_after-smaller pairs x i None i_in first = omega (arith, i_in)
-left_after-smaller pairs x i (Some j) i_in first = omega (arith, i_in, first.0, first.1)
+left_after-smaller pairs x i next i_in first = grind (arith, common_steps, first)
 
 -- what the walk has found is a marked router after x
 pub lowest-after : (w : Walk) (marks : List Bool) (lowest : Option ℕ) → IsWalked w marks lowest → IfSome lowest (λ v. Contains w.pairs (w.from, v))

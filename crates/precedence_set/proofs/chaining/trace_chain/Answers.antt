@@ -1,12 +1,12 @@
 -- Each step goes back to the parent of the router after it.
-use Rattle.std.proofs.Common.{◌≡◌, ◌-◌, ℕ, zero, suc, length, length-set, arith, subst, refl, set, ◌∙◌}
+use Rattle.std.proofs.lemmas.Grind.{common_steps}
+use Rattle.std.proofs.Common.{◌≡◌, ◌-◌, ℕ, suc, length, length-set, arith, subst, refl, set, ◌∙◌}
 use Rattle.precedence_set.specs.steps.Chaining.{trace}
 use Rattle.precedence_set.proofs.ChainFacts.{IsTraced, IsTraced-begin, IsTraced-down, IsChain-traced, some_in_last, count_few, rank_few}
 use Rattle.precedence_set.proofs.chaining.trace_chain.Goals as goal
 
 by_count : (n : ℕ) → ¬ (n ≡ 0) → suc (n - 1) ≡ n
-by_count zero some = absurd (some refl)
-by_count (suc n) some = omega arith
+by_count n some = grind (arith, common_steps)
 
 pub find_parents-requires-clause-few : goal.find_parents-requires-clause-few
 find_parents-requires-clause-few c =

@@ -1,5 +1,6 @@
 -- The pair moves no router, or its second one alone.
-use Rattle.std.proofs.Common.{◌≡◌, ℕ, false, Option, Some, None, length, length-set, arith, subst, sym, refl, ◌+◌, ◌++◌, ◌∷◌, [], set}
+use Rattle.std.proofs.lemmas.Grind.{common_steps}
+use Rattle.std.proofs.Common.{◌≡◌, ℕ, false, Option, None, length, length-set, arith, subst, sym, ◌+◌, ◌++◌, ◌∷◌, [], set}
 use Rattle.std.proofs.Common.{get_or}
 use Rattle.std.specs.Option.{is_some}
 use Rattle.precedence_set.specs.Layers.{AreLayers}
@@ -7,8 +8,7 @@ use Rattle.precedence_set.proofs.LayerSteps.{AreLayers-kept, AreLayers-moved, no
 use Rattle.precedence_set.proofs.layering.add_to_layers.Goals as goal
 
 none_from_test : (o : Option ℕ) → false ≡ is_some o → o ≡ None
-none_from_test None e = refl
-none_from_test (Some x) e = cc
+none_from_test o e = grind (arith, common_steps)
 
 pub returns-then-layers-u-clause-layers : goal.returns-then-layers-u-clause-layers
 returns-then-layers-u-clause-layers c pairs fresh successors are =

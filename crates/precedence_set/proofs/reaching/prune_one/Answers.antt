@@ -1,5 +1,7 @@
 -- What reaches u isn't the router, since that one is before no marked router.
-use Rattle.std.proofs.Common.{◌≡◌, ℕ, false, Option, Some, None, subst, ◌∙◌}
+use Rattle.std.proofs.Common.{arith}
+use Rattle.std.proofs.lemmas.Grind.{common_steps}
+use Rattle.std.proofs.Common.{◌≡◌, ℕ, false, Option, subst, ◌∙◌}
 use Rattle.std.specs.Option.{is_some, IfNone}
 use Rattle.std.proofs.lemmas.List.{get_or-set_other}
 use Rattle.order_core.specs.Pairs.{Reaches}
@@ -7,8 +9,7 @@ use Rattle.precedence_set.proofs.TraceFacts.{first_back}
 use Rattle.precedence_set.proofs.reaching.prune_one.Goals as goal
 
 none_from_test : (o : Option ℕ) (P : Type 0) → false ≡ is_some o → IfNone o P → P
-none_from_test None P e holds = holds
-none_from_test (Some x) P e holds = cc
+none_from_test o P e holds = grind (arith, common_steps)
 
 pub returns : goal.returns
 returns c = λ r reaches.

@@ -1,5 +1,5 @@
 use Rattle.std.proofs.lemmas.Grind.{common_steps}
-use Rattle.std.proofs.Common.{arith, length}
+use Rattle.std.proofs.Common.{arith}
 use Rattle.std.proofs.lemmas.Bool.{cases_lt}
 use Rattle.precedence_set.proofs.SortFacts.{AreLeftCounts-same}
 use Rattle.precedence_set.proofs.ListFacts.{IsListing-free, all_listed, IsTopological-whole, IsGone-none}
@@ -12,5 +12,4 @@ pub list_after-count-requires-clause-listed : goal.list_after-count-requires-cla
 list_after-count-requires-clause-listed c = grind (arith, common_steps, all_listed, cases_lt)
 
 pub returns : goal.returns
-returns c = IsTopological-whole (length c.loop-k.order) c.args.graph.now.pairs.now c.loop-k.counts c.loop-k.order c.loop-k.count c.loop-k.invariant.listing
-    (omega (arith, c.loop-k.invariant.placed, c.loop-k.invariant.within)) (omega arith)
+returns c = grind (arith, common_steps, IsTopological-whole)

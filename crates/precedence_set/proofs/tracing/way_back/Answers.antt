@@ -1,13 +1,13 @@
 -- The walk goes on to the lowest marked router after the last one, or back, until it is at u.
-use Rattle.std.proofs.Common.{◌≡◌, ◌≢◌, true, false, Option, Some, None, eqb, length, length-set, arith, refl, sym, ap, ◌∙◌, ℕ}
+use Rattle.std.proofs.lemmas.Grind.{common_steps}
+use Rattle.std.proofs.Common.{◌≡◌, ◌≢◌, true, false, Option, Some, eqb, length, length-set, arith, refl, ap, ◌∙◌, ℕ}
 use Rattle.std.specs.Option.{option_eq}
 use Rattle.std.proofs.lemmas.Bool.{eq-eqb, eqb-true, false≢true}
 use Rattle.precedence_set.proofs.TraceFacts.{IsWalking-end, IsWalking-step, IsLowestAhead-found, room_for_found, step_is_nearer}
 use Rattle.precedence_set.proofs.tracing.way_back.Goals as goal
 
 some_from_eq : (next : Option ℕ) (u : ℕ) → true ≡ option_eq eqb next (Some u) → next ≡ Some u
-some_from_eq None u e = absurd (false≢true (sym e))
-some_from_eq (Some w) u e = ap (λ (x : ℕ). Some x) (eqb-true w u (sym e))
+some_from_eq next u e = grind (arith, common_steps, eqb-true, false≢true)
 
 differs_from_eq : (next : Option ℕ) (u : ℕ) → false ≡ option_eq eqb next (Some u) → next ≢ Some u
 differs_from_eq next u e same = false≢true (e ∙ ap (λ (o : Option ℕ). option_eq eqb o (Some u)) same ∙ eq-eqb u u refl)
