@@ -1,4 +1,5 @@
 -- How a chain changes where a node is put in or taken out.
+use Rattle.std.proofs.lemmas.Grind.{common_steps}
 use Rattle.std.proofs.Common.{◌≡◌, ◌≢◌, ℕ, zero, suc, ◌<◌, List, [], ◌∷◌, ◌++◌, length, Option, Some, None, set, refl, sym, ap}
 use Rattle.std.proofs.Common.{◌∙◌, subst, arith}
 use Rattle.std.proofs.lemmas.List.{get_or-set_same, get_or-set_other, length-set}
@@ -11,8 +12,7 @@ use Rattle.link_trail.specs.steps.Splices.{with_first, with_last, with_next, wit
 -- the ends of joined lists
 pub first-append : (before after : List ℕ) (next : Option ℕ) →
     first_or (before ++ after) next ≡ first_or before (first_or after next)
-first-append [] after next = refl
-first-append (x ∷ before) after next = refl
+first-append before after next = grind (arith, common_steps)
 
 pub last-append : (previous : Option ℕ) (before after : List ℕ) →
     last_or previous (before ++ after) ≡ last_or (last_or previous before) after
@@ -80,8 +80,7 @@ none-last z w (x ∷ []) h e = λ k. h.0 (let q : z ≡ x = cc in q)
 none-last z w (x ∷ y ∷ xs) h e = none-last z w (y ∷ xs) h.1 e
 
 pub none-first : (z w : ℕ) (xs : List ℕ) → IsNoneOf z xs → first_node xs ≡ Some w → z ≢ w
-none-first z w [] h e = λ k. (let q : ⊥ = cc in q)
-none-first z w (x ∷ xs) h e = λ k. h.0 (let q : z ≡ x = cc in q)
+none-first z w xs h e = grind (arith, common_steps)
 
 -- the nodes of a chain stand in its list
 pub last-list : (nodes : List Node) (list : ℕ) (previous : Option ℕ) (xs : List ℕ) (next : Option ℕ) →
@@ -93,9 +92,7 @@ last-list nodes list previous (x ∷ y ∷ xs) next h z e = last-list nodes list
 
 pub first-list : (nodes : List Node) (list : ℕ) (previous : Option ℕ) (xs : List ℕ) (next : Option ℕ) →
     AreChained nodes (stretch_between list previous next) xs → (z : ℕ) → first_node xs ≡ Some z → (node_at nodes z).list ≡ Some list
-first-list nodes list previous [] next h z e = absurd (let k : Some z ≡ None = sym e in cc)
-first-list nodes list previous (x ∷ xs) next h z e =
-    subst (λ w. (node_at nodes w).list ≡ Some list) (let k : x ≡ z = cc in k) (ap (λ (n : Node). n.list) h.0)
+first-list nodes list previous xs next h z e = grind (arith, common_steps)
 
 pub other-list : (nodes : List Node) (list : ℕ) (previous : Option ℕ) (xs : List ℕ) (next : Option ℕ) →
     AreChained nodes (stretch_between list previous next) xs → (z : ℕ) → (node_at nodes z).list ≢ Some list → IsNoneOf z xs
@@ -114,21 +111,17 @@ linked-in_range (n ∷ nodes) list (suc z) e = omega (arith, linked-in_range nod
 -- what a write leaves of the other nodes
 pub next-other : (nodes : List Node) (o w : Option ℕ) (x : ℕ) → ((z : ℕ) → o ≡ Some z → x ≢ z) →
     node_at (with_next nodes o w) x ≡ node_at nodes x
-next-other nodes None w x ne = refl
-next-other nodes (Some p) w x ne = get_or-set_other nodes p x _ free_node (ne p refl)
+next-other nodes o w x ne = grind (arith, common_steps, get_or-set_other)
 
 pub previous-other : (nodes : List Node) (o w : Option ℕ) (x : ℕ) → ((z : ℕ) → o ≡ Some z → x ≢ z) →
     node_at (with_previous nodes o w) x ≡ node_at nodes x
-previous-other nodes None w x ne = refl
-previous-other nodes (Some p) w x ne = get_or-set_other nodes p x _ free_node (ne p refl)
+previous-other nodes o w x ne = grind (arith, common_steps, get_or-set_other)
 
 pub length-next : (nodes : List Node) (o w : Option ℕ) → length (with_next nodes o w) ≡ length nodes
-length-next nodes None w = refl
-length-next nodes (Some p) w = length-set nodes p _
+length-next nodes o w = grind (arith, common_steps, length-set)
 
 pub length-previous : (nodes : List Node) (o w : Option ℕ) → length (with_previous nodes o w) ≡ length nodes
-length-previous nodes None w = refl
-length-previous nodes (Some p) w = length-set nodes p _
+length-previous nodes o w = grind (arith, common_steps, length-set)
 
 -- a chain stays where the write is to none of its nodes
 pub chained-set : (nodes : List Node) (list : ℕ) (previous : Option ℕ) (xs : List ℕ) (next : Option ℕ) (z : ℕ) (v : Node) →
@@ -140,14 +133,12 @@ chained-set nodes list previous (x ∷ xs) next z v n h =
 pub chained-next : (nodes : List Node) (list : ℕ) (previous : Option ℕ) (xs : List ℕ) (next : Option ℕ) (o w : Option ℕ) →
     ((z : ℕ) → o ≡ Some z → IsNoneOf z xs) → AreChained nodes (stretch_between list previous next) xs →
     AreChained (with_next nodes o w) (stretch_between list previous next) xs
-chained-next nodes list previous xs next None w n h = h
-chained-next nodes list previous xs next (Some z) w n h = chained-set nodes list previous xs next z _ (n z refl) h
+chained-next nodes list previous xs next o w n h = grind (arith, common_steps, chained-set)
 
 pub chained-previous : (nodes : List Node) (list : ℕ) (previous : Option ℕ) (xs : List ℕ) (next : Option ℕ) (o w : Option ℕ) →
     ((z : ℕ) → o ≡ Some z → IsNoneOf z xs) → AreChained nodes (stretch_between list previous next) xs →
     AreChained (with_previous nodes o w) (stretch_between list previous next) xs
-chained-previous nodes list previous xs next None w n h = h
-chained-previous nodes list previous xs next (Some z) w n h = chained-set nodes list previous xs next z _ (n z refl) h
+chained-previous nodes list previous xs next o w n h = grind (arith, common_steps, chained-set)
 
 -- parts of a chain
 pub chained-left : (nodes : List Node) (list : ℕ) (previous : Option ℕ) (before after : List ℕ) (next : Option ℕ) →
@@ -191,12 +182,8 @@ chained-onward nodes list previous (x ∷ y ∷ xs) next onward d h = (
 pub chained-origin : (nodes : List Node) (list : ℕ) (previous origin : Option ℕ) (xs : List ℕ) (next : Option ℕ) →
     IsDistinct xs → AreChained nodes (stretch_between list previous next) xs →
     AreChained (with_previous nodes (first_node xs) origin) (stretch_between list origin next) xs
-chained-origin nodes list previous origin [] next d h = tt
-chained-origin nodes list previous origin (x ∷ xs) next d h = (
-  get_or-set_same nodes x _ free_node (linked-in_range nodes list x (ap (λ (n : Node). n.list) h.0))
-      ∙ ap (λ (n : Node). let r : Node = record { list = n.list; previous = origin; next = n.next } in r) h.0,
-  chained-set nodes list (Some x) xs next x _ d.0 h.1,
-)
+chained-origin nodes list previous origin xs next d h =
+    grind (arith, common_steps, chained-set, get_or-set_same, linked-in_range)
 
 -- the ends of the list after a write
 pub ends-first : (ends : List Ends) (list : ℕ) (before : List ℕ) (or next : Option ℕ) → list < length ends →
@@ -214,24 +201,18 @@ pub ends-last : (ends : List Ends) (list : ℕ) (after : List ℕ) (or previous 
     (ends_at ends list).last ≡ last_or or after →
     ends_at (with_last ends list (first_node after) previous) list
     ≡ record { first = (ends_at ends list).first; last = last_or previous after }
-ends-last ends list [] or previous l e = get_or-set_same ends list _ no_ends l
-ends-last ends list (x ∷ after) or previous l e =
-    ap (λ (o : Option ℕ). let r : Ends = record { first = (ends_at ends list).first; last = o } in r) e
+ends-last ends list after or previous l e = grind (arith, common_steps, get_or-set_same)
 
 pub first-other : (ends : List Ends) (list other : ℕ) (o w : Option ℕ) → other ≢ list →
     ends_at (with_first ends list o w) other ≡ ends_at ends other
-first-other ends list other None w ne = get_or-set_other ends list other _ no_ends ne
-first-other ends list other (Some p) w ne = refl
+first-other ends list other o w ne = grind (arith, common_steps, get_or-set_other)
 
 pub last-other : (ends : List Ends) (list other : ℕ) (o w : Option ℕ) → other ≢ list →
     ends_at (with_last ends list o w) other ≡ ends_at ends other
-last-other ends list other None w ne = get_or-set_other ends list other _ no_ends ne
-last-other ends list other (Some p) w ne = refl
+last-other ends list other o w ne = grind (arith, common_steps, get_or-set_other)
 
 pub length-first : (ends : List Ends) (list : ℕ) (o w : Option ℕ) → length (with_first ends list o w) ≡ length ends
-length-first ends list None w = length-set ends list _
-length-first ends list (Some p) w = refl
+length-first ends list o w = grind (arith, common_steps, length-set)
 
 pub length-last : (ends : List Ends) (list : ℕ) (o w : Option ℕ) → length (with_last ends list o w) ≡ length ends
-length-last ends list None w = length-set ends list _
-length-last ends list (Some p) w = refl
+length-last ends list o w = grind (arith, common_steps, length-set)

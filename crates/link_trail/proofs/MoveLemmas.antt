@@ -1,8 +1,8 @@
 -- What moves and their undoing do to the lists, and to what nodes and ends show.
+use Rattle.std.proofs.lemmas.Grind.{common_steps}
 use Rattle.std.proofs.Common.{◌≡◌, ℕ, suc, ◌≤◌, List, [], ◌∷◌, ◌++◌, length, Option, Some, None, refl, sym, ap, subst, arith}
 use Rattle.link_trail.specs.declared.chain.Node.{Node}
 use Rattle.link_trail.specs.declared.moves.Move.{Move}
-use Rattle.link_trail.specs.declared.moves.Move.TheVariants.{Linked, Unlinked}
 use Rattle.link_trail.specs.Chains.{stretch_between, node_at, last_node, AreChained}
 use Rattle.link_trail.specs.Moves.{moved, lists_after, lists_before, IsTakenBackBy, AllFit}
 
@@ -39,8 +39,7 @@ fit-last nodes lists (m ∷ moves) move h = fit-last nodes (moved lists m) moves
 -- more nodes
 pub fits-wider : (nodes wider : ℕ) (lists : List (List ℕ)) (move : Move) → nodes ≤ wider → IsTakenBackBy nodes lists move →
     IsTakenBackBy wider lists move
-fits-wider nodes wider lists (Linked list node) le h = h
-fits-wider nodes wider lists (Unlinked list node previous) le h = (omega (arith, h.0), h.1)
+fits-wider nodes wider lists move le h = grind (arith, common_steps)
 
 pub fit-wider : (nodes wider : ℕ) (lists : List (List ℕ)) (moves : List Move) → nodes ≤ wider → AllFit nodes lists moves →
     AllFit wider lists moves

@@ -39,29 +39,21 @@ module _ (nodes : List Node) (list node : ℕ) (before after : List ℕ) (onward
       AreChained nodes (stretch_between list None next) before →
       AreChained (spliced nodes (last_node before) onward (first_node after) origin node v) (stretch_between list None onward) before
   spliced-front next d none h =
-      chained-set (with_previous (with_next nodes (last_node before) onward) (first_node after) origin) list None before onward node v none
-      (chained-previous (with_next nodes (last_node before) onward) list None before onward (first_node after) origin
-      (first-apart before after d)
-      (chained-onward nodes list None before next onward (distinct-left before after d) h))
+      grind (arith, common_steps, chained-onward, chained-previous, chained-set, distinct-left, first-apart)
 
   -- the nodes after the place come from `origin`
   pub spliced-back : (previous : Option ℕ) → IsDistinct (before ++ after) → IsNoneOf node after →
       AreChained nodes (stretch_between list previous None) after →
       AreChained (spliced nodes (last_node before) onward (first_node after) origin node v) (stretch_between list origin None) after
   spliced-back previous d none h =
-      chained-set (with_previous (with_next nodes (last_node before) onward) (first_node after) origin) list origin after None node v none
-      (chained-origin (with_next nodes (last_node before) onward) list previous origin after None (distinct-right before after d)
-      (chained-next nodes list previous after None (last_node before) onward (last-apart before after d) h))
+      grind (arith, common_steps, chained-next, chained-origin, chained-set, distinct-right, last-apart)
 
   -- a chain that has none of the nodes that are written
   pub spliced-elsewhere : (other : ℕ) (xs : List ℕ) → IsNoneOf node xs →
       ((p : ℕ) → last_node before ≡ Some p → IsNoneOf p xs) → ((n : ℕ) → first_node after ≡ Some n → IsNoneOf n xs) →
       AreChained nodes (stretch_between other None None) xs →
       AreChained (spliced nodes (last_node before) onward (first_node after) origin node v) (stretch_between other None None) xs
-  spliced-elsewhere other xs none np nn h =
-      chained-set (with_previous (with_next nodes (last_node before) onward) (first_node after) origin) other None xs None node v none
-      (chained-previous (with_next nodes (last_node before) onward) other None xs None (first_node after) origin nn
-      (chained-next nodes other None xs None (last_node before) onward np h))
+  spliced-elsewhere other xs none np nn h = grind (arith, common_steps, chained-next, chained-previous, chained-set)
 
 -- the ends once both are written
 abbrev pub ends_written : List Ends → ℕ → List ℕ → List ℕ → Option ℕ → Option ℕ → List Ends
@@ -86,8 +78,7 @@ length-ends_written ends list before after onward origin = grind (arith, common_
 -- a node of one list is none of another
 pub elsewhere : (nodes : List Node) (list other : ℕ) (xs : List ℕ) (z : ℕ) → other ≢ list →
     AreChained nodes (stretch_between other None None) xs → (node_at nodes z).list ≡ Some list → IsNoneOf z xs
-elsewhere nodes list other xs z ne h e =
-    other-list nodes other None xs None h z (λ e'. ne (let q : other ≡ list = cc in q))
+elsewhere nodes list other xs z ne h e = grind (arith, common_steps, other-list)
 
 -- what is shown once one list has changed
 pub ShowsLists-changed : (nodes nodes' : List Node) (ends ends' : List Ends) (lists : List (List ℕ)) (list : ℕ) (xs : List ℕ) →
