@@ -1,5 +1,6 @@
 -- Lists of distinct numbers: where a number stands in one, how long they may be, and what they contain.
-use Rattle.std.proofs.Common.{◌≡◌, ◌≢◌, ℕ, zero, suc, ◌<◌, ◌≤◌, Bool, List, [], ◌∷◌, ◌++◌, Contains, length, get_or, true}
+use Rattle.std.proofs.lemmas.Grind.{common_steps}
+use Rattle.std.proofs.Common.{◌≡◌, ◌≢◌, ℕ, suc, ◌<◌, ◌≤◌, Bool, List, [], ◌∷◌, ◌++◌, Contains, length, get_or, true}
 use Rattle.std.proofs.Common.{false, eqb, arith, subst, sym, refl, ap, ◌∙◌}
 use Rattle.std.specs.List.{list_any, All, AllPairs}
 use Rattle.std.specs.Cmp.{nat_eq_equiv}
@@ -59,10 +60,7 @@ same_split (y ∷ before) x after (z ∷ others) rest distinct same =
 -- one more element in front that differs from all the others
 pub AllPairs-cons : {X : Type 0} (R : X → X → Type 0) (x : X) (xs : List X) → ((k : ℕ) (d : X) → k < length xs → R x (get_or xs k d)) →
     AllPairs R xs → AllPairs R (x ∷ xs)
-AllPairs-cons R x xs first rest zero zero d lt in' = absurd (omega (arith, lt))
-AllPairs-cons R x xs first rest zero (suc j) d lt in' = first j d (omega (arith, in'))
-AllPairs-cons R x xs first rest (suc i) zero d lt in' = absurd (omega (arith, lt))
-AllPairs-cons R x xs first rest (suc i) (suc j) d lt in' = rest i j d (omega (arith, lt)) (omega (arith, in'))
+AllPairs-cons R x xs first rest it_5 it_6 d lt it_9 = grind (arith, common_steps)
 
 -- distinct numbers below n are at most n
 pub length-le_from_distinct : (xs : List ℕ) (n : ℕ) → AllPairs (λ u v. u ≢ v) xs → All (λ u. u < n) xs → length xs ≤ n

@@ -1,6 +1,7 @@
 -- How many routers are marked: none, one more, one less, and not all.
-use Rattle.std.proofs.Common.{◌≡◌, ℕ, suc, ◌+◌, ◌<◌, ◌≤◌, inl, inr, Bool, true, false, List, [], ◌∷◌, cond, length, get_or, set}
-use Rattle.std.proofs.Common.{arith, sym, refl, ap, ◌∙◌, length-set}
+use Rattle.std.proofs.lemmas.Grind.{common_steps}
+use Rattle.std.proofs.Common.{◌≡◌, ℕ, suc, ◌+◌, ◌<◌, ◌≤◌, Bool, true, false, List, [], ◌∷◌, length, set}
+use Rattle.std.proofs.Common.{arith, refl, length-set}
 use Rattle.std.proofs.lemmas.Bool.{cases_lt, false≢true, false_from_ne_true}
 use Rattle.std.proofs.lemmas.List.{get_or_past}
 use Rattle.std.proofs.lemmas.List.Sums.{count_by-le-length, sum_by-set}
@@ -8,10 +9,7 @@ use Rattle.order_core.specs.Marks.{IsMarked, marked_count}
 
 -- a marked router has a place
 pub marked_in : (marks : List Bool) (r : ℕ) → IsMarked marks r → r < length marks
-marked_in marks r marked = elim (cases_lt r (length marks)) [
-  | inl lt ↦ lt
-  | inr ge ↦ absurd (false≢true (sym (get_or_past marks r false ge) ∙ marked))
-]
+marked_in marks r marked = grind (arith, common_steps, cases_lt, false≢true, get_or_past)
 
 pub marked_count-le : (marks : List Bool) → marked_count marks ≤ length marks
 marked_count-le marks = count_by-le-length (λ (b : Bool). b) marks
@@ -23,16 +21,10 @@ marked_count-none (false ∷ marks) bare = omega (arith, marked_count-none marks
 
 pub marked_count-more : (marks : List Bool) (r : ℕ) → r < length marks → ¬ IsMarked marks r →
     marked_count (set marks r true) ≡ marked_count marks + 1
-marked_count-more marks r r_in fresh =
-    let one : Bool → ℕ = λ b. cond b 1 0 in
-    let none : one (get_or marks r false) ≡ one false = ap one (false_from_ne_true (get_or marks r false) fresh) in
-    omega (arith, sum_by-set one marks r true false r_in, none)
+marked_count-more marks r r_in fresh = grind (arith, common_steps, false_from_ne_true, sum_by-set)
 
 pub marked_count-taken : (marks : List Bool) (r : ℕ) → IsMarked marks r → marked_count (set marks r false) + 1 ≡ marked_count marks
-marked_count-taken marks r marked =
-    let one : Bool → ℕ = λ b. cond b 1 0 in
-    let some : one (get_or marks r false) ≡ one true = ap one marked in
-    omega (arith, sum_by-set one marks r false false (marked_in marks r marked), some)
+marked_count-taken marks r marked = grind (arith, common_steps, marked_in, sum_by-set)
 
 -- where a router isn't marked, not all are
 pub marked_count-room : (marks : List Bool) (r : ℕ) → r < length marks → ¬ IsMarked marks r → marked_count marks < length marks

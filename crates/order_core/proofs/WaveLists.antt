@@ -1,7 +1,8 @@
 -- What the waves of a ranking hold, one by one and one after another.
+use Rattle.std.proofs.lemmas.Grind.{common_steps}
 use Rattle.std.proofs.Common.{◌≡◌, ◌≢◌, ℕ, zero, suc, ◌+◌, ◌<◌, ◌≤◌, ◌↔◌, ◌⊎◌, inl, inr, Bool, true, false, cond, max}
 use Rattle.std.proofs.Common.{List, [], ◌∷◌, ◌++◌, Contains, length, get_or, eqb, arith, refl, sym, ap, ◌∙◌, subst, eq-eqb, zero-add}
-use Rattle.std.specs.List.{All, AllPairs, filter, flat_map, range_with_len}
+use Rattle.std.specs.List.{All, AllPairs, filter, range_with_len}
 use Rattle.std.specs.List.Sorted.{IsStrictlyIncreasing}
 use Rattle.std.specs.Cmp.{nat_eq_equiv}
 use Rattle.std.proofs.lemmas.Bool.{eqb-true, cases_lt}
@@ -10,7 +11,6 @@ use Rattle.std.proofs.lemmas.List.Elements.{All-contains, All-contains_itself, A
 use Rattle.std.proofs.lemmas.List.Elements.{Contains-append_right, Contains-get_or, filter_passes}
 use Rattle.std.proofs.lemmas.List.FromFn.{length-range_with_len, get_or-range_with_len}
 use Rattle.std.proofs.lemmas.List.Kept.{AllPairs-cons, AllPairs-from_increasing, IsStrictlyIncreasing-filter}
-use Rattle.std.proofs.lemmas.Grind.{flat_map-append}
 use Rattle.std.proofs.lemmas.Map.Steps.{le-length_from_below}
 use Rattle.std.proofs.lemmas.Map.Views.{list_any-from_Contains}
 use Rattle.order_core.specs.Orders.{AreDistinct, IsOrder, IsBefore}
@@ -41,9 +41,7 @@ numbers_are_below n u = (to, λ lt. (u, subst (λ (l : ℕ). u < l) (sym (length
         subst (λ (x : ℕ). x < n) same lt
 
 numbers_ascend : (n : ℕ) → IsStrictlyIncreasing (numbers_below n)
-numbers_ascend n k within =
-    let lt : k + 1 < n = subst (λ (l : ℕ). k + 1 < l) (length-range_with_len 0 n) within in
-    omega (arith, get_or-range_with_len 0 n k 0 (omega arith), get_or-range_with_len 0 n (k + 1) 0 lt)
+numbers_ascend n k within = grind (arith, common_steps, get_or-range_with_len, length-range_with_len)
 
 -- What a filter keeps
 
@@ -87,9 +85,7 @@ wave_ascends ranks w = IsStrictlyIncreasing-filter (λ u. eqb (rank_of ranks u) 
 -- Waves one after another
 
 pub waves_more : (ranks : List ℕ) (w : ℕ) → waves_before ranks (w + 1) ≡ waves_before ranks w ++ wave_of ranks w
-waves_more ranks w =
-    ap (flat_map (wave_of ranks)) (numbers_more w) ∙ flat_map-append (wave_of ranks) (numbers_below w) (w ∷ [])
-    ∙ ap (λ (xs : List ℕ). waves_before ranks w ++ xs) (append-nil (wave_of ranks w))
+waves_more ranks w = grind (arith, common_steps, append-nil, numbers_more)
 
 -- the first w waves hold exactly the routers of a lower rank
 abbrev AreBefore : List ℕ → ℕ → ℕ → Type 0

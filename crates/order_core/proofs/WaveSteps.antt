@@ -1,4 +1,5 @@
 -- How waves are written, one router and one wave after another, and where each wave stands in the flat run.
+use Rattle.std.proofs.lemmas.Grind.{common_steps}
 use Rattle.std.proofs.Common.{◌≡◌, ◌≢◌, ℕ, ◌+◌, ◌-◌, ◌<◌, ◌≤◌, inl, inr, Bool, true, false, cond, List, [], ◌∷◌}
 use Rattle.std.proofs.Common.{◌++◌, length, get_or, take, drop, eqb, arith, sym, ap, ◌∙◌, length-append, zero-add, append_assoc}
 use Rattle.std.specs.List.{filter}
@@ -17,9 +18,7 @@ part_of ranks w n = filter (λ u. eqb (rank_of ranks u) w) (numbers_below n)
 
 part_more : (ranks : List ℕ) (w n : ℕ) (b : Bool) → eqb (rank_of ranks n) w ≡ b → part_of ranks w (n + 1) ≡ part_of ranks w n
     ++ cond b (n ∷ []) []
-part_more ranks w n b is =
-    ap (filter (λ u. eqb (rank_of ranks u) w)) (numbers_more n) ∙ filter-append (λ u. eqb (rank_of ranks u) w) (numbers_below n) (n ∷ [])
-    ∙ ap (λ (c : Bool). part_of ranks w n ++ cond c (n ∷ []) []) is
+part_more ranks w n b is = grind (arith, common_steps, filter-append, is, numbers_more)
 
 -- a router of the wave is added
 pub part_added : (ranks start flat new : List ℕ) (w n : ℕ) → flat ≡ start ++ part_of ranks w n → rank_of ranks n ≡ w →

@@ -1,4 +1,5 @@
-use Rattle.std.proofs.Common.{ℕ, ◌+◌, ◌<◌, max, length, get_or, arith, sym, ap, ◌∙◌}
+use Rattle.std.proofs.lemmas.Grind.{common_steps}
+use Rattle.std.proofs.Common.{ℕ, ◌<◌, length, get_or, arith}
 use Rattle.std.proofs.lemmas.List.{take_more}
 use Rattle.std.proofs.lemmas.List.Elements.{Contains-get_or}
 use Rattle.order_core.specs.Rankings.{wave_count}
@@ -13,7 +14,4 @@ overflow_add-rank c =
     omega (arith, below, count_le_length (length c.args.ranks.now) c.args.ranks.now c.requires.ranking, c.requires.few)
 
 pub loop-rank-preserved : goal.loop-rank-preserved
-loop-rank-preserved c =
-    let rank : ℕ = get_or c.args.ranks.now c.loop-rank.rank-index 0 in
-    c.max-count.ensures ∙ ap (λ (n : ℕ). max n (rank + 1)) c.loop-rank.invariant
-    ∙ sym (ap wave_count (take_more c.args.ranks.now c.loop-rank.rank-index 0 c.loop-rank-test.true) ∙ wave_count-push _ rank)
+loop-rank-preserved c = grind (arith, common_steps, take_more, wave_count-push)

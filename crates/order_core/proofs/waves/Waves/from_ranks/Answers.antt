@@ -1,5 +1,5 @@
-use Rattle.std.proofs.Common.{◌≡◌, ℕ, ◌+◌, List, [], ◌∷◌, ◌++◌, length, sym, ap, ◌∙◌, arith}
-use Rattle.order_core.specs.HeldWaves.{starts_of}
+use Rattle.std.proofs.lemmas.Grind.{common_steps}
+use Rattle.std.proofs.Common.{◌≡◌, ℕ, ◌+◌, List, ◌++◌, length, sym, ap, ◌∙◌, arith}
 use Rattle.order_core.specs.Rankings.{wave_of, waves_before}
 use Rattle.order_core.proofs.WaveLists.{waves_more, waves_length}
 use Rattle.order_core.proofs.WaveSteps.{starts_more}
@@ -16,19 +16,4 @@ overflow_cast-len c =
     omega (arith, c.len.ensures, c.push_wave.new.flat.ok.0, ap length flat, waves_length c.args.ranks.now (c.loop-wave.wave + 1), c.requires.few)
 
 pub loop-wave-preserved : goal.loop-wave-preserved
-loop-wave-preserved c =
-    let flat = flat_more c.args.ranks.now c.loop-wave.flat.items c.push_wave.new.flat.items c.loop-wave.wave c.loop-wave.invariant.flat
-    c.in_ok-push_wave.ensures in
-    let many : c.len.result ≡ length (waves_before c.args.ranks.now (c.loop-wave.wave + 1)) = omega (
-      arith,
-      c.len.ensures,
-      c.push_wave.new.flat.ok.0,
-      ap length flat,
-    ) in
-    record {
-      flat = flat;
-      starts =
-          c.in_ok-push-2.ensures.items ∙ ap (λ (xs : List ℕ). xs ++ c.len.result ∷ []) c.loop-wave.invariant.starts
-          ∙ ap (λ (n : ℕ). starts_of c.args.ranks.now (c.loop-wave.wave + 1) ++ n ∷ []) many
-          ∙ sym (starts_more c.args.ranks.now (c.loop-wave.wave + 1));
-    }
+loop-wave-preserved c = grind (arith, common_steps, flat_more, starts_more)

@@ -1,20 +1,15 @@
-use Rattle.std.proofs.Common.{◌≡◌, ℕ, ◌+◌, ◌-◌, ◌<◌, List, length, get_or, take, drop, ap, ◌∙◌, sym, arith, subst}
+use Rattle.std.proofs.lemmas.Grind.{common_steps}
+use Rattle.std.proofs.Common.{◌≡◌, ℕ, ◌+◌, ◌<◌, List, length, get_or, ap, ◌∙◌, sym, arith, subst}
 use Rattle.order_core.specs.HeldWaves.{starts_of}
-use Rattle.order_core.specs.Rankings.{wave_count, wave_of, waves_before}
+use Rattle.order_core.specs.Rankings.{wave_count, waves_before}
 use Rattle.order_core.proofs.WaveSteps.{starts_length, starts_at, IsWavePart, wave_part}
 use Rattle.order_core.proofs.waves.Waves.wave.Goals as goal
 
 pub index-requires : goal.index-requires
-index-requires c =
-    let ranks : List ℕ = c.self.inside.ranks.items in
-    let below : c.args.wave < wave_count ranks = subst (λ (r : List ℕ). c.args.wave < wave_count r) (sym c.self.view_is) c.requires in
-    omega (arith, below, c.self.inside.starts.ok.0, ap length c.self.invariant.starts, starts_length ranks (wave_count ranks + 1))
+index-requires c = grind (arith, common_steps, starts_length)
 
 pub index-requires-2 : goal.index-requires-2
-index-requires-2 c =
-    let ranks : List ℕ = c.self.inside.ranks.items in
-    let below : c.args.wave < wave_count ranks = subst (λ (r : List ℕ). c.args.wave < wave_count r) (sym c.self.view_is) c.requires in
-    omega (arith, below, c.self.inside.starts.ok.0, ap length c.self.invariant.starts, starts_length ranks (wave_count ranks + 1))
+index-requires-2 c = grind (arith, common_steps, starts_length)
 
 -- a place that is read from the starts is where a wave begins
 start_is : (ranks starts : List ℕ) (w now : ℕ) → starts ≡ starts_of ranks (wave_count ranks + 1) → w < wave_count ranks + 1 →
@@ -55,10 +50,4 @@ slice_bounds-result-end c =
     omega (arith, part.rises, part.within, ap length c.self.invariant.flat, ap length c.deref.ensures.value)
 
 pub returns : goal.returns
-returns c =
-    let ranks : List ℕ = c.self.inside.ranks.items in
-    let below : c.args.wave < wave_count ranks = subst (λ (r : List ℕ). c.args.wave < wave_count r) (sym c.self.view_is) c.requires in
-    let part = part_is ranks c.self.inside.starts.items c.args.wave c.index.result.now c.index-2.result.now c.self.invariant.starts below
-    c.index.ensures c.index-2.ensures in
-    ap (λ (xs : List ℕ). take (c.index-2.result.now - c.index.result.now) (drop c.index.result.now xs)) (c.deref.ensures.value ∙ c.self.invariant.flat)
-    ∙ part.is ∙ ap (λ (r : List ℕ). wave_of r c.args.wave) c.self.view_is
+returns c = grind (arith, common_steps, part_is)
