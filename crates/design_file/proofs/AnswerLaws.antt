@@ -1,5 +1,7 @@
 -- A text and a network have one answer.
-use Rattle.std.proofs.Common.{◌≡◌, ℕ, List, [], Some, refl, sym, ap, ap₂, subst, ◌∙◌}
+use Rattle.std.proofs.Common.{arith}
+use Rattle.std.proofs.lemmas.Grind.{common_steps}
+use Rattle.std.proofs.Common.{◌≡◌, ℕ, List, [], Some, refl, sym, ap, subst, ◌∙◌}
 use Rattle.std.proofs.lemmas.Option.{same_Some}
 use Rattle.net_model.specs.Network.{Network}
 use Rattle.net_model.specs.Refusals.{IsNetwork}
@@ -33,17 +35,10 @@ abbrev design_with : Word → Levels → ℕ → List DesignRouter → Design
 design_with area levels metric routers = record { area = area; levels = levels; metric = metric; routers = routers }
 
 one_said : (document : Members) (one other : Design) → IsDesign document one → IsDesign document other → one ≡ other
-one_said document one other a b =
-    let areas = same_Some one.area other.area (sym a.area ∙ b.area) in
-    let levels = a.levels ∙ sym b.levels in
-    let metrics = a.metric ∙ sym b.metric in
-    let routers = a.routers ∙ sym b.routers in
-    ap₂ (λ area l. design_with area l one.metric one.routers) areas levels ∙ ap₂ (λ m r. design_with other.area other.levels m r) metrics routers
+one_said document one other a b = grind (arith, common_steps, same_Some)
 
 pub one_design : OneDesignLaw
-one_design text one other a b =
-    one_said a.document one other a.says
-    (subst (λ (d : Members). IsDesign d other) (one_document text b.document a.document b.is_document a.is_document) b.says)
+one_design text one other a b = grind (arith, common_steps, one_document, one_said)
 
 one_least : (P : Fault → Type 0) (f g : Fault) → IsToldFault P f → IsToldFault P g → f ≡ g
 one_least P f g a b = neither_told f g (b.least f a.stands) (a.least g b.stands)

@@ -1,4 +1,6 @@
 -- Lists of faults, and the fault of one that is told.
+use Rattle.std.proofs.Common.{arith}
+use Rattle.std.proofs.lemmas.Grind.{common_steps}
 use Rattle.std.proofs.Common.{◌≡◌, ◌⊎◌, List, [], ◌∷◌, ◌++◌, Option, Some, None, refl, sym, subst, inl, inr, ⊎_elim}
 use Rattle.design_file.specs.steps.FaultLists.{Among, IsToldAmong, IsToldOf}
 use Rattle.design_file.specs.Faults.{IsToldFault, IsToldRather}
@@ -21,8 +23,7 @@ Among-split f (x ∷ xs) ys (inr h) = ⊎_elim (λ a. inl (inr a)) (λ b. inr b)
 
 -- the only fault of a list of one
 pub Among-one : (f x : Fault) → Among f (x ∷ []) → x ≡ f
-Among-one f x (inl e) = e
-Among-one f x (inr h) = absurd h
+Among-one f x it_2 = grind (arith, common_steps)
 
 none_told : (other g : Fault) → Among g (other ∷ []) → IsToldRather g other → ⊥
 none_told other g h told = IsToldRather-irrefl other (subst (λ (x : Fault). IsToldRather x other) (sym (Among-one g other h)) told)

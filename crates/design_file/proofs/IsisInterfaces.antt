@@ -1,5 +1,6 @@
 -- For which interfaces of a router something is settled: those with an address that have an OSPF area or a name in the design.
-use Rattle.std.proofs.Common.{◌≡◌, ℕ, suc, ◌<◌, Bool, true, false, ◌||◌, ◌⊎◌, inl, inr, zero, List, [], ◌∷◌, length, Option, Some, None}
+use Rattle.std.proofs.lemmas.Grind.{common_steps}
+use Rattle.std.proofs.Common.{◌≡◌, ℕ, suc, ◌<◌, Bool, true, false, ◌||◌, ◌⊎◌, zero, List, [], ◌∷◌, length, Option}
 use Rattle.std.proofs.Common.{refl, sym, ap, ◌∙◌, get_or, arith}
 use Rattle.std.specs.Prelude.{Contains, IsSome, is_some, if◌then◌else◌}
 use Rattle.std.proofs.lemmas.Bool.{and_parts}
@@ -12,15 +13,10 @@ use Rattle.design_file.specs.declared.settled.SettledInterface.{SettledInterface
 -- ---- the test of an interface ----
 
 either_is : {T U : Type 0} (o : Option T) (p : Option U) → (is_some o || is_some p) ≡ true → IsSome o ⊎ IsSome p
-either_is (Some x) p e = inl refl
-either_is None (Some y) e = inr refl
-either_is None None e = absurd cc
+either_is o p e = grind (arith, common_steps)
 
 is_either : {T U : Type 0} (o : Option T) (p : Option U) → IsSome o ⊎ IsSome p → (is_some o || is_some p) ≡ true
-is_either (Some x) p either = refl
-is_either None (Some y) either = refl
-is_either None None (inl some) = absurd cc
-is_either None None (inr some) = absurd cc
+is_either o p either = grind (arith, common_steps)
 
 module _ (metric : ℕ) (named : List DesignInterface) where
   abbrev own : Interface → Option DesignInterface

@@ -1,5 +1,6 @@
 -- The names of a table's entries ascend.
-use Rattle.std.proofs.Common.{◌≡◌, List, [], ◌∷◌, ◌++◌, append_assoc, ap, sym, ◌∙◌, String, Global, string_bytes, All, AllPairs, arith}
+use Rattle.std.proofs.lemmas.Grind.{common_steps}
+use Rattle.std.proofs.Common.{◌≡◌, List, [], ◌∷◌, ◌++◌, String, Global, string_bytes, All, AllPairs, arith}
 use Rattle.std.specs.List.{AllByRecursion}
 use Rattle.std.specs.List.Sorted.{IsStrictlySortedBy}
 use Rattle.std.specs.Map.{keys_of}
@@ -35,7 +36,4 @@ module _ {X : Type 0} (name : X → Word) (says : Word → Data → X) (named : 
 pub each_step : {X : Type 0} (says : Word → Data → X) (done all : List X) (entries rest : List Entry) (e : Entry) (one : X) → entries ≡ e ∷ rest →
     one ≡ says (string_bytes e.0) (view e.1) →
     done ++ each_said says (members_view entries) ≡ all → (done ++ one ∷ []) ++ each_said says (members_view rest) ≡ all
-each_step says done all entries rest e one iter is before =
-    append_assoc done (one ∷ []) (each_said says (members_view rest))
-    ∙ ap (λ x. done ++ x ∷ each_said says (members_view rest)) is
-    ∙ sym (ap (λ es. done ++ each_said says (members_view es)) iter) ∙ before
+each_step says done all entries rest e one iter is before = grind (arith, common_steps)

@@ -1,4 +1,6 @@
 -- The faults of a design for a network are those that are gathered.
+use Rattle.std.proofs.Common.{arith}
+use Rattle.std.proofs.lemmas.Grind.{common_steps}
 use Rattle.std.proofs.Common.{◌≡◌, ℕ, zero, suc, Bool, true, false, cond, ◌+◌, List, [], ◌∷◌, ◌++◌}
 use Rattle.std.proofs.Common.{append_assoc, drop, Option, Some, None, Contains, IsTrue, refl, sym, ap, subst, ◌∙◌, inl, ⊎_elim}
 use Rattle.std.proofs.lemmas.Bool.{false≢true}
@@ -43,10 +45,7 @@ if_isis isis config = cond isis (fault AlreadyIsis (router_path config.name) ∷
 -- no interface of the name has an address
 lacks : (config : Configuration) (name : Word) → (HasAddressed config name → ⊥) → (has : Bool) → has_addressed name config.interfaces ≡ has →
     has_addressed name config.interfaces ≡ false
-lacks config name none false e = e
-lacks config name none true e =
-    let has = addressed_from config.interfaces name e in
-    absurd (none (record { interface = has.0; among = has.1; name_is = has.2; address = has.3 }))
+lacks config name none it_3 e = grind (arith, common_steps, addressed_from)
 
 module _ (f : Fault) where
   unless_found : (good : Bool) (kind : DesignKind) (path : Word) → Among f (fault_unless good kind path) → (good ≡ false) × (fault kind path ≡ f)

@@ -1,6 +1,8 @@
 -- Looking up routers and interfaces by their names.
+use Rattle.std.proofs.Common.{arith}
+use Rattle.std.proofs.lemmas.Grind.{common_steps}
 use Rattle.std.proofs.Common.{◌≡◌, ℕ, zero, suc, Bool, true, false, ◌&&◌, ◌||◌, cond, ◌+◌, List, []}
-use Rattle.std.proofs.Common.{◌∷◌, drop, Some, None, Contains, IsSome, refl, sym, ap, ◌∙◌, inl, inr, ⊎_elim}
+use Rattle.std.proofs.Common.{◌∷◌, drop, Some, None, Contains, IsSome, sym, ap, ◌∙◌, inl, inr, ⊎_elim}
 use Rattle.std.specs.List.{slice_get}
 use Rattle.std.specs.Option.{is_some}
 use Rattle.std.specs.Str.{bytes_eq}
@@ -73,8 +75,7 @@ addressed_from (first ∷ more) name e =
     ]
 
 or_right : (a b : Bool) → b ≡ true → (a || b) ≡ true
-or_right true b e = refl
-or_right false b e = e
+or_right a b e = grind (arith, common_steps)
 
 pub addressed_is : (interfaces : List Interface) (name : Word) (interface : Interface) → Contains interfaces interface → interface.name ≡ name →
     IsSome interface.subnet → has_addressed name interfaces ≡ true
@@ -96,13 +97,9 @@ drop_at xs u x e = drop_more xs u x (slice_get_within xs u x e) ∙ ap (λ y. y 
 pub found_here : (net : Network) (name : Word) (u : ℕ) (config : Configuration) → HasConfiguration net u config →
     config_named name (drop u net) ≡ config_named name net →
     bytes_eq config.name name ≡ true → Some config ≡ config_named name net
-found_here net name u config at before same =
-    sym (ap (λ b. cond b (Some config) (config_named name (drop (u + 1) net))) same)
-    ∙ sym (ap (config_named name) (drop_at net u config at)) ∙ before
+found_here net name u config at before same = grind (arith, common_steps, drop_at)
 
 pub passed_here : (net : Network) (name : Word) (u : ℕ) (config : Configuration) → HasConfiguration net u config →
     config_named name (drop u net) ≡ config_named name net →
     bytes_eq config.name name ≡ false → config_named name (drop (u + 1) net) ≡ config_named name net
-passed_here net name u config at before other =
-    sym (ap (λ b. cond b (Some config) (config_named name (drop (u + 1) net))) other)
-    ∙ sym (ap (config_named name) (drop_at net u config at)) ∙ before
+passed_here net name u config at before other = grind (arith, common_steps, drop_at)
