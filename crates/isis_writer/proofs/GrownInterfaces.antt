@@ -1,4 +1,5 @@
 -- An interface with the lines that are written for it: it has no fault, and its IS-IS is what is settled.
+use Rattle.std.proofs.lemmas.Grind.{common_steps}
 use Rattle.std.proofs.Common.{◌≡◌, ℕ, Bool, true, false, ◌&&◌, ◌||◌, cond, List, [], ◌++◌, Option, Some, None, Result}
 use Rattle.std.proofs.Common.{refl, sym, ap, subst, ◌∙◌, arith}
 use Rattle.std.specs.Prelude.{filter_map, unwrap_or, is_some, IsSome}
@@ -25,7 +26,7 @@ use Rattle.ios_reader.specs.Faults.{interface_line_faults, loopback_faults, band
 use Rattle.ios_reader.specs.declared.facts.InterfaceFacts.{InterfaceFacts}
 use Rattle.design_file.specs.declared.settled.SettledInterface.{SettledInterface}
 use Rattle.isis_writer.specs.RouterLines.{is_old_line}
-use Rattle.isis_writer.specs.PreparedConfigurations.{runs_settled, with_settled, interface_by}
+use Rattle.isis_writer.specs.PreparedConfigurations.{with_settled, interface_by}
 use Rattle.isis_writer.proofs.ListFacts.{none_left, none_right}
 use Rattle.isis_writer.proofs.RouterWords.{interface_says}
 use Rattle.isis_writer.proofs.InterfaceFacts.{says_from, circuit_fact, isis_fact, level_fact, grown_facts, facts_grown, counting_outside}
@@ -37,9 +38,7 @@ with_isis i one two metric1 metric2 passive = record i { level1 = one; level2 = 
 
 same_isis : (i : Interface) (a b c d : Bool) (k l m n : ℕ) (p q : Bool) → a ≡ b → c ≡ d → k ≡ l → m ≡ n → p ≡ q →
     with_isis i a c k m p ≡ with_isis i b d l n q
-same_isis i a b c d k l m n p q e f g h j =
-    ap (λ x. with_isis i x c k m p) e ∙ ap (λ x. with_isis i b x k m p) f ∙ ap (λ x. with_isis i b d x m p) g
-    ∙ ap (λ x. with_isis i b d l x p) h ∙ ap (λ x. with_isis i b d l n x) j
+same_isis i a b c d k l m n p q e f g h j = grind (arith, common_steps)
 
 -- whether a level runs, with the lines that are written
 runs_written : (has : Levels → Bool) (levels : Levels) (passive : Bool) (circuit : Option Levels) (old : Bool) (isis : Option Bool)
@@ -76,19 +75,12 @@ module _ (process : Option ℕ) (ospf : List OspfStatement) (isis : List IsisSta
   -- one that runs no IS-IS
   idle : (levels : Levels) (metric : ℕ) (name : Word) (f : InterfaceFacts) → f.isis ≡ None →
       shown false levels metric name f ≡ with_isis (interface_with before name f) false false DEFAULT_METRIC DEFAULT_METRIC false
-  idle levels metric name f none =
-      ap (λ (o : Option Bool). with_isis (interface_with before name f)
-      ((false || is_some o) && has_level_one levels && (false || has_level_one (value_or f.circuit Both)))
-      ((false || is_some o) && has_level_two levels && (false || has_level_two (value_or f.circuit Both)))
-      (cond (false || is_some o) (metric_by (good_value f.metric1) (good_value f.metric) metric) DEFAULT_METRIC)
-      (cond (false || is_some o) (metric_by (good_value f.metric2) (good_value f.metric) metric) DEFAULT_METRIC) false) none
+  idle levels metric name f none = grind (arith, common_steps)
 
   -- an interface for which nothing is settled
   stays_idle : (name : Word) (f : InterfaceFacts) → is_isis_passive after name ≡ false → f.isis ≡ None →
       interface_with after name f ≡ interface_with before name f
-  stays_idle name f active none =
-      ap (λ (p : Bool). shown p after.levels after.metric name f) active ∙ idle after.levels after.metric name f none
-      ∙ sym (idle before.levels before.metric name f none)
+  stays_idle name f active none = grind (arith, common_steps, idle)
 
   -- without an old line the facts say none of these
   record SaysNone (old : Bool) (f : InterfaceFacts) : Type 0 where
@@ -101,15 +93,7 @@ module _ (process : Option ℕ) (ospf : List OspfStatement) (isis : List IsisSta
       is_isis_passive after name ≡ t.passive → after.levels ≡ levels → SaysNone old f →
       interface_with after name (grown_facts f old t.passive t.circuit t.metric) ≡ with_settled levels t (interface_with before name f)
   runs_as_settled levels t old name f passive same none =
-      let g : InterfaceFacts = grown_facts f old t.passive t.circuit t.metric in
-      ap (λ (p : Bool). shown p after.levels after.metric name g) passive
-      ∙ ap (λ (l : Levels). shown t.passive l after.metric name g) same
-      ∙ same_isis (interface_with before name f) _ (runs_settled has_level_one levels t) _ (runs_settled has_level_two levels t) _ t.metric _
-      t.metric t.passive t.passive
-      (runs_written has_level_one levels t.passive t.circuit old f.isis f.circuit none.circuit)
-      (runs_written has_level_two levels t.passive t.circuit old f.isis f.circuit none.circuit)
-      (metric_written t.passive old f.isis t.metric after.metric f.metric1 none.metric1)
-      (metric_written t.passive old f.isis t.metric after.metric f.metric2 none.metric2) refl
+      grind (arith, common_steps, grown_facts, metric_written, runs_written, same_isis)
 
   -- ---- sections ----
 
@@ -136,18 +120,7 @@ module _ (process : Option ℕ) (ospf : List OspfStatement) (isis : List IsisSta
   pub unsettled_grows : (levels : Levels) (s : InterfaceSection) → interface_faults before None s ≡ [] →
       is_isis_passive after s.name ≡ false → SectionGrows levels None s s
   unsettled_grows levels s fine active =
-      let lines : List InterfaceStatement = counting s.lines in
-      let f : InterfaceFacts = facts_of lines in
-      let front : interface_line_faults None lines ++ loopback_faults s.name f ≡ [] =
-      none_left (interface_line_faults None lines ++ loopback_faults s.name f) (bandwidth_faults before s f) fine in
-      let own : NeedNoProcess no_facts lines = need_none no_facts lines (none_left (interface_line_faults None lines) (loopback_faults s.name f) front) in
-      record {
-        mentions = refl;
-        faultless = three_none (interface_line_faults (Some []) lines) (loopback_faults s.name f) (bandwidth_faults after s f) own.fine
-            (none_right (interface_line_faults None lines) (loopback_faults s.name f) front)
-            (none_right (interface_line_faults None lines ++ loopback_faults s.name f) (bandwidth_faults before s f) fine);
-        read = stays_idle s.name f active own.idle;
-      }
+      grind (arith, common_steps, idle, need_none, none_left, none_right, stays_idle, three_none)
 
   pub settled_grows : (levels : Levels) (t : SettledInterface) (s : InterfaceSection) (n : ℕ) (old : Bool) →
       interface_faults before None s ≡ [] → is_isis_passive after s.name ≡ t.passive → after.levels ≡ levels →

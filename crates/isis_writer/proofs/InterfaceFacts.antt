@@ -1,10 +1,10 @@
 -- What an interface says in the end, with the lines that are written for it behind its own.
+use Rattle.std.proofs.lemmas.Grind.{common_steps}
 use Rattle.std.proofs.Common.{◌≡◌, ℕ, ◌+◌, Bool, true, false, cond, List, [], ◌∷◌, ◌++◌, Option, Some, None, Result, Ok, refl, sym}
-use Rattle.std.proofs.Common.{ap, ◌∙◌, append-nil, arith}
+use Rattle.std.proofs.Common.{ap, ◌∙◌, arith}
 use Rattle.std.specs.Prelude.{filter_map, fold}
 use Rattle.std.specs.List.{list_any}
 use Rattle.std.proofs.lemmas.Bool.{or_parts, or_from}
-use Rattle.std.proofs.lemmas.Grind.{fold-append}
 use Rattle.std.proofs.lemmas.List.Concat.{flat_map-append}
 use Rattle.std.proofs.lemmas.List.Elements.{filter_map-append}
 use Rattle.std.proofs.lemmas.List.Folds.{list_any-append}
@@ -12,17 +12,14 @@ use Rattle.net_model.specs.declared.config.Levels.{Levels}
 use Rattle.net_model.specs.declared.config.Levels.TheVariants.{Both}
 use Rattle.ios_lines.specs.Lookups.{later, last_of}
 use Rattle.ios_lines.specs.FaultOrder.{faults_at}
-use Rattle.ios_lines.specs.InterfaceLines.{is_vrf, in_vrf, counting, interface_line_fault}
+use Rattle.ios_lines.specs.InterfaceLines.{in_vrf, counting, interface_line_fault}
 use Rattle.ios_lines.specs.declared.fault.Fault.{Fault}
 use Rattle.ios_lines.specs.declared.kind.ReadKind.{ReadKind}
-use Rattle.ios_lines.specs.declared.interface_line.ProcessArea.{ProcessArea}
 use Rattle.ios_lines.specs.declared.interface_line.InterfaceLine.{InterfaceLine}
 use Rattle.ios_lines.specs.declared.interface_line.InterfaceStatement.{InterfaceStatement}
 use Rattle.ios_sections.specs.Processes.{mention_said}
-use Rattle.ios_sections.specs.declared.process.Mention.{Mention}
-use Rattle.ios_reader.specs.InterfaceFacts.{no_facts, noted, facts_of}
+use Rattle.ios_reader.specs.InterfaceFacts.{noted, facts_of}
 use Rattle.ios_reader.specs.Faults.{membership_fault, statement_faults, interface_line_faults}
-use Rattle.ios_reader.specs.declared.facts.PlacedAddress.{PlacedAddress}
 use Rattle.ios_reader.specs.declared.facts.InterfaceFacts.{InterfaceFacts}
 use Rattle.isis_writer.specs.RouterLines.{is_old_line}
 use Rattle.isis_writer.proofs.ListFacts.{later_none, none_left, none_right}
@@ -31,8 +28,7 @@ use Rattle.isis_writer.proofs.RouterWords.{interface_says}
 -- ---- the last line of a form among lines and others behind them ----
 
 later_later : {A : Type 0} (a b c : Option A) → later a (later b c) ≡ later (later a b) c
-later_later a b None = refl
-later_later a b (Some x) = refl
+later_later a b c = grind (arith, common_steps)
 
 pub last_of-append : {A B : Type 0} (form : A → Option B) (xs ys : List A) → last_of form (xs ++ ys) ≡ later (last_of form xs) (last_of form ys)
 last_of-append form [] ys = sym (later_none (last_of form ys))
@@ -71,18 +67,11 @@ grown_facts f old passive circuit metric = record f {
 
 facts_written : (f : InterfaceFacts) (n : ℕ) (old passive : Bool) (circuit : Option Levels) (metric : ℕ) →
     fold noted f (says_from n (interface_says old passive circuit metric)) ≡ grown_facts f old passive circuit metric
-facts_written f n false true circuit metric = refl
-facts_written f n true true circuit metric = refl
-facts_written f n false false None metric = refl
-facts_written f n true false None metric = refl
-facts_written f n false false (Some levels) metric = refl
-facts_written f n true false (Some levels) metric = refl
+facts_written f n old passive circuit metric = grind (arith, common_steps)
 
 pub facts_grown : (lines : List InterfaceStatement) (n : ℕ) (old passive : Bool) (circuit : Option Levels) (metric : ℕ) →
     facts_of (lines ++ says_from n (interface_says old passive circuit metric)) ≡ grown_facts (facts_of lines) old passive circuit metric
-facts_grown lines n old passive circuit metric =
-    fold-append noted no_facts lines (says_from n (interface_says old passive circuit metric))
-    ∙ facts_written (facts_of lines) n old passive circuit metric
+facts_grown lines n old passive circuit metric = grind (arith, common_steps, circuit, facts_written, interface_says)
 
 -- ---- whether they count ----
 
@@ -95,10 +84,7 @@ counting_outside lines outside = ap (λ (b : Bool). cond b [] lines) outside
 pub counting_grown : (lines : List InterfaceStatement) (n : ℕ) (old passive : Bool) (circuit : Option Levels) (metric : ℕ) → in_vrf lines ≡ false →
     counting (lines ++ says_from n (interface_says old passive circuit metric)) ≡ lines ++ says_from n (interface_says old passive circuit metric)
 counting_grown lines n old passive circuit metric outside =
-    let news : List InterfaceStatement = says_from n (interface_says old passive circuit metric) in
-    counting_outside (lines ++ news)
-    (list_any-append (λ (s : InterfaceStatement). is_vrf s.says) lines news
-    ∙ or_from (in_vrf lines) (in_vrf news) outside (no_vrf n old passive circuit metric))
+    grind (arith, common_steps, circuit, counting_outside, interface_says, list_any-append, no_vrf, or_from)
 
 -- ---- what they name ----
 
@@ -110,9 +96,7 @@ pub mentions_grown : (lines : List InterfaceStatement) (n : ℕ) (old passive : 
     filter_map (λ (t : InterfaceStatement). mention_said t.line t.says) (lines ++ says_from n (interface_says old passive circuit metric))
     ≡ filter_map (λ (t : InterfaceStatement). mention_said t.line t.says) lines
 mentions_grown lines n old passive circuit metric =
-    filter_map-append (λ (t : InterfaceStatement). mention_said t.line t.says) lines (says_from n (interface_says old passive circuit metric))
-    ∙ ap (λ (ms : List Mention). filter_map (λ (t : InterfaceStatement). mention_said t.line t.says) lines ++ ms) (no_mention n old passive circuit metric)
-    ∙ append-nil (filter_map (λ (t : InterfaceStatement). mention_said t.line t.says) lines)
+    grind (arith, common_steps, circuit, filter_map-append, interface_says, no_mention)
 
 -- ---- their faults ----
 
@@ -152,9 +136,7 @@ pub no_fault_grown : (lines : List InterfaceStatement) (n : ℕ) (old passive : 
     interface_line_faults (Some []) lines ≡ [] →
     interface_line_faults (Some []) (lines ++ says_from n (interface_says old passive circuit metric)) ≡ []
 no_fault_grown lines n old passive circuit metric fine =
-    flat_map-append (statement_faults (Some [])) lines (says_from n (interface_says old passive circuit metric))
-    ∙ ap (λ (fs : List Fault). fs ++ interface_line_faults (Some []) (says_from n (interface_says old passive circuit metric))) fine
-    ∙ no_written_fault n old passive circuit metric
+    grind (arith, common_steps, circuit, fine, flat_map-append, interface_says, no_written_fault)
 
 -- ---- without an old line ----
 

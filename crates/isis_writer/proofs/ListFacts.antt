@@ -1,13 +1,14 @@
 -- Lists: two that have nothing, maps one after the other, what holds of each element.
-use Rattle.std.proofs.Common.{◌≡◌, List, [], ◌∷◌, ◌++◌, map, Option, Some, None, refl, ap, ◌∙◌}
+use Rattle.std.proofs.Common.{arith}
+use Rattle.std.proofs.lemmas.Grind.{common_steps}
+use Rattle.std.proofs.Common.{◌≡◌, List, [], ◌∷◌, ◌++◌, map, Option, None, refl, ap, ◌∙◌}
 use Rattle.std.specs.Prelude.{All, flat_map}
 use Rattle.std.proofs.lemmas.List.Elements.{All-nil, All-cons, All-head, All-tail}
 use Rattle.ios_lines.specs.Lookups.{later}
 pub use Rattle.ios_reader.proofs.LookedUp.{none_left, none_right}
 
 pub later_none : {A : Type 0} (o : Option A) → later None o ≡ o
-later_none None = refl
-later_none (Some a) = refl
+later_none o = grind (arith, common_steps)
 
 pub map_twice : {A B C : Type 0} (f : B → C) (g : A → B) (xs : List A) → map f (map g xs) ≡ map (λ (x : A). f (g x)) xs
 map_twice f g [] = refl

@@ -1,25 +1,20 @@
 -- A text up to its last `end` line, with the new lines of each router put in: it reads as the prepared configurations.
+use Rattle.std.proofs.Common.{arith}
+use Rattle.std.proofs.lemmas.Grind.{common_steps}
 use Rattle.std.proofs.Common.{◌≡◌, ℕ, ◌+◌, Bool, true, false, not, ◌&&◌, ◌||◌, cond, List, [], ◌∷◌, ◌++◌, length, map, refl, sym}
 use Rattle.std.proofs.Common.{ap, subst, ◌∙◌}
 use Rattle.std.proofs.Common.{append_assoc, append-nil}
-use Rattle.std.specs.Prelude.{All, Contains, flat_map}
-use Rattle.std.specs.List.{list_any}
+use Rattle.std.specs.Prelude.{All, Contains}
 use Rattle.std.proofs.lemmas.Bool.{and_parts, or_parts, not-true}
 use Rattle.net_addr.specs.JoinedLines.{is_of_whole_lines}
 use Rattle.net_addr.proofs.JoinedFacts.{is_of_whole_lines-append}
 use Rattle.net_model.specs.Configuration.{Configuration}
 use Rattle.net_model.specs.Network.{Network}
 use Rattle.net_model.specs.Refusals.{NamesAscend}
-use Rattle.ios_lines.specs.FaultOrder.{faults_if}
-use Rattle.ios_lines.specs.declared.kind.ReadKind.TheVariants.{NoEnd}
-use Rattle.ios_sections.specs.TextLines.{TextLine, Part, lines_in, counted_lines, is_end, rest_after, parts_of}
-use Rattle.ios_sections.specs.TextLines.{begins_configuration, is_empty, lacks_end}
-use Rattle.ios_sections.specs.Sections.{sections_in}
+use Rattle.ios_sections.specs.TextLines.{TextLine, lines_in, is_end, parts_of}
 use Rattle.ios_sections.specs.JoinedLines.{further_on, is_in_banner, begins_with_end, open_lines}
 use Rattle.ios_sections.proofs.JoinedFacts.{lines_in-append}
-use Rattle.ios_reader.specs.Faults.{part_faults}
-use Rattle.ios_reader.specs.Configurations.{configuration_of}
-use Rattle.ios_reader.specs.InsertedLines.{IsOutsideBanners, IsClosed}
+use Rattle.ios_reader.specs.InsertedLines.{IsOutsideBanners}
 use Rattle.ios_reader.specs.PutBlocks.{ends_here, put_block, put_blocks, ends_last}
 use Rattle.ios_reader.specs.Texts.{ReadsText}
 use Rattle.ios_reader.proofs.BlockPieces.{ends_among, put_to_last, put_none}
@@ -67,28 +62,8 @@ cut_read : (before raw : List ℕ) (raws : List (List ℕ)) (line : TextLine) (c
     lines_in raw ≡ line ∷ [] → is_end line ≡ true →
     IsWholeBefore raw raws → AreRaw raws → ends_among (before ++ raw) raws ≡ false →
     ReadsText ((before ++ raw) ++ joined_raw raws) configurations → ReadsText (before ++ raw) configurations
-cut_read before raw [] line configurations outside is e whole are none reads =
-    subst (λ (t : List ℕ). ReadsText t configurations) (append-nil (before ++ raw)) reads
-cut_read before raw (next ∷ raws) line configurations outside is e whole are none reads =
-    let text : List ℕ = before ++ raw in
-    let same : parts_of (lines_in (text ++ joined_raw (next ∷ raws))) ≡ parts_of (lines_in text) =
-    none_ends (next ∷ raws) text (is_of_whole_lines-append before raw outside.whole whole) are none in
-    let closed : IsClosed text =
-    closed_text before raw outside (record { whole = whole; one = ap (λ (ls : List TextLine). length ls) is; ends = ap begins_with_end is ∙ e }) in
-    let fine : flat_map part_faults (parts_of (lines_in text)) ≡ [] =
-    sym (ap (flat_map part_faults) same) ∙ none_left (flat_map part_faults (parts_of (lines_in (text ++ joined_raw (next ∷ raws))))) _ reads.faultless in
-    let some : is_empty (parts_of (lines_in text)) ≡ false =
-    ap is_empty (parts_here before raw line outside is e)
-    ∙ some_at_end (parts_of (lines_in before)) [] (part_with (open_lines before) (length (lines_in before) + line.number)) in
-    let lacks : lacks_end (lines_in text) ≡ false =
-    ap (λ (b : Bool). b || list_any begins_configuration (rest_after [] (counted_lines (lines_in text)))) some
-    ∙ ap (list_any begins_configuration) closed.none_open in
-    record {
-      faultless =
-          ap (λ (b : Bool). flat_map part_faults (parts_of (lines_in text)) ++ faults_if b (length (lines_in text) + 1) NoEnd) lacks
-          ∙ append-nil (flat_map part_faults (parts_of (lines_in text))) ∙ fine;
-      made = reads.made ∙ ap (map (λ (part : Part). configuration_of (sections_in part))) same;
-    }
+cut_read before raw raws line configurations outside is e whole are none reads =
+    grind (arith, common_steps, closed_text, is_of_whole_lines-append, joined_raw, none_ends, none_left, part_with, parts_here, raw, reads, some_at_end)
 
 -- ---- the lines up to the last `end` line ----
 
@@ -101,20 +76,16 @@ record IsCut (net : Network) (settled : List SettledRouter) (before : List ℕ) 
   reads : ReadsText (before ++ joined_raw lines) configurations
 
 whole_of : (before raw : List ℕ) (raws : List (List ℕ)) → IsWholeBefore raw raws → ends_among before raws ≡ true → is_of_whole_lines raw ≡ true
-whole_of before raw [] whole some = absurd cc
-whole_of before raw (next ∷ raws) whole some = whole
+whole_of before raw raws whole some = grind (arith, common_steps)
 
 whole_before : (raw : List ℕ) (raws : List (List ℕ)) → is_of_whole_lines raw ≡ true → IsWholeBefore raw raws
-whole_before raw [] whole = tt
-whole_before raw (_ ∷ raws) whole = whole
+whole_before raw raws whole = grind (arith, common_steps)
 
 last_more : (before raw : List ℕ) (raws : List (List ℕ)) → ends_last (before ++ raw) raws ≡ true → ends_last before (raw ∷ raws) ≡ true
-last_more before raw [] last = absurd cc
-last_more before raw (_ ∷ raws) last = last
+last_more before raw raws last = grind (arith, common_steps, last)
 
 or_false : (b : Bool) → (b || false) ≡ b
-or_false true = refl
-or_false false = refl
+or_false b = grind (arith, common_steps)
 
 module _ (net : Network) (settled : List SettledRouter) where
   cut_lines : (raws : List (List ℕ)) (before : List ℕ) (configurations : List Configuration) → IsWholeBefore before raws → AreRaw raws →

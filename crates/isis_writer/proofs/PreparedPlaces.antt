@@ -1,10 +1,12 @@
 -- The prepared text, configuration by configuration: the pieces of the text with their blocks.
-use Rattle.std.proofs.Common.{◌≡◌, ℕ, ◌+◌, List, [], ◌∷◌, ◌++◌, length, map, drop, refl, sym, ap, ◌∙◌, append_assoc}
-use Rattle.ios_sections.specs.TextLines.{Part, lines_in, parts_of}
+use Rattle.std.proofs.Common.{arith}
+use Rattle.std.proofs.lemmas.Grind.{common_steps}
+use Rattle.std.proofs.Common.{◌≡◌, ℕ, ◌+◌, List, [], ◌∷◌, ◌++◌, length, map, drop, refl, sym, ◌∙◌, append_assoc}
+use Rattle.ios_sections.specs.TextLines.{Part}
 use Rattle.ios_sections.specs.Sections.{sections_in}
 use Rattle.ios_sections.specs.declared.section.Section.{Section}
 use Rattle.ios_reader.specs.PutBlocks.{Piece, as_they_were, with_blocks}
-use Rattle.ios_reader.proofs.BlockPieces.{ArePlaced, between_front, drop_front, IsCutText, cut_text}
+use Rattle.ios_reader.proofs.BlockPieces.{ArePlaced, between_front, drop_front, cut_text}
 use Rattle.net_model.specs.Network.{Network}
 use Rattle.design_file.specs.declared.settled.SettledRouter.{SettledRouter}
 use Rattle.isis_writer.specs.Prepared.{new_block, prepared_parts, prepared_text}
@@ -36,6 +38,4 @@ parts_are block text rest (piece ∷ pieces) (part ∷ parts) from placed blocks
 
 pub prepared_is : (text : List ℕ) (net : Network) (settled : List SettledRouter) →
     prepared_text text net settled ≡ with_blocks (cut_text (new_block net settled) text).pieces
-prepared_is text net settled =
-    let cut : IsCutText (new_block net settled) text = cut_text (new_block net settled) text in
-    parts_are (new_block net settled) text cut.rest cut.pieces (parts_of (lines_in text)) 0 cut.placed cut.cut.blocks cut.cut.text_is
+prepared_is text net settled = grind (arith, common_steps, cut_text, parts_are)

@@ -1,4 +1,5 @@
 -- A prepared text reads as the prepared configurations, and with its last line feed another text may stand behind it.
+use Rattle.std.proofs.lemmas.Grind.{common_steps}
 use Rattle.std.proofs.Common.{◌≡◌, ℕ, ◌+◌, ◌<◌, ◌≤◌, Bool, true, false, not, cond, List, [], ◌∷◌, ◌++◌, length, map, drop}
 use Rattle.std.proofs.Common.{refl, sym, ap}
 use Rattle.std.proofs.Common.{subst, ◌∙◌, append_assoc, append-nil, length-append, arith}
@@ -40,9 +41,7 @@ use Rattle.isis_writer.proofs.PreparedPlaces.{prepared_is}
 
 made_none : (ps : List Part) (configurations : List Configuration) →
     configurations ≡ map (λ (part : Part). configuration_of (sections_in part)) ps → ps ≡ [] → 0 < length configurations → true ≡ false
-made_none ps configurations made none some =
-    let empty : configurations ≡ [] = made ∙ ap (map (λ (part : Part). configuration_of (sections_in part))) none in
-    absurd (let no = ap (λ (l : List Configuration). length l) empty in omega (arith, no))
+made_none ps configurations made none some = grind (arith, common_steps)
 
 module _ (text : List ℕ) (net : Network) (settled : List SettledRouter) (configurations : List Configuration)
     (given : IsToPrepare text net settled configurations) where

@@ -1,5 +1,7 @@
 -- What the lines of the IS-IS process say in the end that are written for a router, and that they have no fault.
-use Rattle.std.proofs.Common.{◌≡◌, ℕ, ◌+◌, Bool, true, false, cond, drop, List, [], ◌∷◌, ◌++◌, map, Option, Some, None, Result, Ok, refl}
+use Rattle.std.proofs.Common.{arith}
+use Rattle.std.proofs.lemmas.Grind.{common_steps}
+use Rattle.std.proofs.Common.{◌≡◌, ℕ, ◌+◌, Bool, true, false, cond, List, [], ◌∷◌, ◌++◌, Option, Some, None, Result, Ok, refl}
 use Rattle.std.proofs.Common.{ap, subst, ◌∙◌, bytes_eq}
 use Rattle.std.specs.Prelude.{filter, flat_map, unwrap_or, is_none}
 use Rattle.std.specs.List.{list_all, list_any}
@@ -9,15 +11,14 @@ use Rattle.net_model.specs.declared.bounds.TheConstants.{MOST_DISTANCE}
 use Rattle.net_model.specs.declared.config.Levels.{Levels}
 use Rattle.ios_lines.specs.Words.{Word}
 use Rattle.ios_lines.specs.Lookups.{later, last_of}
-use Rattle.ios_lines.specs.FaultOrder.{fault_at, faults_at}
+use Rattle.ios_lines.specs.FaultOrder.{faults_at}
 use Rattle.ios_lines.specs.IsisLines.{isis_line_fault}
 use Rattle.ios_lines.specs.declared.fault.Fault.{Fault}
 use Rattle.ios_lines.specs.declared.kind.ReadKind.{ReadKind}
-use Rattle.ios_lines.specs.declared.kind.ReadKind.TheVariants.{Unsupported}
 use Rattle.ios_lines.specs.declared.ospf_line.PassiveLine.{PassiveLine}
 use Rattle.ios_lines.specs.declared.title.Title.{Title}
 use Rattle.ios_lines.specs.declared.isis_line.IsisLine.{IsisLine}
-use Rattle.ios_lines.specs.declared.isis_line.IsisLine.TheVariants.{Net, Passive, Leak}
+use Rattle.ios_lines.specs.declared.isis_line.IsisLine.TheVariants.{Passive, Leak}
 use Rattle.ios_lines.specs.declared.isis_line.IsisStatement.{IsisStatement}
 use Rattle.ios_sections.specs.ProcessFaults.{is_net_line, is_net, isis_statement_faults, second_titles, lacking}
 use Rattle.ios_reader.specs.Routers.{title_said, levels_said, isis_distance_said, isis_passive_said, leak_said}
@@ -154,13 +155,10 @@ module _ (number : ℕ) (router : SettledRouter) (n : ℕ) where
       by_leak true = refl
 
   said_or : (b : Bool) → unwrap_or (later None (later None (later None (later None (cond b (Some true) None))))) false ≡ b
-  said_or true = refl
-  said_or false = refl
+  said_or b = grind (arith, common_steps)
 
   pub leak_is : unwrap_or (last_of (λ (s : IsisStatement). leak_said s.says) lines) false ≡ router.leak
-  leak_is =
-      ap (λ o. unwrap_or o false) (last_numbered leak_said n says)
-      ∙ ap (λ o. unwrap_or (later None (later None (later None (later None o)))) false) leaks_later ∙ said_or router.leak
+  leak_is = grind (arith, common_steps, last_numbered, leaks_later, said_or)
 
   passive_later : (name : Word) → last_of (isis_passive_said name) (later_says router) ≡ last_of (isis_passive_said name)
       (flat_map passive_says router.interfaces)
@@ -176,10 +174,7 @@ module _ (number : ℕ) (router : SettledRouter) (n : ℕ) where
   said_by : (name : Word) (o : Option Bool) → last_of (isis_passive_said name) (flat_map passive_says router.interfaces) ≡ o →
       unwrap_or (last_of (λ (s : IsisStatement). isis_passive_said name s.says) lines) false ≡ unwrap_or
       (later None (later None (later None (later None o)))) false
-  said_by name o e =
-      ap (λ (p : Option Bool). unwrap_or p false)
-      (last_numbered (isis_passive_said name) n says
-      ∙ ap (λ (p : Option Bool). later None (later None (later None (later None p)))) (passive_later name ∙ e))
+  said_by name o e = grind (arith, common_steps, last_numbered, passive_later)
 
   -- an interface for which nothing is settled isn't passive
   pub passive_none : (name : Word) → settled_for name router.interfaces ≡ None →
@@ -217,14 +212,10 @@ module _ (number : ℕ) (router : SettledRouter) (n : ℕ) where
       by_passive true = refl
 
   leak_fine : (b : Bool) → list_all (λ (l : IsisLine). is_none (isis_line_fault l)) (cond b (Leak ∷ []) []) ≡ true
-  leak_fine false = refl
-  leak_fine true = refl
+  leak_fine b = grind (arith, common_steps)
 
   later_fine : list_all (λ (l : IsisLine). is_none (isis_line_fault l)) (later_says router) ≡ true
-  later_fine =
-      list_all-append (λ (l : IsisLine). is_none (isis_line_fault l)) (leak_says router.leak) (flat_map passive_says router.interfaces)
-      ∙ and_from (list_all (λ (l : IsisLine). is_none (isis_line_fault l)) (leak_says router.leak)) _ (leak_fine router.leak)
-      (passives_fine router.interfaces)
+  later_fine = grind (arith, common_steps, and_from, leak_fine, leak_says, list_all-append, passive_says, passives_fine)
 
   pub lines_fine : flat_map isis_statement_faults lines ≡ []
   lines_fine = no_fault_numbered n says later_fine
@@ -240,14 +231,10 @@ module _ (number : ℕ) (router : SettledRouter) (n : ℕ) where
       by_passive true = refl
 
   leak_no_net : (b : Bool) → list_any is_net_line (cond b (Leak ∷ []) []) ≡ false
-  leak_no_net false = refl
-  leak_no_net true = refl
+  leak_no_net b = grind (arith, common_steps)
 
   later_no_net : list_any is_net_line (later_says router) ≡ false
-  later_no_net =
-      list_any-append is_net_line (leak_says router.leak) (flat_map passive_says router.interfaces)
-      ∙ or_from (list_any is_net_line (leak_says router.leak)) (list_any is_net_line (flat_map passive_says router.interfaces))
-      (leak_no_net router.leak) (passives_no_net router.interfaces)
+  later_no_net = grind (arith, common_steps, leak_no_net, leak_says, list_any-append, or_from, passive_says, passives_no_net)
 
   no_net_numbered : (m : ℕ) (ls : List IsisLine) → list_any is_net_line ls ≡ false → filter is_net (isis_says_from m ls) ≡ []
   no_net_numbered m [] none = refl
@@ -258,10 +245,7 @@ module _ (number : ℕ) (router : SettledRouter) (n : ℕ) where
       ∙ no_net_numbered (m + 1) ls parts.1
 
   pub one_title : second_titles lines ≡ []
-  one_title =
-      ap (λ (l : List IsisStatement). map (λ (s : IsisStatement). fault_at s.line Unsupported)
-      (drop 1 (record { line = n; says = Net (Some its_title) } ∷ l)))
-      (no_net_numbered (n + 1 + 1 + 1 + 1) (later_says router) later_no_net)
+  one_title = grind (arith, common_steps, later_no_net, later_says, no_net_numbered)
 
   pub lacks_none : (first : ℕ) → lacking (Some first) lines ≡ []
   lacks_none first = refl

@@ -1,4 +1,6 @@
 -- The configuration of a router with the lines that are written for it: no fault comes with them, and its IS-IS is what is settled.
+use Rattle.std.proofs.Common.{arith}
+use Rattle.std.proofs.lemmas.Grind.{common_steps}
 use Rattle.std.proofs.Common.{◌≡◌, ℕ, ◌+◌, Bool, true, false, cond, List, [], ◌∷◌, ◌++◌, get_or, map, Option, Some, None}
 use Rattle.std.proofs.Common.{refl, sym, ap, subst, ◌∙◌, append-nil, bytes_eq}
 use Rattle.std.specs.Prelude.{All, IsSome, flat_map, filter_map, fold, unwrap_or, is_some}
@@ -179,8 +181,7 @@ module _ (name : Option Word) (is : List InterfaceSection) (ospf : List OspfSect
 -- ---- sections ----
 
 no_isis : (l : List IsisSection) → is_some (first_tag l) ≡ false → l ≡ []
-no_isis [] none = refl
-no_isis (p ∷ l) none = absurd cc
+no_isis l none = grind (arith, common_steps)
 
 found_name : (name : Word) (ts : List SettledInterface) (t : SettledInterface) → settled_for name ts ≡ Some t → bytes_eq name t.name ≡ true
 found_name name [] t e = absurd cc

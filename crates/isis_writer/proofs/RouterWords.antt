@@ -1,10 +1,9 @@
 -- The lines that are written for a router, by their words, and what they say.
+use Rattle.std.proofs.lemmas.Grind.{common_steps}
 use Rattle.std.proofs.Common.{◌≡◌, ℕ, ◌<◌, ◌≤◌, ◌^◌, Bool, true, false, not, ◌&&◌, cond, List, [], ◌∷◌, ◌++◌, length, map}
 use Rattle.std.proofs.Common.{Option, Some, None}
-use Rattle.std.proofs.Common.{Ok, Err, refl, sym, ap, ◌∙◌, append-nil, arith, codes, bytes_eq, nat_eq, nat_le, nat_lt, decimal}
-use Rattle.std.specs.List.{list_all, list_any, flat_map}
-use Rattle.ios_lines.specs.declared.title.Title.{Title}
-use Rattle.std.specs.Char.{is_ascii_digit}
+use Rattle.std.proofs.Common.{Ok, refl, ap, ◌∙◌, arith, codes, bytes_eq, nat_eq, nat_le, nat_lt, decimal}
+use Rattle.std.specs.List.{list_all, flat_map}
 use Rattle.std.proofs.lemmas.Bool.{and_parts, and_from, le-leb, not-true}
 use Rattle.std.proofs.lemmas.Bool.Decides.{nat_tests}
 use Rattle.std.proofs.lemmas.List.{map-append}
@@ -14,11 +13,11 @@ use Rattle.net_model.specs.declared.config.Levels.{Levels}
 use Rattle.net_model.specs.declared.config.Levels.TheVariants.{Both}
 use Rattle.printed_lines.specs.Words.{spaced, joined}
 use Rattle.printed_lines.proofs.NumberFacts.{numbers_read_back}
-use Rattle.ios_lines.specs.Words.{Word, is_printable, levels_of, at_least, number_from}
-use Rattle.ios_lines.specs.Heads.{head_of, is_interface_name, interface_of}
+use Rattle.ios_lines.specs.Words.{Word, is_printable, levels_of, number_from}
+use Rattle.ios_lines.specs.Heads.{head_of, is_interface_name}
 use Rattle.ios_lines.specs.InterfaceLines.{interface_line}
-use Rattle.ios_lines.specs.IsisLines.{isis_line, isis_distance}
-use Rattle.ios_lines.specs.declared.kind.ReadKind.TheVariants.{BadMetric, BadDistance, Unsupported}
+use Rattle.ios_lines.specs.IsisLines.{isis_line}
+use Rattle.ios_lines.specs.declared.kind.ReadKind.TheVariants.{BadMetric, Unsupported}
 use Rattle.ios_lines.specs.declared.head.Head.TheVariants.{Interface as InterfaceHead}
 use Rattle.ios_lines.specs.declared.interface_line.InterfaceLine.{InterfaceLine}
 use Rattle.ios_lines.specs.declared.interface_line.InterfaceLine.TheVariants.{Isis, Circuit, Metric, Metric1, Metric2}
@@ -30,8 +29,8 @@ use Rattle.design_file.specs.Values.{is_area}
 use Rattle.design_file.specs.declared.settled.SettledInterface.{SettledInterface}
 use Rattle.design_file.specs.declared.settled.SettledRouter.{SettledRouter}
 use Rattle.isis_writer.specs.PreparedConfigurations.{system_id}
-use Rattle.isis_writer.specs.RouterLines.{level_word, title, leak_lines, passive_lines, process_lines, run_lines, circuit_lines, level_lines, isis_metric_line}
-use Rattle.isis_writer.specs.RouterLines.{level_metric_lines, interface_lines, idle_distance_line, style_line, type_line, title_line}
+use Rattle.isis_writer.specs.RouterLines.{level_word, title, leak_lines, passive_lines, process_lines, run_lines, level_lines}
+use Rattle.isis_writer.specs.RouterLines.{level_metric_lines, interface_lines}
 use Rattle.isis_writer.proofs.TitleWords.{router_title, title_fine}
 use Rattle.printed_sections.specs.PrintedSections.{is_fine, is_fine_line}
 use Rattle.printed_sections.proofs.SectionFacts.{number_fine}
@@ -96,35 +95,21 @@ abbrev pub interface_head : Word → List Word
 interface_head name = codes "interface" ∷ name ∷ []
 
 runs_spaced : (passive : Bool) → map spaced (run_words passive) ≡ run_lines passive
-runs_spaced true = refl
-runs_spaced false = refl
+runs_spaced passive = grind (arith, common_steps)
 
 levels_spaced : (old : Bool) (circuit : Option Levels) → map spaced (level_words old circuit) ≡ level_lines old circuit
 levels_spaced old circuit = grind arith
 
 circuits_spaced : (old passive : Bool) (circuit : Option Levels) → map spaced (circuit_bodies old passive circuit) ≡ cond passive []
     (level_lines old circuit)
-circuits_spaced old true circuit = refl
-circuits_spaced old false circuit = levels_spaced old circuit
+circuits_spaced old passive circuit = grind (arith, common_steps, levels_spaced)
 
 metrics_spaced : (old : Bool) (metric : ℕ) → map spaced (level_metric_words old metric) ≡ level_metric_lines old metric
-metrics_spaced true metric = refl
-metrics_spaced false metric = refl
+metrics_spaced old metric = grind (arith, common_steps)
 
 pub interface_written : (old : Bool) (i : SettledInterface) → interface_lines old i ≡ joined (interface_head i.name) ∷ map spaced
     (interface_bodies old i.passive i.circuit i.metric)
-interface_written old i =
-    let rest : List (List Word) = metric_words i.metric [] ∷ level_metric_words old i.metric in
-    let circuits : List (List Word) = circuit_bodies old i.passive i.circuit in
-    let metrics : map spaced rest ≡ isis_metric_line i.metric [] ∷ level_metric_lines old i.metric =
-    ap (λ (l : List (List ℕ)). isis_metric_line i.metric [] ∷ l) (metrics_spaced old i.metric) in
-    let later : map spaced (circuits ++ rest) ≡ circuit_lines old i ++ isis_metric_line i.metric [] ∷ level_metric_lines old i.metric =
-    map-append spaced circuits rest ∙ ap (λ (l : List (List ℕ)). l ++ map spaced rest) (circuits_spaced old i.passive i.circuit)
-    ∙ ap (λ (l : List (List ℕ)). circuit_lines old i ++ l) metrics in
-    ap (λ (l : List (List ℕ)). joined (interface_head i.name) ∷ l)
-    (sym (map-append spaced (run_words i.passive) (circuits ++ rest)
-    ∙ ap (λ (l : List (List ℕ)). l ++ map spaced (circuits ++ rest)) (runs_spaced i.passive)
-    ∙ ap (λ (l : List (List ℕ)). run_lines i.passive ++ l) later))
+interface_written old i = grind (arith, common_steps, circuits_spaced, map-append, metrics_spaced, runs_spaced)
 
 -- what they say
 abbrev run_says : Bool → List InterfaceLine
@@ -147,56 +132,40 @@ metric_small : (metric : ℕ) → IsMetric metric → metric < 2 ^ 64
 metric_small metric is = let high : metric ≤ 16777214 = is.1 in omega (arith, high)
 
 metric_read : (metric : ℕ) → IsMetric metric → number_from 1 MOST_METRIC BadMetric (decimal metric) ≡ Ok metric
-metric_read metric is =
-    ap (λ o. at_least 1 BadMetric o)
-    (number-some MOST_METRIC metric (decimal metric) (numbers_read_back metric MOST_METRIC (metric_small metric is) is.1).1.stands)
-    ∙ ap (λ (b : Bool). cond b (Ok metric) (Err BadMetric)) (le-leb 1 metric is.0)
+metric_read metric is = grind (arith, common_steps, le-leb, metric_small, number-some, numbers_read_back)
 
 runs_read : (passive : Bool) → map interface_line (run_words passive) ≡ run_says passive
-runs_read true = refl
-runs_read false = refl
+runs_read passive = grind (arith, common_steps)
 
 level_lines_read : (old : Bool) (circuit : Option Levels) → map interface_line (level_words old circuit) ≡ level_says old circuit
 level_lines_read old circuit = grind arith
 
 circuits_read : (old passive : Bool) (circuit : Option Levels) → map interface_line (circuit_bodies old passive circuit) ≡ circuit_says old passive circuit
-circuits_read old true circuit = refl
-circuits_read old false circuit = level_lines_read old circuit
+circuits_read old passive circuit = grind (arith, common_steps, level_lines_read)
 
 one_metric : (metric : ℕ) → IsMetric metric → interface_line (metric_words metric []) ≡ Metric (Ok metric)
 one_metric metric is = ap (λ r. Metric r) (metric_read metric is)
 
 metrics_read : (old : Bool) (metric : ℕ) → IsMetric metric → map interface_line (level_metric_words old metric) ≡ level_metric_says old metric
-metrics_read true metric is = ap (λ r. Metric1 r ∷ Metric2 r ∷ []) (metric_read metric is)
-metrics_read false metric is = refl
+metrics_read old metric is = grind (arith, common_steps, metric_read)
 
 pub interface_read : (old passive : Bool) (circuit : Option Levels) (metric : ℕ) → IsMetric metric →
     map interface_line (interface_bodies old passive circuit metric) ≡ interface_says old passive circuit metric
 interface_read old passive circuit metric is =
-    rw (
-      map-append interface_line (run_words passive) (circuit_bodies old passive circuit ++ metric_words metric [] ∷ level_metric_words old metric),
-      map-append interface_line (circuit_bodies old passive circuit) (metric_words metric [] ∷ level_metric_words old metric),
-      runs_read passive,
-      circuits_read old passive circuit,
-      one_metric metric is,
-      metrics_read old metric is,
-    ) refl
+    grind (arith, common_steps, circuits_read, map-append, metrics_read, one_metric, runs_read)
 
 -- they are lines of a section
 runs_fine : (passive : Bool) → list_all is_fine_line (run_words passive) ≡ true
-runs_fine true = refl
-runs_fine false = refl
+runs_fine passive = grind (arith, common_steps)
 
 level_bodies_fine : (old : Bool) (circuit : Option Levels) → list_all is_fine_line (level_words old circuit) ≡ true
 level_bodies_fine old circuit = grind arith
 
 circuits_fine : (old passive : Bool) (circuit : Option Levels) → list_all is_fine_line (circuit_bodies old passive circuit) ≡ true
-circuits_fine old true circuit = refl
-circuits_fine old false circuit = level_bodies_fine old circuit
+circuits_fine old passive circuit = grind (arith, common_steps, level_bodies_fine)
 
 metrics_fine : (old : Bool) (metric : ℕ) → is_fine (decimal metric) ≡ true → list_all is_fine_line (level_metric_words old metric) ≡ true
-metrics_fine true metric fine = ap (λ (b : Bool). ((b && true) && true && true && true) && (((b && true) && true && true && true) && true)) fine
-metrics_fine false metric fine = refl
+metrics_fine old metric fine = grind (arith, common_steps, fine)
 
 one_metric_fine : (metric : ℕ) → is_fine (decimal metric) ≡ true → is_fine_line (metric_words metric []) ≡ true
 one_metric_fine metric fine = ap (λ (b : Bool). (b && true) && true && true && true) fine
@@ -208,24 +177,17 @@ both_fine xs ys one two = list_all-append is_fine_line xs ys ∙ and_from (list_
 pub interface_bodies_fine : (old passive : Bool) (circuit : Option Levels) (metric : ℕ) → IsMetric metric →
     list_all is_fine_line (interface_bodies old passive circuit metric) ≡ true
 interface_bodies_fine old passive circuit metric is =
-    let digits : is_fine (decimal metric) ≡ true = number_fine metric (metric_small metric is) in
-    both_fine (run_words passive) (circuit_bodies old passive circuit ++ metric_words metric [] ∷ level_metric_words old metric) (runs_fine passive)
-    (both_fine (circuit_bodies old passive circuit) (metric_words metric [] ∷ level_metric_words old metric) (circuits_fine old passive circuit)
-    (and_from (is_fine_line (metric_words metric [])) (list_all is_fine_line (level_metric_words old metric))
-    (one_metric_fine metric digits) (metrics_fine old metric digits)))
+    grind (arith, common_steps, and_from, both_fine, circuits_fine, metric_small, metrics_fine, number_fine, one_metric_fine, runs_fine)
 
 pub interface_head_fine : (name : Word) → is_interface_name name ≡ true → is_fine_line (interface_head name) ≡ true
 interface_head_fine name is = ap (λ (b : Bool). (b && true) && true && true && true) (name_word name is).fine
 
 -- a name reads as it is written, whether it has a digit or not
 head_by : (t : Bool) (name : Word) → cond t name (name ++ []) ≡ name
-head_by true name = refl
-head_by false name = append-nil name
+head_by t name = grind (arith, common_steps)
 
 pub interface_head_reads : (name : Word) → is_interface_name name ≡ true → head_of (interface_head name) ≡ InterfaceHead (Ok name)
-interface_head_reads name is =
-    ap (λ n. InterfaceHead (interface_of n)) (head_by (list_any is_ascii_digit name) name)
-    ∙ ap (λ (b : Bool). InterfaceHead (cond b (Ok name) (Err Unsupported))) is
+interface_head_reads name is = grind (arith, common_steps, head_by)
 
 -- ---- the lines of the process ----
 
@@ -260,8 +222,7 @@ abbrev pub process_head_words : List Word
 process_head_words = codes "router" ∷ codes "isis" ∷ []
 
 leaks_spaced : (leak : Bool) → map spaced (leak_words leak) ≡ leak_lines leak
-leaks_spaced true = refl
-leaks_spaced false = refl
+leaks_spaced leak = grind (arith, common_steps)
 
 one_passive_spaced : (i : SettledInterface) → map spaced (passive_words i) ≡ passive_lines i
 one_passive_spaced i = by_passive i.passive
@@ -279,16 +240,11 @@ passives_spaced (i ∷ is) =
     ∙ ap (λ (l : List (List ℕ)). passive_lines i ++ l) (passives_spaced is)
 
 later_spaced : (router : SettledRouter) → map spaced (later_words router) ≡ leak_lines router.leak ++ flat_map passive_lines router.interfaces
-later_spaced router =
-    map-append spaced (leak_words router.leak) (flat_map passive_words router.interfaces)
-    ∙ ap (λ (l : List (List ℕ)). l ++ map spaced (flat_map passive_words router.interfaces)) (leaks_spaced router.leak)
-    ∙ ap (λ (l : List (List ℕ)). leak_lines router.leak ++ l) (passives_spaced router.interfaces)
+later_spaced router = grind (arith, common_steps, leaks_spaced, map-append, passives_spaced)
 
 pub process_written : (number : ℕ) (router : SettledRouter) → process_lines number router ≡ joined process_head_words ∷ map spaced
     (process_bodies number router)
-process_written number router =
-    ap (λ (l : List (List ℕ)). joined process_head_words ∷ title_line router.area number ∷ type_line
-    router.levels ∷ style_line ∷ idle_distance_line ∷ l) (sym (later_spaced router))
+process_written number router = grind (arith, common_steps, later_spaced)
 
 -- what they say
 abbrev pub leak_says : Bool → List IsisLine
@@ -306,8 +262,7 @@ process_says number router =
     (Ok MOST_DISTANCE) ∷ later_says router
 
 leaks_read : (leak : Bool) → map isis_line (leak_words leak) ≡ leak_says leak
-leaks_read true = refl
-leaks_read false = refl
+leaks_read leak = grind (arith, common_steps)
 
 -- each of these has the name of an interface
 abbrev pub AreNamed : List SettledInterface → Type 0
@@ -336,29 +291,16 @@ passives_read (i ∷ is) named =
     ∙ ap (λ (l : List IsisLine). passive_says i ++ l) (passives_read is named.1)
 
 distance_read : isis_line distance_words ≡ Distance (Ok MOST_DISTANCE)
-distance_read =
-    ap (λ o. Distance (isis_distance (at_least 1 BadDistance o)))
-    (number-some MOST_DISTANCE MOST_DISTANCE (decimal MOST_DISTANCE) (numbers_read_back MOST_DISTANCE MOST_DISTANCE (omega arith) (omega arith)).1.stands)
+distance_read = grind (arith, common_steps, number-some, numbers_read_back)
 
 pub process_read : (number : ℕ) (router : SettledRouter) → is_area router.area ≡ true → AreNamed router.interfaces →
     map isis_line (process_bodies number router) ≡ process_says number router
 process_read number router area named =
-    let later : map isis_line (later_words router) ≡ later_says router =
-    map-append isis_line (leak_words router.leak) (flat_map passive_words router.interfaces)
-    ∙ ap (λ (l : List IsisLine). l ++ map isis_line (flat_map passive_words router.interfaces)) (leaks_read router.leak)
-    ∙ ap (λ (l : List IsisLine). leak_says router.leak ++ l) (passives_read router.interfaces named) in
-    let its : Option Title = Some (record { area = router.area; system = system_id number }) in
-    ap (λ t. Net t ∷ LevelsLine (levels_of (level_word router.levels)) ∷ MetricStyle true ∷ isis_line distance_words ∷ map isis_line
-    (later_words router)) (router_title router.area number area)
-    ∙ ap (λ r. Net its ∷ LevelsLine r ∷ MetricStyle true ∷ isis_line distance_words ∷ map isis_line (later_words router))
-    (levels_read router.levels)
-    ∙ ap (λ d. Net its ∷ LevelsLine (Ok router.levels) ∷ MetricStyle true ∷ d ∷ map isis_line (later_words router)) distance_read
-    ∙ ap (λ (l : List IsisLine). Net its ∷ LevelsLine (Ok router.levels) ∷ MetricStyle true ∷ Distance (Ok MOST_DISTANCE) ∷ l) later
+    grind (arith, common_steps, distance_read, leaks_read, levels_read, map-append, passives_read, router_title)
 
 -- they are lines of a section
 leaks_fine : (leak : Bool) → list_all is_fine_line (leak_words leak) ≡ true
-leaks_fine true = refl
-leaks_fine false = refl
+leaks_fine leak = grind (arith, common_steps)
 
 passives_fine : (is : List SettledInterface) → AreNamed is → list_all is_fine_line (flat_map passive_words is) ≡ true
 passives_fine [] named = refl
@@ -374,10 +316,4 @@ type_fine levels = grind arith
 pub process_bodies_fine : (number : ℕ) (router : SettledRouter) → is_area router.area ≡ true → AreNamed router.interfaces →
     list_all is_fine_line (process_bodies number router) ≡ true
 process_bodies_fine number router area named =
-    and_from (is_fine_line (title_words router.area number)) (list_all is_fine_line (first_bodies number router))
-    (ap (λ (b : Bool). (b && true) && true && true && true) (title_fine router.area number area))
-    (and_from (is_fine_line (type_words router.levels)) (list_all is_fine_line (style_words ∷ distance_words ∷ later_words router))
-    (type_fine router.levels)
-    (and_from (is_fine_line distance_words) (list_all is_fine_line (later_words router))
-    (ap (λ (b : Bool). (b && true) && true && true && true) (number_fine MOST_DISTANCE (omega arith)))
-    (both_fine (leak_words router.leak) (flat_map passive_words router.interfaces) (leaks_fine router.leak) (passives_fine router.interfaces named))))
+    grind (arith, common_steps, and_from, both_fine, leaks_fine, number_fine, passives_fine, title_fine, type_fine)

@@ -1,4 +1,5 @@
 -- What is settled for a router, and the sections of its interfaces: names, each once, that are words.
+use Rattle.std.proofs.lemmas.Grind.{common_steps}
 use Rattle.std.proofs.Common.{◌≡◌, ◌≢◌, ℕ, zero, suc, Bool, true, false, not, ◌&&◌, ◌||◌, cond, List, [], ◌∷◌, get_or, map}
 use Rattle.std.proofs.Common.{Some, None, Ok, Err, refl, sym, ap, subst, ◌∙◌, arith, bytes_eq}
 use Rattle.std.specs.Prelude.{All, AllPairs, IfSome, IsSome, filter, filter_map, codes}
@@ -7,7 +8,7 @@ use Rattle.std.proofs.Common.{⊎_elim}
 use Rattle.std.proofs.lemmas.Bool.{or_parts, or_from}
 use Rattle.std.proofs.lemmas.List.Elements.{All-nil, All-cons, All-head, All-tail, All-map, All-filter}
 use Rattle.net_model.specs.declared.interface.Interface.{Interface}
-use Rattle.ios_lines.specs.Words.{Word, says, begins_with_two, lacks}
+use Rattle.ios_lines.specs.Words.{Word, says, begins_with_two}
 use Rattle.ios_lines.specs.Heads.{is_interface_name, interface_name, interface_of, router_head, head_of}
 use Rattle.ios_lines.specs.Lookups.{first_seen}
 use Rattle.ios_lines.specs.declared.head.Head.{Head}
@@ -47,11 +48,7 @@ interface_named name = choice (is_interface_name name) refl
     choice false e = tt
 
 router_named : (words : List Word) → IsNamedHead (router_head words)
-router_named words =
-    by_if IsNamedHead (says words 1 (codes "ospf")) _ _
-    (by_if IsNamedHead (says words 3 (codes "vrf") && not (lacks words 4)) _ _ tt tt)
-    (by_if IsNamedHead (says words 1 (codes "isis")) _ _ tt
-    (by_if IsNamedHead (says words 1 (codes "eigrp") || says words 1 (codes "rip")) _ _ tt tt))
+router_named words = grind (arith, common_steps, by_if)
 
 head_named : (words : List Word) → IsNamedHead (head_of words)
 head_named words =
@@ -116,10 +113,7 @@ merged_names parts [] = refl
 merged_names parts (n ∷ ns) = ap (λ (l : List Word). n ∷ l) (merged_names parts ns)
 
 pub interfaces_apart : (ss : List Section) → Apart (names_of (interfaces_in ss))
-interfaces_apart ss =
-    let parts : List InterfaceSection = filter_map as_interface ss in
-    let ns : List Word = first_seen (map (λ (s : InterfaceSection). s.name) parts) in
-    subst Apart (sym (merged_names parts ns)) (apart_from ns (names_apart (map (λ (s : InterfaceSection). s.name) parts)))
+interfaces_apart ss = grind (arith, common_steps, apart_from, merged_names, names_apart)
 
 -- ---- what is settled ----
 
@@ -211,15 +205,7 @@ module _ (read : InterfaceSection → Interface) (named : (s : InterfaceSection)
   -- one more interface, for which nothing is settled
   other_well : (s : InterfaceSection) (is : List InterfaceSection) (ts : List SettledInterface) → has s.name (names_of is) ≡ false →
       SettledWell is ts → SettledWell (s ∷ is) ts
-  other_well s is ts none well = record {
-    words = well.words;
-    among = more_in s.name ts (names_of is) well.among;
-    apart = well.apart;
-    metrics = well.metrics;
-    addressed =
-        All-cons (IsAddressed ts) s is
-        (λ u e. absurd (let no : None ≡ Some u = sym (not_in s.name ts (names_of is) none well.among) ∙ e in cc)) well.addressed;
-  }
+  other_well s is ts none well = grind (arith, common_steps, All-cons, more_in, names_of, not_in)
 
   -- what is settled for interfaces with names of their own
   pub settled_well : (is : List InterfaceSection) (ts : List SettledInterface) →
@@ -245,12 +231,9 @@ any_at p (x ∷ xs) none =
     All-cons (λ y. p y ≡ false) x xs parts.0 (any_at p xs parts.1)
 
 and_second : (a b : Bool) → (a && b) ≡ false → a ≡ true → b ≡ false
-and_second true b e t = e
-and_second false b e t = absurd cc
+and_second a b e t = grind (arith, common_steps)
 
 -- where the old configuration has no old line for a name, the section of this name has none
 pub no_old_line : (is : List InterfaceSection) (name : Word) → has_old_line is name ≡ false →
     All (λ (s : InterfaceSection). bytes_eq s.name name ≡ true → list_any (λ (l : InterfaceStatement). is_old_line l.says) s.lines ≡ false) is
-no_old_line is name none = λ k d lt same.
-    and_second (bytes_eq (get_or is k d).name name) _
-    (any_at (λ (s : InterfaceSection). bytes_eq s.name name && list_any (λ (l : InterfaceStatement). is_old_line l.says) s.lines) is none k d lt) same
+no_old_line is name none = grind (arith, common_steps, and_second, any_at)

@@ -1,7 +1,8 @@
 -- The network entity title that is written reads as its area and its system id.
+use Rattle.std.proofs.lemmas.Grind.{common_steps}
 use Rattle.std.proofs.Common.{◌≡◌, ℕ, ◌+◌, ◌-◌, ◌*◌, ◌/◌, ◌%◌, ◌<◌, ◌≤◌, Bool, true, false, ◌&&◌, cond, List, []}
 use Rattle.std.proofs.Common.{◌∷◌, ◌++◌, length, take}
-use Rattle.std.proofs.Common.{drop, Option, Some, None, refl, ap, ap₂, ◌∙◌, append_assoc, length-append, arith, codes, bytes_eq, nat_eq, nat_le}
+use Rattle.std.proofs.Common.{drop, Some, refl, ap, ◌∙◌, append_assoc, length-append, arith, codes, bytes_eq, nat_eq, nat_le}
 use Rattle.std.proofs.Common.{nat_lt}
 use Rattle.std.specs.List.{list_all}
 use Rattle.std.proofs.lemmas.Bool.{and_parts, and_from, leb-true, le-leb}
@@ -11,7 +12,6 @@ use Rattle.std.proofs.lemmas.List.Folds.{list_all-append}
 use Rattle.ios_lines.specs.Words.{Word, is_dot, is_printable}
 use Rattle.ios_lines.specs.IsisLines.{is_hex, hex_value, is_grouped, grouped_from, is_area_address, front_part, system_part, area_part}
 use Rattle.ios_lines.specs.IsisLines.{system_value, is_title, title_of}
-use Rattle.ios_lines.specs.declared.title.Title.{Title}
 use Rattle.design_file.specs.Values.{is_area}
 use Rattle.isis_writer.specs.RouterLines.{four_digits, title}
 use Rattle.isis_writer.specs.PreparedConfigurations.{system_id}
@@ -128,18 +128,12 @@ module _ (area : Word) (a b c d : ℕ) (is : is_area_address area ≡ true) (sho
 
   title_reads : title_of word ≡ Some (record { area = area; system = number_by (hex_value a) (hex_value b) (hex_value c) (hex_value d) })
   unfolding title_of
-  title_reads =
-      let read : Word → List ℕ → Option Title = λ w s. Some (record { area = w; system = system_value s }) in
-      ap (λ (t : Bool). cond t (read (area_part word) (system_part word)) None) title_good
-      ∙ ap₂ read area_is system_is
-      ∙ ap (λ (n : ℕ). Some (record { area = area; system = n })) (groups_value a b c d)
+  title_reads = grind (arith, common_steps, area_is, groups_value, system_is, title_good)
 
 -- ---- the title of a router ----
 
 area_short : (area : Word) → is_area area ≡ true → (length area ≤ 32) × (is_area_address area ≡ true)
-area_short area is =
-    let parts : (nat_le (length area) 32 ≡ true) × (is_area_address area ≡ true) = and_parts (nat_le (length area) 32) (is_area_address area) is in
-    (leb-true (length area) 32 parts.0, parts.1)
+area_short area is = grind (arith, common_steps, and_parts, leb-true)
 
 abbrev digit : ℕ → ℕ
 digit n = 48 + n % 10
