@@ -1,6 +1,7 @@
 -- The lines that set a distance, as a text: how they read.
+use Rattle.std.proofs.lemmas.Grind.{common_steps}
 use Rattle.std.proofs.Common.{◌≡◌, ℕ, ◌+◌, ◌<◌, ◌≤◌, ◌^◌, Bool, true, false, List, [], ◌∷◌, Some, Ok}
-use Rattle.std.proofs.Common.{◌≢◌, ◌⊎◌, inl, inr, nat_eq, Err, cond, ◌||◌, ◌&&◌, refl, sym, ap, subst, ◌∙◌, arith, codes, decimal}
+use Rattle.std.proofs.Common.{◌≢◌, ◌⊎◌, nat_eq, Err, cond, ◌||◌, ◌&&◌, refl, sym, ap, subst, ◌∙◌, arith, codes, decimal}
 use Rattle.std.specs.Prelude.{All, bytes_eq}
 use Rattle.std.specs.Char.{IsAsciiDigit}
 use Rattle.std.proofs.lemmas.Slice.Eq.{bytes_eq-Decides}
@@ -11,12 +12,12 @@ use Rattle.printed_lines.specs.Texts.{text_of}
 use Rattle.printed_lines.proofs.NumberFacts.{decimal-IsNumeral, numbers_read_back}
 use Rattle.net_model.specs.declared.bounds.TheConstants.{ISIS_DISTANCE, MOST_DISTANCE, MOST_PROCESS}
 use Rattle.ios_lines.specs.Words.{Word, is_printable, number_of, at_least}
-use Rattle.ios_lines.specs.IsisLines.{isis_line, isis_distance}
+use Rattle.ios_lines.specs.IsisLines.{isis_line}
 use Rattle.ios_lines.specs.OspfLines.{ospf_line, apart_distance}
 use Rattle.ios_lines.specs.declared.isis_line.IsisLine.TheVariants.{Distance as IsisDistance}
 use Rattle.ios_lines.specs.declared.ospf_line.OspfLine.TheVariants.{Distance as OspfDistance}
 use Rattle.ios_lines.specs.Heads.{head_of}
-use Rattle.ios_lines.specs.declared.kind.ReadKind.TheVariants.{SecondProcess, BadDistance, DistanceClash, Unsupported}
+use Rattle.ios_lines.specs.declared.kind.ReadKind.TheVariants.{BadDistance, DistanceClash, Unsupported}
 use Rattle.ios_lines.specs.declared.head.Head.TheVariants.{Ospf as OspfHead, Isis as IsisHead}
 use Rattle.ios_lines.proofs.NumberFacts.{number-some}
 use Rattle.ios_sections.specs.Sections.{section_with}
@@ -56,18 +57,12 @@ reads_as_block head rest distance is fine small =
 -- ---- the lines of distances ----
 
 distance_read : (distance : ℕ) → distance < 2 ^ 64 → distance ≤ MOST_DISTANCE → number_of MOST_DISTANCE (decimal distance) ≡ Some distance
-distance_read distance small high =
-    number-some MOST_DISTANCE distance (decimal distance) (numbers_read_back distance MOST_DISTANCE small high).1.stands
+distance_read distance small high = grind (arith, common_steps, number-some, numbers_read_back)
 
 -- a distance of IS-IS is its own or the greatest
 isis_distance_read : (distance : ℕ) → (distance ≡ ISIS_DISTANCE) ⊎ (distance ≡ MOST_DISTANCE) →
     isis_line (distance_words distance) ≡ IsisDistance (Ok distance)
-isis_distance_read distance (inl own) =
-    subst (λ (n : ℕ). isis_line (distance_words n) ≡ IsisDistance (Ok n)) (sym own)
-    (ap (λ o. IsisDistance (isis_distance (at_least 1 BadDistance o))) (distance_read ISIS_DISTANCE (omega arith) (omega arith)))
-isis_distance_read distance (inr most) =
-    subst (λ (n : ℕ). isis_line (distance_words n) ≡ IsisDistance (Ok n)) (sym most)
-    (ap (λ o. IsisDistance (isis_distance (at_least 1 BadDistance o))) (distance_read MOST_DISTANCE (omega arith) (omega arith)))
+isis_distance_read distance it_1 = grind (arith, common_steps, distance_read)
 
 -- a number isn't the word `ospf`
 no_number : (distance : ℕ) → distance < 2 ^ 64 → bytes_eq (decimal distance) (codes "ospf") ≡ false
@@ -102,15 +97,13 @@ isis_rest [] = codes "isis" ∷ []
 isis_rest (b ∷ tag) = codes "isis" ∷ (b ∷ tag) ∷ []
 
 isis_head_words : (tag : Word) → isis_head tag ≡ joined (router_word ∷ isis_rest tag)
-isis_head_words [] = refl
-isis_head_words (b ∷ tag) = refl
+isis_head_words tag = grind (arith, common_steps)
 
 isis_rest_fine : (tag : Word) → list_all is_printable tag ≡ true → is_fine_line (router_word ∷ isis_rest tag) ≡ true
 isis_rest_fine tag fine = grind arith
 
 isis_head_is : (tag : Word) → head_of (router_word ∷ isis_rest tag) ≡ IsisHead tag
-isis_head_is [] = refl
-isis_head_is (b ∷ tag) = refl
+isis_head_is tag = grind (arith, common_steps)
 
 -- the lines that set the distance, as a text
 abbrev pub isis_block : ℕ → Word → List ℕ
@@ -118,8 +111,7 @@ isis_block distance tag = text_of (isis_head tag ∷ distance_line distance ∷ 
 
 module _ (distance : ℕ) (tag : Word) (is : (distance ≡ ISIS_DISTANCE) ⊎ (distance ≡ MOST_DISTANCE)) (fine : list_all is_printable tag ≡ true) where
   isis_small : (distance ≡ ISIS_DISTANCE) ⊎ (distance ≡ MOST_DISTANCE) → distance < 2 ^ 64
-  isis_small (inl own) = omega (arith, own)
-  isis_small (inr most) = omega (arith, most)
+  isis_small it_0 = grind (arith, common_steps)
 
   isis_block_reads : ReadsAsBlock (isis_head tag) (isis_rest tag) distance
   isis_block_reads = reads_as_block (isis_head tag) (isis_rest tag) distance (isis_head_words tag) (isis_rest_fine tag fine) (isis_small is)
@@ -144,10 +136,7 @@ abbrev ospf_rest : ℕ → List Word
 ospf_rest process = codes "ospf" ∷ decimal process ∷ []
 
 ospf_head_is : (process : ℕ) → 1 ≤ process → process ≤ MOST_PROCESS → head_of (router_word ∷ ospf_rest process) ≡ OspfHead (Ok process)
-ospf_head_is process low high =
-    ap (λ o. OspfHead (at_least 1 SecondProcess o))
-    (number-some MOST_PROCESS process (decimal process) (numbers_read_back process MOST_PROCESS (omega (arith, high)) high).1.stands)
-    ∙ ap (λ (b : Bool). OspfHead (cond b (Ok process) (Err SecondProcess))) (le-leb 1 process low)
+ospf_head_is process low high = grind (arith, common_steps, le-leb, number-some, numbers_read_back)
 
 abbrev pub ospf_block : ℕ → ℕ → List ℕ
 ospf_block distance process = text_of (ospf_head process ∷ distance_line distance ∷ [])

@@ -1,10 +1,11 @@
 -- A further section of a process that sets its distance, to whatever it is: no fault comes with it, and nothing but the distance
 -- changes.
-use Rattle.std.proofs.Common.{◌≡◌, ℕ, ◌+◌, Bool, true, false, not, ◌&&◌, ◌||◌, cond, drop, List, [], ◌∷◌, ◌++◌, map, Option}
+use Rattle.std.proofs.lemmas.Grind.{common_steps}
+use Rattle.std.proofs.Common.{◌≡◌, ℕ, ◌+◌, Bool, true, false, not, ◌||◌, cond, List, [], ◌∷◌, ◌++◌, map, Option}
 use Rattle.std.proofs.Common.{Some, None, Ok, refl, sym}
-use Rattle.std.proofs.Common.{ap, subst, ◌∙◌, append-nil, length-append, nat_eq, nat_lt, length, ◌<◌, arith}
-use Rattle.std.specs.Prelude.{filter, filter_map, fold, unwrap_or, option_map, bytes_eq}
-use Rattle.std.specs.List.{flat_map, list_any, list_all, cons_option}
+use Rattle.std.proofs.Common.{ap, subst, ◌∙◌, nat_eq, nat_lt, length, ◌<◌, arith}
+use Rattle.std.specs.Prelude.{filter_map, fold, unwrap_or, option_map, bytes_eq}
+use Rattle.std.specs.List.{flat_map, list_any, list_all}
 use Rattle.std.proofs.lemmas.Bool.{eqb-true, eq-eqb}
 use Rattle.std.proofs.lemmas.List.{map-append}
 use Rattle.std.proofs.lemmas.Slice.Eq.{bytes_eq-Decides}
@@ -15,10 +16,10 @@ use Rattle.net_model.specs.Configuration.{Configuration}
 use Rattle.ios_lines.specs.Words.{Word, is_printable}
 use Rattle.ios_lines.specs.Lookups.{later, last_of, earlier, first_of, replaced}
 use Rattle.ios_lines.proofs.LineLookups.{last_of-push}
-use Rattle.ios_lines.specs.FaultOrder.{fault_at, faults_if}
+use Rattle.ios_lines.specs.FaultOrder.{faults_if}
 use Rattle.ios_lines.specs.InterfaceLines.{counting}
 use Rattle.ios_lines.specs.declared.kind.ReadKind.{ReadKind}
-use Rattle.ios_lines.specs.declared.kind.ReadKind.TheVariants.{SecondProcess, Unsupported, BadNet}
+use Rattle.ios_lines.specs.declared.kind.ReadKind.TheVariants.{SecondProcess}
 use Rattle.ios_lines.specs.declared.fault.Fault.{Fault}
 use Rattle.ios_lines.specs.declared.address.InterfaceAddress.{InterfaceAddress}
 use Rattle.ios_lines.specs.declared.ospf_line.StubLine.{StubLine}
@@ -28,17 +29,15 @@ use Rattle.ios_lines.specs.declared.isis_line.IsisStatement.{IsisStatement}
 use Rattle.ios_lines.specs.declared.isis_line.IsisLine.TheVariants.{Distance as IsisDistance}
 use Rattle.ios_lines.specs.declared.ospf_line.OspfStatement.{OspfStatement}
 use Rattle.ios_lines.specs.declared.ospf_line.OspfLine.TheVariants.{Distance as OspfDistance}
-use Rattle.ios_sections.specs.Processes.{mention_of, mentions_in, mentions_of, first_mention, first_process, lines_of_process, first_tag}
-use Rattle.ios_sections.specs.Processes.{lines_of_tag}
-use Rattle.ios_sections.specs.ProcessFaults.{process_faults, ospf_statement_faults, tag_faults_of, isis_statement_faults, second_titles, lacking, is_net}
-use Rattle.ios_sections.specs.ProcessFaults.{is_metric_style}
+use Rattle.ios_sections.specs.Processes.{mention_of, mentions_in, mentions_of, first_mention, first_process, first_tag}
+use Rattle.ios_sections.specs.ProcessFaults.{process_faults, ospf_statement_faults}
 use Rattle.ios_sections.specs.declared.process.Mention.{Mention}
 use Rattle.ios_sections.specs.declared.section.IsisSection.{IsisSection}
 use Rattle.ios_sections.specs.declared.section.OspfSection.{OspfSection}
 use Rattle.ios_sections.specs.declared.section.InterfaceSection.{InterfaceSection}
-use Rattle.ios_reader.specs.Routers.{Router, router_with, title_said, levels_said, router_metric_said, isis_distance_said, isis_passive_said}
-use Rattle.ios_reader.specs.Routers.{ospf_distance_said, ospf_passive_said, passive_default_said, reference_said, area_taken, range_said, stub_said}
-use Rattle.ios_reader.specs.Routers.{default_cost_said, is_same_range, is_same_area, stub_lines_in, stub_of, rfc1583_said, ranges_in, stubs_in, leak_said}
+use Rattle.ios_reader.specs.Routers.{Router, router_with}
+use Rattle.ios_reader.specs.Routers.{ospf_distance_said, ospf_passive_said, passive_default_said, reference_said, area_taken, range_said}
+use Rattle.ios_reader.specs.Routers.{is_same_range, rfc1583_said, ranges_in, stubs_in}
 use Rattle.ios_reader.specs.InterfacesAsRead.{address_given, area_by, area_with, interface_area, interface_as_read}
 use Rattle.ios_reader.specs.InterfaceFacts.{facts_of}
 use Rattle.ios_reader.specs.Faults.{interface_faults}
@@ -58,20 +57,17 @@ first_stays form [] x none = ap (λ o. earlier o None) none
 first_stays form (y ∷ xs) x none = ap (earlier (form y)) (first_stays form xs x none)
 
 pub left_out : {A B : Type 0} (form : A → Option B) (xs : List A) (x : A) → form x ≡ None → filter_map form (xs ++ x ∷ []) ≡ filter_map form xs
-left_out {A} {B} form xs x none =
-    filter_map-append form xs (x ∷ []) ∙ ap (λ (o : Option B). filter_map form xs ++ cons_option o []) none ∙ append-nil (filter_map form xs)
+left_out {A} {B} form xs x none = grind (arith, common_steps, filter_map-append)
 
 same_map : {A B : Type 0} (f g : A → B) → ((x : A) → f x ≡ g x) → (xs : List A) → map f xs ≡ map g xs
 same_map f g same [] = refl
 same_map f g same (x ∷ xs) = ap (λ y. y ∷ map f xs) (same x) ∙ ap (λ l. g x ∷ l) (same_map f g same xs)
 
 or_false : (b : Bool) → (b || false) ≡ b
-or_false true = refl
-or_false false = refl
+or_false b = grind (arith, common_steps)
 
 not_faulty : (b : Bool) (line : ℕ) (kind : ReadKind) → faults_if (not b) line kind ≡ [] → b ≡ true
-not_faulty true line kind e = refl
-not_faulty false line kind e = absurd cc
+not_faulty b line kind e = grind (arith, common_steps)
 
 any_stays : {A : Type 0} (p : A → Bool) (xs : List A) (x : A) → p x ≡ false → list_any p (xs ++ x ∷ []) ≡ list_any p xs
 any_stays p xs x off = list_any-append p xs (x ∷ []) ∙ ap (λ b. list_any p xs || (b || false)) off ∙ or_false (list_any p xs)
@@ -104,50 +100,14 @@ module _ (distance : ℕ) (name : Option Word) (interfaces : List InterfaceSecti
   same_tag = (bytes_eq-Decides f.tag f.tag).1 refl
 
   pub tag_printable : HasNoFault name interfaces ospf (f ∷ more) heads ends → list_all is_printable f.tag ≡ true
-  tag_printable n =
-      let own = none_left (tag_faults_of (Some f.tag) f) (flat_map (tag_faults_of (Some f.tag)) more) n.one_tag in
-      not_faulty (list_all is_printable f.tag) f.line Unsupported
-      (none_right (faults_if (not (bytes_eq f.tag f.tag)) f.line SecondProcess) (faults_if (not (list_all is_printable f.tag)) f.line Unsupported) own)
+  tag_printable n = grind (arith, common_steps, none_left, none_right, not_faulty)
 
   isis_lines_more : list_all is_printable f.tag ≡ true → isis_lines_by (f ∷ (more ++ x ∷ [])) ≡ lines_before ++ d ∷ []
-  isis_lines_more printable =
-      flat_map-append (lines_of_tag (Some f.tag)) (f ∷ more) (x ∷ [])
-      ∙ ap (λ b. lines_before ++ (cond (b && list_all is_printable f.tag) (d ∷ []) [] ++ [])) same_tag
-      ∙ ap (λ b. lines_before ++ (cond b (d ∷ []) [] ++ [])) printable
+  isis_lines_more printable = grind (arith, common_steps, flat_map-append, same_tag)
 
   pub isis_no_fault : HasNoFault name interfaces ospf (f ∷ more) heads ends → HasNoFault name interfaces ospf (f ∷ (more ++ x ∷ [])) heads ends
   isis_no_fault n =
-      let printable : list_all is_printable f.tag ≡ true = tag_printable n in
-      let lines : isis_lines_by (f ∷ (more ++ x ∷ [])) ≡ lines_before ++ d ∷ [] = isis_lines_more printable in
-      record {
-        heads_fine = n.heads_fine;
-        one_process = n.one_process;
-        ospf_fine = n.ospf_fine;
-        one_tag =
-            flat_map-append (tag_faults_of (Some f.tag)) (f ∷ more) (x ∷ [])
-            ∙ two_none (flat_map (tag_faults_of (Some f.tag)) (f ∷ more)) (flat_map (tag_faults_of (Some f.tag)) (x ∷ [])) n.one_tag
-            (two_none (tag_faults_of (Some f.tag) x) []
-            (two_none (faults_if (not (bytes_eq f.tag f.tag)) line SecondProcess) (faults_if (not (list_all is_printable f.tag)) line Unsupported)
-            (ap (λ b. faults_if (not b) line SecondProcess) same_tag) (ap (λ b. faults_if (not b) line Unsupported) printable)) refl);
-        isis_fine =
-            ap (flat_map isis_statement_faults) lines
-            ∙ flat_map-append isis_statement_faults lines_before (d ∷ [])
-            ∙ two_none (flat_map isis_statement_faults lines_before) (flat_map isis_statement_faults (d ∷ [])) n.isis_fine refl;
-        one_title =
-            ap second_titles lines
-            ∙ ap (λ l. map (λ (s : IsisStatement). fault_at s.line Unsupported) (drop 1 l)) (filter-append is_net lines_before (d ∷ [])
-            ∙ append-nil (filter is_net lines_before))
-            ∙ n.one_title;
-        lacks_none =
-            ap (lacking (Some f.line)) lines
-            ∙ ap (λ b. faults_if (not b) f.line BadNet ++ faults_if (not (list_any is_metric_style (lines_before ++ d ∷ []))) f.line Unsupported)
-            (any_stays is_net lines_before d refl)
-            ∙ ap (λ b. faults_if (not (list_any is_net lines_before)) f.line BadNet ++ faults_if (not b) f.line Unsupported)
-            (any_stays is_metric_style lines_before d refl)
-            ∙ n.lacks_none;
-        interfaces_fine = n.interfaces_fine;
-        named = n.named;
-      }
+      grind (arith, common_steps, any_stays, filter-append, flat_map-append, isis_lines_by, isis_lines_more, same_tag, tag_printable, two_none)
 
   abbrev process : Option ℕ
   process = process_by ospf interfaces
@@ -157,25 +117,11 @@ module _ (distance : ℕ) (name : Option Word) (interfaces : List InterfaceSecti
 
   same_interface : (l : List IsisStatement) (s : InterfaceSection) →
       interface_as_read (router_with process others (l ++ d ∷ [])) s ≡ interface_as_read (router_with process others l) s
-  same_interface l s =
-      rw (
-        last_stays (λ (t : IsisStatement). isis_passive_said s.name t.says) l d refl,
-        last_stays (λ (t : IsisStatement). levels_said t.says) l d refl,
-        last_stays (λ (t : IsisStatement). router_metric_said t.says) l d refl,
-      ) refl
+  same_interface l s = grind (arith, common_steps, last_stays)
 
   pub isis_made : list_all is_printable f.tag ≡ true →
       configuration_by name interfaces ospf (f ∷ (more ++ x ∷ [])) ≡ with_isis_at distance (configuration_by name interfaces ospf (f ∷ more))
-  isis_made printable =
-      let l : List IsisStatement = lines_before in
-      rw (
-        isis_lines_more printable,
-        same_map (interface_as_read (router_with process others (l ++ d ∷ []))) _ (same_interface l) interfaces,
-        last_stays (λ (s : IsisStatement). leak_said s.says) l d refl,
-        last_stays (λ (s : IsisStatement). title_said s.says) l d refl,
-        last_stays (λ (s : IsisStatement). levels_said s.says) l d refl,
-        last_is (λ (s : IsisStatement). isis_distance_said s.says) l d (Ok distance) refl,
-      ) refl
+  isis_made printable = grind (arith, common_steps, isis_lines_more, last_is, last_stays, same_interface, same_map)
 
 -- ---- a section of the OSPF process more ----
 
@@ -243,31 +189,16 @@ module _ (distance : ℕ) (name : Option Word) (interfaces : List InterfaceSecti
   mentions_more = ap (λ l. l ++ by_interfaces) (map-append mention_of ospf (y ∷ []))
 
   no_other : HasNoFault name interfaces ospf isis heads ends → flat_map told ((by_sections ++ mention_of y ∷ []) ++ by_interfaces) ≡ []
-  no_other n =
-      let before : flat_map told (by_sections ++ by_interfaces) ≡ [] =
-      subst (λ q. flat_map (process_faults q) (by_sections ++ by_interfaces) ≡ []) running n.one_process in
-      let apart : flat_map told by_sections ++ flat_map told by_interfaces ≡ [] = sym (flat_map-append told by_sections by_interfaces) ∙ before in
-      flat_map-append told (by_sections ++ mention_of y ∷ []) by_interfaces
-      ∙ two_none (flat_map told (by_sections ++ mention_of y ∷ [])) (flat_map told by_interfaces)
-      (flat_map-append told by_sections (mention_of y ∷ [])
-      ∙ two_none (flat_map told by_sections) (flat_map told (mention_of y ∷ []))
-      (none_left (flat_map told by_sections) (flat_map told by_interfaces) apart)
-      (two_none (told (mention_of y)) [] (ap (λ b. faults_if (not b) line SecondProcess) same_process) refl))
-      (none_right (flat_map told by_sections) (flat_map told by_interfaces) apart)
+  no_other n = grind (arith, common_steps, flat_map-append, none_left, none_right, same_process, two_none)
 
   still_running : HasNoFault name interfaces ospf isis heads ends → process_by sections interfaces ≡ Some p
-  still_running n =
-      ap first_process mentions_more
-      ∙ one_process_named p ((by_sections ++ mention_of y ∷ []) ++ by_interfaces) (no_other n)
-      (omega (arith, length-append (by_sections ++ mention_of y ∷ []) by_interfaces, length-append by_sections (mention_of y ∷ [])))
+  still_running n = grind (arith, common_steps, mentions_more, no_other, one_process_named)
 
   abbrev own : List OspfStatement
   own = ospf_lines_by (Some p) ospf
 
   ospf_lines_more : ospf_lines_by (Some p) sections ≡ own ++ e ∷ []
-  ospf_lines_more =
-      flat_map-append (lines_of_process (Some p)) ospf (y ∷ [])
-      ∙ ap (λ b. own ++ (cond b (e ∷ []) [] ++ [])) same_process
+  ospf_lines_more = grind (arith, common_steps, flat_map-append, same_process)
 
   abbrev all_isis : List IsisStatement
   all_isis = isis_lines_by isis
@@ -332,10 +263,7 @@ module _ (distance : ℕ) (name : Option Word) (interfaces : List InterfaceSecti
   stub_with s o = record { area = s.area; no_summary = s.no_summary; default_cost = unwrap_or o 1 }
 
   same_stubs : (l : List OspfStatement) → stubs_in (l ++ e ∷ []) ≡ stubs_in l
-  same_stubs l =
-      ap (λ ls. map (stub_of (l ++ e ∷ [])) (fold (replaced is_same_area) [] ls)) (left_out (λ (s : OspfStatement). stub_said s.says) l e refl)
-      ∙ same_map (stub_of (l ++ e ∷ [])) (stub_of l)
-      (λ s. ap (λ o. stub_with s o) (last_stays (λ (t : OspfStatement). default_cost_said s.area t.says) l e refl)) (stub_lines_in l)
+  same_stubs l = grind (arith, common_steps, last_stays, left_out, same_map)
 
   pub ospf_made : HasNoFault name interfaces ospf isis heads ends →
       configuration_by name interfaces sections isis ≡ with_ospf_at distance (configuration_by name interfaces ospf isis)

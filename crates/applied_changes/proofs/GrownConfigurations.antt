@@ -1,7 +1,8 @@
 -- Lines that set distances one after the other, put behind the sections of a configuration: it has the distances that were set, the
 -- last of each process, and nothing else differs.
+use Rattle.std.proofs.lemmas.Grind.{common_steps}
 use Rattle.std.proofs.Common.{◌≡◌, ◌⊎◌, ℕ, ◌+◌, Bool, true, false, cond, List, [], ◌∷◌, ◌++◌, Option, Some, None, refl, sym, ap, subst}
-use Rattle.std.proofs.Common.{◌∙◌, append-nil, arith, inl}
+use Rattle.std.proofs.Common.{◌∙◌, arith, inl}
 use Rattle.std.specs.Prelude.{filter_map, is_some, unwrap_or, IfSome}
 use Rattle.std.specs.List.{All, flat_map, list_all}
 use Rattle.std.proofs.lemmas.List.Elements.{All-cons, All-head, All-nil, All-tail, filter_map-append}
@@ -42,9 +43,7 @@ module _ (distance : ℕ) (ss : List Section) (ends line : ℕ) (fine : section_
 
   -- the tag of the process, and that its bytes are printable
   isis_printable : (f : IsisSection) (more : List IsisSection) → filter_map as_isis ss ≡ f ∷ more → list_all is_printable f.tag ≡ true
-  isis_printable f more has =
-      tag_printable distance its_name (interfaces_in ss) (filter_map as_ospf ss) f more (filter_map as_fault ss) ends line
-      (subst (λ l. HasNoFault its_name (interfaces_in ss) (filter_map as_ospf ss) l (filter_map as_fault ss) ends) has (no_fault_from ss ends fine))
+  isis_printable f more has = grind (arith, common_steps, no_fault_from, tag_printable)
 
   isis_extends : (f : IsisSection) (more : List IsisSection) → filter_map as_isis ss ≡ f ∷ more →
       Extends ss (Isis (isis_setting_section distance line f.tag)) ends (with_isis_at distance (configuration_of ss))
@@ -174,19 +173,14 @@ one_grows (ospf_at distance) ss ends allowed fine range = ospf_sets distance ss 
 -- ---- settings one after the other ----
 
 either_is : {A B : Type 0} (f : A → B) (v : B) (b : Bool) (x y : A) → f x ≡ v → f y ≡ v → f (cond b x y) ≡ v
-either_is f v true x y one other = one
-either_is f v false x y one other = other
+either_is f v b x y one other = grind (arith, common_steps)
 
 -- what is set is a distance alone: what has lines, and which, stays
 pub kept_by : {B : Type 0} (f : Configuration → B) (s : Setting) (c : Configuration) → ((o i : ℕ) → f (with_distances o i c) ≡ f c) → f (with_setting s c) ≡ f c
-kept_by f (isis_at distance) c bar =
-    either_is f (f c) c.isis (with_distances c.distances.ospf distance c) c (bar c.distances.ospf distance) refl
-kept_by f (ospf_at distance) c bar =
-    either_is f (f c) (is_some c.process) (with_distances distance c.distances.isis c) c (bar distance c.distances.isis) refl
+kept_by f s c bar = grind (arith, common_steps, either_is)
 
 bar_lines : (t : Setting) (o i : ℕ) (c : Configuration) → setting_lines (with_distances o i c) t ≡ setting_lines c t
-bar_lines (isis_at distance) o i c = refl
-bar_lines (ospf_at distance) o i c = refl
+bar_lines t o i c = grind (arith, common_steps)
 
 pub all_grow : (settings : List Setting) (ss : List Section) (ends : ℕ) → All IsAllowed settings → section_faults ss ends ≡ [] → IsProcess (process_of ss) →
     Grows ss ends (text_of (flat_map (setting_lines (configuration_of ss)) settings)) (with_settings settings (configuration_of ss))
@@ -238,21 +232,13 @@ second_allowed : IsAllowed (ospf_at MOST_DISTANCE)
 second_allowed = record { some = omega arith; most = omega arith; apart = λ e. omega (arith, e) }
 
 settings_allowed : (phase : Phase) → All IsAllowed (settings_to phase)
-settings_allowed Old = All-nil IsAllowed
-settings_allowed Middle = All-cons IsAllowed (isis_at ISIS_DISTANCE) [] first_allowed (All-nil IsAllowed)
-settings_allowed New =
-    All-cons IsAllowed (isis_at ISIS_DISTANCE) (ospf_at MOST_DISTANCE ∷ []) first_allowed
-    (All-cons IsAllowed (ospf_at MOST_DISTANCE) [] second_allowed (All-nil IsAllowed))
+settings_allowed phase = grind (arith, common_steps, All-cons, All-nil, first_allowed, second_allowed)
 
 settings_lines : (phase : Phase) (c : Configuration) → flat_map (setting_lines c) (settings_to phase) ≡ lines_to phase c
-settings_lines Old c = refl
-settings_lines Middle c = append-nil (lines_to Middle c)
-settings_lines New c = ap (λ l. lines_to Middle c ++ l) (append-nil (setting_lines c (ospf_at MOST_DISTANCE)))
+settings_lines phase c = grind (arith, common_steps)
 
 settings_made : (phase : Phase) (c : Configuration) → with_settings (settings_to phase) c ≡ in_phase phase c
-settings_made Old c = refl
-settings_made Middle c = refl
-settings_made New c = refl
+settings_made phase c = grind (arith, common_steps)
 
 -- the lines that take a router to a phase
 pub phase_grows : (ss : List Section) (ends : ℕ) (phase : Phase) → section_faults ss ends ≡ [] → IsProcess (process_of ss) →

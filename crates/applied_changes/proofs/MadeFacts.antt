@@ -1,4 +1,5 @@
 -- The changes of a router up to a state of an order, counted.
+use Rattle.std.proofs.lemmas.Grind.{common_steps}
 use Rattle.std.proofs.Common.{◌≡◌, ◌≢◌, ℕ, zero, suc, ◌+◌, ◌==◌, Bool, true, false, cond, List, [], ◌∷◌, take, Contains}
 use Rattle.std.proofs.Common.{AllPairs, refl, sym, ap, ◌∙◌, ◌⊎◌, inl, inr, arith}
 use Rattle.std.specs.List.{flat_map}
@@ -111,5 +112,4 @@ lines_of_made net u m c has = grind arith
 
 pub made_lines : (net : Network) (n : ℕ) (order : List ℕ) (k u : ℕ) (c : Configuration) → IsOrder n order → HasConfiguration net u c →
     flat_map (change_lines net) (made_on u k order) ≡ lines_to (state_of order k u) c
-made_lines net n order k u c lists has = ap (flat_map (change_lines net)) (made_counted u k order lists.once)
-    ∙ lines_of_made net u (count_on u k order) c has
+made_lines net n order k u c lists has = grind (arith, common_steps, lines_of_made, made_counted)

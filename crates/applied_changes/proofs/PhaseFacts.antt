@@ -1,6 +1,7 @@
 -- The phase of a router by its name and by the changes made on it, and the lines that lead there.
+use Rattle.std.proofs.lemmas.Grind.{common_steps}
 use Rattle.std.proofs.Common.{◌≡◌, ◌<◌, ◌+◌, ◌-◌, ℕ, zero, suc, ◌==◌, Bool, true, false, cond, List, [], ◌∷◌, ◌++◌, length}
-use Rattle.std.proofs.Common.{get_or, take, drop, refl, sym, ap, ◌∙◌, arith}
+use Rattle.std.proofs.Common.{get_or, take, drop, sym, ap, ◌∙◌, arith}
 use Rattle.std.specs.Prelude.{filter_map, bytes_eq, Option, unwrap_or}
 use Rattle.std.proofs.lemmas.List.{drop_more}
 use Rattle.std.proofs.lemmas.Option.{slice_get_within, get_or_from_slice_get}
@@ -26,12 +27,10 @@ pub after_more : (made : ℕ) → 1 < made → phase_after made ≡ New
 after_more made more = grind arith
 
 none_shared : (t : Bool) (m : ℕ) → m ≡ 0 → cond t m 0 ≡ 0
-none_shared true m e = e
-none_shared false m e = refl
+none_shared t m e = grind (arith, common_steps)
 
 both_shared : (t : Bool) (m : ℕ) → m ≡ 2 → cond t m 0 ≡ cond t 1 0 + cond t 1 0
-both_shared true m e = e
-both_shared false m e = refl
+both_shared t m e = grind (arith, common_steps)
 
 -- the changes of the next router, and then those of the others
 pub made_further : (u v k : ℕ) (order : List ℕ) →
@@ -58,8 +57,7 @@ made_further u v (suc (suc k)) order =
 pub made_more : (u k i : ℕ) (order : List ℕ) → i < length order →
     cond (u == get_or order i 0) (k - (k - 2)) 0 + changes_on u (take (k - 2) (changes_of (drop (i + 1) order))) ≡ changes_on u
     (take k (changes_of (drop i order)))
-made_more u k i order within =
-    made_further u (get_or order i 0) k (drop (i + 1) order) ∙ sym (ap (λ l. changes_on u (take k (changes_of l))) (drop_more order i 0 within))
+made_more u k i order within = grind (arith, common_steps, drop_more, made_further)
 
 drop_get : (net : Network) (u : ℕ) (config : Configuration) → HasConfiguration net u config → drop u net ≡ config ∷ drop (u + 1) net
 drop_get net u config at =
@@ -69,9 +67,7 @@ drop_get net u config at =
 pub phase_here : (net : Network) (state : State) (name : List ℕ) (u : ℕ) (config : Configuration) → HasConfiguration net u config →
     phase_from u (drop u net) state name ≡ phase_from 0 net state name →
     bytes_eq config.name name ≡ true → state u ≡ phase_from 0 net state name
-phase_here net state name u config at before same =
-    sym (ap (λ b. cond b (state u) (phase_from (u + 1) (drop (u + 1) net) state name)) same)
-    ∙ sym (ap (λ l. phase_from u l state name) (drop_get net u config at)) ∙ before
+phase_here net state name u config at before same = grind (arith, common_steps, drop_get)
 
 pub phase_further : (net : Network) (state : State) (name : List ℕ) (u : ℕ) (config : Configuration) → HasConfiguration net u config →
     phase_from u (drop u net) state name ≡ phase_from 0 net state name →
@@ -96,8 +92,4 @@ pub block_made : (phases : List ℕ → Phase) (sections : List Section) (name t
     name ≡ last_of as_hostname sections → tag ≡ first_tag (filter_map as_isis sections) → process ≡ process_of sections →
     phase ≡ phases (unwrap_or name []) → block ≡ text_of (phase_lines phase tag process) → block ≡ block_for phases (configuration_of sections)
 block_made phases sections name tag process phase block names tags processes reached made =
-    made
-    ∙ ap (λ p. text_of (phase_lines p tag process)) (reached ∙ ap (λ n. phases (unwrap_or n [])) names)
-    ∙ ap (λ t. text_of (phase_lines (phases (configuration_of sections).name) t process)) tags
-    ∙ ap (λ p. text_of (phase_lines (phases (configuration_of sections).name) (first_tag (filter_map as_isis sections)) p)) processes
-    ∙ ap text_of (lines_of_sections (phases (configuration_of sections).name) sections)
+    grind (arith, common_steps, lines_of_sections)
