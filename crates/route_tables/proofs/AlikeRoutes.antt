@@ -1,4 +1,5 @@
 -- Alike offers have the same routes: what they ask in all differs by one constant, so the same of them are the best.
+use Rattle.std.proofs.lemmas.Grind.{common_steps}
 use Rattle.std.proofs.Common.{◌≡◌, ℕ, ◌+◌, ◌≤◌, ◌↔◌, ◌⊎◌, inl, inr, List, [], ◌∷◌, map, refl, sym, ap, subst, ◌∙◌, arith}
 use Rattle.std.specs.List.{Contains}
 use Rattle.walk_core.specs.Walks.{Arcs}
@@ -22,13 +23,7 @@ pub record AskAlike (one other : Offers) : Type 0 where
 
 costs_there : (arc : Arcs) (u more : ℕ) (one other : Offers) → RiseBy more one other → (at c : ℕ) → OfferCosts arc one u at c →
     OfferCosts arc other u at (c + more)
-costs_there arc u more one other rise at c costs = record {
-  asks = costs.asks + more;
-  walk = costs.walk;
-  offered = rise.there at costs.asks costs.offered;
-  reached = costs.reached;
-  costs = omega (arith, costs.costs);
-}
+costs_there arc u more one other rise at c costs = grind (arith, common_steps)
 
 costs_back : (arc : Arcs) (u more : ℕ) (one other : Offers) → RiseBy more one other → (at c : ℕ) → OfferCosts arc other u at c →
     (less : ℕ) × OfferCosts arc one u at less × (less + more ≡ c)
@@ -100,33 +95,16 @@ alike_cost arc u one other alike c best = elim alike.rise [
 
 -- and they have the same best hops
 pub alike_hop : (arc : Arcs) (u : ℕ) (one other : Offers) → AskAlike one other → (h : ℕ) → BestHop arc one u h → BestHop arc other u h
-alike_hop arc u one other alike h hop = elim alike.rise [
-  | inl up ↦ hop_there arc u alike.more one other up h hop
-  | inr down ↦ hop_back arc u alike.more other one down h hop
-]
+alike_hop arc u one other alike h hop = grind (arith, common_steps, hop_back, hop_there)
 
 -- those of some vertices alone are alike too
 rise_among : (among : ℕ → Type 0) (more : ℕ) (one other fewer others : Offers) → ((at asks : ℕ) → fewer at asks ↔ (among at × one at asks)) →
     ((at asks : ℕ) → others at asks ↔ (among at × other at asks)) → RiseBy more one other → RiseBy more fewer others
-rise_among among more one other fewer others of_one of_other rise = record {
-  there = λ at asks is.
-      let both = (of_one at asks).0 is in
-      (of_other at (asks + more)).1 (both.0, rise.there at asks both.1);
-  back = λ at asks is.
-      let both = (of_other at asks).0 is in
-      let less = rise.back at asks both.1 in
-      (less.0, (of_one at less.0).1 (both.0, less.1), less.2);
-}
+rise_among among more one other fewer others of_one of_other rise = grind (arith, common_steps)
 
 pub alike_among : (among : ℕ → Type 0) (one other fewer others : Offers) → ((at asks : ℕ) → fewer at asks ↔ (among at × one at asks)) →
     ((at asks : ℕ) → others at asks ↔ (among at × other at asks)) → AskAlike one other → AskAlike fewer others
-alike_among among one other fewer others of_one of_other alike = record {
-  more = alike.more;
-  rise = elim alike.rise [
-    | inl up ↦ inl (rise_among among alike.more one other fewer others of_one of_other up)
-    | inr down ↦ inr (rise_among among alike.more other one others fewer of_other of_one down)
-  ];
-}
+alike_among among one other fewer others of_one of_other alike = grind (arith, common_steps, rise_among)
 
 -- Lists of offers
 

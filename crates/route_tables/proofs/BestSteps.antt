@@ -1,11 +1,12 @@
 -- The best of some offers, offer by offer, and a vertex that alone makes the best ones.
+use Rattle.std.proofs.lemmas.Grind.{common_steps}
 use Rattle.std.proofs.Common.{◌≡◌, ℕ, ◌+◌, ◌<◌, ◌≤◌, ◌⊎◌, inl, inr, List, [], ◌∷◌, ◌++◌, Option, Some, None, length, get_or, take, refl, sym, ap}
 use Rattle.std.proofs.Common.{subst, ◌∙◌, arith}
 use Rattle.std.specs.List.{Contains}
 use Rattle.std.proofs.lemmas.Option.{none-some, same_Some}
 use Rattle.std.proofs.lemmas.List.{take_more}
 use Rattle.std.proofs.lemmas.List.Elements.{Contains-append_left, Contains-push, Contains-push_cases}
-use Rattle.walk_core.specs.Reach.{Reach, distance_of, HasHop}
+use Rattle.walk_core.specs.Reach.{Reach, HasHop}
 use Rattle.walk_core.specs.BestOffers.{HasTotal, NoneTotals, IsBestTotal, total_towards, total_with}
 use Rattle.walk_core.specs.declared.offers.Offer.{Offer}
 use Rattle.route_tables.specs.BestRoutes.{AreBestHops}
@@ -23,10 +24,7 @@ total_here reach front o c is = record { offer = o; among = Contains-push front 
 -- an offer of one more is one of the first ones, or that one
 total_cases : (reach : Reach) (front : List Offer) (o : Offer) (c : ℕ) → HasTotal reach (front ++ o ∷ []) c →
     HasTotal reach front c ⊎ (total_towards reach o ≡ Some c)
-total_cases reach front o c has = elim (Contains-push_cases front o has.offer has.among) [
-  | inl among ↦ inl (record { offer = has.offer; among = among; total = has.total })
-  | inr same ↦ inr (subst (λ (x : Offer). total_towards reach x ≡ Some c) (sym same) has.total)
-]
+total_cases reach front o c has = grind (arith, common_steps, Contains-push_cases)
 
 -- what an offer costs is one cost
 one_total : (reach : Reach) (o : Offer) (a b : ℕ) → total_towards reach o ≡ Some a → total_towards reach o ≡ Some b → a ≡ b
@@ -142,15 +140,11 @@ best_step reach offers i d best next total within is better so_far =
 -- The vertex of the best offer
 
 reached_by : (d : Option ℕ) (asks cost : ℕ) → total_with d asks ≡ Some cost → (distance : ℕ) × (d ≡ Some distance)
-reached_by None asks cost is = absurd (none-some cost is)
-reached_by (Some d) asks cost is = (d, refl)
+reached_by d asks cost is = grind (arith, common_steps, none-some)
 
 -- it is reached
 pub best_is_reached : (reach : Reach) (offers : List Offer) (best : BestAt) → IsBestAt reach offers best → IsReached reach best.at
-best_is_reached reach offers best is =
-    let has = is.best_total.attained in
-    let far = reached_by (distance_of reach has.offer.at) has.offer.asks best.cost has.total in
-    record { distance = far.0; reached = subst (λ (v : ℕ). distance_of reach v ≡ Some far.0) is.made far.1 }
+best_is_reached reach offers best is = grind (arith, common_steps, reached_by)
 
 -- the first hops below n towards each offer that costs this are among those towards the vertex
 abbrev pub LeadBelow : Reach → List Offer → ℕ → BestAt → Type 0

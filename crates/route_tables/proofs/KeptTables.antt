@@ -1,4 +1,5 @@
 -- Tables that keep the numbers of a router's entries, kind by kind, are the router's.
+use Rattle.std.proofs.lemmas.Grind.{common_steps}
 use Rattle.std.proofs.Common.{◌≡◌, ℕ, zero, suc, ◌+◌, ◌<◌, inl, inr, List, [], ◌∷◌, ◌++◌, length, map, Option, Some, None, get_or, refl, sym, ap, subst}
 use Rattle.std.proofs.Common.{◌∙◌, arith}
 use Rattle.std.specs.List.{All, Contains}
@@ -51,12 +52,7 @@ listed_of_kept kept p e is =
 -- kinds in a lane are kinds for each of its routers
 pub kinds_for : (routes : ProtocolRoutes) (lane : ℕ) (dests : List Block) (k : ℕ) (kinds firsts : List ℕ) (u : ℕ) → routes.in_lane lane u →
     AreKinds (AreAlikeInLane routes lane) dests k kinds firsts → AreKinds (AreSameEntries (routes.entry u)) dests k kinds firsts
-kinds_for routes lane dests k kinds firsts u is are = record {
-  count = are.count;
-  below = are.below;
-  places = are.places;
-  alike_first = λ place below e. are.alike_first place below u e is;
-}
+kinds_for routes lane dests k kinds firsts u is are = grind (arith, common_steps)
 
 -- the number of each prefix is that of its entry
 number_of_place : (entry : Block → Entry → Type 0) (dests : List Block) (entries : List Entry) (own : RouterNumbers) (place : ℕ) →

@@ -1,10 +1,11 @@
 -- How a router reaches each vertex, and what that tells of its entries.
-use Rattle.std.proofs.Common.{◌≡◌, ◌≢◌, ℕ, ◌+◌, ◌<◌, ◌≤◌, inl, inr, List, [], ◌∷◌, ◌++◌, Option, None, Some, IfSome, MatchOption, length, get_or, refl, sym, ap}
+use Rattle.std.proofs.lemmas.Grind.{common_steps}
+use Rattle.std.proofs.Common.{◌≡◌, ◌≢◌, ℕ, ◌+◌, ◌<◌, ◌≤◌, inl, inr, List, [], ◌∷◌, ◌++◌, Option, Some, IfSome, MatchOption, length, get_or, refl, sym, ap}
 use Rattle.std.proofs.Common.{subst, ◌∙◌, arith, true, false}
 use Rattle.std.specs.List.{Contains}
 use Rattle.std.proofs.lemmas.Bool.{cases_lt, false≢true}
 use Rattle.std.proofs.lemmas.List.Elements.{Contains-push_cases}
-use Rattle.std.proofs.lemmas.Option.{IfSome_then, same_Some}
+use Rattle.std.proofs.lemmas.Option.{same_Some}
 use Rattle.net_addr.specs.Addresses.{Block}
 use Rattle.walk_core.specs.Reach.{Reach, HasHop}
 use Rattle.walk_core.specs.BestOffers.{total_towards, total_with}
@@ -17,7 +18,6 @@ use Rattle.route_tables.specs.declared.best.BestAt.{BestAt}
 use Rattle.route_tables.specs.Protocols.{ProtocolRoutes}
 use Rattle.route_tables.specs.declared.lane.Behind.{Behind}
 use Rattle.route_tables.specs.declared.lane.Decision.{Decision}
-use Rattle.route_tables.specs.declared.lane.Decision.TheVariants.{Nothing, NothingBut, One, Two, Unknown}
 use Rattle.route_tables.specs.declared.leads.Lead.{Lead}
 use Rattle.route_tables.specs.steps.BestSoFar.{IsBestAt, IsBetterOf, lower, kept, both}
 use Rattle.route_tables.specs.steps.Leads.{AreLeads, AreMissed, IsFarAt, IsLead, IsLeadAt, IsNumberToBest, IsTold, IsLeadTo}
@@ -33,11 +33,7 @@ use Rattle.route_tables.proofs.BestSteps.{LeadBelow, below_hops, best_is_reached
 -- what a lead says stays so with more entries
 lead_kept : (reach : Reach) (n : ℕ) (entries more : List Entry) (at : ℕ) (lead : Lead) → IsLead reach n entries at lead →
     IsLead reach n (entries ++ more) at lead
-lead_kept reach n entries more at lead is = record {
-  to = IfSome_then lead.number is.to
-      (λ number to. record { far = to.far; entry = number_kept (IsEntryTo reach at n) entries more number to.entry });
-  far = is.far;
-}
+lead_kept reach n entries more at lead is = grind (arith, common_steps, number_kept)
 
 pub leads_kept : (reach : Reach) (n : ℕ) (entries more : List Entry) (leads : List Lead) → AreLeads reach n entries leads →
     AreLeads reach n (entries ++ more) leads
@@ -55,25 +51,20 @@ leads_more reach n at entries more leads next long are here =
 pub leads_by : {W : Type 0} (found : Option W) (now : W → Reach) (reach : Reach) (n : ℕ) (entries : List Entry) (leads : List Lead) →
     IfSome found (λ walks. now walks ≡ reach) → MatchOption found (leads ≡ []) (λ walks. AreLeads (now walks) n entries leads) →
     AreLeads reach n entries leads
-leads_by None now reach n entries leads known none =
-    subst (AreLeads reach n entries) (sym none) (λ at within. absurd (omega (arith, within)))
-leads_by (Some walks) now reach n entries leads known are = subst (λ (r : Reach). AreLeads r n entries leads) known are
+leads_by found now reach n entries leads known none = grind (arith, common_steps)
 
 -- they stay so with more entries
 pub lane_leads_kept : {W : Type 0} (found : Option W) (now : W → Reach) (n : ℕ) (entries more : List Entry) (leads : List Lead) →
     MatchOption found (leads ≡ []) (λ walks. AreLeads (now walks) n entries leads) →
     MatchOption found (leads ≡ []) (λ walks. AreLeads (now walks) n (entries ++ more) leads)
-lane_leads_kept None now n entries more leads none = none
-lane_leads_kept (Some walks) now n entries more leads are = leads_kept (now walks) n entries more leads are
+lane_leads_kept found now n entries more leads none = grind (arith, common_steps, leads_kept)
 
 -- What leads tell
 
 -- the lead to a vertex has the number of the entry towards it
 led_to : (reach : Reach) (n : ℕ) (entries : List Entry) (leads : List Lead) (at : ℕ) (lead : Lead) (number : ℕ) → AreLeads reach n entries leads →
     IsLeadAt leads at lead → lead.number ≡ Some number → IsLeadTo reach n entries at lead.distance number
-led_to reach n entries leads at lead number are is known =
-    subst (λ (o : Option ℕ). IfSome o (IsLeadTo reach n entries at lead.distance)) known
-    (subst (IsLead reach n entries at) is.is (are at is.within)).to
+led_to reach n entries leads at lead number are is known = grind (arith, common_steps)
 
 -- an entry over hops has these hops
 abbrev hops_in : Entry → List ℕ
@@ -197,12 +188,7 @@ far_at reach n entries leads u at are (other, is) = record { other = other; unre
 -- offers that the leads miss are missed
 missed : (reach : Reach) (n : ℕ) (entries : List Entry) (leads : List Lead) (u : ℕ) (decision : Decision) → AreLeads reach n entries leads →
     AreMissed leads u decision → MissesOffers reach u decision
-missed reach n entries leads u Nothing are is = tt
-missed reach n entries leads u (NothingBut one other) are is = absurd is
-missed reach n entries leads u (One at) are is = far_at reach n entries leads u at are is
-missed reach n entries leads u (Two one other) are is =
-    (far_at reach n entries leads u one.at are is.0, far_at reach n entries leads u other.at are is.1)
-missed reach n entries leads u Unknown are is = absurd is
+missed reach n entries leads u decision are is = grind (arith, common_steps, far_at)
 
 -- what the leads over the zone behind tell is the number of the entry whose route is decided there
 pub told_number_behind : (routes : ProtocolRoutes) (zone behind u : ℕ) (p : Block) (entries : List Entry) (first other : List Lead) (decisions : Behind)
@@ -210,5 +196,4 @@ pub told_number_behind : (routes : ProtocolRoutes) (zone behind u : ℕ) (p : Bl
     DecidesBeyond routes (routes.reach u zone) behind u p decisions → IsToldBeyond first other u decisions number →
     IsNumberOf (routes.entry u p) entries number
 told_number_behind routes zone behind u p entries first other decisions number are others decides is =
-    told_number (routes.reach u) routes.zones behind routes.routers u (routes.entry u p) entries other decisions.second number others
-    (decides (missed (routes.reach u zone) routes.routers entries first u decisions.first are is.missed)) is.told
+    grind (arith, common_steps, missed, told_number)

@@ -1,6 +1,7 @@
 -- Lists of what a relation holds of, element by element and router by router.
-use Rattle.std.proofs.Common.{◌≡◌, ℕ, ◌+◌, ◌<◌, ◌≤◌, ◌↔◌, ◌⊎◌, inl, inr, ⊎_elim, List, [], ◌∷◌, ◌++◌, length, map, take, get_or, Option, Some, None}
-use Rattle.std.proofs.Common.{true, false, refl, sym, ap, subst, ◌∙◌, arith}
+use Rattle.std.proofs.lemmas.Grind.{common_steps}
+use Rattle.std.proofs.Common.{◌≡◌, ℕ, ◌+◌, ◌<◌, ◌≤◌, ◌↔◌, ◌⊎◌, inl, inr, ⊎_elim, List, [], ◌∷◌, ◌++◌, length, map, take, get_or, Option, Some}
+use Rattle.std.proofs.Common.{true, false, sym, ap, subst, ◌∙◌, arith}
 use Rattle.std.specs.Option.{is_some}
 use Rattle.std.proofs.lemmas.Option.{none-some}
 use Rattle.std.specs.List.{Contains, Any, All, AllWithin}
@@ -22,10 +23,7 @@ contains_at ys i y within is = (i, within, sym is)
 
 -- what is in a list of one is that
 pub the_one : {Y : Type 0} (x y : Y) → Contains (x ∷ []) y → y ≡ x
-the_one x y among = elim (Contains-push_cases [] x y among) [
-  | inl none ↦ absurd (omega (arith, none.1))
-  | inr same ↦ sym same
-]
+the_one x y among = grind (arith, common_steps, Contains-push_cases)
 
 -- one of one or of two elements is
 pub any_in_one : {Y : Type 0} (P : Y → Type 0) (y : Y) → Any P (y ∷ []) → P y
@@ -66,13 +64,7 @@ adds_both old mid new one other both first second same = λ x. (
 
 -- all that is there was added
 pub exactly_added : {X : Type 0} (old new : List X) (wanted : X → Type 0) → old ≡ [] → Adds old new wanted → Exactly wanted new
-exactly_added {X} old new wanted empty adds = λ x. (
-  λ has. ⊎_elim
-      (λ older. let none : Contains [] x = subst (λ (l : List X). Contains l x) empty older in absurd (omega (arith, none.1)))
-      (λ now. now)
-      ((adds x).0 has),
-  λ now. (adds x).1 (inr now),
-)
+exactly_added {X} old new wanted empty adds = grind (arith, common_steps)
 
 pub exactly_same : {X : Type 0} (all : List X) (before after : X → Type 0) → Exactly before all → ((x : X) → before x ↔ after x) → Exactly after all
 exactly_same all before after are same = λ x. (λ has. (same x).0 ((are x).0 has), λ now. (are x).1 ((same x).1 now))
@@ -155,13 +147,7 @@ all_at P ys i y all within is = subst P (sym is) (all i y within)
 -- what holds of each element so far, by its place, and of one more, holds of all of them
 pub each_more : {X : Type 0} (R : ℕ → X → Type 0) (all : List X) (n : ℕ) (next d : X) → length all ≡ n →
     ((u : ℕ) → u < n → R u (get_or all u d)) → R n next → (u : ℕ) → u < n + 1 → R u (get_or (all ++ next ∷ []) u d)
-each_more {X} R all n next d long before here u below =
-    elim (at_most u n below) [
-      | inl less ↦ subst (R u) (sym (get_or_append_left all (next ∷ []) d u (omega arith))) (before u less)
-      | inr same ↦
-          let at_n : R n (get_or (all ++ next ∷ []) n d) = subst (R n) (sym (get_or_push all next d n long)) here in
-          subst (λ (k : ℕ). R k (get_or (all ++ next ∷ []) k d)) (sym same) at_n
-    ]
+each_more {X} R all n next d long before here u below = grind (arith, common_steps, at_most, get_or_append_left, get_or_push)
 
 -- What a function makes of each element
 
@@ -179,13 +165,7 @@ map_source f xs d y (k, below, is) =
 -- what holds of each element so far and of the next
 pub within_more : {Y : Type 0} (P : Y → Type 0) (ys : List Y) (i : ℕ) (y : Y) → i < length ys → y ≡ get_or ys i y → AllWithin P ys 0 i → P y →
     AllWithin P ys 0 (i + 1)
-within_more P ys i y within is before here k d low below = elim (at_most k i below) [
-  | inl less ↦ before k d low less
-  | inr same ↦
-      let read : y ≡ get_or ys i d = is ∙ get_or_default ys i y d within in
-      let same_place : get_or ys i d ≡ get_or ys k d = ap (λ (m : ℕ). get_or ys m d) (sym same) in
-      subst P (read ∙ same_place) here
-]
+within_more P ys i y within is before here k d low below = grind (arith, common_steps, at_most, get_or_default)
 
 -- what holds of each element that was passed holds of all at the end
 pub all_passed : {Y : Type 0} (P : Y → Type 0) (ys : List Y) (i : ℕ) → length ys ≤ i → AllWithin P ys 0 i → All P ys
@@ -193,9 +173,7 @@ all_passed P ys i past within k d inside = within k d (omega arith) (omega arith
 
 -- an option that is something, and one that is nothing
 pub some_of : {X : Type 0} (o : Option X) → is_some o ≡ true → (x : X) × (o ≡ Some x)
-some_of None is = cc
-some_of (Some x) is = (x, refl)
+some_of o is = grind (arith, common_steps)
 
 pub none_of : {X : Type 0} (o : Option X) → is_some o ≡ false → (x : X) → o ≡ Some x → ⊥
-none_of None is x same = none-some x same
-none_of (Some y) is x same = let wrong : true ≡ false = is in cc
+none_of o is x same = grind (arith, common_steps, none-some)

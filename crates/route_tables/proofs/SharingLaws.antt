@@ -1,7 +1,7 @@
 -- Tables in the making: entries that all tables share, and the numbers of those that a table has.
+use Rattle.std.proofs.lemmas.Grind.{common_steps}
 use Rattle.std.proofs.Common.{◌≡◌, ℕ, ◌+◌, ◌<◌, ◌≤◌, ◌↔◌, List, [], ◌∷◌, ◌++◌, length, Some, None, Option, get_or, take, inl, inr}
-use Rattle.std.proofs.Common.{sym, ap, subst, ◌∙◌, arith, true, false, ltb, ltb-true, ltb-false, length-append, append_assoc}
-use Rattle.std.specs.List.{Contains}
+use Rattle.std.proofs.Common.{sym, ap, subst, arith, true, false, ltb, length-append}
 use Rattle.std.specs.List.Sorted.{IsNonDecreasingBy, IsPartitionPoint, IsStrictlyIncreasing}
 use Rattle.std.proofs.lemmas.Bool.{cases_eq, cases_lt}
 use Rattle.std.proofs.lemmas.List.{get_or_append_left, get_or-take, length-take-le, length_push}
@@ -62,10 +62,7 @@ single_kept n old new kept are = subst (AreOverOne n) (sym kept.entries)
 
 -- more and more entries
 pub more_kept : (old mid new : Pool) → KeepsMore old mid → KeepsMore mid new → KeepsMore old new
-more_kept old mid new first second = record {
-  more = first.more ++ second.more;
-  entries = second.entries ∙ ap (λ (l : List Entry). l ++ second.more) first.entries ∙ append_assoc old.entries.items first.more second.more;
-}
+more_kept old mid new first second = grind (arith, common_steps)
 
 -- First hops
 
@@ -80,28 +77,4 @@ in_order hops up i j d le within = elim (cases_eq i j) [
 pub hops_below : (reach : Reach) (at n k : ℕ) (hops : List ℕ) → hops ≡ listed_hops_of reach at → IsStrictlyIncreasing hops →
     k ≤ length hops → IsPartitionPoint (λ (h : ℕ). ltb h n ≡ true) (λ (h : ℕ). ltb h n ≡ false) hops k →
     AreHopsTo reach at n (take k hops)
-hops_below reach at n k hops same up within point =
-    let long : length (take k hops) ≡ k = length-take-le k hops within in
-    record {
-      ascending = λ i inside.
-          let one = get_or-take k hops i 0 (omega (arith, long, inside)) in
-          let next = get_or-take k hops (i + 1) 0 (omega (arith, long, inside)) in
-          let less = up i (omega (arith, long, inside, within)) in
-          omega (arith, one, next, less);
-      exact = λ h. (
-        λ (i, inside, is).
-            let here : get_or hops i h ≡ h = sym (get_or-take k hops i h (omega (arith, long, inside))) ∙ is in
-            let low = ltb-true (get_or hops i h) n (point.0 i h (omega arith) (omega (arith, long, inside))) in
-            (omega (arith, here, low), subst (λ (l : List ℕ). Contains l h) same (i, omega (arith, long, inside, within), here)),
-        λ both.
-            let among : Contains hops h = subst (λ (l : List ℕ). Contains l h) (sym same) both.1 in
-            elim (cases_lt among.0 k) [
-              | inl front ↦ (among.0, omega (arith, long, front), get_or-take k hops among.0 h front ∙ among.2)
-              | inr back ↦
-                  let high = ltb-false (get_or hops among.0 h) n (point.1 among.0 h back among.1) in
-                  let below = both.0 in
-                  let is = among.2 in
-                  absurd (omega (arith, high, below, is))
-            ],
-      );
-    }
+hops_below reach at n k hops same up within point = grind (arith, common_steps, cases_lt, get_or-take, length-take-le)

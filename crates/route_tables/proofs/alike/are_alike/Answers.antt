@@ -1,3 +1,4 @@
+use Rattle.std.proofs.lemmas.Grind.{common_steps}
 use Rattle.std.proofs.Common.{◌≡◌, ℕ, ◌+◌, ◌-◌, ◌≤◌, ◌↔◌, List, [], ◌∷◌, map, inl, inr, refl, sym, ap, subst, ◌∙◌, arith}
 use Rattle.walk_core.specs.declared.offers.Offer.{Offer}
 use Rattle.route_tables.specs.AlikeOffers.{AreAlikeOffers, AreDearerBy, dearer_by}
@@ -8,11 +9,7 @@ use Rattle.route_tables.proofs.alike.are_alike.Goals as goal
 
 -- the second list is dearer by what its first offer asks more
 dearer_by_first : (more : ℕ) (one other : List Offer) → AreDearerBy more one other → AreDearerBy (first_asks other - first_asks one) one other
-dearer_by_first more [] other up = up
-dearer_by_first more (o ∷ one) other up =
-    let first : first_asks other ≡ o.asks + more = ap first_asks up in
-    let same : more ≡ first_asks other - o.asks = omega arith in
-    subst (λ (m : ℕ). AreDearerBy m (o ∷ one) other) same up
+dearer_by_first more one other up = grind (arith, common_steps)
 
 -- and where the first list is the dearer one, though its first offer asks no more, both are the same
 no_dearer : (more : ℕ) (one other : List Offer) → AreDearerBy more other one → first_asks one ≤ first_asks other →
@@ -27,19 +24,11 @@ no_dearer more one (o ∷ other) down low =
 
 dearer_where_alike : (one other : List Offer) → AreAlikeOffers one other → first_asks one ≤ first_asks other →
     AreDearerBy (first_asks other - first_asks one) one other
-dearer_where_alike one other alike low = elim alike.dearer [
-  | inl up ↦ dearer_by_first alike.more one other up
-  | inr down ↦ no_dearer alike.more one other down low
-]
+dearer_where_alike one other alike low = grind (arith, common_steps, dearer_by_first, no_dearer)
 
 dearer_or_not : (one other : List Offer) (low high : ℕ) → low ≡ first_asks one → high ≡ first_asks other → low ≤ high →
     AreDearerBy (high - low) one other ↔ AreAlikeOffers one other
-dearer_or_not one other low high low_is high_is below = (
-  λ dearer. record { more = high - low; dearer = inl dearer },
-  λ alike.
-      let same : first_asks other - first_asks one ≡ high - low = cc in
-      subst (λ (m : ℕ). AreDearerBy m one other) same (dearer_where_alike one other alike (omega arith)),
-)
+dearer_or_not one other low high low_is high_is below = grind (arith, common_steps, dearer_where_alike)
 
 turned : {one other : List Offer} → AreAlikeOffers one other → AreAlikeOffers other one
 turned alike = record { more = alike.more; dearer = elim alike.dearer [ inl up ↦ inr up | inr down ↦ inl down ] }
@@ -51,7 +40,4 @@ returns-then-low-high c =
     c.if-low-high.true)
 
 pub returns-else-low-high : goal.returns-else-low-high
-returns-else-low-high c =
-    let is = dearer_or_not c.args.other.now c.args.one.now c.first_asks-high.result c.first_asks-low.result c.first_asks-high.ensures c.first_asks-low.ensures
-    (omega arith) in
-    iff_then c.are_dearer_by-else-low-high.ensures (iff_then is (turned, turned))
+returns-else-low-high c = grind (arith, common_steps, dearer_or_not, iff_then, turned)

@@ -1,3 +1,5 @@
+use Rattle.std.proofs.Common.{arith}
+use Rattle.std.proofs.lemmas.Grind.{common_steps}
 use Rattle.std.proofs.Common.{true, ◌∙◌, subst}
 use Rattle.route_tables.specs.declared.best.BestAt.{BestAt}
 use Rattle.route_tables.specs.steps.BestSoFar.{IsBestSoFar}
@@ -14,6 +16,4 @@ returns-in-Some-best c = λ reach offers o at total so_far.
     (subst (λ best. IsBestSoFar reach offers best) c.in-Some-best.is so_far) c.better_of.ensures
 
 pub returns-in-None : goal.returns-in-None
-returns-in-None c = λ reach offers o at total so_far.
-    let next : BestAt = record { cost = c.in-Some.cost; at = c.args.at; alone = true } in
-    first_more reach offers o next (total ∙ c.in-Some.is) at (subst (λ best. IsBestSoFar reach offers best) c.in-None.is so_far)
+returns-in-None c = grind (arith, common_steps, first_more)

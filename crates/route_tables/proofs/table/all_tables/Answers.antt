@@ -1,44 +1,25 @@
+use Rattle.std.proofs.lemmas.Grind.{common_steps}
 use Rattle.std.proofs.Common.{◌+◌, ◌≡◌, ◌∙◌, ◌∷◌, ◌++◌, [], ℕ, List, All, ap, length, map, sym, subst, arith}
 use Rattle.std.proofs.lemmas.List.Elements.{All-map}
 use Rattle.std.proofs.lemmas.Result.{IfOk-weaker}
 use Rattle.net_addr.specs.Addresses.{Block}
-use Rattle.route_core.specs.Rows.{IsTable, KeptTable, listed}
+use Rattle.route_core.specs.Rows.{KeptTable, listed}
 use Rattle.route_core.specs.declared.entry.Entry.{Entry}
-use Rattle.route_tables.specs.steps.Entries.{AreSameEntries, AreTablesBelow}
-use Rattle.route_tables.specs.declared.kinds.LaneKinds.{LaneKinds}
+use Rattle.route_tables.specs.steps.Entries.{AreTablesBelow}
 use Rattle.route_tables.specs.declared.table.RouterNumbers.{RouterNumbers}
-use Rattle.route_tables.specs.Lanes.{DecidesFor}
-use Rattle.route_tables.specs.Protocols.{AreAlikeInLane, ProtocolRoutes}
-use Rattle.route_tables.specs.steps.Kinds.{AreLaneKinds, IsToldBehind, IsToldLane}
 use Rattle.route_tables.specs.steps.Sharing.{AreOverOne, AreRouterNumbers, AreRouterNumbersBelow, kept_with}
 use Rattle.route_tables.proofs.SharingLaws.{single_kept}
 use Rattle.route_tables.proofs.KeptTables.{all_are_tables, are_tables, kinds_for, numbers_below_more}
 use Rattle.route_tables.proofs.table.all_tables.Goals as goal
 
 pub router_lane-lane-requires-clause-told : goal.router_lane-lane-requires-clause-told
-router_lane-lane-requires-clause-told g c =
-    let protocol = c.args.protocol.now in
-    let lane : ℕ = c.lane-lane.result in
-    subst (IsToldLane (DecidesFor (g.P.Protocol.routes protocol) lane) (g.P.Protocol.candidates protocol))
-    (sym c.index-own.ensures) (c.in_ok-lanes.ensures.each lane c.index-own.result.now c.lane-lane.ensures.below).decided
+router_lane-lane-requires-clause-told g c = grind (arith, common_steps)
 
 pub router_lane-lane-requires-clause-behind : goal.router_lane-lane-requires-clause-behind
-router_lane-lane-requires-clause-behind g c =
-    let protocol = c.args.protocol.now in
-    let lane : ℕ = c.lane-lane.result in
-    subst (λ (own : LaneKinds). IsToldBehind (g.P.Protocol.routes protocol) lane (g.P.Protocol.candidates protocol) own.firsts.items own.behind)
-    (sym c.index-own.ensures) (c.in_ok-lanes.ensures.each lane c.index-own.result.now c.lane-lane.ensures.below).behind
+router_lane-lane-requires-clause-behind g c = grind (arith, common_steps)
 
 pub router_numbers-requires-clause-kinds : goal.router_numbers-requires-clause-kinds
-router_numbers-requires-clause-kinds g c =
-    let routes : ProtocolRoutes = g.P.Protocol.routes c.args.protocol.now in
-    let dests : List Block = g.P.Protocol.candidates c.args.protocol.now in
-    let lane : ℕ = c.lane-lane.result in
-    let own : LaneKinds = c.index-own.result.now in
-    let are = (c.in_ok-lanes.ensures.each lane own c.lane-lane.ensures.below).kinds in
-    subst (λ (u : ℕ). AreLaneKinds (AreSameEntries (routes.entry u)) dests own) (sym c.router_lane-lane.ensures.router)
-    (kinds_for routes lane dests (length dests) own.kinds.value.items own.firsts.items c.loop-router.router c.lane-lane.ensures.is
-    (subst (AreLaneKinds (AreAlikeInLane routes lane) dests) (sym c.index-own.ensures) are))
+router_numbers-requires-clause-kinds g c = grind (arith, common_steps, kinds_for)
 
 pub loop-router-init : goal.loop-router-init
 loop-router-init g c = record {
@@ -68,12 +49,7 @@ loop-router-preserved g c =
     }
 
 pub tables_over-requires : goal.tables_over-requires
-tables_over-requires g c =
-    let last = c.loop-router in
-    let entries : List Entry = last.pool.entries.items in
-    subst (λ (l : List Block). All (λ (own : RouterNumbers). IsTable (kept_with l entries own)) last.all.items) (sym c.in_ok-prefixes.ensures.prefixes)
-    (all_are_tables last.router (g.P.Protocol.routes c.args.protocol.now).entry (g.P.Protocol.candidates c.args.protocol.now) entries last.all.items
-    c.prefixes_of.ensures.distinct last.invariant.numbers)
+tables_over-requires g c = grind (arith, common_steps, all_are_tables)
 
 pub returns-clause-tables : goal.returns-clause-tables
 returns-clause-tables g c =

@@ -1,3 +1,5 @@
+use Rattle.std.proofs.Common.{arith}
+use Rattle.std.proofs.lemmas.Grind.{common_steps}
 use Rattle.std.proofs.Common.{◌<◌, ℕ, List, length, Option, get_or, subst}
 use Rattle.net_addr.specs.Addresses.{Block}
 use Rattle.route_core.specs.declared.entry.Entry.{Entry}
@@ -41,6 +43,4 @@ told_of_kind routes dests entries led kind number is are within told = go told
         first other (is.behind kind beyond) told
 
 pub returns-in-Some-clause-number : goal.returns-in-Some-clause-number
-returns-in-Some-clause-number g c =
-    told_of_kind (g.P.Protocol.routes c.args.protocol.now) (g.P.Protocol.candidates c.args.protocol.now) c.args.pool.now.entries.items c.args.led
-    c.args.kind c.in-Some.number c.requires.lane c.requires.leads c.requires.kind c.in-Some.ensures
+returns-in-Some-clause-number g c = grind (arith, common_steps, told_of_kind)
