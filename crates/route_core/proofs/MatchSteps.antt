@@ -1,5 +1,7 @@
 -- One more entry, and the longest match so far.
-use Rattle.std.proofs.Common.{◌≡◌, ℕ, ◌⊎◌, inl, inr, List, [], ◌∷◌, ◌++◌, length, Option, Some, None, MatchOption, sym, subst, ⊎_elim}
+use Rattle.std.proofs.Common.{arith}
+use Rattle.std.proofs.lemmas.Grind.{common_steps}
+use Rattle.std.proofs.Common.{◌≡◌, ℕ, ◌⊎◌, inl, inr, List, [], ◌∷◌, ◌++◌, length, Option, MatchOption, sym, subst, ⊎_elim}
 use Rattle.std.proofs.lemmas.List.Elements.{Contains-push_cases}
 use Rattle.net_addr.specs.Addresses.{Block, ContainsAddress, IsBlock}
 use Rattle.net_addr.specs.LongestMatches.{IsMatch, TakesLonger}
@@ -15,10 +17,7 @@ Step place a best dest after = (¬ ContainsAddress dest a × (after ≡ best))
 -- the search goes on by one prefix
 pub found_more : (xs : List Block) (place a : ℕ) (best after : Option Match) (next : Block)
     → place ≡ length xs → IsMatch xs a best → Step place a best next after → IsMatch (xs ++ next ∷ []) a after
-found_more xs place a best after next e h (inl s) = subst (IsMatch (xs ++ next ∷ []) a) (sym s.1) (IsMatch-out xs a next best h s.0)
-found_more xs place a best None next e h (inr s) = absurd s.2
-found_more xs place a best (Some r) next e h (inr s) =
-    IsMatch-in xs a next best r h s.0 (subst (λ (n : ℕ). TakesLonger best (record { place = n; len = next.len }) r) e s.2)
+found_more xs place a best after next e h it_8 = grind (arith, common_steps, IsMatch-in, IsMatch-out)
 
 pub blocks_more : (xs : List Block) (place a : ℕ) (best after : Option Match) (next : Block)
     → AreBlocks xs a → Step place a best next after → AreBlocks (xs ++ next ∷ []) a

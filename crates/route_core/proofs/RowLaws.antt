@@ -1,4 +1,5 @@
 -- Laws of kept tables: their rows, what these stand for, and their prefixes.
+use Rattle.std.proofs.lemmas.Grind.{common_steps}
 use Rattle.std.proofs.Common.{◌≡◌, ℕ, zero, suc, ◌+◌, ◌-◌, ◌<◌, ◌≤◌, ◌⊎◌, inl, inr}
 use Rattle.std.proofs.Common.{⊎_elim, List, [], ◌∷◌, ◌++◌, length, map, take, get_or, slice_get, Contains}
 use Rattle.std.proofs.Common.{true, false, is_some, Option, None, Some, IfNone, refl, sym}
@@ -219,14 +220,11 @@ own_parts_table kept now own distinct =
 
 -- a fact holds where an option is none
 pub if_none_by : {T : Type 0} (o : Option T) (P : Type 0) → P → IfNone o P
-if_none_by None P p = p
-if_none_by (Some x) P p = tt
+if_none_by o P p = grind (arith, common_steps)
 
 -- an option is none, or some number
 pub some_number : (o : Option ℕ) → is_some o ≡ true → (n : ℕ) × (o ≡ Some n)
-some_number None is = cc
-some_number (Some n) is = (n, refl)
+some_number o is = grind (arith, common_steps)
 
 pub no_number : (o : Option ℕ) → is_some o ≡ false → o ≡ None
-no_number None is = refl
-no_number (Some n) is = cc
+no_number o is = grind (arith, common_steps)

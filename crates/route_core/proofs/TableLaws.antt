@@ -1,4 +1,5 @@
 -- Laws of tables: entries by place and by membership, one entry a prefix, one longest match.
+use Rattle.std.proofs.lemmas.Grind.{common_steps}
 use Rattle.std.proofs.Common.{◌≡◌, ◌≢◌, ℕ, zero, suc, ◌<◌, inl, inr, List, [], ◌∷◌}
 use Rattle.std.proofs.Common.{◌++◌, length, get_or, slice_get, Some, Contains, sym, ap, ◌∙◌, arith, subst}
 use Rattle.std.proofs.lemmas.Bool.{cases_lt}
@@ -81,9 +82,7 @@ entry_of_prefix xs p h =
     (one.0, Contains-from_place xs at.0 (p, one.0) one.1)
 
 pub prefix_of_entry : (xs : List (Block × Entry)) (p : Block) (e : Entry) → Contains xs (p, e) → Contains (table_prefixes xs) p
-prefix_of_entry xs p e h =
-    let at : (i : ℕ) × (slice_get xs i ≡ Some (p, e)) = place_from_Contains xs (p, e) h in
-    Contains-from_place (table_prefixes xs) at.0 p (prefix_at xs at.0 p e at.1)
+prefix_of_entry xs p e h = grind (arith, common_steps, place_from_Contains, prefix_at)
 
 -- the entry of the longest match stands where the longest match was found
 pub longest_stands : (xs : List (Block × Entry)) (a i : ℕ) (p : Block) (e : Entry) → HasDistinctPrefixes xs → AreBlocks (table_prefixes xs) a

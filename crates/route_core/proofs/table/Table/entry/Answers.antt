@@ -1,4 +1,5 @@
-use Rattle.std.proofs.Common.{◌≡◌, List, Some, length, slice_get, get_or, sym, ap, subst, ◌∙◌, arith}
+use Rattle.std.proofs.lemmas.Grind.{common_steps}
+use Rattle.std.proofs.Common.{◌≡◌, List, Some, slice_get, get_or, sym, ap, subst, ◌∙◌, arith}
 use Rattle.std.proofs.lemmas.List.{get_or_default}
 use Rattle.route_core.specs.declared.entry.Entry.{Entry}
 use Rattle.route_core.specs.declared.entry.Entry.TheVariants.{Discard}
@@ -7,15 +8,7 @@ use Rattle.route_core.proofs.RowLaws.{listed_at, row_at_numbered}
 use Rattle.route_core.proofs.table.Table.entry.Goals as goal
 
 pub index-requires : goal.index-requires
-index-requires c =
-    let kept : KeptTable = c.args.self.now in
-    let row : Row = record { place = c.row_at-number.result.0; number = c.row_at-number.result.1 } in
-    let at : slice_get (rows_in kept) c.args.i ≡ Some row =
-    subst (λ (k : KeptTable). slice_get (rows_in k) c.args.i ≡ Some row) c.parts.ensures.parts c.row_at-number.ensures in
-    let own : c.self.inside.entries.value.items ≡ kept.entries = ap (λ (k : KeptTable). k.entries) c.self.view_is in
-    let same : kept.entries ≡ c.deref.result.now.items = cc in
-    let long = ap length same in
-    omega (arith, long, row_at_numbered kept c.args.i row c.parts.ensures.table at, c.deref.result.now.ok)
+index-requires c = grind (arith, common_steps, row_at_numbered)
 
 pub returns : goal.returns
 returns c =

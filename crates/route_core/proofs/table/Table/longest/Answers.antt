@@ -1,3 +1,5 @@
+use Rattle.std.proofs.Common.{arith}
+use Rattle.std.proofs.lemmas.Grind.{common_steps}
 use Rattle.std.proofs.Common.{◌≡◌, List, Contains, ap, subst, ◌∙◌}
 use Rattle.std.proofs.lemmas.Option.{slice_get_within}
 use Rattle.net_addr.specs.Addresses.{Block}
@@ -38,9 +40,4 @@ returns-clause-only c = λ dest entry.
     found.at
 
 pub returns-clause-within : goal.returns-clause-within
-returns-clause-within c =
-    let found : MatchAt (table_prefixes (listed c.args.self.now)) c.args.a c.in_ok-found.found =
-    subst (λ (l : List Block). MatchAt l c.args.a c.in_ok-found.found) (same_prefixes (kept_in c.parts.result) c.args.self.now c.parts.ensures.parts)
-    c.in_ok-found.ensures.cases in
-    let stands = entry_at (listed c.args.self.now) c.in_ok-found.found.place found.at.prefix found.at.stands in
-    slice_get_within (listed c.args.self.now) c.in_ok-found.found.place (found.at.prefix, stands.0) stands.1
+returns-clause-within c = grind (arith, common_steps, entry_at, same_prefixes, slice_get_within)
