@@ -1,5 +1,6 @@
 -- A word is cut at its first dot in one way only, so it stands for at most one address.
-use Rattle.std.proofs.Common.{◌≡◌, ◌≢◌, ℕ, suc, min, ◌+◌, ◌<◌, ◌≤◌, List, [], ◌∷◌, ◌++◌, length, take, drop, get_or, arith, refl, sym, ap, ◌∙◌, length-append}
+use Rattle.std.proofs.lemmas.Grind.{common_steps}
+use Rattle.std.proofs.Common.{◌≡◌, ◌≢◌, ℕ, suc, min, ◌+◌, ◌<◌, List, [], ◌∷◌, ◌++◌, length, take, drop, get_or, arith, refl, sym, ap, ◌∙◌, length-append}
 use Rattle.std.specs.List.{All, AllByRecursion}
 use Rattle.std.specs.Char.{IsAsciiDigit}
 use Rattle.std.proofs.lemmas.List.{take-append-drop, drop_more, length-take, get_or-take, get_or_at, get_or_default}
@@ -13,8 +14,7 @@ abbrev pub NoDot : List ℕ → Type 0
 NoDot word = AllByRecursion (λ b. b ≢ 46) word
 
 NoDot-digits : (word : List ℕ) → All IsAsciiDigit word → NoDot word
-NoDot-digits word digits =
-    recursion_from_All (λ b. b ≢ 46) word (λ k d below e. let range : (48 ≤ get_or word k d) × (get_or word k d ≤ 57) = digits k d below in omega arith)
+NoDot-digits word digits = grind (arith, common_steps, recursion_from_All)
 
 no_dot : {word : List ℕ} → IsOctet word → NoDot word
 no_dot {word} octet = NoDot-digits word octet.numeral.numeral.digits

@@ -2,8 +2,7 @@
 use Rattle.std.proofs.Common.{arith}
 use Rattle.std.proofs.lemmas.Grind.{common_steps}
 use Rattle.std.proofs.Common.{◌≡◌, ◌≢◌, ◌↔◌, Bool, true, ◌&&◌, ◌==◌, List, get_or, Ordering, Contains, AllPairs, IsPermutation, sym, subst}
-use Rattle.std.specs.Cmp.{IsTotalOrder, IsEquivalence, and_equiv, on_equiv, on_total, then_total, both_tied, tied_itself, nat_cmp_total, nat_eq_equiv}
-use Rattle.std.specs.Cmp.{unsigned_ties}
+use Rattle.std.specs.Cmp.{IsTotalOrder, IsEquivalence, and_equiv, on_equiv, on_total, then_total, tied_itself, nat_cmp_total, nat_eq_equiv}
 use Rattle.std.specs.Ordering.{nat_cmp, ordering_then, eq_by_cmp}
 use Rattle.std.specs.declared.cmp.Ordering.TheVariants.{Less}
 use Rattle.std.specs.List.{dedup}
@@ -28,8 +27,7 @@ block_equiv : IsEquivalence block_eq
 block_equiv = and_equiv (on_equiv (λ (b : Block). b.base) nat_eq_equiv) (on_equiv (λ (b : Block). b.len) nat_eq_equiv)
 
 pub block_ties : (x y : Block) → block_eq x y ≡ eq_by_cmp block_cmp x y
-block_ties x y = both_tied (x.base == y.base) (x.len == y.len) (nat_cmp x.base y.base) (nat_cmp x.len y.len) (unsigned_ties x.base y.base)
-    (unsigned_ties x.len y.len)
+block_ties x y = grind (arith, common_steps)
 
 pub block_same : (x y : Block) → block_eq x y ≡ true → x ≡ y
 block_same x y e = grind (arith, common_steps, and_parts)

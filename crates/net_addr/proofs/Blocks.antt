@@ -19,8 +19,7 @@ pub IsBlock-around : (a n len : ℕ) → len ≤ 32 → a < 2 ^ 32 → n ≡ 2 ^
 IsBlock-around a n len short below e = block_around a n len short below e (subst (λ (m : ℕ). 0 < m) (sym e) (pow_pos (32 - len)))
 
 same_quotient_bounds : (a b n : ℕ) → 0 < n → b % n ≡ 0 → a / n ≡ b / n → (b ≤ a) × (a < b + n)
-same_quotient_bounds a b n h e same =
-    let whole : n * (a / n) ≡ n * (b / n) = ap (λ m. n * m) same in (omega arith, omega arith)
+same_quotient_bounds a b n h e same = grind (arith, common_steps)
 
 bounds_same_quotient : (a b n : ℕ) → 0 < n → b % n ≡ 0 → b ≤ a → a < b + n → a / n ≡ b / n
 bounds_same_quotient a b n h e low high = grind (arith, common_steps, div-mul-add)

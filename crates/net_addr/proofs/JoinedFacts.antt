@@ -1,6 +1,6 @@
 -- The lines of a text of whole lines and of another behind it.
 use Rattle.std.proofs.lemmas.Grind.{common_steps}
-use Rattle.std.proofs.Common.{◌≡◌, ℕ, ◌+◌, ◌<◌, Bool, true, false, cond, eqb, List, [], ◌∷◌, ◌++◌, length, map, arith, suc, refl, sym, ap, ◌∙◌}
+use Rattle.std.proofs.Common.{◌≡◌, ℕ, ◌+◌, ◌<◌, Bool, true, cond, List, [], ◌∷◌, ◌++◌, length, map, arith, suc, refl, sym, ap, ◌∙◌}
 use Rattle.std.specs.List.{slice_split, onto_first, position_or_len}
 use Rattle.std.proofs.lemmas.List.{append-nil}
 use Rattle.net_addr.specs.declared.line.Line.{Line}
@@ -15,22 +15,17 @@ split xs = slice_split is_line_feed xs
 
 one_line_feed : (t : Bool) (b : ℕ) (rest : List (List ℕ)) → t ≡ true →
     cond t ([] ∷ rest) (onto_first b rest) ≡ without_empty_last (cond t ([] ∷ [] ∷ []) (onto_first b ([] ∷ []))) ++ rest
-one_line_feed true b rest e = refl
-one_line_feed false b rest e = absurd cc
+one_line_feed t b rest e = grind (arith, common_steps)
 
 last_kept : (t : Bool) (b : ℕ) (piece : List ℕ) → 0 < length (cond t [] (piece ∷ [])) → (b ∷ piece) ∷ [] ≡ onto_first b (cond t [] (piece ∷ []))
-last_kept true b piece some = absurd (omega arith)
-last_kept false b piece some = refl
+last_kept t b piece some = grind (arith, common_steps)
 
 onto_kept : (b : ℕ) (pieces : List (List ℕ)) → 0 < length (without_empty_last pieces) →
     without_empty_last (onto_first b pieces) ≡ onto_first b (without_empty_last pieces)
-onto_kept b [] some = absurd (omega arith)
-onto_kept b (piece ∷ []) some = last_stays (b ∷ piece) (omega arith) ∙ last_kept (eqb (length piece) 0) b piece some
-onto_kept b (piece ∷ next ∷ more) some = refl
+onto_kept b pieces some = grind (arith, common_steps, last_kept, last_stays)
 
 onto_append : (b : ℕ) (pieces others : List (List ℕ)) → 0 < length pieces → onto_first b (pieces ++ others) ≡ onto_first b pieces ++ others
-onto_append b [] others some = absurd (omega arith)
-onto_append b (piece ∷ more) others some = refl
+onto_append b pieces others some = grind (arith, common_steps)
 
 some_lines : (b : ℕ) (bs : List ℕ) → 0 < length (line_pieces (b ∷ bs))
 some_lines b bs = omega (arith, ap length (line_pieces-first (b ∷ bs) (position_or_len is_line_feed (b ∷ bs)) refl (omega arith)))
@@ -38,10 +33,7 @@ some_lines b bs = omega (arith, ap length (line_pieces-first (b ∷ bs) (positio
 one_byte_more : (t : Bool) (b : ℕ) (pieces whole others : List (List ℕ)) → 0 < length pieces → 0 < length (without_empty_last pieces) →
     whole ≡ without_empty_last pieces ++ others →
     cond t ([] ∷ whole) (onto_first b whole) ≡ without_empty_last (cond t ([] ∷ pieces) (onto_first b pieces)) ++ others
-one_byte_more true b pieces whole others some lines e =
-    ap (λ (w : List (List ℕ)). [] ∷ w) e ∙ ap (λ (w : List (List ℕ)). w ++ others) (sym (keeps_first [] pieces some))
-one_byte_more false b pieces whole others some lines e =
-    ap (onto_first b) e ∙ onto_append b (without_empty_last pieces) others lines ∙ ap (λ (w : List (List ℕ)). w ++ others) (sym (onto_kept b pieces lines))
+one_byte_more t b pieces whole others some lines e = grind (arith, common_steps, keeps_first, onto_append, onto_kept)
 
 split-append : (xs ys : List ℕ) → is_of_whole_lines xs ≡ true → split (xs ++ ys) ≡ line_pieces xs ++ split ys
 split-append [] ys whole = refl
@@ -61,12 +53,10 @@ last_of_append (piece ∷ front) pieces some =
     longer (piece ∷ front) pieces some = omega arith
 
 pub line_pieces-append : (xs ys : List ℕ) → is_of_whole_lines xs ≡ true → line_pieces (xs ++ ys) ≡ line_pieces xs ++ line_pieces ys
-line_pieces-append xs ys whole =
-    ap without_empty_last (split-append xs ys whole) ∙ last_of_append (line_pieces xs) (split ys) (some_pieces is_line_feed ys)
+line_pieces-append xs ys whole = grind (arith, common_steps, last_of_append, some_pieces, split-append)
 
 whole_more : (b : ℕ) (ys : List ℕ) → is_of_whole_lines (b ∷ []) ≡ true → is_of_whole_lines ys ≡ true → is_of_whole_lines (b ∷ ys) ≡ true
-whole_more b [] one whole = one
-whole_more b (y ∷ ys) one whole = whole
+whole_more b ys one whole = grind (arith, common_steps)
 
 -- two texts of whole lines are one, together
 pub is_of_whole_lines-append : (xs ys : List ℕ) → is_of_whole_lines xs ≡ true → is_of_whole_lines ys ≡ true → is_of_whole_lines (xs ++ ys) ≡ true
@@ -82,13 +72,11 @@ bytes_with_ends [] = 0
 bytes_with_ends (piece ∷ more) = length piece + 1 + bytes_with_ends more
 
 onto_longer : (b : ℕ) (pieces : List (List ℕ)) → 0 < length pieces → bytes_with_ends (onto_first b pieces) ≡ bytes_with_ends pieces + 1
-onto_longer b [] some = absurd (omega arith)
-onto_longer b (piece ∷ more) some = omega arith
+onto_longer b pieces some = grind (arith, common_steps)
 
 one_longer : (t : Bool) (b : ℕ) (pieces : List (List ℕ)) → 0 < length pieces →
     bytes_with_ends (cond t ([] ∷ pieces) (onto_first b pieces)) ≡ bytes_with_ends pieces + 1
-one_longer true b pieces some = omega arith
-one_longer false b pieces some = onto_longer b pieces some
+one_longer t b pieces some = grind (arith, common_steps, onto_longer)
 
 split-bytes : (xs : List ℕ) → bytes_with_ends (split xs) ≡ length xs + 1
 split-bytes [] = refl

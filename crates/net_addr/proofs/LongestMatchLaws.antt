@@ -90,11 +90,7 @@ taken xs a next inside longest = record {
 -- the next prefix doesn't contain the address
 pub IsMatch-out : (xs : List Block) (a : ℕ) (next : Block) (found : Option Match) → IsMatch xs a found → ¬ ContainsAddress next a
     → IsMatch (xs ++ next ∷ []) a found
-IsMatch-out xs a next None h out = λ q has inside. ⊎_elim
-    (λ earlier. h q earlier inside)
-    (λ same. out (subst (λ (r : Block). ContainsAddress r a) (sym same) inside))
-    (Contains-push_cases xs next q has)
-IsMatch-out xs a next (Some m) h out = kept xs a next m h (λ inside. absurd (out inside))
+IsMatch-out xs a next found h out = grind (arith, common_steps, Contains-push_cases, kept)
 
 -- the next prefix contains the address
 pub IsMatch-in : (xs : List Block) (a : ℕ) (next : Block) (found : Option Match) (r : Match) → IsMatch xs a found → ContainsAddress next a

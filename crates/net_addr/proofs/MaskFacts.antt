@@ -1,5 +1,6 @@
 -- A mask of `len` ones is what lacks a block of that length to all 32 bits.
-use Rattle.std.proofs.Common.{◌≡◌, ℕ, zero, suc, ◌+◌, ◌-◌, ◌*◌, ◌/◌, ◌%◌, ◌^◌, ◌<◌, ◌≤◌, List, arith, sym, ap, subst, Option, Some, None, ◌∙◌}
+use Rattle.std.proofs.lemmas.Grind.{common_steps}
+use Rattle.std.proofs.Common.{◌≡◌, ℕ, ◌+◌, ◌-◌, ◌*◌, ◌/◌, ◌%◌, ◌^◌, ◌<◌, ◌≤◌, List, arith, sym, subst, Option, Some, None, ◌∙◌}
 use Rattle.std.proofs.lemmas.Nat.{pow_pos, div-mul-add, mod-mul-add}
 use Rattle.net_addr.specs.AddressWords.{IsAddressWord, IsMask, IsMaskWord}
 use Rattle.net_addr.specs.Readers.{Reads}
@@ -7,16 +8,10 @@ use Rattle.net_addr.proofs.AddressWordFacts.{IsAddressWord-unique}
 use Rattle.net_addr.proofs.BoundaryFacts.{whole_space}
 
 filled : (a n m : ℕ) → 0 < n → 0 < m → a / n ≡ m - 1 → a % n ≡ 0 → a + n ≡ m * n
-filled a n zero pos some ones zeros = absurd (omega arith)
-filled a n (suc k) pos some ones zeros =
-    let quotient : a / n ≡ k = omega arith in let whole : n * (a / n) ≡ n * k = ap (λ (x : ℕ). n * x) quotient in omega arith
+filled a n m pos some ones zeros = grind (arith, common_steps)
 
 unfilled : (a n m : ℕ) → 0 < n → 0 < m → a + n ≡ m * n → (a / n ≡ m - 1) × (a % n ≡ 0)
-unfilled a n zero pos some e = absurd (omega arith)
-unfilled a n (suc k) pos some e =
-    let whole : a ≡ k * n + 0 = omega arith in
-    let quotient : a / n ≡ k = ap (λ (x : ℕ). x / n) whole ∙ div-mul-add k n 0 pos in
-    (omega arith, ap (λ (x : ℕ). x % n) whole ∙ mod-mul-add k n 0 pos)
+unfilled a n m pos some e = grind (arith, common_steps, div-mul-add, mod-mul-add)
 
 pub IsMask-sum : (a len : ℕ) → IsMask a len → a + 2 ^ (32 - len) ≡ 2 ^ 32
 IsMask-sum a len mask =

@@ -1,7 +1,7 @@
 -- How a text falls into pieces, taken from its start.
 use Rattle.std.proofs.lemmas.Grind.{common_steps}
 use Rattle.std.proofs.Common.{◌≡◌, ℕ, ◌+◌, ◌<◌, ◌≤◌, Bool, List, [], ◌∷◌, ◌++◌, length, take, drop, append_assoc}
-use Rattle.std.proofs.Common.{arith, refl, sym, ap, ◌∙◌}
+use Rattle.std.proofs.Common.{arith, sym, ap, ◌∙◌}
 use Rattle.std.specs.List.{slice_range, slice_split, position_or_len}
 use Rattle.std.proofs.lemmas.Bool.{cases_lt}
 use Rattle.std.proofs.lemmas.Bool.Decides.{nat_tests}
@@ -18,8 +18,7 @@ pub some_pieces : (p : ℕ → Bool) (xs : List ℕ) → 0 < length (slice_split
 some_pieces p xs = omega (arith, length-slice_split p xs)
 
 pub keeps_first : (piece : List ℕ) (pieces : List (List ℕ)) → 0 < length pieces → without_empty_last (piece ∷ pieces) ≡ piece ∷ without_empty_last pieces
-keeps_first piece [] some = absurd (omega arith)
-keeps_first piece (next ∷ more) some = refl
+keeps_first piece pieces some = grind (arith, common_steps)
 
 pub last_stays : (piece : List ℕ) → 0 < length piece → without_empty_last (piece ∷ []) ≡ piece ∷ []
 last_stays piece some = grind (arith, nat_tests)

@@ -1,6 +1,6 @@
 -- How the words of a span are found one after another.
 use Rattle.std.proofs.lemmas.Grind.{common_steps}
-use Rattle.std.proofs.Common.{◌≡◌, ℕ, ◌+◌, ◌-◌, ◌≤◌, Bool, true, false, cond, ltb, List, [], ◌∷◌, ◌++◌, length, take, drop, map}
+use Rattle.std.proofs.Common.{◌≡◌, ℕ, ◌+◌, ◌-◌, ◌≤◌, Bool, cond, ltb, List, [], ◌∷◌, ◌++◌, length, take, drop, map}
 use Rattle.std.proofs.Common.{append_assoc, arith, refl, sym, ap, ◌∙◌}
 use Rattle.std.specs.List.{slice_range, slice_split, position_or_len, filter, All}
 use Rattle.std.proofs.lemmas.Bool.{cases_lt}
@@ -62,9 +62,7 @@ same_test start n = grind (arith, nat_tests)
 
 either_way : (b : Bool) (text : List ℕ) (span : Span) (piece : List ℕ) (spans : List Span) (pieces : List (List ℕ)) → bytes_of text span ≡ piece →
     map (bytes_of text) spans ≡ pieces → map (bytes_of text) (cond b (span ∷ spans) spans) ≡ cond b (piece ∷ pieces) pieces
-either_way true text span piece spans pieces here others = ap (λ (w : List ℕ). w ∷ map (bytes_of text) spans) here
-    ∙ ap (λ (ws : List (List ℕ)). piece ∷ ws) others
-either_way false text span piece spans pieces here others = others
+either_way b text span piece spans pieces here others = grind (arith, common_steps)
 
 spans_of-texts : (text : List ℕ) (start : ℕ) (pieces : List (List ℕ)) → ArePlaced text start pieces →
     map (bytes_of text) (filter has_bytes (spans_of start pieces)) ≡ filter (λ (piece : List ℕ). ltb 0 (length piece)) pieces
