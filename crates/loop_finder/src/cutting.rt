@@ -59,8 +59,11 @@ impl<'m> Cutting<'m> {
     /// The place of the piece of a part in which a router is, the first one of the piece.
     pub fn find(&self, part: &Part<'_>, router: u32, all: &[Part<'_>]) -> Option<usize> {
         let layers = self.layers.numbers();
+        let layer = self.layer_of(router);
+        let count = part.count_in(layers, layer);
         for place in 0..all.len() {
-            if all[place].is_piece_of(part, router, layers) {
+            let piece = &all[place];
+            if piece.begins_with(router, count) && piece.is_piece_of(part, layers, layer) {
                 return Some(place);
             }
         }

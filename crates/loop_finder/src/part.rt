@@ -226,26 +226,30 @@ impl<'m> Part<'m> {
             || stays_in(self.hops_at(router, Phase::New), layers, router)
     }
 
-    /// Whether it has the steps of a part that stay in the layer of a router, the first one that is in the layer.
-    pub fn is_piece_of(&self, part: &Part<'_>, router: u32, layers: &[u32]) -> bool {
-        let Some(first) = self.steppers.first().copied() else {
-            return false;
-        };
-        if first != router {
-            return false;
-        }
-        let layer = number_of(layers, router);
-        let mut same = 0usize;
-        for other in part.steppers() {
-            if number_of(layers, *other) != layer {
-                continue;
+    /// How many of the routers with hops are in a layer.
+    pub fn count_in(&self, layers: &[u32], layer: u32) -> usize {
+        let mut count = 0usize;
+        for router in self.steppers() {
+            if number_of(layers, *router) == layer {
+                count = count.saturating_add(1);
             }
-            if !self.has_same(part, *other, layers) {
+        }
+        count
+    }
+
+    /// Whether it has hops for so many routers, of which this is the first one.
+    pub fn begins_with(&self, router: u32, count: usize) -> bool {
+        self.steppers.len() == count && self.steppers.first().copied() == Some(router)
+    }
+
+    /// Whether it has the steps of a part that stay in the layer, where it has hops for as many routers as are in that.
+    pub fn is_piece_of(&self, part: &Part<'_>, layers: &[u32], layer: u32) -> bool {
+        for router in part.steppers() {
+            if number_of(layers, *router) == layer && !self.has_same(part, *router, layers) {
                 return false;
             }
-            same = same.saturating_add(1);
         }
-        self.steppers.len() == same
+        true
     }
 
     /// Whether a router has the same steps in another part, of those that stay in its layer.
@@ -346,6 +350,9 @@ fn stays_in(hops: &[u32], layers: &[u32], router: u32) -> bool {
 fn are_same(one: &Part<'_>, other: &Part<'_>, router: u32, phase: Phase, layers: &[u32]) -> bool {
     let hops = one.hops_at(router, phase);
     let others = other.hops_at(router, phase);
+    if hops == others {
+        return true;
+    }
     let layer = number_of(layers, router);
     has_layer_of(hops, others, layers, layer) && has_layer_of(others, hops, layers, layer)
 }
