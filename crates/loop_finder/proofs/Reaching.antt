@@ -90,3 +90,20 @@ never_returns step n goal marks reached place within many inside are whole first
         let among : Contains reached u = are.listed u marked in
         let is : get_or reached among.0 0 ≡ u = get_or_default reached among.0 0 u among.1 ∙ among.2 in
         spread among.0 (omega (arith, among.1, whole)) v (subst (λ (x : ℕ). step x v) (sym is) steps) (omega (arith, below, many))
+
+-- no non-empty list of steps leads from router u to the goal
+abbrev pub NeverLeadsTo : (ℕ → ℕ → Type 0) → ℕ → ℕ → Type 0
+NeverLeadsTo step u goal = (h : ℕ) (hops : List ℕ) → Follows step u (h ∷ hops) goal → ⊥
+
+-- none leads from a router that steps to one alone, which isn't the goal, where none leads from that
+pub never_over : (step : ℕ → ℕ → Type 0) (goal u hop : ℕ) → ((h : ℕ) → step u h → hop ≡ h) → ¬ (hop ≡ goal) → NeverLeadsTo step hop goal →
+    NeverLeadsTo step u goal
+never_over step goal u hop only apart never h [] follows = apart (only h follows.0 ∙ follows.1)
+never_over step goal u hop only apart never h (next ∷ hops) follows =
+    never next hops (subst (λ (x : ℕ). Follows step x (next ∷ hops) goal) (sym (only h follows.0)) follows.1)
+
+-- a list of fewer than two has its first one alone
+pub only_first : (xs : List ℕ) (h : ℕ) → length xs < 2 → Contains xs h → get_or xs 0 0 ≡ h
+only_first xs h few among =
+    let first : 0 ≡ among.0 = omega (arith, among.1, few) in
+    ap (λ (k : ℕ). get_or xs k 0) first ∙ get_or_default xs among.0 0 h among.1 ∙ among.2

@@ -60,6 +60,7 @@ impl<'s> StepGraph for PartSteps<'s> {
         self.routers
     }
 
+    #[inline(always)]
     fn hops(&self, router: u32) -> (&[u32], &[u32]) {
         let first = self.first[router as usize];
         let last = self.last[router as usize];

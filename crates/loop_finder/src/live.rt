@@ -170,6 +170,7 @@ fn peel_one<G: StepGraph>(graph: &G, live: &mut [bool], u: u32) -> bool
 }
 
 /// The lowest-numbered marked hop of a router.
+#[inline(never)]
 pub(crate) fn lowest_marked_hop<G: StepGraph>(graph: &G, marks: &[bool], router: u32) -> Option<u32>
     requires { router < G.size graph.now }
     ensures { LowestMarkedHop (G.step graph.now) marks.now router result }

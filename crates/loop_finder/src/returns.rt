@@ -1,5 +1,5 @@
 ghost use Rattle.std.specs.Prelude.{◌≡◌, ◌<◌, ◌≤◌, ℕ, Contains, length};
-ghost use Rattle.std.specs.Bool.{OnFalse};
+ghost use Rattle.std.specs.Bool.{OnFalse, OnTrue};
 ghost use Rattle.std.specs.Vec.{vec_capacity};
 ghost use Rattle.order_core.specs.Marks.{IsMarked, marked_count};
 ghost use Rattle.loop_finder.specs.Returns.{NeverReturnsTo};
@@ -23,6 +23,9 @@ pub(crate) fn may_return<G: StepGraph>(
     ensures never { OnFalse result (NeverReturnsTo (G.step graph.now) router) }
     ensures capacity { vec_capacity reached.old ≤ vec_capacity reached.new }
 {
+    if ends_alone(graph, router) {
+        return false;
+    }
     mark_none(seen);
     reached.clear();
     if reach_hops(graph, router, router, seen, reached) {
@@ -35,6 +38,29 @@ pub(crate) fn may_return<G: StepGraph>(
             return true;
         }
         place += 1;
+    }
+    false
+}
+
+/// Whether steps lead from a router to one other router after another, and then no further.
+fn ends_alone<G: StepGraph>(graph: &G, router: u32) -> bool
+    requires router { router < G.size graph.now }
+    ensures { OnTrue result (NeverReturnsTo (G.step graph.now) router) }
+{
+    let mut last = router;
+    for _ in 0..graph.size() {
+        let (hops, others) = graph.hops(last);
+        if hops.len() > 1 || others.len() > 0 {
+            return false;
+        }
+        if hops.is_empty() {
+            return true;
+        }
+        let hop = hops[0];
+        if hop == router || hop >= graph.size() {
+            return false;
+        }
+        last = hop;
     }
     false
 }
