@@ -32,14 +32,14 @@ struct Wave<'s> {
 
 /// The steps of a part in the states of a wave.
 #[derive(Drop)]
-struct WaveSteps<'s> {
-    part: &'s Part<'s>,
+struct WaveSteps<'s, 'm> {
+    part: &'s Part<'m>,
     times: &'s [ChangeWaves],
     wave: u32,
     routers: u32,
 }
 
-impl<'s> Model for WaveSteps<'s> {
+impl<'s, 'm> Model for WaveSteps<'s, 'm> {
     ghost use Rattle.loop_finder.specs.steps.Calm.{IsWaveState, WaveState};
 
     ghost Value = { WaveState };
@@ -49,9 +49,9 @@ impl<'s> Model for WaveSteps<'s> {
     ghost invariant = { λ x. IsWaveState (record { part = x.part.now; times = x.times.now; wave = x.wave; routers = x.routers }) };
 }
 
-impl<'s> WaveSteps<'s> {
+impl<'s, 'm> WaveSteps<'s, 'm> {
     /// The steps of a part in a wave.
-    fn new(part: &'s Part<'s>, wave: &'s Wave<'s>) -> WaveSteps<'s>
+    fn new(part: &'s Part<'m>, wave: &'s Wave<'s>) -> WaveSteps<'s, 'm>
         requires { length part.now.rows ≡ wave.now.routers }
         ensures { result ≡ record { part = part.now; times = wave.now.times.now; wave = wave.now.number; routers = wave.now.routers } }
     {
@@ -64,7 +64,7 @@ impl<'s> WaveSteps<'s> {
     }
 }
 
-impl<'s> StepGraph for WaveSteps<'s> {
+impl<'s, 'm> StepGraph for WaveSteps<'s, 'm> {
     ghost use Rattle.loop_finder.specs.Calm.{WaveStep};
     ghost use Rattle.loop_finder.specs.Times.{times_in};
 

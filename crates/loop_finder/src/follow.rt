@@ -16,14 +16,14 @@ use std::marker::Model;
 
 /// The steps of a part in two states: each router has the hops of both.
 #[derive(Drop)]
-struct PartSteps<'s> {
-    part: &'s Part<'s>,
+struct PartSteps<'s, 'm> {
+    part: &'s Part<'m>,
     first: &'s [Phase],
     last: &'s [Phase],
     routers: u32,
 }
 
-impl<'s> Model for PartSteps<'s> {
+impl<'s, 'm> Model for PartSteps<'s, 'm> {
     ghost use Rattle.loop_finder.specs.steps.Parts.{IsPartState, PartState};
 
     ghost Value = { PartState };
@@ -33,9 +33,9 @@ impl<'s> Model for PartSteps<'s> {
     ghost invariant = { λ x. IsPartState (record { part = x.part.now; first = x.first.now; last = x.last.now; routers = x.routers }) };
 }
 
-impl<'s> PartSteps<'s> {
+impl<'s, 'm> PartSteps<'s, 'm> {
     /// The steps of a part in two states of so many routers.
-    fn new(part: &'s Part<'s>, span: &'s Span<'s>, routers: u32) -> PartSteps<'s>
+    fn new(part: &'s Part<'m>, span: &'s Span<'s>, routers: u32) -> PartSteps<'s, 'm>
         requires rows { length part.now.rows ≡ routers }
         requires span { length span.now.first.now ≡ routers }
         ensures { result ≡ record { part = part.now; first = span.now.first.now; last = span.now.last.now; routers = routers } }
@@ -49,7 +49,7 @@ impl<'s> PartSteps<'s> {
     }
 }
 
-impl<'s> StepGraph for PartSteps<'s> {
+impl<'s, 'm> StepGraph for PartSteps<'s, 'm> {
     ghost use Rattle.loop_finder.specs.steps.Parts.{PartStep};
 
     ghost size = { λ s. s.routers };

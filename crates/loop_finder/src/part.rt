@@ -21,6 +21,7 @@ use rib_mix::{Mixed, OutOfMemory, Phase};
 use route_core::RouteSource;
 use std::alloc::Global;
 use std::marker::Model;
+use std::rc::Rc;
 
 /// What digests are multiplied by: an odd number whose bits look like chance (2 to the power of 64 by the golden ratio).
 const DIGEST_FACTOR: u64 = 0x9e37_79b9_7f4a_7c15;
@@ -107,16 +108,16 @@ impl<'m> Row<'m> {
 }
 
 /// The part of a class's steps that loops can take: for each router and phase the hops by which a walk over the
-/// steps of both networks may return to the router.
+/// steps of both networks may return to the router. A piece that is a whole part shares its rows.
 #[derive(Drop)]
 pub(crate) struct Part<'m> {
     atom: u32,
     moves: bool,
     /// A number that parts share in which the same routers are marked, so that most others are told apart at once.
     digest: u64,
-    rows: Vec<Row<'m>>,
+    rows: Rc<Vec<Row<'m>>>,
     /// The routers that have hops.
-    steppers: Vec<u32>,
+    steppers: Rc<Vec<u32>>,
 }
 
 impl<'m> Model for Part<'m> {
@@ -125,9 +126,9 @@ impl<'m> Model for Part<'m> {
 
     ghost Value = { ClassPart };
 
-    ghost view = { λ x. record { atom = x.atom; moves = x.moves; rows = x.rows.items } };
+    ghost view = { λ x. record { atom = x.atom; moves = x.moves; rows = x.rows.value.items } };
 
-    ghost invariant = { λ x. AreSteppers x.rows.items x.steppers.items };
+    ghost invariant = { λ x. AreSteppers x.rows.value.items x.steppers.value.items };
 }
 
 impl<'m> Part<'m> {
@@ -154,8 +155,8 @@ impl<'m> Part<'m> {
             atom: class.atom,
             moves,
             digest: digest_of(marks),
-            rows,
-            steppers,
+            rows: Rc::new(alloc, rows)?,
+            steppers: Rc::new(alloc, steppers)?,
         })
     }
 
@@ -199,14 +200,30 @@ impl<'m> Part<'m> {
         requires { length self.now.rows ≡ routers }
         ensures { IfOk result (λ piece. AreRowsIn layers.now layer self.now.rows (length self.now.rows) piece.rows) }
     {
+        if self.count_in(layers, layer) == self.steppers.len() {
+            return self.whole();
+        }
         let rows = rows_in(alloc, self.rows.as_slice(), layers, layer)?;
         let steppers = steppers_of(alloc, rows.as_slice(), routers)?;
         Ok(Part {
             atom: self.atom,
             moves: true,
             digest: self.digest,
-            rows,
-            steppers,
+            rows: Rc::new(alloc, rows)?,
+            steppers: Rc::new(alloc, steppers)?,
+        })
+    }
+
+    /// All its steps, as a part of which all routers move.
+    fn whole(&self) -> Result<Part<'m>, OutOfMemory>
+        ensures { IfOk result (λ piece. piece.rows ≡ self.now.rows) }
+    {
+        Ok(Part {
+            atom: self.atom,
+            moves: true,
+            digest: self.digest,
+            rows: self.rows.clone()?,
+            steppers: self.steppers.clone()?,
         })
     }
 
