@@ -1,5 +1,6 @@
 use crate::chains::number_of;
 use crate::end_lists::EndLists;
+use crate::ends::Ends;
 use crate::layers::Layers;
 use crate::part::Part;
 use rib_mix::OutOfMemory;
@@ -10,7 +11,7 @@ use std::alloc::Global;
 pub(crate) struct Cutting<'m> {
     /// Where pieces are allocated.
     pub alloc: Global,
-    /// The steps of a part in both networks.
+    /// The steps of a part in both networks, while it is cut; else none.
     lists: EndLists<'m>,
     /// The layers of its routers: one for each strongly connected component.
     pub layers: Layers,
@@ -36,11 +37,14 @@ impl<'m> Cutting<'m> {
     }
 
     /// Chooses the layers of a part's routers; none has a piece yet.
-    pub fn choose(&mut self, part: &Part<'m>, routers: u32) {
-        for router in 0..routers {
-            self.lists.set(router, part.ends_of(router));
+    pub fn choose(&mut self, part: &Part<'m>) {
+        for router in part.steppers() {
+            self.lists.set(*router, part.ends_of(*router));
         }
         self.layers.choose(&self.lists, part.steppers(), &[]);
+        for router in part.steppers() {
+            self.lists.set(*router, Ends::new(&[], &[]));
+        }
         self.owners.fill(NO_PLACE);
         self.places.clear();
     }
@@ -54,6 +58,18 @@ impl<'m> Cutting<'m> {
     pub fn is_open(&self, part: &Part<'_>, router: u32) -> bool {
         let owner = self.owners.get(self.layer_of(router) as usize).copied();
         owner == Some(NO_PLACE) && part.stays(router, self.layers.numbers())
+    }
+
+    /// Whether a part is one piece itself, which no earlier part has.
+    pub fn is_new(&self, part: &Part<'_>, all: &[Part<'_>]) -> bool {
+        let steppers = part.steppers();
+        let Some(first) = steppers.first().copied() else {
+            return false;
+        };
+        let layers = self.layers.numbers();
+        part.count_in(layers, self.layer_of(first)) == steppers.len()
+            && part.stays(first, layers)
+            && self.find(part, first, all).is_none()
     }
 
     /// The place of the piece of a part in which a router is, the first one of the piece.

@@ -57,7 +57,10 @@ fn cut<'m>(
     ensures kept { IfOk result (λ places. (other : ClassPart) (others : List ℕ) →
         IsMadeOf all.old.items other others → IsMadeOf all.new.items other others) }
 {
-    cutting.choose(part, routers);
+    cutting.choose(part);
+    if cutting.is_new(part, all.as_slice()) {
+        return add_whole(cutting.alloc, part, routers, all);
+    }
     add_pieces(part, routers, cutting, all)?;
     let places = Vec::from_slice(cutting.alloc, cutting.places.as_slice())?;
     let cut = Cut {
