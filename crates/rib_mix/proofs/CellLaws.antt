@@ -1,5 +1,6 @@
 -- What a router has for a prefix, and uses for its parent, says what it uses for the addresses of the prefix.
-use Rattle.std.proofs.Common.{◌≡◌, ℕ, ◌<◌, ◌≤◌, ◌⊎◌, inl, inr, Bool, true, false, Option, Some, None, IsFalse, MatchBool, MatchOption, ⊎_elim, arith, refl, subst}
+use Rattle.std.proofs.lemmas.Grind.{common_steps}
+use Rattle.std.proofs.Common.{◌≡◌, ℕ, ◌<◌, ◌≤◌, ◌⊎◌, inl, inr, Bool, true, false, Option, Some, None, IsFalse, MatchBool, MatchOption, arith, refl}
 use Rattle.std.proofs.lemmas.Bool.{cases_lt}
 use Rattle.net_addr.specs.Addresses.{Block, ContainsAddress}
 use Rattle.net_model.specs.Network.{Connected}
@@ -19,18 +20,7 @@ use Rattle.rib_mix.proofs.ClassUses.{Within}
 
 -- a kind with the same entries has the same best one
 pub best_along : (s : Site) (one two : Kind) (way : Used) → Within one two → Within two one → IsBestUse s one way → IsBestUse s two way
-best_along s one two way to from h = elim h [
-  | inl none ↦ inl (none.0, λ q d x k. none.1 q d x (from q d x k))
-  | inr best ↦ inr (record {
-    entry = best.entry;
-    is = best.is;
-    prefix = best.prefix;
-    distance = best.distance;
-    among = to best.prefix best.distance best.entry best.among;
-    longest = λ q d x k. best.longest q d x (from q d x k);
-    lowest = λ q d x k. best.lowest q d x (from q d x k);
-  })
-]
+best_along s one two way to from h = grind (arith, common_steps)
 
 -- the entries that count in a phase for the address and whose prefixes are shorter than this
 abbrev pub Below : Site → Phase → ℕ → Kind
@@ -63,27 +53,12 @@ IsOneAt s p = (q : Block) (phase : Phase) (d : ℕ) (x : Usable) → UpTo s phas
 -- so the best of those that count for it is the best of all up to it
 here_best : (s : Site) (phase : Phase) (p : Block) (distance : ℕ) (way : Used) → IsOneAt s p → ContainsAddress p s.a → IsHere s phase p distance way
     → IsBestUse s (UpTo s phase p.len) way
-here_best s phase p distance way one inside here = inr (record {
-  entry = here.entry;
-  is = here.is;
-  prefix = p;
-  distance = distance;
-  among = (here.counts, inside, omega arith);
-  longest = λ q d x k. k.2;
-  lowest = λ q d x k same. here.lowest d x (subst (λ (b : Block). CountsAt s phase b d x) (one q phase d x k same) k.0);
-})
+here_best s phase p distance way one inside here = grind (arith, common_steps)
 
 -- and where none counts for it, that of the shorter ones
 none_best : (s : Site) (phase : Phase) (p : Block) (way : Used) → IsOneAt s p → NoneHere s phase p → IsBestUse s (Below s phase p.len) way
     → IsBestUse s (UpTo s phase p.len) way
-none_best s phase p way one none = best_along s (Below s phase p.len) (UpTo s phase p.len) way (λ q d x k. (k.0, k.1, omega (arith, k.2)))
-    (λ q d x k. (
-      k.0,
-      k.1,
-      ⊎_elim (λ (l : q.len < p.len). l)
-          (λ (l : p.len ≤ q.len). absurd (none d x (subst (λ (b : Block). CountsAt s phase b d x) (one q phase d x k (omega (arith, l, k.2))) k.0)))
-          (cases_lt q.len p.len),
-    ))
+none_best s phase p way one none = grind (arith, common_steps, best_along, cases_lt)
 
 -- what counts in Middle counts in Old or in New, and the other way round
 at_an_end : (s : Site) (q : Block) (d : ℕ) (x : Usable) → CountsAt s Middle q d x → CountsAt s Old q d x ⊎ CountsAt s New q d x

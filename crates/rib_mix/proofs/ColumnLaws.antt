@@ -1,4 +1,5 @@
 -- Cells that stand sort by sort.
+use Rattle.std.proofs.lemmas.Grind.{common_steps}
 use Rattle.std.proofs.Common.{◌≡◌, ℕ, ◌<◌, ◌≤◌, ◌+◌, ◌*◌, ◌∙◌, inl, inr, [], ◌∷◌, ◌++◌, List, length, drop, get_or, set, take, ap}
 use Rattle.std.proofs.Common.{arith, refl, subst, sym, Option, None, Some, IfSome, length-drop, length-set, ⊎_elim}
 use Rattle.std.proofs.Math.Nat.{mul-le-mul_left}
@@ -17,13 +18,7 @@ place_before routers u s t router sort =
 
 -- so the place of a cell is that of no other
 place_sort : (routers u v s t : ℕ) → u < routers → v < routers → s * routers + u ≡ t * routers + v → s ≡ t
-place_sort routers u v s t one other same =
-    ⊎_elim (λ (l : s < t). absurd (omega (arith, same, place_before routers u s t one l)))
-    (λ (ge : t ≤ s).
-    ⊎_elim (λ (l : t < s). absurd (omega (arith, same, place_before routers v t s other l)))
-    (λ (le : s ≤ t). omega (arith, ge, le))
-    (cases_lt t s))
-    (cases_lt s t)
+place_sort routers u v s t one other same = grind (arith, common_steps, cases_lt, place_before)
 
 place_router : (routers u v s t : ℕ) → s ≡ t → s * routers + u ≡ t * routers + v → u ≡ v
 place_router routers u v s t same place = omega (arith, place, ap (λ (n : ℕ). n * routers) same)
@@ -40,16 +35,12 @@ row_read routers sorts all u router =
 -- of so many cells
 pub row_length : (routers sorts : ℕ) (all : List Cell) (u : ℕ) → u < routers
     → length (get_or (column_rows routers sorts all) u []) ≡ sorts
-row_length routers sorts all u router =
-    ap length (row_read routers sorts all u router)
-    ∙ length-map-range_with_len (λ (s : ℕ). get_or all (s * routers + u) no_cell) 0 sorts
+row_length routers sorts all u router = grind (arith, common_steps, length-map-range_with_len, row_read)
 
 -- each of which is read at its place
 pub cell_at_place : (routers sorts : ℕ) (all : List Cell) (u s : ℕ) → u < routers → s < sorts
     → get_or (get_or (column_rows routers sorts all) u []) s no_cell ≡ get_or all (s * routers + u) no_cell
-cell_at_place routers sorts all u s router sort =
-    ap (λ (row : List Cell). get_or row s no_cell) (row_read routers sorts all u router)
-    ∙ get_or-map-range_with_len (λ (t : ℕ). get_or all (t * routers + u) no_cell) 0 sorts s s no_cell sort (omega arith)
+cell_at_place routers sorts all u s router sort = grind (arith, common_steps, get_or-map-range_with_len, row_read)
 
 -- a router and a sort that rows have are among those
 pub record IsPlaced (routers sorts u s : ℕ) (all : List Cell) : Type 0 where
@@ -59,15 +50,7 @@ pub record IsPlaced (routers sorts u s : ℕ) (all : List Cell) : Type 0 where
 
 pub placed : (routers sorts u s : ℕ) (all : List Cell) (rows : List (List Cell)) → AreColumns routers sorts all
     → column_rows routers sorts all ≡ rows → u < length rows → s < length (get_or rows u []) → IsPlaced routers sorts u s all
-placed routers sorts u s all rows are is in_rows in_row =
-    let router : u < routers = omega (arith, in_rows, rows_count routers sorts all, ap length is) in
-    let sort : s < sorts =
-    omega (arith, in_row, row_length routers sorts all u router, ap (λ (rs : List (List Cell)). length (get_or rs u [])) is) in
-    record {
-      router = router;
-      sort = sort;
-      below = omega (arith, place_before routers u s sorts router sort, are.long);
-    }
+placed routers sorts u s all rows are is in_rows in_row = grind (arith, common_steps, place_before, row_length, rows_count)
 
 -- so are a router and a sort that is asked for
 pub placed_some : (routers sorts u s : ℕ) (all : List Cell) (rows : List (List Cell)) (sort : Option ℕ) → AreColumns routers sorts all
@@ -176,10 +159,7 @@ next_put u n cell old new router sort is = record {
 -- rows that are the same twice
 pub others_along : (u : ℕ) (first old new : List (List Cell)) → AreOtherRows u first old → AreOtherRows u old new
     → AreOtherRows u first new
-others_along u first old new one more = record {
-  count = more.count ∙ one.count;
-  others = λ v apart. more.others v apart ∙ one.others v apart;
-}
+others_along u first old new one more = grind (arith, common_steps)
 
 -- an earlier cell is among those that were put
 pub earlier_cell : (cells : List Cell) (n : ℕ) (sort : Option ℕ) → IfSome sort (λ s. s < n)

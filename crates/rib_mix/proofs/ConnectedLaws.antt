@@ -1,6 +1,7 @@
 -- At which routers the first prefixes of sorts are connected, as they are flagged.
-use Rattle.std.proofs.Common.{◌≡◌, ◌≢◌, ℕ, ◌+◌, ◌<◌, ◌≤◌, ◌⊎◌, ◌↔◌, inl, inr, Bool, true, false, List, [], ◌∷◌, ◌++◌, Contains, length}
-use Rattle.std.proofs.Common.{get_or, set, replicate, ap, arith, refl, sym, subst, ◌∙◌, ⊎_elim, get_or-set_other, get_or-set_same}
+use Rattle.std.proofs.lemmas.Grind.{common_steps}
+use Rattle.std.proofs.Common.{◌≡◌, ◌≢◌, ℕ, ◌+◌, ◌<◌, ◌⊎◌, ◌↔◌, inl, inr, Bool, true, false, List, [], ◌∷◌, ◌++◌, Contains, length}
+use Rattle.std.proofs.Common.{get_or, set, replicate, ap, arith, sym, subst, ◌∙◌, get_or-set_other, get_or-set_same}
 use Rattle.std.proofs.lemmas.Bool.{cases_eq, cases_lt, false≢true}
 use Rattle.std.proofs.lemmas.List.{get_or-replicate, length-replicate, length-set, set_past}
 use Rattle.std.proofs.lemmas.List.Elements.{Contains-append_left, Contains-push, Contains-push_cases}
@@ -31,11 +32,7 @@ no_flags routers firsts homes rows are = record {
 
 -- none is flagged before a router is seen
 pub no_flagging : (sort : ℕ) (rows : List (List Bool)) → FlagsSort sort [] rows rows
-no_flagging sort rows = record {
-  count = refl;
-  lengths = λ u. refl;
-  each = λ u other in_u in_other. (inl, λ h. elim h [ inl had ↦ had | inr none ↦ absurd (omega (arith, none.1.1)) ]);
-}
+no_flagging sort rows = grind (arith, common_steps)
 
 -- one router more is seen
 pub flag_next : (sort : ℕ) (seen : List ℕ) (router : ℕ) (old mid new : List (List Bool)) → HaveSort sort old
@@ -116,26 +113,4 @@ flag_next sort seen router old mid new have is flags = subst (FlagsSort sort (se
 pub sort_flagged : (routers : ℕ) (firsts : List ℕ) (homes : List (List ℕ)) (n : ℕ) (old new : List (List Bool)) → n < length firsts
     → FlagsSort n (get_or homes (get_or firsts n 0) []) old new → AreConnectedSorts routers firsts homes n old
     → AreConnectedSorts routers firsts homes (n + 1) new
-sort_flagged routers firsts homes n old new within flags are = record {
-  flags = record {
-    count = flags.count ∙ are.flags.count;
-    each = λ u router. flags.lengths u ∙ are.flags.each u router;
-  };
-  each = λ u sort router below.
-      let was = are.each u sort router below in
-      let now = flags.each u sort (omega (arith, router, are.flags.count)) (omega (arith, below, are.flags.each u router)) in (
-        λ flagged. elim (now.0 flagged) [
-          | inl had ↦ (omega (arith, (was.0 had).0), (was.0 had).1)
-          | inr gained ↦ (
-            omega (arith, gained.0),
-            subst (λ (s : ℕ). Contains (get_or homes (get_or firsts s 0) []) u) gained.0 gained.1,
-          )
-        ],
-        λ home. now.1 (⊎_elim
-            (λ (l : sort < n). inl (was.1 (l, home.1)))
-            (λ (l : n ≤ sort).
-            let same : n ≡ sort = omega (arith, home.0) in
-            inr (same, subst (λ (s : ℕ). Contains (get_or homes (get_or firsts s 0) []) u) (sym same) home.1))
-            (cases_lt sort n)),
-      );
-}
+sort_flagged routers firsts homes n old new within flags are = grind (arith, common_steps, cases_lt)

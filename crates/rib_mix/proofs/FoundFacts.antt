@@ -1,4 +1,6 @@
 -- The rows of a table: what lawful tables keep, and the entry of a row that is found.
+use Rattle.std.proofs.Common.{arith}
+use Rattle.std.proofs.lemmas.Grind.{common_steps}
 use Rattle.std.proofs.Common.{◌≡◌, ℕ, ◌<◌, List, length, map, get_or, Some, All, Contains, slice_get, ap, sym, subst, ◌∙◌}
 use Rattle.std.proofs.lemmas.List.{length-map}
 use Rattle.std.proofs.lemmas.Option.{same_Some, slice_get-get_or, slice_get-map, slice_get_within, get_or_from_slice_get}
@@ -29,9 +31,7 @@ lawful_table parts rows blocks =
 
 -- the prefixes that a table has entries for are those of its rows
 pub prefix_listed : (parts : TableParts) (p : Block) → (e : Entry) × IsListed (table_of parts) p e → Contains (prefixes_in parts) p
-prefix_listed parts p listed =
-    subst (λ (ps : List Block). Contains ps p) (sym (rows_prefixes parts))
-    (prefix_of_entry (table_of parts) p listed.0 listed.1)
+prefix_listed parts p listed = grind (arith, common_steps, prefix_of_entry, rows_prefixes)
 
 -- the entry of a row is kept under its number
 pub entry_kept : (parts : TableParts) (place number : ℕ) (p : Block) → HasTableRows parts → slice_get (prefixes_in parts) place ≡ Some p

@@ -1,7 +1,8 @@
 -- The routers at which prefixes are connected, as they are found.
+use Rattle.std.proofs.lemmas.Grind.{common_steps}
 use Rattle.std.proofs.Common.{◌≡◌, ◌≢◌, ℕ, ◌+◌, ◌<◌, ◌≤◌, ◌⊎◌, ◌↔◌, inl, inr, List, [], ◌∷◌, ◌++◌, Contains, Option, Some, None}
 use Rattle.std.proofs.Common.{IfNone, IfSome, IsTrue}
-use Rattle.std.proofs.Common.{length, get_or, set, slice_get, replicate, ap, arith, refl, sym, subst, ◌∙◌, ⊎_elim}
+use Rattle.std.proofs.Common.{length, get_or, set, slice_get, replicate, arith, sym, subst, ◌∙◌, ⊎_elim}
 use Rattle.std.proofs.Common.{get_or-set_other, get_or-set_same}
 use Rattle.std.proofs.lemmas.Bool.{cases_eq, cases_lt}
 use Rattle.std.proofs.lemmas.List.{get_or-replicate, length-replicate, length-set}
@@ -23,23 +24,11 @@ use Rattle.rib_mix.specs.steps.WayUp.{AreConnectedAt}
 pub no_homes_yet : (prefixes : List Block) (subnets : List (List Block)) (homes : List (List ℕ))
     → homes ≡ replicate (length prefixes) []
     → AreHomesBelow prefixes subnets 0 homes
-no_homes_yet prefixes subnets homes are = record {
-  count = ap length are ∙ length-replicate (length prefixes) [];
-  each = λ i v p at.
-      let none : get_or homes i [] ≡ [] =
-      ap (λ (hs : List (List ℕ)). get_or hs i []) are ∙ get_or-replicate (length prefixes) i [] []
-      (slice_get_within prefixes i p at) in (
-        λ has. let k = subst (λ (h : List ℕ). Contains h v) none has in absurd (omega (arith, k.1)),
-        λ home. absurd (omega (arith, home.0)),
-      );
-}
+no_homes_yet prefixes subnets homes are = grind (arith, common_steps, get_or-replicate, length-replicate, slice_get_within)
 
 -- no prefix gains a home where none is seen
 pub no_gain : (prefixes : List Block) (router : ℕ) (homes : List (List ℕ)) → GainHomes prefixes router [] homes homes
-no_gain prefixes router homes = record {
-  count = refl;
-  each = λ i v p at. (inl, λ h. elim h [ inl has ↦ has | inr none ↦ absurd (omega (arith, none.1.1)) ]);
-}
+no_gain prefixes router homes = grind (arith, common_steps)
 
 -- one prefix more is seen
 pub home_next : (prefixes seen : List Block) (router : ℕ) (p : Block) (place : Option ℕ) (old mid new : List (List ℕ))

@@ -1,4 +1,5 @@
 -- What mixed forwarding keeps of each router, as it is made and as it is read.
+use Rattle.std.proofs.lemmas.Grind.{common_steps}
 use Rattle.std.proofs.Common.{◌≡◌, ℕ, ◌<◌, List, [], None, IfSome, length, get_or, Contains, Some, Option, slice_get, ap, arith}
 use Rattle.std.proofs.Common.{refl, sym, subst, ◌∙◌}
 use Rattle.std.proofs.lemmas.Option.{slice_get_read, slice_get_within, slice_get-get_or, get_or_from_slice_get}
@@ -50,14 +51,7 @@ pub forwarding_made : (old new : ℕ → List (Block × Entry)) (o n : ℕ) (kep
     → AreClasses (migration kept.ground.net (SourceEntry o old) (SourceEntry n new)) kept.classes → AreTablesOf old new o kept.ground.tables
     → AreAllSubnets kept.ground.net kept.subnets → length kept.sorts ≡ length kept.classes.samples
     → AreRows kept.ground kept.classes.samples kept.sorts kept.rows → IsForwarding old new kept
-forwarding_made old new o n kept same_o same_n classes tables subnets sorts rows = record {
-  classes_are = subst (λ (m : ℕ). AreClasses (migration kept.ground.net (SourceEntry m old) (SourceEntry (length kept.ground.net) new)) kept.classes) same_o
-      (subst (λ (m : ℕ). AreClasses (migration kept.ground.net (SourceEntry o old) (SourceEntry m new)) kept.classes) same_n classes);
-  subnets_are = subnets;
-  tables_are = subst (λ (m : ℕ). AreTablesOf old new m kept.ground.tables) same_o tables;
-  sorts_count = sorts;
-  rows_are = rows;
-}
+forwarding_made old new o n kept same_o same_n classes tables subnets sorts rows = grind (arith, common_steps)
 
 -- a router with its tables, as it is kept
 abbrev pub place_of : (ℕ → List (Block × Entry)) → (ℕ → List (Block × Entry)) → MixedParts → ℕ → BothTables → Place
@@ -77,9 +71,7 @@ row_at : (old new : ℕ → List (Block × Entry)) (kept : MixedParts) (u : ℕ)
     → u < length kept.ground.net
     → slice_get kept.ground.tables u ≡ Some both → IsRow (site kept.ground u both) kept.classes.samples kept.sorts
     (get_or kept.rows u [])
-row_at old new kept u both is router at =
-    is.rows_are.each u (get_or kept.rows u []) (slice_get-get_or kept.rows u [] (omega
-    (arith, is.rows_are.count, router))) both at
+row_at old new kept u both is router at = grind (arith, common_steps, slice_get-get_or)
 
 -- what was read of a router's tables and of its row
 pub home : (old new : ℕ → List (Block × Entry)) (kept : MixedParts) (u : ℕ) (both : BothTables) → IsForwarding old new kept
@@ -118,11 +110,7 @@ pub cell_read : (old new : ℕ → List (Block × Entry)) (kept : MixedParts) (p
     (cell : Cell) → IsForwarding old new kept → IsHome p (kept_cell kept u) → rows ≡ kept.rows → sorts ≡ kept.sorts
     → k < length p.classes.samples
     → cell ≡ cell_at (get_or rows u []) (get_or sorts k None) → IsCell (sample p k) cell
-cell_read old new kept p rows sorts u k cell _ home rows_are sorts_are within is =
-    subst (IsCell (sample p k))
-    (sym (is ∙ ap (λ (rs : List (List Cell)). cell_at (get_or rs u []) (get_or sorts k None)) rows_are
-    ∙ ap (λ (ss : List (Option ℕ)). cell_at (get_or kept.rows u []) (get_or ss k None)) sorts_are))
-    (home.cells_are k within)
+cell_read old new kept p rows sorts u k cell _ home rows_are sorts_are within is = grind (arith, common_steps, home, sample)
 
 -- each router has a cell of the sort of a class
 pub has_cells : (old new : ℕ → List (Block × Entry)) (kept : MixedParts) (rows : List (List Cell)) (sorts : List (Option ℕ))
@@ -169,9 +157,7 @@ adds_alike old new kept rows sorts known class both before after is rows_are sor
 -- the same where all are added
 pub adds_routers : (Is : ℕ → Type 0) (count n : ℕ) (before after : List ℕ) → count ≡ n
     → AddsAllBut (λ (u : ℕ). ⊥) count before after → AddsAllBut Is n before after
-adds_routers Is count n before after many added =
-    added_along (λ (u : ℕ). ⊥) Is n before after (λ u router none. absurd none)
-    (subst (λ (m : ℕ). AddsAllBut (λ (u : ℕ). ⊥) m before after) many added)
+adds_routers Is count n before after many added = grind (arith, common_steps, added_along)
 
 -- Views
 

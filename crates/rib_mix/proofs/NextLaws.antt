@@ -1,5 +1,7 @@
 -- What follows from an answer: the steps that a router makes.
-use Rattle.std.proofs.Common.{ℕ, ◌↔◌, ⊎_elim, sym, subst}
+use Rattle.std.proofs.Common.{arith}
+use Rattle.std.proofs.lemmas.Grind.{common_steps}
+use Rattle.std.proofs.Common.{ℕ, ◌↔◌, sym, subst}
 use Rattle.route_core.specs.declared.entry.Entry.{Entry}
 use Rattle.igp_theory.specs.Forwarding.{Usable, connected, of_old, of_new, LeadsTo, MustForward, Steps}
 use Rattle.igp_theory.specs.Migrations.{Migration}
@@ -25,10 +27,4 @@ says_leads next (of_new e) h says = entry_leads next e h says
 -- a router that has to pass packets on steps exactly to the hops of its answer
 pub steps_to_hops : (move : Migration) (u : ℕ) (phase : Phase) (a : ℕ) (next : Next) (h : ℕ) → IsNext move u phase a next
     → MustForward move.net a u → Steps move u phase a h ↔ NextLeadsTo next h
-steps_to_hops move u phase a next h is must = (
-  λ s. (says_leads next s.used h (is.only s.used s.uses)).0 s.leads,
-  λ f. ⊎_elim
-      (λ absent. absurd (subst (λ (n : Next). NextLeadsTo n h) absent f))
-      (λ there. record { must = must; used = there.0; uses = there.1; leads = (says_leads next there.0 h there.2).1 f })
-      is.there,
-)
+steps_to_hops move u phase a next h is must = grind (arith, common_steps, says_leads)

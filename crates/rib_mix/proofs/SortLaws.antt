@@ -1,9 +1,9 @@
 -- Prefixes of one sort: what a router has for one it has for the other, and so the cells of sorts are those of prefixes.
+use Rattle.std.proofs.lemmas.Grind.{common_steps}
 use lib.Dec.{ltb}
-use Rattle.std.proofs.Common.{◌≡◌, ℕ, ◌+◌, ◌<◌, ◌≤◌, ◌++◌, ◌∷◌, [], IfSome, ⊎_elim, ◌==◌, if◌then◌else◌, Bool, false, eqb, List, Option}
+use Rattle.std.proofs.Common.{◌≡◌, ℕ, ◌+◌, ◌<◌, ◌≤◌, ◌++◌, ◌∷◌, [], IfSome, ⊎_elim, if◌then◌else◌, Bool, false, List, Option}
 use Rattle.std.proofs.Common.{Some, None, length, get_or, slice_get}
 use Rattle.std.proofs.Common.{ap, arith, refl, sym, subst, ◌∙◌}
-use Rattle.std.specs.Set.{is_member}
 use Rattle.prefix_atoms.proofs.Pushed.{at_place, count_more}
 use Rattle.std.proofs.lemmas.Bool.{cases_lt}
 use Rattle.std.proofs.lemmas.Bool.Decides.{same_from_decides}
@@ -31,15 +31,7 @@ use Rattle.rib_mix.proofs.HomeLaws.{home_listed}
 pub sorts_along : (like other : ℕ → ℕ → Type 0) (parents : List (Option ℕ)) (n : ℕ) (sorts : Sorts) → ((i j : ℕ) → like i j
     → other i j)
     → AreSorts like parents n sorts → AreSorts other parents n sorts
-sorts_along like other parents n sorts along are = record {
-  count = are.count;
-  sorting = are.sorting;
-  each = λ i below. let of_sort = are.each i below in record {
-    within = of_sort.within;
-    like_first = along i (get_or sorts.firsts.items (get_or sorts.of_places.items i 0) 0) of_sort.like_first;
-    parent = of_sort.parent;
-  };
-}
+sorts_along like other parents n sorts along are = grind (arith, common_steps)
 
 -- what router u has, with these tables and this distance, by the homes of the prefixes
 abbrev pub own_of : Spots → List (List ℕ) → ℕ → BothTables → ℕ → Own
@@ -53,11 +45,7 @@ own_of spots homes u both ospf = record {
 -- for two prefixes that are alike at a router it has the same
 same_has : (all : PlacedPrefixes) (u : ℕ) (both : BothTables) (ospf i j : ℕ) → AreLikeAt all both i j
     → HaveSame (has_at (own_of all.spots all.homes u both ospf) i) (has_at (own_of all.spots all.homes u both ospf) j)
-same_has all u both ospf i j like = record {
-  connected = ap (λ (h : List ℕ). is_member eqb h u) like.homes;
-  old = ap (λ (n : Option ℕ). if ospf == 255 then None else n) like.olds;
-  new = like.news;
-}
+same_has all u both ospf i j like = grind (arith, common_steps)
 
 -- who has the same uses the same
 same_over : (one other : Has) (first : Bool) (up : Cell) → HaveSame one other → cell_over one first up ≡ cell_over other first up
@@ -76,15 +64,7 @@ pub sort_cell : (all : PlacedPrefixes) (u : ℕ) (both : BothTables) (ospf : ℕ
     → (i : ℕ) → i < length parents → cell_at cells (sort_at sorts.of_places.items (Some i))
     ≡ cell_over (has_at (own_of all.spots all.homes u both ospf) i) (ltb ospf 115)
     (cell_at cells (sort_at sorts.of_places.items (get_or parents i None)))
-sort_cell all u both ospf parents sorts cells are cells_are i within =
-    let own : Own = own_of all.spots all.homes u both ospf in
-    let sort : ℕ = get_or sorts.of_places.items i 0 in
-    let j : ℕ = get_or sorts.firsts.items sort 0 in
-    let of_sort = are.each i within in
-    let up : Cell = cell_at cells (get_or sorts.parents.items sort None) in
-    cells_are.each sort of_sort.within
-    ∙ sym (same_over (has_at own i) (has_at own j) (ltb ospf 115) up (same_has all u both ospf i j of_sort.like_first))
-    ∙ ap (λ (o : Option ℕ). cell_over (has_at own i) (ltb ospf 115) (cell_at cells o)) of_sort.parent
+sort_cell all u both ospf parents sorts cells are cells_are i within = grind (arith, common_steps, same_has, same_over)
 
 -- the cells that are made by the spots of the sorts are those of the sorts
 pub sort_cells : (spots : Spots) (sorts : Sorts) (homes : List (List ℕ)) (routers u : ℕ) (both : BothTables) (ospf : ℕ)

@@ -1,7 +1,8 @@
 -- Sorts as they are found, one prefix after another.
+use Rattle.std.proofs.lemmas.Grind.{common_steps}
 use Rattle.std.proofs.Common.{◌≡◌, ℕ, ◌+◌, ◌<◌, ◌≤◌, ◌++◌, ◌∷◌, [], List, Option, Some, None, IfSome, length, get_or, ap, arith}
 use Rattle.std.proofs.Common.{refl, sym, subst, ◌∙◌}
-use Rattle.std.proofs.Common.{⊎_elim, length-append}
+use Rattle.std.proofs.Common.{length-append}
 use Rattle.std.proofs.lemmas.Bool.{cases_lt}
 use Rattle.std.proofs.lemmas.List.{get_or_append_left, get_or_push}
 use Rattle.rib_mix.specs.steps.Sorts.{AreEarlierPlaces, AreSorts, IsOfSort, sort_at}
@@ -11,12 +12,7 @@ use Rattle.rib_mix.specs.declared.sorts.Sorts.{Sorts}
 pushed : {X : Type 0} (P : ℕ → X → Type 0) (xs : List X) (x d : X) → ((k : ℕ) → k < length xs → P k (get_or xs k d))
     → P (length xs) x
     → (k : ℕ) → k < length (xs ++ x ∷ []) → P k (get_or (xs ++ x ∷ []) k d)
-pushed P xs x d each here k within = ⊎_elim
-    (λ (l : k < length xs). subst (P k) (sym (get_or_append_left xs (x ∷ []) d k l)) (each k l))
-    (λ (l : length xs ≤ k).
-    let same : length xs ≡ k = omega (arith, within, length-append xs (x ∷ [])) in
-    subst (P k) (sym (get_or_push xs x d k same)) (subst (λ (n : ℕ). P n x) same here))
-    (cases_lt k (length xs))
+pushed P xs x d each here k within = grind (arith, common_steps, cases_lt, get_or_append_left, get_or_push)
 
 -- an earlier place has the sort that it had
 pub sort_kept : (of_places : List ℕ) (sort : ℕ) (o : Option ℕ) → IfSome o (λ j. j < length of_places)
@@ -28,16 +24,7 @@ sort_kept of_places sort (Some j) before = ap Some (sym (get_or_append_left of_p
 pub no_sorts : (like : ℕ → ℕ → Type 0) (parents : List (Option ℕ)) (sorts : Sorts) → sorts.of_places.items ≡ []
     → sorts.firsts.items ≡ []
     → sorts.parents.items ≡ [] → AreSorts like parents 0 sorts
-no_sorts like parents sorts of_is firsts_are parents_are = record {
-  count = ap length of_is;
-  sorting = record {
-    count = ap length parents_are ∙ sym (ap length firsts_are);
-    firsts = λ s below. let none : length sorts.firsts.items ≡ 0 = ap length firsts_are in absurd (omega (arith, below, none));
-    parents = λ s below. let none : length sorts.firsts.items ≡ 0 = ap length firsts_are in absurd (omega (arith, below, none));
-    within = λ i below. let none : length sorts.of_places.items ≡ 0 = ap length of_is in absurd (omega (arith, below, none));
-  };
-  each = λ i below. absurd (omega (arith, below));
-}
+no_sorts like parents sorts of_is firsts_are parents_are = grind (arith, common_steps)
 
 -- what is before a place is before a later one
 pub still_before : (n place : ℕ) (o : Option ℕ) → place ≤ n → IfSome o (λ j. j < place) → IfSome o (λ j. j < n)

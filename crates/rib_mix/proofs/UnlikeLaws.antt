@@ -1,6 +1,7 @@
 -- Routers that may treat two classes differently, one after the other.
-use Rattle.std.proofs.Common.{◌≡◌, ℕ, ◌+◌, ◌<◌, ◌≤◌, ◌⊎◌, inl, inr, List, [], ◌∷◌, ◌++◌, All, Contains, length, get_or}
-use Rattle.std.proofs.Common.{arith, below_more, sym, ap, ◌∙◌, ⊎_elim, length-append}
+use Rattle.std.proofs.lemmas.Grind.{common_steps}
+use Rattle.std.proofs.Common.{◌≡◌, ℕ, ◌+◌, ◌<◌, ◌⊎◌, inl, inr, List, [], ◌∷◌, ◌++◌, All, Contains, get_or}
+use Rattle.std.proofs.Common.{arith, below_more, ap, ◌∙◌}
 use Rattle.std.proofs.lemmas.Bool.{cases_lt}
 use Rattle.std.proofs.lemmas.List.{append-nil, append_assoc, get_or_append_left, get_or_push}
 use Rattle.std.proofs.lemmas.List.Elements.{All-push, Contains-append_left, Contains-push}
@@ -9,27 +10,11 @@ use Rattle.rib_mix.specs.Answers.{AddsAllBut}
 
 -- an ascending list takes a number above all of it
 pub ascending_push : (xs : List ℕ) (n : ℕ) → IsStrictlyIncreasing xs → All (λ x. x < n) xs → IsStrictlyIncreasing (xs ++ n ∷ [])
-ascending_push xs n up below k within =
-    let long : length (xs ++ n ∷ []) ≡ length xs + 1 = length-append xs (n ∷ []) in
-    let here : get_or (xs ++ n ∷ []) k 0 ≡ get_or xs k 0 = get_or_append_left xs (n ∷ []) 0 k (omega arith) in
-    ⊎_elim
-    (λ (l : k + 1 < length xs).
-    let next : get_or (xs ++ n ∷ []) (k + 1) 0 ≡ get_or xs (k + 1) 0 = get_or_append_left xs (n ∷ []) 0 (k + 1) l in
-    let s : get_or xs k 0 < get_or xs (k + 1) 0 = up k l in omega arith)
-    (λ (l : length xs ≤ k + 1).
-    let next : get_or (xs ++ n ∷ []) (k + 1) 0 ≡ n = get_or_push xs n 0 (k + 1) (omega arith) in
-    let s : get_or xs k 0 < n = below k 0 (omega arith) in omega arith)
-    (cases_lt (k + 1) (length xs))
+ascending_push xs n up below k within = grind (arith, common_steps, cases_lt, get_or_append_left, get_or_push)
 
 -- none is added of none
 pub none_added : (Is : ℕ → Type 0) (old : List ℕ) → AddsAllBut Is 0 old old
-none_added Is old = record {
-  added = [];
-  new_is = sym (append-nil old);
-  ascending = λ k within. absurd (omega (arith, within));
-  below = λ k d within. absurd (omega (arith, within));
-  whole = λ u below. absurd (omega (arith, below));
-}
+none_added Is old = grind (arith, common_steps, append-nil)
 
 -- the next router is added, or something holds for it
 pub added_more : (Is : ℕ → Type 0) (n : ℕ) (old mid new : List ℕ) → AddsAllBut Is n old mid
@@ -57,10 +42,4 @@ added_more Is n old mid new are (inr none) = record {
 -- what holds for those that aren't added says something else of them
 pub added_along : (One Other : ℕ → Type 0) (n : ℕ) (old new : List ℕ) → ((u : ℕ) → u < n → One u → Other u)
     → AddsAllBut One n old new → AddsAllBut Other n old new
-added_along One Other n old new along are = record {
-  added = are.added;
-  new_is = are.new_is;
-  ascending = are.ascending;
-  below = are.below;
-  whole = λ u below. elim (are.whole u below) [ inl among ↦ inl among | inr is ↦ inr (along u below is) ];
-}
+added_along One Other n old new along are = grind (arith, common_steps)

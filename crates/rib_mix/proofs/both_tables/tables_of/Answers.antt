@@ -1,4 +1,5 @@
-use Rattle.std.proofs.Common.{◌≡◌, ◌∙◌, ℕ, List, ap, arith, subst, sym}
+use Rattle.std.proofs.lemmas.Grind.{common_steps}
+use Rattle.std.proofs.Common.{◌≡◌, ◌∙◌, ℕ, List, ap, arith}
 use Rattle.net_addr.specs.Addresses.{Block}
 use Rattle.route_core.specs.Rows.{IsTable, KeptTable, kept_in, listed}
 use Rattle.route_core.specs.declared.entry.Entry.{Entry}
@@ -12,10 +13,7 @@ use Rattle.rib_mix.proofs.both_tables.tables_of.Goals as goal
 -- what the parts of a table say
 over_from : (parts : TableParts) (kept : KeptTable) (prefixes : List Block) → kept_in parts ≡ kept → IsTable kept → kept.prefixes ≡ prefixes
     → IsTableOver prefixes parts
-over_from parts kept prefixes is table shared = record {
-  table = subst IsTable (sym is) table;
-  prefixes_are = ap (λ (k : KeptTable). k.prefixes) is ∙ shared;
-}
+over_from parts kept prefixes is table shared = grind (arith, common_steps)
 
 pub loop-router-preserved : goal.loop-router-preserved
 loop-router-preserved g c =

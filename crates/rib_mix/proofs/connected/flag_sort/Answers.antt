@@ -1,3 +1,5 @@
+use Rattle.std.proofs.Common.{arith}
+use Rattle.std.proofs.lemmas.Grind.{common_steps}
 use Rattle.std.proofs.Common.{◌≡◌, ◌++◌, ◌∷◌, ◌+◌, [], ℕ, List, get_or, sym, subst, take}
 use Rattle.std.proofs.lemmas.List.{take_all, take_more}
 use Rattle.rib_mix.specs.steps.ConnectedSorts.{FlagsSort}
@@ -18,6 +20,4 @@ loop-router-preserved c =
     c.requires c.flag_at.ensures c.loop-router.invariant)
 
 pub returns : goal.returns
-returns c =
-    subst (λ (seen : List ℕ). FlagsSort c.args.sort seen c.args.rows.now.items c.loop-router.rows.items)
-    (take_all c.loop-router.router-index c.args.routers.now c.loop-router-test.false) c.loop-router.invariant
+returns c = grind (arith, common_steps, take_all)

@@ -1,3 +1,5 @@
+use Rattle.std.proofs.Common.{arith}
+use Rattle.std.proofs.lemmas.Grind.{common_steps}
 use Rattle.std.proofs.Common.{◌≡◌, ◌++◌, ◌∷◌, ◌+◌, [], ℕ, List, sym, subst, take, ap, ◌∙◌}
 use Rattle.std.proofs.lemmas.List.{take_all, take_more}
 use Rattle.net_addr.specs.Addresses.{Block}
@@ -23,7 +25,4 @@ loop-subnet-preserved c =
     (c.place_of_prefix-place.ensures.missed c.requires.ascending) c.in_ok-put_home.ensures c.loop-subnet.invariant)
 
 pub returns : goal.returns
-returns c =
-    subst (λ (seen : List Block). GainHomes c.args.prefixes.now c.args.router seen c.args.homes.now.items
-    c.loop-subnet.homes.items)
-    (take_all c.loop-subnet.subnet-index c.args.subnets.now c.loop-subnet-test.false) c.loop-subnet.invariant
+returns c = grind (arith, common_steps, take_all)

@@ -1,4 +1,5 @@
-use Rattle.std.proofs.Common.{◌≡◌, ◌<◌, ◌∙◌, inl, inr, ℕ, Bool, List, [], Some, below_more, get_or, length, map, slice_get, ap, arith}
+use Rattle.std.proofs.lemmas.Grind.{common_steps}
+use Rattle.std.proofs.Common.{◌≡◌, ◌<◌, ◌∙◌, ℕ, Bool, List, [], Some, below_more, get_or, length, map, slice_get, arith}
 use Rattle.std.proofs.Common.{refl, sym, subst}
 use Rattle.std.proofs.lemmas.Bool.{cases_eq}
 use Rattle.std.proofs.lemmas.List.{get_or_default}
@@ -41,10 +42,7 @@ put_cells-requires-clause-spots c =
 -- of so many cells is each row, where the new one is
 lengths_kept : (u sorts : ℕ) (old new : List (List Cell)) → AreOtherRows u old new → length (get_or new u []) ≡ sorts
     → HaveLength sorts old → HaveLength sorts new
-lengths_kept u sorts old new others own are v below = elim (cases_eq v u) [
-  | inl same ↦ subst (λ (n : ℕ). length (get_or new n []) ≡ sorts) (sym same) own
-  | inr apart ↦ ap length (others.others v apart) ∙ are v (omega (arith, below, others.count))
-]
+lengths_kept u sorts old new others own are v below = grind (arith, common_steps, cases_eq)
 
 pub loop-router-preserved : goal.loop-router-preserved
 loop-router-preserved c =

@@ -1,9 +1,9 @@
-use Rattle.std.proofs.Common.{◌≡◌, ap, ◌∙◌, ◌<◌, IfSome, List, None, Option, arith, get_or, length, subst, sym, ℕ}
+use Rattle.std.proofs.lemmas.Grind.{common_steps}
+use Rattle.std.proofs.Common.{ap, ◌<◌, IfSome, List, None, Option, arith, get_or, length, subst, sym, ℕ}
 use Rattle.net_addr.specs.Addresses.{Block}
 use Rattle.prefix_atoms.proofs.Pushed.{at_place}
-use Rattle.rib_mix.specs.steps.Features.{AreFeatures, HaveFeatures, HaveSameFeatures}
+use Rattle.rib_mix.specs.steps.Features.{AreFeatures, HaveSameFeatures}
 use Rattle.rib_mix.specs.declared.features.Features.{Features}
-use Rattle.rib_mix.specs.steps.Homes.{ArePrefixHomes}
 use Rattle.rib_mix.specs.steps.Likeness.{AreLike}
 use Rattle.rib_mix.specs.steps.Sorts.{AreSorts}
 use Rattle.rib_mix.proofs.FeatureLaws.{features_alike}
@@ -12,11 +12,7 @@ use Rattle.rib_mix.proofs.UpLaws.{parent_of}
 use Rattle.rib_mix.proofs.mixed.sorts_of.Goals as goal
 
 pub of_features-requires-clause-features : goal.of_features-requires-clause-features
-of_features-requires-clause-features c =
-    let same : length c.prefixes.result.now ≡ length c.parents.result.now =
-    ap length c.prefixes.ensures.prefixes ∙ sym c.parents.ensures.classing.nested.count
-    ∙ sym (ap length c.parents.ensures.parents) in
-    subst (λ (n : ℕ). HaveFeatures n c.in_ok-features.features) same c.in_ok-features.ensures.places
+of_features-requires-clause-features c = grind (arith, common_steps)
 
 pub of_features-requires-clause-parents : goal.of_features-requires-clause-parents
 of_features-requires-clause-parents c = λ i below.
@@ -26,11 +22,7 @@ of_features-requires-clause-parents c = λ i below.
     (parent_of c.args.atoms.now i p.0 c.parents.ensures.classing p.1).before
 
 pub returns-clause-homes : goal.returns-clause-homes
-returns-clause-homes c =
-    let are : AreFeatures c.args.atoms.now.prefixes c.args.subnets.now c.args.tables.now c.in_ok-features.features =
-    subst (λ (ps : List Block). AreFeatures ps c.args.subnets.now c.args.tables.now c.in_ok-features.features)
-    c.prefixes.ensures.prefixes c.in_ok-features.ensures.are in
-    subst (ArePrefixHomes c.args.atoms.now.prefixes c.args.subnets.now) (sym c.into_homes.ensures) are.homes
+returns-clause-homes c = grind (arith, common_steps)
 
 pub returns-clause-sorts : goal.returns-clause-sorts
 returns-clause-sorts c =

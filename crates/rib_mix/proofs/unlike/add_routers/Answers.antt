@@ -1,12 +1,11 @@
-use Rattle.std.proofs.Common.{◌≡◌, ℕ, arith, inl, subst}
+use Rattle.std.proofs.lemmas.Grind.{common_steps}
+use Rattle.std.proofs.Common.{◌≡◌, ℕ, arith, subst}
 use Rattle.rib_mix.specs.Answers.{AddsAllBut}
 use Rattle.rib_mix.proofs.UnlikeLaws.{added_more}
 use Rattle.rib_mix.proofs.unlike.add_routers.Goals as goal
 
 pub loop-router-preserved : goal.loop-router-preserved
-loop-router-preserved c =
-    added_more (λ (u : ℕ). ⊥) c.loop-router.router c.args.all.now.items c.loop-router.all.items c.push.new.self.items
-    c.loop-router.invariant (inl c.in_ok-push.ensures.items)
+loop-router-preserved c = grind (arith, common_steps, added_more)
 
 pub returns : goal.returns
 returns c =

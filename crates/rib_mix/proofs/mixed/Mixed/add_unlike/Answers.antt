@@ -1,3 +1,5 @@
+use Rattle.std.proofs.Common.{arith}
+use Rattle.std.proofs.lemmas.Grind.{common_steps}
 use Rattle.std.proofs.Common.{◌<◌, ℕ, Option, IfSome, length, refl, sym, subst}
 use Rattle.std.proofs.lemmas.Result.{on_ok_weaker}
 use Rattle.rib_mix.specs.Answers.{AddsAllBut, IsAlikeToKnown}
@@ -31,9 +33,4 @@ returns-in-Some g c = on_ok_weaker c.add_unlike_cells.result (λ added. subst
     (sym c.self.view_is) c.requires.known) c.in-Some.ensures added)) c.add_unlike_cells.ensures
 
 pub returns-in-None : goal.returns-in-None
-returns-in-None g c = on_ok_weaker c.add_routers.result (λ added. subst
-    (λ (x : Mixture g.row.O.Denot g.row.N.Denot). AddsAllBut
-    (IsAlikeToKnown (migration_of g.O.RouteSource.table g.N.RouteSource.table x) x.classes c.args.known c.args.atom)
-    (length x.net) c.args.unlike.now.items c.add_routers.new.all.items) c.self.view_is
-    (adds_routers _ _ _ c.args.unlike.now.items c.add_routers.new.all.items c.routers-routers.ensures.count added))
-    c.add_routers.ensures
+returns-in-None g c = grind (arith, common_steps, adds_routers, on_ok_weaker)

@@ -1,3 +1,4 @@
+use Rattle.std.proofs.lemmas.Grind.{common_steps}
 use Rattle.std.proofs.Common.{◌≡◌, ◌∙◌, ℕ, List, Option, arith, length, ap, subst, sym}
 use Rattle.std.proofs.lemmas.List.{length-map}
 use Rattle.net_addr.specs.Addresses.{Block}
@@ -40,13 +41,7 @@ columns_of-requires-clause-homes g c =
     c.in_ok-sorted.sorted.homes.items c.as_slice-2.ensures.value c.in_ok-subnets.ensures c.in_ok-sorted.ensures.homes)
 
 pub columns_of-requires-clause-sorts : goal.columns_of-requires-clause-sorts
-columns_of-requires-clause-sorts g c =
-    let parents : List (Option ℕ) = c.in_ok-atoms.atoms.parents in
-    subst (λ (homes : List (List ℕ)). AreSorts (AreLike (record { spots = c.in_ok-spots.spots; homes = homes })
-    c.as_slice-5.result.now) parents (length parents) c.in_ok-sorted.sorted.sorts) (sym c.as_slice-4.ensures.value)
-    (read_sorts (record { spots = c.in_ok-spots.spots; homes = c.in_ok-sorted.sorted.homes.items }) c.as_slice-5.result.now
-    c.as_slice-3.result.now parents c.in_ok-sorted.sorted.sorts (c.as_slice-3.ensures.value ∙ sym c.as_slice-5.ensures.value)
-    c.in_ok-sorted.ensures.sorts)
+columns_of-requires-clause-sorts g c = grind (arith, common_steps, read_sorts)
 
 pub invariant_of-result : goal.invariant_of-result
 invariant_of-result g c =

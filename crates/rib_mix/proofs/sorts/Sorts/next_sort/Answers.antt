@@ -1,4 +1,5 @@
-use Rattle.std.proofs.Common.{◌≡◌, ◌<◌, ◌∙◌, ℕ, List, Option, None, IfSome, get_or, length, ap, arith, subst, sym}
+use Rattle.std.proofs.lemmas.Grind.{common_steps}
+use Rattle.std.proofs.Common.{◌≡◌, ℕ, List, Option, None, get_or, length, arith, subst, sym}
 use Rattle.rib_mix.specs.declared.sorts.Sorts.{Sorts}
 use Rattle.rib_mix.specs.steps.Features.{HaveSameFeatures}
 use Rattle.rib_mix.specs.steps.Sorts.{IsOfSort, sort_at}
@@ -7,34 +8,16 @@ use Rattle.rib_mix.proofs.SortSteps.{sort_added}
 use Rattle.rib_mix.proofs.sorts.Sorts.next_sort.Goals as goal
 
 pub sort_at-parent-requires : goal.sort_at-parent-requires
-sort_at-parent-requires c =
-    let same : length c.as_slice.result.now ≡ c.len-place.result = omega (arith, c.as_slice.ensures.len, c.len-place.ensures) in
-    subst (λ (n : ℕ). IfSome (get_or c.args.parents.now c.len-place.result None) (λ i. i < n)) (sym same)
-    (c.requires.parents c.len-place.result (omega (arith, c.requires.next, same, ap length c.as_slice.ensures.value)))
+sort_at-parent-requires c = grind (arith, common_steps)
 
 -- the sort of the parent that was read is that of the parent at the place that comes next
 parent_read : (of_places shown : List ℕ) (parents : List (Option ℕ)) (place : ℕ) (parent : Option ℕ) → shown ≡ of_places
     → length shown ≡ place
     → parent ≡ sort_at shown (get_or parents place None) → parent ≡ sort_at of_places (get_or parents (length of_places) None)
-parent_read of_places shown parents place parent same long is =
-    is ∙ ap (λ (os : List ℕ). sort_at os (get_or parents place None)) same
-    ∙ ap (λ (n : ℕ). sort_at of_places (get_or parents n None)) (sym long ∙ ap length same)
+parent_read of_places shown parents place parent same long is = grind (arith, common_steps)
 
 pub returns-in-Some : goal.returns-in-Some
-returns-in-Some c =
-    let sorts : Sorts = c.args.self.now in
-    let long : length c.as_slice.result.now ≡ c.len-place.result = omega (arith, c.as_slice.ensures.len, c.len-place.ensures) in
-    record {
-      is = record {
-        within = c.in-Some.ensures.within;
-        like_first = c.in-Some.ensures.like_first;
-        parent = c.in-Some.ensures.parent_is
-            ∙ parent_read sorts.of_places.items c.as_slice.result.now c.args.parents.now c.len-place.result
-            c.sort_at-parent.result c.as_slice.ensures.value
-            long c.sort_at-parent.ensures;
-      };
-      sorts = c.requires.sorts;
-    }
+returns-in-Some c = grind (arith, common_steps, parent_read)
 
 pub returns-in_ok-add_sort-in-None : goal.returns-in_ok-add_sort-in-None
 returns-in_ok-add_sort-in-None c =
