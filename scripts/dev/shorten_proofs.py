@@ -18,8 +18,9 @@ import subprocess
 from typing import NamedTuple
 
 IMPORT = re.compile(r"^(?:pub )?use (Rattle\.[\w.]+)\.\{([^}]*)\}", re.M)
-EQUATION = re.compile(r"^([^\s(){}:=,]+)((?: [^=:]*)?) =(\s|$)")
-SIGNED = re.compile(r"^(?:pub )?([^\s(){}:=,]+) :", re.M)
+# Proofs stand at a line's beginning, in a module behind two blanks.
+EQUATION = re.compile(r"^(?:  )?([^\s(){}:=,]+)((?: [^=:]*)?) =(\s|$)")
+SIGNED = re.compile(r"^(?:  )?(?:pub )?([^\s(){}:=,]+) :", re.M)
 # What gives a value and proves nothing.
 VALUE = re.compile(r"(?:.*→ )?(?:List|Option|Result|ℕ|Bool|Type)\b[^≡<≤×]*$")
 VARIABLE = re.compile(r"[a-z][\w-]*")
@@ -53,7 +54,7 @@ def lemmas_of(text):
 
 def left_side(line, name):
     """The arguments of an equation, as they stand between its name and its `=`."""
-    said, found, depth = line[len(name) : line.index(" =")].strip(), [""], 0
+    said, found, depth = line[line.index(name) + len(name) : line.index(" =")].strip(), [""], 0
     for sign in said:
         depth += (sign in "({") - (sign in ")}")
         if sign == " " and not depth:
@@ -65,7 +66,7 @@ def left_side(line, name):
 
 def whole_head(name, sides, signature):
     """One equation's head in the place of several: an argument by a variable of one of them, else by its name in the type."""
-    named = [it for group in re.findall(r"\(([^():]+) :", signature.split(" : ", 1)[1]) for it in group.split()]
+    named = [it for group in re.findall(r"\(([^():]+) :", signature.split(" :", 1)[1]) for it in group.split()]
     arguments = []
     for place in range(len(sides[0])):
         plain = [side[place] for side in sides if VARIABLE.fullmatch(side[place]) and side[place] not in CLOSED]
@@ -75,12 +76,14 @@ def whole_head(name, sides, signature):
 
 def proofs_of(text, least):
     """The proofs of a file that can be tried. Several equations that follow each other are one proof by cases."""
-    lines, equations, place = text.split("\n"), {}, 0
+    lines, equations, place, in_module = text.split("\n"), {}, 0, False
     while place < len(lines):
         begun, first = EQUATION.match(lines[place]), place
         place += 1
-        if begun and not lines[first].startswith(("use ", "--", "abbrev", "pub ")):
-            while place < len(lines) and lines[place].startswith((" ", ")", "]", "}")):
+        depth = "  " * lines[first].startswith("  ")
+        in_module = in_module if depth or not lines[first] else lines[first].startswith("module ")
+        if begun and (in_module or not depth) and not lines[first].strip().startswith(("use ", "--", "abbrev", "pub ")):
+            while place < len(lines) and lines[place].startswith(tuple(depth + it for it in (" ", ")", "]", "}"))):
                 place += 1
             equations.setdefault(begun[1], []).append((first, place))
     lemmas, own = lemmas_of(text), set(SIGNED.findall(text))
@@ -92,7 +95,7 @@ def proofs_of(text, least):
         is_whole = end - first == sum(ended - begun for begun, ended in spans)
         if not is_whole or end - first < least or words & {name, "where", "grind"}:
             continue
-        if name not in signatures or VALUE.fullmatch(signatures[name].split(" : ", 1)[1]):
+        if name not in signatures or VALUE.fullmatch(signatures[name].split(" :", 1)[1]):
             continue
         head = lines[first][: lines[first].index(" =") + 2]
         if len(spans) > 1:
@@ -100,6 +103,7 @@ def proofs_of(text, least):
             if len({len(it) for it in sides}) > 1:
                 continue
             head = whole_head(name, sides, signatures[name])
+            head = head and "  " * lines[first].startswith("  ") + head
         known = {it for it in words if it in lemmas and (it[0].islower() or "-" in it) or it in own and it[0].islower()}
         if head:
             yield Proof(name, first, end, head, sorted(known))
@@ -111,7 +115,7 @@ def shortened(text, proofs):
     for proof in sorted(proofs, key=lambda it: -it.first):
         call = f"grind ({', '.join(['arith', 'common_steps'] + proof.cited)})"
         short = len(proof.head) + len(call) < WIDTH
-        lines[proof.first : proof.end] = [f"{proof.head} {call}"] if short else [proof.head, f"    {call}"]
+        lines[proof.first : proof.end] = [f"{proof.head} {call}"] if short else [proof.head, f"      {call}"]
     text = "\n".join(lines)
     for line, there in ((GRIND, r"Grind\.\{[^}]*common_steps"), (ARITH, r"(?s)\A(?:(?!\n\n).)*\barith\b")):
         if not re.search(there, text):
