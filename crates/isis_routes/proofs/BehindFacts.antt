@@ -17,13 +17,15 @@ use Rattle.route_tables.specs.declared.lane.Decision.TheVariants.{Nothing, Nothi
 use Rattle.route_tables.proofs.ListFacts.{the_one}
 use Rattle.isis_routes.specs.steps.Destinations.{HasAnnouncements}
 use Rattle.isis_routes.specs.steps.Domain.{IsisDomain, IsKnown}
-use Rattle.isis_routes.specs.steps.Lanes.{IsBehindOne, IsDecisionAmong, IsFirstOf, IsInLane, IsSecondOf, made_at_homes, left_open}
-use Rattle.isis_routes.specs.steps.Lanes.{no_first, by_first, nothing_left, left_unknown}
+use Rattle.isis_routes.specs.steps.Lanes.{IsBehind, IsDecisionAmong, IsFirstOf, IsInLane, IsOfIsisLane, IsSecondIn, made_at_homes, left_open}
+use Rattle.isis_routes.specs.steps.Lanes.{behind_both, behind_one, by_first, first_zone, lane_number, left_unknown, no_first, not_known, nothing_left}
 use Rattle.isis_routes.specs.steps.LevelReach.{level_reach}
 use Rattle.isis_routes.specs.steps.Routes.{given_by_isis}
 use Rattle.isis_routes.specs.declared.destinations.Destination.{Destination}
-use Rattle.isis_routes.specs.declared.level.Level.TheVariants.{One}
+use Rattle.isis_routes.specs.declared.lanes.LevelLane.{LevelLane}
+use Rattle.isis_routes.specs.declared.lanes.LevelLane.TheVariants.{OneAlone, TwoAlone, Both}
 use Rattle.isis_routes.proofs.EntryFacts.{unoffered}
+use Rattle.isis_routes.proofs.LaneFacts.{two_decides}
 use Rattle.isis_routes.proofs.LeadFacts.{as_good, one_leads}
 
 -- an offer at a vertex that isn't reached costs nothing in all
@@ -48,7 +50,7 @@ missed_none reach u offers Unknown is missed = absurd is
 
 -- a router that misses the first offers has no level 1 route
 no_level_one : (domain : IsisDomain) (u : ℕ) (d : Destination) (first : Decision) → IsKnown domain → HasAnnouncements domain.net d →
-    u < length domain.net → RunsLevelOne domain.net u → IsFirstOf d first → MissesOffers (level_reach domain.walks u 0) u first →
+    u < length domain.net → RunsLevelOne domain.net u → IsFirstOf domain.net d first → MissesOffers (level_reach domain.walks u 0) u first →
     (Connected domain.net u d.one.dest → ⊥) → HasLevelOneRoute domain.net d.one.dest u → ⊥
 no_level_one domain u d first known has within runs (no_first is empty) missed away =
     unoffered domain.net d.one.dest u d.one.offers.items has.one.offers empty
@@ -59,7 +61,7 @@ no_level_one domain u d first known has within runs (by_first (made_at_homes at_
     (missed_none (level_reach domain.walks u 0) u d.one.offers.items first among missed)
 
 -- a router that runs level 1 alone and has no level 1 route has no entry where nothing is leaked, but for all addresses
-no_entry : (domain : IsisDomain) (u : ℕ) (d : Destination) → HasAnnouncements domain.net d → IsInLane domain.net One u → length d.down.items ≡ 0 →
+no_entry : (domain : IsisDomain) (u : ℕ) (d : Destination) → HasAnnouncements domain.net d → IsInLane domain.net OneAlone u → length d.down.items ≡ 0 →
     (d.one.dest ≡ default_prefix → ⊥) → ((Connected domain.net u d.one.dest → ⊥) → HasLevelOneRoute domain.net d.one.dest u → ⊥) →
     (e : Entry) → IsisEntry domain.net u d.one.dest e → ⊥
 no_entry domain u d has lane empty some none e (level_one away is _) = none away is
@@ -70,12 +72,31 @@ no_entry domain u d has lane empty some none e (down _ _ _ is _) =
 no_entry domain u d has lane empty some none e (default_route _ _ _ _ all _ _ _) = some all
 
 -- what decides behind what level 1 offers decides the routes of the routers that miss it
-pub behind_decides : (domain : IsisDomain) (zone u : ℕ) (d : Destination) (behind : Behind) → IsKnown domain → HasAnnouncements domain.net d →
-    u < length domain.net → IsInLane domain.net One u → IsBehindOne d behind → MissesOffers (level_reach domain.walks u 0) u behind.first →
-    DecidesAt (given_by_isis domain) zone u d.one.dest behind.second
-behind_decides domain zone u d behind known has within lane is missed = go is.second
+pub behind_decides : (domain : IsisDomain) (own : LevelLane) (lane zone u : ℕ) (d : Destination) (behind : Behind) → IsKnown domain →
+    HasAnnouncements domain.net d → lane_number own ≡ lane → IsOfIsisLane domain.net lane u → IsBehind domain.net own zone d behind →
+    MissesOffers (level_reach domain.walks u (first_zone lane)) u behind.first → DecidesAt (given_by_isis domain) zone u d.one.dest behind.second
+behind_decides domain own lane zone u d behind known has numbered of is missed = go own numbered is.second
   where
-    go : IsSecondOf d behind.second → DecidesAt (given_by_isis domain) zone u d.one.dest behind.second
-    go (nothing_left same empty some) = subst (DecidesAt (given_by_isis domain) zone u d.one.dest) (sym same)
-        (no_entry domain u d has lane empty some (no_level_one domain u d behind.first known has within lane.0 is.first missed))
-    go (left_unknown same) = subst (DecidesAt (given_by_isis domain) zone u d.one.dest) (sym same) tt
+    left : behind.second ≡ Unknown → DecidesAt (given_by_isis domain) zone u d.one.dest behind.second
+    left same = subst (DecidesAt (given_by_isis domain) zone u d.one.dest) (sym same) tt
+
+    -- without a level 1 route, where it is looked for there first
+    none : RunsLevelOne domain.net u → first_zone lane ≡ 0 → (Connected domain.net u d.one.dest → ⊥) → HasLevelOneRoute domain.net d.one.dest u → ⊥
+    none runs first = no_level_one domain u d behind.first known has of.below runs is.first
+        (subst (λ (z : ℕ). MissesOffers (level_reach domain.walks u z) u behind.first) first missed)
+
+    go : (l : LevelLane) → lane_number l ≡ lane → IsSecondIn domain.net l zone d behind.second → DecidesAt (given_by_isis domain) zone u d.one.dest behind.second
+    go OneAlone same (behind_one _ (nothing_left nothing empty some)) =
+        let inside = of.of_lane OneAlone same in
+        subst (DecidesAt (given_by_isis domain) zone u d.one.dest) (sym nothing)
+        (no_entry domain u d has inside empty some (none inside.0 (sym (ap first_zone same))))
+    go Both same (behind_both _ two by) =
+        let inside = of.of_lane Both same in
+        subst (λ (z : ℕ). DecidesAt (given_by_isis domain) z u d.one.dest behind.second) (sym two)
+        (two_decides domain u d behind.second known has of.below inside.1 (none inside.0 (sym (ap first_zone same))) by)
+    go l same (behind_one _ (left_unknown unknown)) = left unknown
+    go l same (not_known unknown) = left unknown
+    go TwoAlone same (behind_one wrong _) = absurd (let no : TwoAlone ≡ OneAlone = wrong in cc)
+    go TwoAlone same (behind_both wrong _ _) = absurd (let no : TwoAlone ≡ Both = wrong in cc)
+    go OneAlone same (behind_both wrong _ _) = absurd (let no : OneAlone ≡ Both = wrong in cc)
+    go Both same (behind_one wrong _) = absurd (let no : Both ≡ OneAlone = wrong in cc)

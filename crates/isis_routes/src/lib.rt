@@ -13,8 +13,8 @@
 //! 4. `announcements.rt`: what is announced into level 2 (RFC 1195, section 3.2).
 //! 5. `leaked.rt`: what is announced into level 1, marked down (RFC 5302).
 //! 6. `alike.rt`: prefixes with the same routes.
-//! 7. `lanes.rt`: the lanes of routers, and what decides the routes of all that run level 2, and of all that run level 1 alone,
-//!    also where these reach none of the level 1 offers.
+//! 7. `lanes.rt`: the lanes of routers, by the levels that they run, and what decides the routes of all routers of a lane, also
+//!    where those of level 1 reach none of its offers.
 //! 8. For a router and a prefix (`asked.rt`): `entry.rt`: the level 1 route, else the level 2 route, else the down route, else
 //!    the default; `leading.rt`: the offers that lead the first two.
 //!

@@ -12,10 +12,9 @@ use crate::destinations::{Destination, destinations};
 use crate::domain::Domain;
 use crate::entry::route_of;
 use crate::lanes::{
-    LANES, behind_level_one, decision_of, lane_of_level, level_of_lane, router_level,
+    LANES, LevelLane, behind_of, decision_of, lane_of_number, number_of_lane, router_lane,
 };
-use crate::level::Level;
-use crate::level_walks::ZONE_ONE;
+use crate::level_walks::ZONE_TWO;
 use crate::segments::LevelSegments;
 use net_addr::Prefix;
 use net_model::Net;
@@ -143,7 +142,7 @@ impl<'a> Protocol for Isis<'a> {
     }
 
     fn lane(&self, router: u32) -> usize {
-        lane_of_level(router_level(self.domain(), router))
+        number_of_lane(router_lane(self.domain(), router))
     }
 
     fn alike(&self, _lane: usize, place: usize) -> Option<usize> {
@@ -151,28 +150,27 @@ impl<'a> Protocol for Isis<'a> {
     }
 
     fn zone_of_lane(&self, lane: usize) -> Option<usize> {
-        let level = level_of_lane(lane)?;
-        Some(level.zone())
+        Some(lane_of_number(lane)?.zone())
     }
 
     fn decision(&self, lane: usize, place: usize) -> Decision {
-        match level_of_lane(lane) {
-            Some(level) => decision_of(self.destination(place), level),
+        match lane_of_number(lane) {
+            Some(own) => decision_of(self.domain(), self.destination(place), own),
             None => Decision::Unknown,
         }
     }
 
     fn zone_behind(&self, lane: usize) -> Option<usize> {
-        match level_of_lane(lane)? {
-            Level::One => Some(ZONE_ONE),
-            Level::Two => None,
+        match lane_of_number(lane)? {
+            LevelLane::TwoAlone => None,
+            LevelLane::OneAlone | LevelLane::Both => Some(ZONE_TWO),
         }
     }
 
-    fn behind(&self, lane: usize, place: usize, _zone: usize) -> Behind {
-        match level_of_lane(lane) {
-            Some(Level::One) => behind_level_one(self.destination(place)),
-            _ => Behind {
+    fn behind(&self, lane: usize, place: usize, zone: usize) -> Behind {
+        match lane_of_number(lane) {
+            Some(own) => behind_of(self.domain(), self.destination(place), own, zone),
+            None => Behind {
                 first: Decision::Unknown,
                 second: Decision::Unknown,
             },

@@ -1,7 +1,9 @@
 -- The levels as zones.
 use Rattle.std.specs.Prelude.{ℕ}
+use Rattle.net_model.specs.Network.{Network}
 use Rattle.net_model.specs.declared.zone.Zone.{Zone}
 use Rattle.net_model.specs.declared.zone.Zone.TheVariants.{One as ZoneOne, Two as ZoneTwo}
+use Rattle.igp_theory.specs.Isis.{RunsLevelOne, RunsLevelTwo}
 use Rattle.isis_routes.specs.declared.level.Level.{Level}
 use Rattle.isis_routes.specs.declared.level.Level.TheVariants.{One, Two}
 
@@ -14,3 +16,8 @@ zone_number Two = 1
 abbrev pub zone_in : Level → Zone
 zone_in One = ZoneOne
 zone_in Two = ZoneTwo
+
+-- router u runs the level
+abbrev pub RunsIn : Network → Level → ℕ → Type 0
+RunsIn net One u = RunsLevelOne net u
+RunsIn net Two u = RunsLevelTwo net u

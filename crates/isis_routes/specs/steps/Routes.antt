@@ -9,7 +9,7 @@ use Rattle.route_tables.specs.BestRoutes.{IsBestRoute}
 use Rattle.route_tables.specs.Protocols.{IsRouteOf, ProtocolRoutes}
 use Rattle.route_tables.specs.declared.route.Route.{Route}
 use Rattle.isis_routes.specs.steps.Domain.{IsisDomain}
-use Rattle.isis_routes.specs.steps.Lanes.{IsOfIsisLane}
+use Rattle.isis_routes.specs.steps.Lanes.{IsOfIsisLane, first_zone}
 use Rattle.isis_routes.specs.steps.LevelReach.{level_reach}
 use Rattle.isis_routes.specs.steps.Levels.{zone_number}
 use Rattle.walk_core.specs.Reach.{Reach}
@@ -24,7 +24,7 @@ given_by_isis domain = record {
   zones = 2;
   reach = level_reach domain.walks;
   in_lane = IsOfIsisLane domain.net;
-  lane_zone = λ lane. lane;
+  lane_zone = first_zone;
 }
 
 -- the route makes router u's entry for p
