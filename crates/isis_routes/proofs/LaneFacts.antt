@@ -19,7 +19,7 @@ use Rattle.isis_routes.specs.steps.Homes.{AreRoutersAt}
 use Rattle.isis_routes.specs.steps.Lanes.{IsDecisionAmong, IsDecisionBy, IsDecisionOf, IsInLane, MakesOne, made_at_homes, left_open, of_one, of_down}
 use Rattle.isis_routes.specs.steps.Lanes.{first_zone, lane_number}
 use Rattle.isis_routes.specs.steps.LevelReach.{level_reach}
-use Rattle.isis_routes.specs.steps.Levels.{RunsIn, zone_number}
+use Rattle.isis_routes.specs.steps.Levels.{RunsLevel, zone_number}
 use Rattle.isis_routes.specs.steps.Offered.{AreSmall}
 use Rattle.isis_routes.specs.steps.Routes.{IsIsisRoute, LeadIn, given_by_isis, in_level}
 use Rattle.isis_routes.specs.declared.destinations.Destination.{Destination}
@@ -62,7 +62,7 @@ decided u offers entry lead Unknown law is = tt
 
 -- a decision by offers, one of which is made at each home of the level
 decided_by : (domain : IsisDomain) (level : Level) (u : ℕ) (p : Block) (none : Type 0) (homes : List ℕ) (offers : List Offer) (decision : Decision) →
-    AreRoutersAt domain.net p homes → RunsIn domain.net level u → IsDecisionBy domain.net level homes offers decision →
+    AreRoutersAt domain.net p homes → RunsLevel domain.net level u → IsDecisionBy domain.net level homes offers decision →
     ((Connected domain.net u p → ⊥) → (given : List Offer) → AreAsGood given offers → LeadIn (in_level domain level u) p none given) →
     DecidesAt (given_by_isis domain) (zone_number level) u p decision
 decided_by domain level u p none homes offers decision are runs (left_open is) law = subst (DecidesAt (given_by_isis domain) (zone_number level) u p) (sym is) tt

@@ -6,7 +6,7 @@ ghost use Rattle.igp_theory.specs.Isis.{Leaks, OffersDefault, RunsLevelOne, Runs
 ghost use Rattle.route_tables.specs.Lists.{Exactly};
 ghost use Rattle.isis_routes.specs.steps.Domain.{IsKnown};
 ghost use Rattle.isis_routes.specs.steps.LevelReach.{level_reach};
-ghost use Rattle.isis_routes.specs.steps.Levels.{RunsIn, zone_in, zone_number};
+ghost use Rattle.isis_routes.specs.steps.Levels.{RunsLevel, zone_in, zone_number};
 ghost use Rattle.isis_routes.specs.steps.Offered.{AreSmall, HoldsOffers};
 ghost use Rattle.isis_routes.specs.steps.Routes.{IsBestIn, in_level};
 ghost use Rattle.isis_routes.specs.steps.Routing.{AreLevelSegments, RunsBothLevels};
@@ -119,7 +119,7 @@ impl<'a> Domain<'a> {
     /// Whether a router runs a level.
     pub fn runs(&self, level: Level, router: u32) -> bool
         requires { router < length self.now.net }
-        ensures { IsTrue result ↔ RunsIn self.now.net level router }
+        ensures { IsTrue result ↔ RunsLevel self.now.net level router }
     {
         match level {
             Level::One => self.runs_level_one(router),

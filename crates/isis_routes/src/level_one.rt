@@ -63,6 +63,7 @@ impl LevelOne {
     }
 
     /// The level 1 cost of the prefix at a router.
+    #[inline(always)]
     pub fn cost(&self, domain: &Domain<'_>, router: u32) -> Option<u64>
         requires router { router < length domain.now.net }
         requires one { IsLevelOne domain.now.net self.now }

@@ -8,7 +8,7 @@ use Rattle.igp_theory.specs.Isis.{RunsLevelOne, RunsLevelTwo}
 use Rattle.route_tables.specs.declared.lane.Behind.{Behind as BehindValue}
 use Rattle.route_tables.specs.declared.lane.Decision.{Decision}
 use Rattle.route_tables.specs.declared.lane.Decision.TheVariants.{Nothing, NothingBut, One as OneOffer, Two as TwoOffers, Unknown}
-use Rattle.isis_routes.specs.steps.Levels.{RunsIn}
+use Rattle.isis_routes.specs.steps.Levels.{RunsLevel}
 use Rattle.isis_routes.specs.declared.destinations.Destination.{Destination}
 use Rattle.isis_routes.specs.declared.lanes.LevelLane.{LevelLane}
 use Rattle.isis_routes.specs.declared.lanes.LevelLane.TheVariants.{OneAlone, TwoAlone, Both}
@@ -54,7 +54,7 @@ IsDecisionAmong offers Unknown = ⊥
 
 -- router u makes one of the offers, if it runs the level
 pub record MakesOne (net : Network) (level : Level) (offers : List Offer) (u : ℕ) : Type 0 where
-  pub made : RunsIn net level u → Any (λ (o : Offer). o.at ≡ u) offers
+  pub made : RunsLevel net level u → Any (λ (o : Offer). o.at ≡ u) offers
 
 -- it does, and each home that runs the level makes one of them; else it isn't known
 pub data IsDecisionBy (net : Network) (level : Level) (homes : List ℕ) (offers : List Offer) (decision : Decision) : Type 0 where
@@ -90,6 +90,6 @@ pub data IsSecondIn (net : Network) (lane : LevelLane) (zone : ℕ) (d : Destina
   not_known : second ≡ Unknown → IsSecondIn net lane zone d second
 
 -- behind the first decision there is that
-pub record IsBehind (net : Network) (lane : LevelLane) (zone : ℕ) (d : Destination) (behind : BehindValue) : Type 0 where
+pub record IsBehindFirst (net : Network) (lane : LevelLane) (zone : ℕ) (d : Destination) (behind : BehindValue) : Type 0 where
   pub first : IsFirstOf net d behind.first
   pub second : IsSecondIn net lane zone d behind.second

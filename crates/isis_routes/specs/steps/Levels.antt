@@ -18,6 +18,6 @@ zone_in One = ZoneOne
 zone_in Two = ZoneTwo
 
 -- router u runs the level
-abbrev pub RunsIn : Network → Level → ℕ → Type 0
-RunsIn net One u = RunsLevelOne net u
-RunsIn net Two u = RunsLevelTwo net u
+abbrev pub RunsLevel : Network → Level → ℕ → Type 0
+RunsLevel net One u = RunsLevelOne net u
+RunsLevel net Two u = RunsLevelTwo net u
