@@ -16,6 +16,7 @@ mod DestinationFacts
 mod ZoneRoutes
 mod TwinLaws
 mod TwinFacts
+mod RepeatLaws
 mod BorderLists
 mod LaneLaws
 mod ListenerLaws

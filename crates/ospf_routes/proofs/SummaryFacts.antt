@@ -257,7 +257,7 @@ own_summary : (net : Network) (p : Block) (n u cost : ℕ) → (IsIntraArea net 
 own_summary net p _ u cost no_intra no_range listens (into_backbone s) = own_backbone net p u cost no_intra no_range s
 own_summary net p n u cost no_intra no_range listens (into_area apart s) = inner_listener net u n listens apart (area_border net n p u cost s)
 
-same_arcs : (arc : Arcs) → SameArcs arc arc
+pub same_arcs : (arc : Arcs) → SameArcs arc arc
 same_arcs arc a b c = (λ x. x, λ x. x)
 
 -- where a router announces nothing itself, all announcements are of others

@@ -7,7 +7,8 @@ ghost use Rattle.ospf_routes.specs.Lists.{Adds, Exactly};
 ghost use Rattle.ospf_routes.specs.steps.Offered.{AreOffers};
 ghost use Rattle.ospf_routes.specs.steps.Ranges.{AreRangesBelow, HoldRanges};
 ghost use Rattle.net_addr.specs.Addresses.{Block};
-ghost use Rattle.ospf_routes.specs.steps.Heard.{AddsRow, AreSummaries, IsLeaving, IsQuiet, IsSummaryRow};
+ghost use Rattle.ospf_routes.specs.steps.Heard.{AddsRow, AreSummaries, IsLeaving, IsQuiet, IsRowAgain, IsSummaryRow};
+ghost use Rattle.ospf_routes.specs.steps.OfferLists.{IsPlaceIn};
 ghost use Rattle.ospf_routes.specs.steps.Summarized.{Announces, IsHeard, IsOutgoing};
 
 use crate::OutOfMemory;
@@ -17,7 +18,9 @@ use crate::areas::AreaWalks;
 use crate::backbone_routes::push_reached;
 use crate::domain::Domain;
 use crate::intra_area::Destination;
+use crate::latest::Latest;
 use crate::ranges::{ActiveRanges, RangePrefixes};
+use crate::repeats::repeated;
 use crate::stub_areas::{is_totally_stubby, push_defaults};
 use crate::summaries::Summaries;
 use net_addr::Prefix;
@@ -50,14 +53,21 @@ pub(crate) fn all_summaries(
     let borders = domain.borders(alloc)?;
     let mut summaries = Summaries::none(alloc, domain.zones());
     let mut offers = Vec::new(alloc);
+    let mut latest = Latest::none(alloc, domain.routers() as usize)?;
     let boundary = Boundary {
         domain,
         borders: borders.as_slice(),
         ranges,
         ranged,
     };
-    for destination in destinations {
-        keep_summaries(alloc, &mut summaries, &mut offers, boundary, destination)?;
+    for place in 0..destinations.len() {
+        match repeated(destinations, boundary.ranged, &mut latest, place) {
+            Some(earlier) => keep_again(&mut summaries, boundary.domain, earlier)?,
+            None => {
+                let destination = &destinations[place];
+                keep_summaries(alloc, &mut summaries, &mut offers, boundary, destination)?;
+            }
+        }
     }
     Ok(summaries)
 }
@@ -105,6 +115,22 @@ fn keep_into_areas(
     for zone in 0..boundary.domain.zones() {
         put_summaries(offers, boundary, boundary.domain.area(zone), leaving)?;
         summaries.keep(offers.as_slice())?;
+    }
+    Ok(())
+}
+
+/// Keeps what is announced of the prefix at a place once more, area by area.
+fn keep_again(
+    summaries: &mut Summaries,
+    domain: &Domain<'_>,
+    earlier: usize,
+) -> Result<(), OutOfMemory>
+    requires areas { summaries.old.areas ≡ length domain.now.areas }
+    requires place { IsPlaceIn summaries.old earlier }
+    ensures { OnOk result (AddsRow (IsRowAgain summaries.old earlier (length domain.now.areas)) summaries.old summaries.new) }
+{
+    for zone in 0..domain.zones() {
+        summaries.keep_again(earlier, zone)?;
     }
     Ok(())
 }

@@ -148,6 +148,13 @@ impl RangePrefixes {
         Ok(RangePrefixes { all })
     }
 
+    /// Whether there are none.
+    pub fn is_empty(&self) -> bool
+        ensures { IsTrue result ↔ (length self.now ≡ 0) }
+    {
+        self.all.is_empty()
+    }
+
     /// Whether the prefix is one of them. It takes time of the logarithm of all of them.
     pub fn has(&self, dest: Prefix) -> bool
         ensures { IsTrue result ↔ Contains self.now dest }

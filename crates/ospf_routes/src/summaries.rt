@@ -66,6 +66,16 @@ impl Summaries {
         Ok(())
     }
 
+    /// Adds the list of the prefix at a place into the area at another once more, behind the others.
+    pub fn keep_again(&mut self, place: usize, zone: usize) -> Result<(), OutOfMemory>
+        requires { place * self.old.areas + zone < length self.old.lists }
+        ensures { OnOk result (self.new ≡ record { areas = self.old.areas; lists = self.old.lists ++ heard_into self.old place zone ∷ [] }) }
+    {
+        let span = self.spans[place * self.areas + zone];
+        self.spans.push(span)?;
+        Ok(())
+    }
+
     /// How many areas there are.
     pub fn areas(&self) -> usize
         ensures { result ≡ self.now.areas }

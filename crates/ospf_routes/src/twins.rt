@@ -55,8 +55,7 @@ fn twin_of(
     ensures twins { IfSome result (λ earlier.
         AreTwinsAt (record { destinations = destinations.now; heard = summaries.now; ranged = ranged.now }) earlier place) }
 {
-    let home = only_home(&destinations[place])?;
-    let earlier = latest.replace(home as usize, place)?;
+    let earlier = latest_at_home(destinations, latest, place)?;
     if are_twins(destinations, summaries, ranged, earlier, place) {
         Some(earlier)
     } else {
@@ -91,6 +90,21 @@ fn are_twins(
         return false;
     }
     !ranged.has(far.dest)
+}
+
+/// The latest destination before that at a place that is connected at the same one router. From now on the latest is this one.
+pub(crate) fn latest_at_home(
+    destinations: &[Destination],
+    latest: &mut Latest,
+    place: usize,
+) -> Option<usize>
+    requires place { place < length destinations.now }
+    requires latest { AreKnownBelow place latest.old }
+    ensures latest { AreKnownBelow (place + 1) latest.new }
+    ensures below { IfSome result (λ earlier. earlier < place) }
+{
+    let home = only_home(&destinations[place])?;
+    latest.replace(home as usize, place)
 }
 
 /// The router that the destination is connected at, where it is one alone.

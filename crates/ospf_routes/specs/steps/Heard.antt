@@ -22,6 +22,11 @@ pub record IsSummaryRow (domain : OspfDomain) (p : Block) (m : ℕ) (row : List 
   pub count : length row ≡ m
   pub each : (zone : ℕ) → zone < m → AreHeardAt domain p zone (slice_index_or row zone [])
 
+-- these are the lists of the prefix at a place into the first m areas
+pub record IsRowAgain (heard : HeardLists) (place m : ℕ) (row : List (List Offer)) : Type 0 where
+  pub count : length row ≡ m
+  pub each : (zone : ℕ) → zone < m → slice_index_or row zone [] ≡ heard_into heard place zone
+
 -- behind some lists there come those of a row of which this holds
 pub record AddsRow (Is : List (List Offer) → Type 0) (old new : HeardLists) : Type 0 where
   pub row : List (List Offer)
