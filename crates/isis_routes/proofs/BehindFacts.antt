@@ -17,7 +17,7 @@ use Rattle.route_tables.specs.declared.lane.Decision.TheVariants.{Nothing, Nothi
 use Rattle.route_tables.proofs.ListFacts.{the_one}
 use Rattle.isis_routes.specs.steps.Destinations.{HasAnnouncements}
 use Rattle.isis_routes.specs.steps.Domain.{IsisDomain, IsKnown}
-use Rattle.isis_routes.specs.steps.Lanes.{IsBehindFirst, IsDecisionAmong, IsFirstOf, IsInLane, IsOfIsisLane, IsSecondIn, made_at_homes, left_open}
+use Rattle.isis_routes.specs.steps.Lanes.{IsBehindIn, IsDecisionAmong, IsFirstOf, IsInLane, IsOfIsisLane, IsSecondIn, made_at_homes, left_open}
 use Rattle.isis_routes.specs.steps.Lanes.{behind_both, behind_one, by_first, first_zone, lane_number, left_unknown, no_first, not_known, nothing_left}
 use Rattle.isis_routes.specs.steps.LevelReach.{level_reach}
 use Rattle.isis_routes.specs.steps.Routes.{given_by_isis}
@@ -73,7 +73,7 @@ no_entry domain u d has lane empty some none e (default_route _ _ _ _ all _ _ _)
 
 -- what decides behind what level 1 offers decides the routes of the routers that miss it
 pub behind_decides : (domain : IsisDomain) (own : LevelLane) (lane zone u : ℕ) (d : Destination) (behind : Behind) → IsKnown domain →
-    HasAnnouncements domain.net d → lane_number own ≡ lane → IsOfIsisLane domain.net lane u → IsBehindFirst domain.net own zone d behind →
+    HasAnnouncements domain.net d → lane_number own ≡ lane → IsOfIsisLane domain.net lane u → IsBehindIn domain.net own zone d behind →
     MissesOffers (level_reach domain.walks u (first_zone lane)) u behind.first → DecidesAt (given_by_isis domain) zone u d.one.dest behind.second
 behind_decides domain own lane zone u d behind known has numbered of is missed = go own numbered is.second
   where

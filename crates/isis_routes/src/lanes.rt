@@ -1,6 +1,6 @@
 ghost use Rattle.std.specs.Prelude.{◌≡◌, ◌<◌, ◌↔◌, Some, All, Any, IfSome, IsTrue, length};
 ghost use Rattle.isis_routes.specs.steps.Destinations.{HasAnnouncements, IsLevelOne};
-ghost use Rattle.isis_routes.specs.steps.Lanes.{IsBehindFirst, IsDecisionBy, IsDecisionIn, IsDecisionOf, IsFirstOf, IsInLane, IsSecondOf};
+ghost use Rattle.isis_routes.specs.steps.Lanes.{IsBehindIn, IsDecisionBy, IsDecisionIn, IsDecisionOf, IsFirstOf, IsInLane, IsSecondOf};
 ghost use Rattle.isis_routes.specs.steps.Lanes.{MakesOne, first_level, lane_number};
 ghost use Rattle.isis_routes.specs.steps.Levels.{zone_number};
 ghost use Rattle.isis_routes.specs.declared.level.Level.TheVariants.{One, Two};
@@ -135,7 +135,7 @@ pub(crate) fn behind_of(
     zone: usize,
 ) -> Behind
     requires { HasAnnouncements domain.now.net destination.now }
-    ensures { IsBehindFirst domain.now.net lane zone destination.now result }
+    ensures { IsBehindIn domain.now.net lane zone destination.now result }
 {
     let first = first_of_level_one(domain, destination);
     let second = match lane {

@@ -90,6 +90,6 @@ pub data IsSecondIn (net : Network) (lane : LevelLane) (zone : ℕ) (d : Destina
   not_known : second ≡ Unknown → IsSecondIn net lane zone d second
 
 -- behind the first decision there is that
-pub record IsBehindFirst (net : Network) (lane : LevelLane) (zone : ℕ) (d : Destination) (behind : BehindValue) : Type 0 where
+pub record IsBehindIn (net : Network) (lane : LevelLane) (zone : ℕ) (d : Destination) (behind : BehindValue) : Type 0 where
   pub first : IsFirstOf net d behind.first
   pub second : IsSecondIn net lane zone d behind.second
