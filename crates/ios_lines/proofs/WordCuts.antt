@@ -5,7 +5,8 @@ use Rattle.std.specs.Prelude.{not, nat_lt}
 use Rattle.std.specs.List.{slice_split, position_or_len, prefix_len, onto_first}
 use Rattle.std.proofs.lemmas.Bool.{cases_lt}
 use Rattle.std.proofs.lemmas.Bool.Decides.{nat_tests}
-use Rattle.std.proofs.lemmas.List.{take_all, drop_all, length-drop}
+use Rattle.std.proofs.lemmas.List.{take_all, drop_all, length-drop, get_or-drop, drop-drop}
+use Rattle.std.proofs.lemmas.Option.{unwrap_or-slice_get}
 use Rattle.std.proofs.lemmas.List.Elements.{filter-append}
 use Rattle.std.proofs.lemmas.List.Folds.{length-prefix_len}
 use Rattle.std.proofs.lemmas.List.Splits.{slice_split_first}
@@ -108,17 +109,18 @@ words_after bytes =
     sym (ap (drop 1) (word_there (without_blanks bytes) some)) ∙ ap (drop 1) (sym (words_behind bytes)))
     (begins bytes)
 
--- a word behind the first one, by its place among those behind it
-pub word_later : (words : List Word) (k : ℕ) → word_at (drop 1 words) k ≡ word_at words (suc k)
-word_later [] k = refl
-word_later (w ∷ ws) k = refl
+-- a word by its place among those that are left of others, behind so many
+pub word_behind : (later words : List Word) (n k : ℕ) → later ≡ drop n words → word_at later k ≡ word_at words (n + k)
+word_behind later words n k behind =
+    ap (λ (ws : List Word). word_at ws k) behind
+    ∙ unwrap_or-slice_get (drop n words) k [] ∙ get_or-drop n words k [] ∙ sym (unwrap_or-slice_get words (n + k) [])
 
--- the same of words that are those behind the first one of others
-pub word_behind : (later words : List Word) (k : ℕ) → later ≡ drop 1 words → word_at later k ≡ word_at words (suc k)
-word_behind later words k behind = ap (λ (ws : List Word). word_at ws k) behind ∙ word_later words k
+-- the same of a place among all
+pub word_further : (later words : List Word) (n k : ℕ) → n ≤ k → later ≡ drop n words → word_at later (k - n) ≡ word_at words k
+word_further later words n k within behind =
+    let place : n + (k - n) ≡ k = omega (arith, within) in
+    word_behind later words n (k - n) behind ∙ ap (word_at words) place
 
--- a word behind the first one
-pub word_further : (words : List Word) (k : ℕ) → 0 < k → word_at (drop 1 words) (k - 1) ≡ word_at words k
-word_further words k some =
-    let next : suc (k - 1) ≡ k = omega (arith, some) in
-    word_later words (k - 1) ∙ ap (word_at words) next
+-- what is left behind one more word
+pub one_more : (later before words : List Word) (n : ℕ) → later ≡ drop 1 before → before ≡ drop n words → later ≡ drop (n + 1) words
+one_more later before words n cut behind = cut ∙ ap (drop 1) behind ∙ drop-drop 1 n words

@@ -14,7 +14,7 @@ use std::marker::Model;
 
 /// The words of a line, in order, without memory.
 ///
-/// The first five are cut off in one pass over the line. A further one is counted off in it each time.
+/// The first five are cut off in one pass over the line. A further one is counted off behind them each time.
 #[derive(Debug, Drop)]
 pub struct Words<'a> {
     line: &'a [u8],
@@ -23,10 +23,11 @@ pub struct Words<'a> {
     third: &'a [u8],
     fourth: &'a [u8],
     fifth: &'a [u8],
+    behind_fifth: &'a [u8],
 }
 
 impl<'a> Model for Words<'a> {
-    ghost use Rattle.std.specs.Prelude.{◌≡◌, List, ℕ};
+    ghost use Rattle.std.specs.Prelude.{◌≡◌, List, ℕ, drop};
     ghost use Rattle.net_addr.specs.Blanks.{words_in};
     ghost use Rattle.ios_lines.specs.Words.{word_at};
 
@@ -36,7 +37,7 @@ impl<'a> Model for Words<'a> {
 
     ghost invariant = { λ w. (w.first.now ≡ word_at (words_in w.line.now) 0) × (w.second.now ≡ word_at (words_in w.line.now) 1)
         × (w.third.now ≡ word_at (words_in w.line.now) 2) × (w.fourth.now ≡ word_at (words_in w.line.now) 3)
-        × (w.fifth.now ≡ word_at (words_in w.line.now) 4) };
+        × (w.fifth.now ≡ word_at (words_in w.line.now) 4) × (words_in w.behind_fifth.now ≡ drop 5 (words_in w.line.now)) };
 }
 
 impl<'a> Words<'a> {
@@ -45,10 +46,19 @@ impl<'a> Words<'a> {
         ensures { result ≡ words_in line.entry.now }
     {
         let (first, behind_first) = cut_word(line);
+        Words::with_first(line, first, behind_first)
+    }
+
+    /// The words of a line whose first word is cut off already, with what stands behind that one.
+    pub fn with_first(line: &'a [u8], first: &'a [u8], behind_first: &'a [u8]) -> Words<'a>
+        requires first { first.now ≡ word_at (words_in line.now) 0 }
+        requires behind { words_in behind_first.now ≡ drop 1 (words_in line.now) }
+        ensures { result ≡ words_in line.entry.now }
+    {
         let (second, behind_second) = cut_word(behind_first);
         let (third, behind_third) = cut_word(behind_second);
         let (fourth, behind_fourth) = cut_word(behind_third);
-        let (fifth, _) = cut_word(behind_fourth);
+        let (fifth, behind_fifth) = cut_word(behind_fourth);
         Words {
             line,
             first,
@@ -56,6 +66,7 @@ impl<'a> Words<'a> {
             third,
             fourth,
             fifth,
+            behind_fifth,
         }
     }
 
@@ -69,7 +80,7 @@ impl<'a> Words<'a> {
             2 => self.third,
             3 => self.fourth,
             4 => self.fifth,
-            _ => nth_word(self.line, k),
+            _ => nth_word(self.behind_fifth, k - 5),
         }
     }
 
@@ -146,7 +157,7 @@ fn behind(bytes: &[u8], place: usize) -> &[u8]
 }
 
 /// The first word of some bytes, empty where they have none, and what stands behind it and the blank after it.
-fn cut_word(bytes: &[u8]) -> (&[u8], &[u8])
+pub fn cut_word(bytes: &[u8]) -> (&[u8], &[u8])
     ensures word { result.0.now ≡ word_at (words_in bytes.now) 0 }
     ensures behind { words_in result.1.now ≡ drop 1 (words_in bytes.now) }
 {
@@ -156,7 +167,7 @@ fn cut_word(bytes: &[u8]) -> (&[u8], &[u8])
 }
 
 /// The first word of some bytes, empty where they have none.
-pub fn first_word(bytes: &[u8]) -> &[u8]
+fn first_word(bytes: &[u8]) -> &[u8]
     ensures { result.now ≡ word_at (words_in bytes.now) 0 }
 {
     cut_word(bytes).0

@@ -6,7 +6,7 @@ ghost use Rattle.ios_sections.specs.TellingLines.{may_tell, has_lines};
 ghost use Rattle.ios_sections.specs.Sections.{counted_from, may_begin};
 ghost use Rattle.ios_sections.specs.steps.ToldLines.{may_concern_interface};
 
-use ios_lines::words::{Words, first_word};
+use ios_lines::words::{Words, cut_word};
 use std::marker::Model;
 
 /// A line of a text. Its first word is at hand, since most lines are told by it; the others are cut off where they
@@ -17,10 +17,11 @@ pub struct TextLine<'a> {
     indent: u32,
     bytes: &'a [u8],
     first: &'a [u8],
+    behind_first: &'a [u8],
 }
 
 impl<'a> Model for TextLine<'a> {
-    ghost use Rattle.std.specs.Prelude.{◌≡◌};
+    ghost use Rattle.std.specs.Prelude.{◌≡◌, drop};
     ghost use Rattle.net_addr.specs.Blanks.{words_in};
     ghost use Rattle.ios_lines.specs.Words.{word_at};
     ghost use Rattle.ios_sections.specs.TextLines.{TextLine};
@@ -29,7 +30,7 @@ impl<'a> Model for TextLine<'a> {
 
     ghost view = { λ l. record { number = l.number; indent = l.indent; bytes = l.bytes.now; words = words_in l.bytes.now } };
 
-    ghost invariant = { λ l. l.first.now ≡ word_at (words_in l.bytes.now) 0 };
+    ghost invariant = { λ l. (l.first.now ≡ word_at (words_in l.bytes.now) 0) × (words_in l.behind_first.now ≡ drop 1 (words_in l.bytes.now)) };
 }
 
 impl<'a> TextLine<'a> {
@@ -37,11 +38,13 @@ impl<'a> TextLine<'a> {
     pub fn new(number: u32, indent: u32, bytes: &'a [u8]) -> TextLine<'a>
         ensures { result ≡ record { number = number; indent = indent; bytes = bytes.entry.now; words = words_in bytes.entry.now } }
     {
+        let (first, behind_first) = cut_word(bytes);
         TextLine {
             number,
             indent,
             bytes,
-            first: first_word(bytes),
+            first,
+            behind_first,
         }
     }
 
@@ -61,6 +64,7 @@ impl<'a> TextLine<'a> {
             indent: self.indent,
             bytes: self.bytes,
             first: self.first,
+            behind_first: self.behind_first,
         }
     }
 
@@ -75,7 +79,7 @@ impl<'a> TextLine<'a> {
     pub fn words(&self) -> Words<'a>
         ensures { result ≡ self.now.words }
     {
-        Words::of(self.bytes)
+        Words::with_first(self.bytes, self.first, self.behind_first)
     }
 
     /// The first word of the line, empty where it has none.
