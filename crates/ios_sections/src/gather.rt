@@ -4,7 +4,7 @@ ghost use Rattle.ios_sections.specs.Gathering.{with_interface, with_section, gat
 
 use crate::OutOfMemory;
 use crate::name_index::{NameIndex, NamePlace};
-use crate::section::{InterfaceSection, IsisSection, OspfSection, Section};
+use crate::section::{FIRST_SECTIONS, InterfaceSection, IsisSection, OspfSection, Section};
 use ios_lines::fault::Fault;
 use net_addr::Name;
 use std::alloc::Global;
@@ -112,10 +112,11 @@ fn with_section(
 pub(crate) fn gather(alloc: Global, sections: Vec<Section>) -> Result<Gathering, OutOfMemory>
     ensures { IfOk result (λ g. g ≡ gathering_of sections.items) }
 {
-    let mut names = NameIndex::new(alloc);
+    let room = sections.len().min(FIRST_SECTIONS);
+    let mut names = NameIndex::with_room(alloc, room)?;
     let mut gathering = Gathering {
         name: None,
-        interfaces: Vec::new(alloc),
+        interfaces: Vec::with_capacity(alloc, room)?,
         ospf: Vec::new(alloc),
         isis: Vec::new(alloc),
         faults: Vec::new(alloc),

@@ -30,13 +30,13 @@ impl Model for NameIndex {
 }
 
 impl NameIndex {
-    /// No names.
-    pub fn new(alloc: Global) -> NameIndex
-        ensures { result ≡ [] }
+    /// No names, and room for so many.
+    pub fn with_room(alloc: Global, room: usize) -> Result<NameIndex, OutOfMemory>
+        ensures { IfOk result (λ names. names ≡ []) }
     {
-        NameIndex {
-            names: IndexSet::new(alloc),
-        }
+        Ok(NameIndex {
+            names: IndexSet::with_capacity(alloc, room)?,
+        })
     }
 
     /// Takes in a name where it isn't there, as the last one, and tells its place.

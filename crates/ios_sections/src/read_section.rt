@@ -7,8 +7,8 @@ ghost use Rattle.ios_sections.specs.Sections.{may_begin, own_lines, head_number,
 
 use crate::OutOfMemory;
 use crate::section::{
-    InterfaceSection, InterfaceStatements, IsisSection, IsisStatements, OspfSection,
-    OspfStatements, Section,
+    FIRST_SECTIONS, InterfaceSection, InterfaceStatements, IsisSection, IsisStatements,
+    OspfSection, OspfStatements, Section,
 };
 use crate::text_line::TextLine;
 use ios_lines::fault::Fault;
@@ -173,7 +173,7 @@ fn section_at(alloc: Global, head: &TextLine, after: &[TextLine]) -> Result<Sect
 fn read_sections(alloc: Global, lines: &[TextLine]) -> Result<Vec<Section>, OutOfMemory>
     ensures { IfOk result (λ s. s.items ≡ map section_of (sections_of lines.now)) }
 {
-    let mut sections = Vec::new(alloc);
+    let mut sections = Vec::with_capacity(alloc, lines.len().min(FIRST_SECTIONS))?;
     for (i, head) in lines.iter().enumerate() {
         if head.opens_section() {
             sections.push(section_at(alloc, head, &lines[i + 1..])?)?;

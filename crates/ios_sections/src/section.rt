@@ -8,6 +8,9 @@ use ios_lines::ospf_line::OspfStatement;
 use net_addr::Name;
 use std::marker::Model;
 
+/// There is room for so many sections from the beginning: most configurations have fewer that say something.
+pub(crate) const FIRST_SECTIONS: usize = 32;
+
 /// Lines of an interface, in the order of the text.
 #[derive(Debug, Drop)]
 pub struct InterfaceStatements {

@@ -9,6 +9,9 @@ use crate::text_line::TextLine;
 use net_addr::Line;
 use std::alloc::Global;
 
+/// There is room for so many lines from the beginning: most texts have fewer that tell something.
+const FIRST_LINES: usize = 256;
+
 /// A line of a text.
 fn text_line<'a>(text: &'a [u8], line: Line) -> TextLine<'a>
     requires { LiesIn text.now line.span }
@@ -124,7 +127,7 @@ pub fn telling_lines<'a>(
     requires { All (λ line. LiesIn text.now line.span) lines.now }
     ensures { IfOk result (λ told. told.items ≡ telling_lines false (counted_lines (map (text_line text.entry.now) lines.entry.now))) }
 {
-    let mut told = Vec::new(alloc);
+    let mut told = Vec::with_capacity(alloc, lines.len().min(FIRST_LINES))?;
     let mut place = TextPlace {
         in_banner: false,
         below: false,
