@@ -185,8 +185,55 @@ pub mod indexmap {
         }
     }
     use super::alloc::*;
-    use std::hash::Hash;
-    pub struct IndexMap<K, V>(std::collections::HashMap<K, usize>, std::vec::Vec<(K, V)>);
+    use std::collections::hash_map::Entry;
+    use std::hash::{BuildHasherDefault, Hash, Hasher};
+    type Places<K> = std::collections::HashMap<K, usize, BuildHasherDefault<FoldHasher>>;
+    /// The hasher of Rattle's tables.
+    pub struct FoldHasher(u64);
+    const MULTIPLIER: u64 = 0x9e37_79b9_7f4a_7c15;
+    fn folded(a: u64, b: u64) -> u64 {
+        let product = a as u128 * b as u128;
+        product as u64 ^ (product >> 64) as u64
+    }
+    fn read(bytes: &[u8], at: usize) -> u64 {
+        u64::from_le_bytes(bytes[at..at + 8].try_into().unwrap())
+    }
+    fn read_short(bytes: &[u8]) -> u64 {
+        let len = bytes.len();
+        let half = |at: usize| u32::from_le_bytes(bytes[at..at + 4].try_into().unwrap()) as u64;
+        if len >= 4 {
+            half(0) | half(len - 4) << 32
+        } else if len > 0 {
+            bytes[0] as u64 | (bytes[len / 2] as u64) << 8 | (bytes[len - 1] as u64) << 16
+        } else {
+            0
+        }
+    }
+    impl Default for FoldHasher {
+        fn default() -> Self {
+            FoldHasher(0x243f_6a88_85a3_08d3)
+        }
+    }
+    impl Hasher for FoldHasher {
+        fn finish(&self) -> u64 {
+            self.0
+        }
+        fn write(&mut self, bytes: &[u8]) {
+            let len = bytes.len();
+            if len <= 8 {
+                self.0 = folded(self.0 ^ read_short(bytes), MULTIPLIER ^ (2 * len as u64));
+                return;
+            }
+            let mut state = self.0.wrapping_add(len as u64);
+            let mut at = 0;
+            while len - at > 16 {
+                state = folded(read(bytes, at) ^ state, read(bytes, at + 8) ^ MULTIPLIER);
+                at += 16;
+            }
+            self.0 = folded(read(bytes, len.saturating_sub(16)) ^ state, read(bytes, len - 8) ^ MULTIPLIER);
+        }
+    }
+    pub struct IndexMap<K, V>(Places<K>, std::vec::Vec<(K, V)>);
     impl<K: Hash + Eq + Clone, V> IndexMap<K, V> {
         pub fn new(_: Global) -> Self {
             IndexMap(Default::default(), std::vec::Vec::new())
@@ -205,13 +252,14 @@ pub mod indexmap {
             self.0.contains_key(k)
         }
         pub fn insert(&mut self, k: K, v: V) -> Result<Option<V>, AllocError> {
-            if let Some(i) = self.0.get(&k) {
-                let o = std::mem::replace(&mut self.1[*i].1, v);
-                return Ok(Some(o));
+            match self.0.entry(k.clone()) {
+                Entry::Occupied(i) => Ok(Some(std::mem::replace(&mut self.1[*i.get()].1, v))),
+                Entry::Vacant(new) => {
+                    new.insert(self.1.len());
+                    self.1.push((k, v));
+                    Ok(None)
+                }
             }
-            self.0.insert(k.clone(), self.1.len());
-            self.1.push((k, v));
-            Ok(None)
         }
         pub fn len(&self) -> usize {
             self.1.len()
@@ -232,18 +280,20 @@ pub mod indexmap {
             self.1.iter().map(|x| &x.0)
         }
     }
-    pub struct IndexSet<K>(std::collections::HashMap<K, usize>);
+    pub struct IndexSet<K>(Places<K>);
     impl<K: Hash + Eq> IndexSet<K> {
         pub fn new(_: Global) -> Self {
             IndexSet(Default::default())
         }
         pub fn insert_full(&mut self, k: K) -> Result<(usize, bool), AllocError> {
-            if let Some(i) = self.0.get(&k) {
-                return Ok((*i, false));
-            }
             let n = self.0.len();
-            self.0.insert(k, n);
-            Ok((n, true))
+            match self.0.entry(k) {
+                Entry::Occupied(i) => Ok((*i.get(), false)),
+                Entry::Vacant(new) => {
+                    new.insert(n);
+                    Ok((n, true))
+                }
+            }
         }
     }
 }
