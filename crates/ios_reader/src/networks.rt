@@ -1,4 +1,4 @@
-ghost use Rattle.std.specs.Prelude.{◌≡◌, [], ◌∷◌, ◌++◌, ℕ, true, not, find, filter, OnOk, IfOk};
+ghost use Rattle.std.specs.Prelude.{◌≡◌, ◌<◌, [], ◌∷◌, ◌++◌, ℕ, true, not, length, find, filter, OnOk, IfOk};
 ghost use Rattle.std.specs.Option.{option_or};
 ghost use Rattle.indexmap.specs.IndexMap.{get};
 ghost use Rattle.ios_reader.specs.steps.Networks.{network_said, placed_at, placed_networks, takes, is_block, block_key, same_block, is_of_block, earlier_line};
@@ -19,14 +19,17 @@ pub(crate) struct PlacedNetwork {
     pub network: NetworkLine,
 }
 
+/// So many lines are gone through one by one.
+const FEW_LINES: usize = 16;
+
 /// The wildcard of a block of addresses, and what its addresses have in common, with the bits of the wildcard set.
 type BlockKey = (u32, u32);
 
 /// The `network` lines of an OSPF process, of which the first one that takes an address is looked up.
 ///
-/// A wildcard without holes takes a block of addresses. There are 33 such wildcards, and the first line of each block
-/// is looked up once for each of them that a line has, however many lines there are. Lines whose wildcards have holes
-/// are gone through one by one.
+/// A few lines are gone through one by one. Of more there are tables. A wildcard without holes takes a block of
+/// addresses. There are 33 such wildcards, and the first line of each block is looked up once for each of them that a
+/// line has, however many lines there are. Lines whose wildcards have holes are gone through one by one.
 #[derive(Drop)]
 pub(crate) struct Networks {
     all: Vec<PlacedNetwork>,
@@ -36,15 +39,16 @@ pub(crate) struct Networks {
 }
 
 impl Model for Networks {
-    ghost use Rattle.std.specs.Prelude.{List};
+    ghost use Rattle.std.specs.Prelude.{◌<◌, List, length};
     ghost use Rattle.ios_reader.specs.declared.networks.PlacedNetwork.{PlacedNetwork};
+    ghost use Rattle.ios_reader.specs.declared.networks.TheConstants.{FEW_LINES};
     ghost use Rattle.ios_reader.specs.steps.Networks.{AreNetworkTables};
 
     ghost Value = { List PlacedNetwork };
 
     ghost view = { λ n. n.all.items };
 
-    ghost invariant = { λ n. AreNetworkTables n.all.items n.blocks.entries n.wildcards.items n.others.items };
+    ghost invariant = { λ n. FEW_LINES < length n.all.items → AreNetworkTables n.all.items n.blocks.entries n.wildcards.items n.others.items };
 }
 
 /// The `network` lines of an OSPF process.
@@ -61,9 +65,10 @@ impl Networks {
         requires { Ascend 0 all.items }
         ensures { IfOk result (λ n. n ≡ all.items) }
     {
-        let blocks = blocks_of(alloc, all.as_slice())?;
-        let wildcards = wildcards_of(alloc, all.as_slice())?;
-        let others = others_of(alloc, all.as_slice())?;
+        let tabled = tabled(all.as_slice());
+        let blocks = blocks_of(alloc, tabled)?;
+        let wildcards = wildcards_of(alloc, tabled)?;
+        let others = others_of(alloc, tabled)?;
         Ok(Networks {
             all,
             blocks,
@@ -76,10 +81,20 @@ impl Networks {
     pub fn first_taking(&self, address: u32) -> Option<PlacedNetwork>
         ensures { result ≡ find (takes address) self.now }
     {
+        if self.all.len() <= FEW_LINES {
+            return first_of_lines(self.all.as_slice(), address);
+        }
         let block = first_of_blocks(&self.blocks, self.wildcards.as_slice(), address);
         let other = first_of_lines(self.others.as_slice(), address);
         earlier_line(block, other)
     }
+}
+
+/// The lines of which there are tables: none where they are few.
+fn tabled(all: &[PlacedNetwork]) -> &[PlacedNetwork]
+    ensures { FEW_LINES < length all.now → result.now ≡ all.now }
+{
+    if all.len() <= FEW_LINES { &[] } else { all }
 }
 
 /// The good `network` line that a line is.
