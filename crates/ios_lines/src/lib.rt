@@ -14,7 +14,7 @@
 //!
 //! What a line says is defined in `specs/Heads.antt`, `InterfaceLines`, `OspfLines` and `IsisLines`. A line of no form there is
 //! skipped; `docs/profile.md` tells which of these a router acts on. The first five words of a line are cut off in one pass over
-//! its bytes (`Words::of`), and the few lines with more words are gone through again for each further one. So each reading of
+//! its bytes (`Words::of`), and a further one is looked for behind them each time it is asked for. So each reading of
 //! a line takes time of its bytes, and memory for names alone.
 #![tactic(auto)]
 
