@@ -1,4 +1,5 @@
 -- How many changes of a router are among changes that begin a run.
+use Rattle.std.proofs.lemmas.Grind.{common_steps}
 use Rattle.std.proofs.Common.{◌≡◌, ◌≢◌, ℕ, ◌+◌, ◌*◌, ◌<◌, ◌≤◌, inl, inr, List, [], ◌∷◌, length, map, get_or, Contains}
 use Rattle.std.proofs.Common.{AllPairs, refl, ap, subst, ◌∙◌, arith}
 use Rattle.std.specs.List.{All}
@@ -162,8 +163,7 @@ places_apart : (c d : Change) → c ≢ d → place_of c ≢ place_of d
 places_apart c d apart same = grind arith
 
 place_below : (n : ℕ) (c : Change) → changed c < n → place_of c < 2 * n
-place_below n (first u) below = omega (arith, below)
-place_below n (second u) below = omega (arith, below)
+place_below n c below = grind (arith, common_steps)
 
 distinct_places : (time : Timetable) (changes : List Change) → AllPairs (MayPrecede time) changes → AllPairs (λ u v. u ≢ v) (map place_of changes)
 distinct_places time [] pairs = pairs_none (λ u v. u ≢ v)

@@ -1,5 +1,6 @@
 -- Changes that begin a run: what they are by themselves, without the run.
-use Rattle.std.proofs.Common.{◌≡◌, ◌≢◌, ℕ, ◌<◌, ◌⊎◌, inl, inr, List, [], ◌∷◌, ◌++◌, Contains, AllPairs, refl, sym, ap, subst}
+use Rattle.std.proofs.lemmas.Grind.{common_steps}
+use Rattle.std.proofs.Common.{◌≡◌, ◌≢◌, ℕ, ◌<◌, ◌⊎◌, inl, inr, List, [], ◌∷◌, ◌++◌, Contains, AllPairs, refl, sym, subst}
 use Rattle.std.proofs.Common.{append_assoc, append-nil, arith}
 use Rattle.std.proofs.lemmas.Bool.{cases_lt, cases_eq}
 use Rattle.std.proofs.lemmas.List.Elements.{Contains-append_left, Contains-append_right, Contains-append_cases}
@@ -16,16 +17,7 @@ use Rattle.state_replay.specs.Journals.{BeginRun, MayComeNext}
 -- ---- which changes are made ----
 
 pub same_or_not : (c d : Change) → (c ≡ d) ⊎ (c ≢ d)
-same_or_not (first u) (first v) = elim (cases_eq u v) [
-  | inl same ↦ inl (ap first same)
-  | inr apart ↦ inr (λ e. apart (ap changed e))
-]
-same_or_not (second u) (second v) = elim (cases_eq u v) [
-  | inl same ↦ inl (ap second same)
-  | inr apart ↦ inr (λ e. apart (ap changed e))
-]
-same_or_not (first u) (second v) = inr (λ e. cc)
-same_or_not (second u) (first v) = inr (λ e. cc)
+same_or_not c d = grind (arith, common_steps, cases_eq)
 
 pub made_or_not : (c : Change) (changes : List Change) → Contains changes c ⊎ (Contains changes c → ⊥)
 made_or_not c [] = inr (Contains-none c)

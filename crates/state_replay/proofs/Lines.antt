@@ -1,5 +1,6 @@
 -- The lines of a journal: each tells one change at most.
-use Rattle.std.proofs.Common.{◌≡◌, ℕ, ◌+◌, ◌-◌, ◌<◌, ◌≤◌, List, ◌++◌, length, take, drop, refl, sym, ap}
+use Rattle.std.proofs.lemmas.Grind.{common_steps}
+use Rattle.std.proofs.Common.{◌≡◌, ℕ, ◌+◌, ◌-◌, ◌<◌, ◌≤◌, List, ◌++◌, length, take, drop, sym, ap}
 use Rattle.std.proofs.Common.{subst, ◌∙◌, length-append, arith}
 use Rattle.std.proofs.lemmas.List.{take-append-le, drop-append-le, take_all, drop_all}
 use Rattle.net_model.specs.Lookups.{IsNamed}
@@ -11,11 +12,9 @@ use Rattle.igp_theory.specs.Changes.{Change, changed}
 use Rattle.state_replay.specs.Halves.{change_of, ending_of}
 use Rattle.state_replay.specs.Journals.{TellsChange}
 use Rattle.state_replay.specs.declared.half.Half.{Half}
-use Rattle.state_replay.specs.declared.half.Half.TheVariants.{First, Second}
 
 pub ending_long : (half : Half) → length (ending_of half) ≡ 2
-ending_long First = refl
-ending_long Second = refl
+ending_long half = grind (arith, common_steps)
 
 -- the two parts of a line
 pub record IsParted (line name end : List ℕ) : Type 0 where
@@ -54,8 +53,7 @@ told_once net ascending line c d one two =
     one.is ∙ ap (λ u. change_of u one.half) routers ∙ ap (change_of two.router) halves ∙ sym two.is
 
 pub changed_is : (u : ℕ) (half : Half) → changed (change_of u half) ≡ u
-changed_is u First = refl
-changed_is u Second = refl
+changed_is u half = grind (arith, common_steps)
 
 -- the router of a change that a line tells is one of the network
 pub told_below : (net : Network) (line : List ℕ) (u : ℕ) (half : Half) → TellsChange net line (change_of u half) → u < length net

@@ -1,4 +1,5 @@
 -- Which change may come next is told by the counts of the changes made.
+use Rattle.std.proofs.lemmas.Grind.{common_steps}
 use Rattle.std.proofs.Common.{◌≡◌, ◌≢◌, ℕ, ◌+◌, ◌<◌, inl, inr, List, [], ◌∷◌, ◌++◌, length, map, get_or, set, Option, Some}
 use Rattle.std.proofs.Common.{None, Contains, AllPairs, refl, sym, ap, subst, ◌∙◌, arith}
 use Rattle.std.specs.Option.{MatchOption}
@@ -33,10 +34,7 @@ one_more time changes d pairs each =
     (λ c e here there. subst (λ (x : Change). MayPrecede time c x) (contains_one d e there) (each c here))
 
 among_more : (changes : List Change) (d c : Change) → Contains (changes ++ d ∷ []) c → d ≢ c → Contains changes c
-among_more changes d c inside apart = elim (Contains-append_cases changes (d ∷ []) c inside) [
-  | inl here ↦ here
-  | inr there ↦ absurd (apart (contains_one d c there))
-]
+among_more changes d c inside apart = grind (arith, common_steps, Contains-append_cases, contains_one)
 
 not_yet : (time : Timetable) (changes : List Change) (d : Change) → AllPairs (MayPrecede time) (changes ++ d ∷ []) → Contains changes d → ⊥
 not_yet time changes d pairs here = (pairs_across (MayPrecede time) changes (d ∷ []) pairs d d here (Contains-first d [])).other refl
@@ -64,8 +62,7 @@ module _ (n : ℕ) (ranks : List ℕ) (changes : List Change) (front : AreInFron
   }
 
   both_of : (d : Change) → Contains changes (first (changed d)) × Contains changes (second (changed d)) → Contains changes d
-  both_of (first v) both = both.0
-  both_of (second v) both = both.1
+  both_of d both = grind (arith, common_steps)
 
   fits_is_next : (done : List ℕ) (u : ℕ) (half : Half) → IsRanking n ranks → AreChangeCounts n changes done → u < n →
       FitsCounts ranks done u half →
@@ -130,8 +127,7 @@ on_more : (changes : List Change) (c : Change) (v : ℕ) →
 on_more changes c v = ap (changes_on v) (map-append changed changes (c ∷ [])) ∙ count_append v (map changed changes) (map changed (c ∷ []))
 
 before_fit : (ranks done : List ℕ) (u : ℕ) (half : Half) → FitsCounts ranks done u half → get_or done u 0 + 1 ≡ half_number half
-before_fit ranks done u First fits = let none = fits.none in omega (arith, none)
-before_fit ranks done u Second fits = omega (arith, fits)
+before_fit ranks done u half fits = grind (arith, common_steps)
 
 pub counts_more : (n : ℕ) (ranks : List ℕ) (changes : List Change) (done : List ℕ) (u : ℕ) (half : Half) →
     AreChangeCounts n changes done → u < n →

@@ -1,3 +1,4 @@
+use Rattle.std.proofs.lemmas.Grind.{common_steps}
 use Rattle.std.proofs.Common.{rules, ◌≡◌, ◌≢◌, set, Some, sym, ap, subst, ◌∙◌, arith, true}
 use Rattle.state_replay.specs.Halves.{half_number}
 use Rattle.state_replay.specs.Journals.{IsNextOn, progress}
@@ -30,7 +31,4 @@ returns-in_default-next_change c =
     (λ e. let is = c.in_default-next_change.is in cc)
 
 pub bounds-done-told : goal.bounds-done-told
-bounds-done-told c =
-    let below = told_below c.args.net.now c.args.line.now c.in-Some.told.router c.in-Some.told.half c.in-Some.ensures in
-    let long = c.requires.counts in
-    omega (arith, below, long)
+bounds-done-told c = grind (arith, common_steps, told_below)

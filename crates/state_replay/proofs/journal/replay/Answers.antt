@@ -1,14 +1,12 @@
-use Rattle.std.proofs.Common.{rules, ◌≡◌, true, false, inr, sym, subst, ◌∙◌, arith}
+use Rattle.std.proofs.lemmas.Grind.{common_steps}
+use Rattle.std.proofs.Common.{rules, ◌≡◌, false, inr, subst, arith}
 use Rattle.state_replay.specs.Journals.{progress}
-use Rattle.state_replay.specs.steps.Making.{BeginsWithHeader, MakesChange}
+use Rattle.state_replay.specs.steps.Making.{MakesChange}
 use Rattle.state_replay.proofs.Places.{IsTaken, taken_start, taken_few, taken_made, taken_not}
 use Rattle.state_replay.proofs.journal.replay.Goals as goal
 
 pub loop-line-init : goal.loop-line-init
-loop-line-init c =
-    let begins : c.begins_journal.result ≡ true = search rules in
-    taken_start (sym c.new-lines.ensures ∙ subst (BeginsWithHeader c.new-lines.result c.begins_journal.new.lines) begins c.begins_journal.ensures)
-    c.requires.ranking c.start_counts.ensures.counts
+loop-line-init c = grind (arith, common_steps, taken_start)
 
 pub overflow_add-result : goal.overflow_add-result
 overflow_add-result c = omega (arith, c.start_counts.ensures.network.limits.routers, taken_few c.loop-line.invariant)
@@ -25,9 +23,4 @@ returns-then-not-judge_line c =
     (subst (MakesChange p c.in-Some.line.now c.judge_line.new.done) no c.judge_line.ensures))
 
 pub loop-line-preserved : goal.loop-line-preserved
-loop-line-preserved c =
-    let p = progress c.args.net.now c.args.ranks.now c.loop-line.done in
-    let yes : c.judge_line.result ≡ true = search rules in
-    taken_made p c.args.journal.now c.in-Some.line.now c.next_line.new.self c.loop-line.changes c.judge_line.new.done
-    (subst (λ lines. IsTaken p c.args.journal.now lines c.loop-line.changes) c.in-Some.ensures.some c.loop-line.invariant)
-    (subst (MakesChange p c.in-Some.line.now c.judge_line.new.done) yes c.judge_line.ensures)
+loop-line-preserved c = grind (arith, common_steps, taken_made)
