@@ -1,8 +1,10 @@
 -- Which answer each step of a call gives.
-use Rattle.std.proofs.Common.{◌≡◌, ◌≢◌, ◌⊎◌, inl, inr, ℕ, List, [], ◌∷◌, ◌++◌, Result, Ok, Err, IfOk, OnOk, refl, sym, subst, append-nil}
+use Rattle.std.proofs.Common.{arith}
+use Rattle.std.proofs.lemmas.Grind.{common_steps}
+use Rattle.std.proofs.Common.{◌≡◌, ◌≢◌, ◌⊎◌, inl, inr, ℕ, List, [], ◌∷◌, ◌++◌, Result, Ok, Err, IfOk, OnOk, sym, subst, append-nil}
 use Rattle.std.specs.declared.alloc.AllocError.{AllocError}
 use Rattle.net_model.specs.declared.refusal.NetRefusal.{NetRefusal}
-use Rattle.net_model.specs.declared.refusal.NetRefusal.TheVariants.{Limit as NetLimit, OutOfMemory as NoNetMemory}
+use Rattle.net_model.specs.declared.refusal.NetRefusal.TheVariants.{OutOfMemory as NoNetMemory}
 use Rattle.isis_writer.specs.ReadTexts.{ReadsTexts}
 use Rattle.net_model.specs.Configuration.{Configuration}
 use Rattle.net_model.specs.Network.{HasConfiguration, Network}
@@ -30,7 +32,7 @@ use Rattle.migrate_cli.specs.CommandFiles.{AsksNetworks, GivenTexts, NeedsStart,
 use Rattle.migrate_cli.specs.Configurations.{GiveNetworks, IsAtStart, RefusesFirst}
 use Rattle.migrate_cli.specs.Decisions.{IsDecision, input_of}
 use Rattle.migrate_cli.specs.Outcomes.{IsOutcome}
-use Rattle.migrate_cli.specs.Outcomes.IsOutcome.{faulty_configuration, no_network, off_start, decided, surveyed, observed}
+use Rattle.migrate_cli.specs.Outcomes.IsOutcome.{faulty_configuration, no_network, off_start, decided}
 use Rattle.migrate_cli.specs.Reading.{AreRead, AreWithin, NoneFailed, file_names, to_read}
 use Rattle.migrate_cli.specs.declared.configurations.Unread.{Unread}
 use Rattle.migrate_cli.specs.declared.configurations.Unread.TheVariants.{Bad, OutOfMemory as NoMemoryToRead}
@@ -38,8 +40,6 @@ use Rattle.migrate_cli.specs.declared.reading.Stop.{Stop}
 use Rattle.migrate_cli.specs.declared.reading.Stop.TheVariants.{Fault, Long, Total, OutOfMemory}
 use Rattle.migrate_cli.specs.steps.Answering.{HasAnswer, ReadsEnd, RefusesSo, StopsSo}
 use Rattle.migrate_cli.specs.ObserveDecision.{ConfigTexts, IsNightOutcome, NightTexts, RefusesTexts}
-use Rattle.migrate_cli.specs.ObserveDecision.IsNightOutcome.{refused_before, off_before, refused_now, night_decided}
-use Rattle.migrate_cli.specs.ObserveDecision.RefusesTexts.{faulty_line, no_net}
 use Rattle.migrate_cli.specs.steps.Stops.{MayRead, HasRead, StopReads}
 use Rattle.migrate_cli.specs.steps.Stops.MayRead.{none_yet, so_far}
 use Rattle.migrate_cli.specs.steps.Unread.{IsUnread, RefusesUnread}
@@ -49,8 +49,7 @@ use Rattle.migrate_cli.proofs.StopFacts.{read_so_far}
 
 -- what holds of a value holds of a result that has it
 pub from_equal : {T E : Type 0} (r : Result T E) (value : T) (P : T → Type 0) → IfOk r (λ t. t ≡ value) → P value → IfOk r P
-from_equal (Ok t) value P same holds = subst P (sym same) holds
-from_equal (Err e) value P same holds = tt
+from_equal r value P same holds = grind (arith, common_steps)
 
 -- what holds of a result under a premise holds of what it has
 pub under_premise : {T E G : Type 0} (P : T → Type 0) (r : Result T E) → (G → IfOk r P) → IfOk r (λ t. G → P t)
@@ -60,8 +59,7 @@ under_premise P (Err e) holds = tt
 -- an answer after these names were asked for
 pub answered : (call : Call) (before after asked : List (List ℕ)) (r : Result Outcome AllocError) → after ≡ before ++ asked
     → IfOk r (IsAnswer call asked) → MayAsk call asked → HasAnswer call before after r
-answered call before after asked (Ok outcome) asked_is answer may_ask = record { asked = asked; asked_is = asked_is; answers = answer }
-answered call before after asked (Err e) asked_is answer may_ask = record { asked = asked; asked_is = asked_is; answers = may_ask }
+answered call before after asked r asked_is answer may_ask = grind (arith, common_steps, may_ask)
 
 -- an answer for which no name was asked for
 pub answered_at_once : (call : Call) (before : List (List ℕ)) (r : Result Outcome AllocError) → IfOk r (IsAnswer call [])
@@ -135,45 +133,26 @@ module _ (call : Call) (before after : List (List ℕ)) (command : Command) (ask
 -- ---- no outcome of texts is a fault ----
 
 network_no_fault : (refusal : NetRefusal) → NoFault (network_status refusal)
-network_no_fault (NetLimit _ _) = limit_no_fault
-network_no_fault _ = refused_no_fault
+network_no_fault refusal = grind (arith, common_steps, limit_no_fault, refused_no_fault)
 
 refusal_no_fault : {files : ConfigTexts} {outcome : Outcome} → RefusesTexts files outcome → NoFault (status_of outcome)
-refusal_no_fault (faulty_line _ _ _ _) = refused_no_fault
-refusal_no_fault (no_net _ refusal _ _ _) = network_no_fault refusal
+refusal_no_fault it_0 = grind (arith, common_steps, network_no_fault, refused_no_fault)
 
 night_no_fault : {texts : NightTexts} {outcome : Outcome} → IsNightOutcome texts outcome → NoFault (status_of outcome)
-night_no_fault (refused_before _ is) = refusal_no_fault is
-night_no_fault (off_before _ _ _ _ _ _) = refused_no_fault
-night_no_fault (refused_now _ _ _ _ is) = refusal_no_fault is
-night_no_fault (night_decided _ _ decision _ _ _ _) = decision_no_fault decision
+night_no_fault it_0 = grind (arith, common_steps, decision_no_fault, refusal_no_fault, refused_no_fault)
 
 pub outcome_no_fault : {command : Command} {texts : GivenTexts} {outcome : Outcome} → IsOutcome command texts outcome → NoFault (status_of outcome)
-outcome_no_fault (faulty_configuration _ _ _ _ _) = refused_no_fault
-outcome_no_fault (no_network _ refusal _ _ _) = network_no_fault refusal
-outcome_no_fault (off_start _ _ _ _ _ _ _ _) = refused_no_fault
-outcome_no_fault (decided _ _ decision _ _ _) = decision_no_fault decision
-outcome_no_fault (surveyed survey _ _) = survey_no_fault survey.stands_out
-outcome_no_fault (observed _ _ _ _ _ is) = night_no_fault is
+outcome_no_fault it_0 =
+    grind (arith, common_steps, decision_no_fault, network_no_fault, night_no_fault, refused_no_fault, survey_no_fault)
 
 -- that a write failed is no answer
 pub answer_writes : {call : Call} {asked : List (List ℕ)} {outcome : Outcome} → IsAnswer call asked outcome → status_of outcome ≢ WriteFault
-answer_writes (judged _ _ _ _ _ _ is) = (outcome_no_fault is).1
-answer_writes (refused_words _ _) = λ e. Prim.cc e
-answer_writes (many_files _ _ _) = λ e. Prim.cc e
-answer_writes (read_fault _ _ _ _ _ _) = λ e. Prim.cc e
-answer_writes (long_file _ _ _ _ _ _ _) = λ e. Prim.cc e
-answer_writes (long_files _ _ _ _ _ _ _ _) = λ e. Prim.cc e
+answer_writes it_0 = grind (arith, common_steps, outcome_no_fault)
 
 -- an answer is a read fault, or it isn't
 pub reads_or_not : {call : Call} {asked : List (List ℕ)} {outcome : Outcome} → IsAnswer call asked outcome
     → (status_of outcome ≡ ReadFault) ⊎ (status_of outcome ≢ ReadFault)
-reads_or_not (read_fault _ _ _ _ _ _) = inl refl
-reads_or_not (judged _ _ _ _ _ _ is) = inr (outcome_no_fault is).0
-reads_or_not (refused_words _ _) = inr (λ e. Prim.cc e)
-reads_or_not (many_files _ _ _) = inr (λ e. Prim.cc e)
-reads_or_not (long_file _ _ _ _ _ _ _) = inr (λ e. Prim.cc e)
-reads_or_not (long_files _ _ _ _ _ _ _ _) = inr (λ e. Prim.cc e)
+reads_or_not it_0 = grind (arith, common_steps, outcome_no_fault)
 
 -- an answer has a text
 pub answer_has_text : {call : Call} {asked : List (List ℕ)} {outcome : Outcome} → IsAnswer call asked outcome → HasOutcomeText outcome
@@ -187,40 +166,23 @@ answer_has_text (long_files _ _ _ _ _ _ _ _) = tt
 -- where no read failed the reads agree with an outcome of texts
 pub reads_end : (command : Command) (texts : GivenTexts) (r : Result Outcome AllocError) (before after : ReadsSoFar) → NoneFailed before after →
     IfOk r (IsOutcome command texts) → ReadsEnd r before after
-reads_end command texts (Ok outcome) before after none is =
-    record { read_fault = λ e. absurd ((outcome_no_fault is).0 e); unless_read_fault = λ _. none }
-reads_end command texts (Err e) before after none is = none_failed none
+reads_end command texts r before after none is = grind (arith, common_steps, outcome_no_fault)
 
 -- and with why reading stopped
 reads_stop : (stop : Stop) (outcome : Outcome) (before after : ReadsSoFar) → StopReads stop before after → StopsSo stop outcome →
     ReadsAgree (status_of outcome) before after
-reads_stop (Fault name) outcome before after failed so =
-    subst (λ (o : Outcome). ReadsAgree (status_of o) before after) (sym so)
-    (record { read_fault = λ _. failed; unless_read_fault = λ not. absurd (not refl) })
-reads_stop (Long name) outcome before after none so =
-    subst (λ (o : Outcome). ReadsAgree (status_of o) before after) (sym so)
-    (record { read_fault = λ e. absurd (Prim.cc e); unless_read_fault = λ _. none })
-reads_stop (Total number) outcome before after none so =
-    subst (λ (o : Outcome). ReadsAgree (status_of o) before after) (sym so)
-    (record { read_fault = λ e. absurd (Prim.cc e); unless_read_fault = λ _. none })
-reads_stop OutOfMemory outcome before after none so = absurd so
+reads_stop stop outcome before after failed so = grind (arith, common_steps)
 
 may_fail : (stop : Stop) (before after : ReadsSoFar) → StopReads stop before after → MayFail before after
-may_fail (Fault name) before after failed = last_failed failed
-may_fail (Long name) before after none = none_failed none
-may_fail (Total number) before after none = none_failed none
-may_fail OutOfMemory before after none = none_failed none
+may_fail stop before after failed = grind (arith, common_steps)
 
 pub stop_reads_end : (stop : Stop) (r : Result Outcome AllocError) (before after : ReadsSoFar) → StopReads stop before after → IfOk r (StopsSo stop) →
     ReadsEnd r before after
-stop_reads_end stop (Ok outcome) before after reads so = reads_stop stop outcome before after reads so
-stop_reads_end stop (Err e) before after reads so = may_fail stop before after reads
+stop_reads_end stop r before after reads so = grind (arith, common_steps, may_fail, reads_stop)
 
 -- an outcome or no memory, where no read was tried
 pub no_reads_end : (r : Result Outcome AllocError) (reads : ReadsSoFar) → IfOk r (λ outcome. status_of outcome ≢ ReadFault) → ReadsEnd r reads reads
-no_reads_end (Ok outcome) reads no_fault =
-    record { read_fault = λ e. absurd (no_fault e); unless_read_fault = λ _. record { none = refl; none_since = refl } }
-no_reads_end (Err e) reads no_fault = none_failed (record { none = refl; none_since = refl })
+no_reads_end r reads no_fault = grind (arith, common_steps)
 
 -- where there is no memory for the text of an answer
 pub agree_may_fail : {call : Call} {asked : List (List ℕ)} {outcome : Outcome} {before after : ReadsSoFar} → IsAnswer call asked outcome →

@@ -1,5 +1,6 @@
 -- One thing is decided of a file of single changes; and of any order file by `check`, and of any tree file by `refute`.
-use Rattle.std.proofs.Common.{◌≡◌, ℕ, List, [], ◌∷◌, ◌++◌, Some, length, get_or, arith, refl, sym, ap, ◌∙◌, subst}
+use Rattle.std.proofs.lemmas.Grind.{common_steps}
+use Rattle.std.proofs.Common.{◌≡◌, ℕ, List, [], ◌∷◌, Some, length, get_or, arith, refl, sym, ap, ◌∙◌, subst}
 use Rattle.std.specs.Prelude.{slice_get}
 use Rattle.net_addr.specs.Lines.{line_texts}
 use Rattle.net_model.specs.Network.{Network}
@@ -16,7 +17,6 @@ use Rattle.refutation_check.proofs.OneVerdict.{one_headed}
 use Rattle.step_scripts.specs.WaveFiles.{NamesWaves}
 use Rattle.step_scripts.specs.WaveLines.{header_of}
 use Rattle.step_scripts.specs.declared.version.Version.{Version}
-use Rattle.step_scripts.specs.declared.version.Version.TheVariants.{One, Two}
 use Rattle.step_scripts.proofs.LeastFaults.{first_header}
 use Rattle.change_orders.specs.TwoFaults.{IsLeastTwoFault, two_header}
 use Rattle.change_orders.specs.TwoFiles.{NamesTwo}
@@ -54,14 +54,12 @@ pub begins_with_one : (text first other : List ℕ) → BeginsWith first text �
 begins_with_one text first other one also = let same : Some first ≡ Some other = sym one ∙ also in cc same
 
 other_headers : (version : Version) → header_of version ≡ two_header → ⊥
-other_headers One same = let last : 49 ≡ 51 = ap (λ (bytes : List ℕ). get_or bytes 6 0) same in omega (arith, last)
-other_headers Two same = let last : 50 ≡ 51 = ap (λ (bytes : List ℕ). get_or bytes 6 0) same in omega (arith, last)
+other_headers version same = grind (arith, common_steps)
 
 -- a file of routers is none of single changes
 pub names_no_changes : (net : Network) (text : List ℕ) (version : Version) (ranks : List ℕ) → NamesWaves net text version ranks →
     ¬ BeginsWith two_header text
-names_no_changes net text version ranks names begins =
-    other_headers version (begins_with_one text (header_of version) two_header (first_header text version (names.lines ++ names.ending) names.whole) begins)
+names_no_changes net text version ranks names begins = grind (arith, common_steps, begins_with_one, first_header, other_headers)
 
 pub names_changes : (net : Network) (text ranks : List ℕ) → NamesTwo net text ranks → BeginsWith two_header text
 names_changes net text ranks names = begins_with_first text two_header names.entries names.lines
@@ -77,10 +75,7 @@ two_not_rest : two_tree_header ≡ rest_tree_header → ⊥
 two_not_rest same = let last : 50 ≡ 51 = ap (λ (bytes : List ℕ). get_or bytes 5 0) same in omega (arith, last)
 
 pub tree_of_no_other : (text : List ℕ) (rest : List (List ℕ)) → line_texts text ≡ tree_header ∷ rest → HasOtherHeader text
-tree_of_no_other text rest lines = record {
-  no_changes = λ begins. tree_not_two (begins_with_one text tree_header two_tree_header (begins_with_first text tree_header rest lines) begins);
-  no_start = λ begins. tree_not_rest (begins_with_one text tree_header rest_tree_header (begins_with_first text tree_header rest lines) begins);
-}
+tree_of_no_other text rest lines = grind (arith, common_steps, begins_with_first, begins_with_one, tree_not_rest, tree_not_two)
 
 -- ---- order files ----
 

@@ -1,5 +1,6 @@
 -- The files of a command's own, by their names and their texts.
-use Rattle.std.proofs.Common.{◌≡◌, ◌<◌, ◌≤◌, ◌∙◌, ℕ, zero, suc, List, [], ◌∷◌, ap, arith, get_or, length, map, refl, subst, sym}
+use Rattle.std.proofs.lemmas.Grind.{common_steps}
+use Rattle.std.proofs.Common.{◌≡◌, ◌<◌, ◌≤◌, ◌∙◌, ℕ, zero, suc, List, [], ◌∷◌, ap, arith, get_or, length, map, subst, sym}
 use Rattle.std.proofs.lemmas.List.{length-map}
 use Rattle.std.specs.Prelude.{slice_index_or}
 use Rattle.migrate_words.specs.Asked.{IsInRange}
@@ -13,21 +14,13 @@ use Rattle.migrate_cli.proofs.FileFacts.{most_small, short_length}
 -- one name and one text are one file
 one_named : (names texts : List (List ℕ)) → length names ≡ 1 → length texts ≡ 1 →
     named_texts names texts ≡ named_text (slice_index_or names 0 []) (slice_index_or texts 0 []) ∷ []
-one_named [] texts one also = absurd (omega (arith, one))
-one_named (n ∷ names) [] one also = absurd (omega (arith, also))
-one_named (n ∷ []) (t ∷ texts) one also = refl
-one_named (n ∷ m ∷ names) (t ∷ texts) one also = absurd (omega (arith, one))
+one_named names texts one also = grind (arith, common_steps)
 
 -- two names and two texts are two files
 two_named : (names texts : List (List ℕ)) → length names ≡ 2 → length texts ≡ 2 →
     named_texts names texts ≡ named_text (slice_index_or names 0 []) (slice_index_or texts 0 []) ∷
     named_text (slice_index_or names 1 []) (slice_index_or texts 1 []) ∷ []
-two_named [] texts two also = absurd (omega (arith, two))
-two_named (n ∷ []) texts two also = absurd (omega (arith, two))
-two_named (n ∷ m ∷ names) [] two also = absurd (omega (arith, also))
-two_named (n ∷ m ∷ names) (t ∷ []) two also = absurd (omega (arith, also))
-two_named (n ∷ m ∷ []) (t ∷ u ∷ texts) two also = refl
-two_named (n ∷ m ∷ l ∷ names) (t ∷ u ∷ texts) two also = absurd (omega (arith, two))
+two_named names texts two also = grind (arith, common_steps)
 
 -- a text of files that are short enough is
 pub place_short : (command : Command) (own : List (List ℕ)) (i : ℕ) (text : List ℕ) → AreShort (own_files command) own → i < length own →

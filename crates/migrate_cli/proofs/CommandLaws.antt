@@ -1,4 +1,6 @@
 -- A command decides one thing of its input, and what it decides has a text.
+use Rattle.std.proofs.Common.{arith}
+use Rattle.std.proofs.lemmas.Grind.{common_steps}
 use Rattle.std.proofs.Common.{◌≡◌, ◌∙◌, ◌∷◌, [], List, ap, get_or, refl, sym, subst}
 use Rattle.net_model.specs.Refusals.{NamesAscend}
 use Rattle.migrate_words.specs.declared.command.CommandKind.{CommandKind}
@@ -125,29 +127,5 @@ one_decision Observe input ascending one other = absurd one
 one_decision Survey input ascending one other = absurd one
 
 pub decision_tellable : (kind : CommandKind) (input : Input) (d : Decision) → IsDecision kind input d → IsTellable input.net d
-decision_tellable Check input d is = judged_order_tellable is.2
-decision_tellable Prepare input d is =
-    settled_tellable is.0 input.net (with_settled_lines (configured input.configs input.net)) (λ settled. tt) is.2
-decision_tellable Plan input d is = plan_decision_tellable is
-decision_tellable TwoPass input d is = two_pass_tellable is
-decision_tellable Refute input d is = judged_tree_tellable is.2
-decision_tellable Scripts input d is = scripts_tellable is.0 input.net is.2
-decision_tellable Replay input d is = replay_tellable is.3
-decision_tellable Sample input d is = sample_tellable is
-decision_tellable Pair input d is = pair_tellable (network_pair input.net is.0) input.net _ plan_decision_tellable is.2
-decision_tellable PairScripts input d is =
-    pair_tellable (network_pair input.net is.0) input.net _ (script_tellable (network_pair input.net is.0) is.2 input.net) is.4
-decision_tellable PairCheck input d is = pair_tellable (network_pair input.net is.0) input.net _ check_tellable is.4
-decision_tellable PairRefute input d is = pair_tellable (network_pair input.net is.0) input.net _ tree_tellable is.4
-decision_tellable Split input d is = split_tellable is.0 input.number input.net is.2
-decision_tellable Delta input d is =
-    settled_tellable is.0 input.net (settled_lines_alone (configured input.configs input.net)) (λ settled. tt) is.2
-decision_tellable Tables input d is = tables_tellable is
-decision_tellable Why input d is = explained_tellable is.0 input.net is.2
-decision_tellable Rollback input d is = rollback_tellable {journal = journal_of is.1.text input.net} is.3
-decision_tellable Replan input d is = replan_tellable {journal = journal_of is.1.text input.net} is.3
-decision_tellable Picture input d is = picture_tellable is.0 input.net is.2
-decision_tellable Failures input d is = failures_tellable is.0 input.net is.2
-decision_tellable Design input d is = design_tellable is
-decision_tellable Observe input d is = absurd is
-decision_tellable Survey input d is = absurd is
+decision_tellable kind input d is =
+    grind (arith, common_steps, check_tellable, design_tellable, explained_tellable, failures_tellable, judged_order_tellable, judged_tree_tellable, pair_tellable, picture_tellable, plan_decision_tellable, replan_tellable, replay_tellable, rollback_tellable, sample_tellable, script_tellable, scripts_tellable, settled_tellable, split_tellable, tables_tellable, tree_tellable, two_pass_tellable)

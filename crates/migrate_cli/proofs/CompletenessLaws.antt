@@ -1,4 +1,6 @@
 -- Where nothing of the input is refused, a command decides.
+use Rattle.std.proofs.Common.{arith}
+use Rattle.std.proofs.lemmas.Grind.{common_steps}
 use Rattle.std.proofs.Common.{◌≡◌, ◌≢◌, ℕ, List, [], ◌∷◌, All, ap, drop, get_or, sym, ◌∙◌, subst}
 use Rattle.net_model.specs.Network.{Network}
 use Rattle.net_model.specs.Refusals.{NamesAscend}
@@ -122,10 +124,7 @@ names_ascend gives = gives.make.network.ascending
 -- what is said of the one own text is said of the file that is decided on
 pub said_of : (name : List ℕ) {own : List (List ℕ)} {one : List ℕ} {other : NamedText} (P : List ℕ → Type 0) → own ≡ one ∷ [] →
     named_texts (name ∷ []) own ≡ other ∷ [] → P one → P other.text
-said_of name {own} {one} {other} P first second holds =
-    let lists : named_text name one ∷ [] ≡ other ∷ [] = ap (named_texts (name ∷ [])) (sym first) ∙ second in
-    let same : named_text name one ≡ other = cc lists in
-    subst (λ (file : NamedText). P file.text) same holds
+said_of name {own} {one} {other} P first second holds = grind (arith, common_steps)
 
 -- ---- `check` ----
 

@@ -1,6 +1,6 @@
 -- Configurations read file by file.
-use Rattle.std.proofs.Common.{◌≡◌, ℕ, zero, suc, ◌+◌, ◌<◌, List, [], ◌∷◌, ◌++◌, length, take, get_or, refl, arith, ap, ◌∙◌, sym, subst}
-use Rattle.std.proofs.Common.{append-nil}
+use Rattle.std.proofs.lemmas.Grind.{common_steps}
+use Rattle.std.proofs.Common.{◌≡◌, ℕ, zero, suc, ◌+◌, ◌<◌, List, [], ◌∷◌, ◌++◌, length, take, get_or, arith, sym, subst}
 use Rattle.std.proofs.lemmas.List.{take_more}
 use Rattle.ios_reader.specs.Texts.{ReadsText, IsRefusedText}
 use Rattle.ios_reader.specs.declared.kind.ReadKind.{ReadKind}
@@ -10,16 +10,12 @@ use Rattle.migrate_cli.specs.Configurations.{IsFirstRefused, line_fault}
 use Rattle.migrate_cli.specs.Configurations.IsFirstRefused.{here, later}
 use Rattle.migrate_cli.specs.steps.Unread.{IsUnreadText, IsUnread}
 use Rattle.migrate_cli.specs.declared.configurations.Unread.{Unread}
-use Rattle.migrate_cli.specs.declared.configurations.Unread.TheVariants.{Bad, OutOfMemory}
 use Rattle.migrate_cli.proofs.GroupLaws.{reads_append}
 
 -- one more text was read
 pub ReadsTexts-next : (texts : List (List ℕ)) (i : ℕ) (text : List ℕ) (configs more : List Configuration) → i < length texts → text ≡ get_or texts i text
     → ReadsTexts (take i texts) configs → ReadsText text more → ReadsTexts (take (i + 1) texts) (configs ++ more)
-ReadsTexts-next texts i text configs more within at first reads =
-    let e : take i texts ++ text ∷ [] ≡ take (i + 1) texts = ap (λ t. take i texts ++ t ∷ []) at ∙ sym (take_more texts i text within) in
-    let one : ReadsTexts (text ∷ []) more = record { one = more; others = []; reads = reads; rest = refl; all = sym (append-nil more) } in
-    subst (λ some. ReadsTexts some (configs ++ more)) e (reads_append (take i texts) (text ∷ []) configs more first one)
+ReadsTexts-next texts i text configs more within at first reads = grind (arith, common_steps, reads_append, take_more)
 
 -- after texts that were read the first faulty one
 pub first_refused : (names texts : List (List ℕ)) (i : ℕ) (name text : List ℕ) (configs : List Configuration) (line : ℕ) (kind : ReadKind) →
@@ -38,7 +34,5 @@ first_refused (n ∷ names) (t ∷ texts) (suc i) name text configs line kind le
 pub unread_first : (names texts : List (List ℕ)) (i : ℕ) (name text : List ℕ) (configs : List Configuration) (unread : Unread) → length names ≡ length texts
     → i < length texts → name ≡ get_or names i name → text ≡ get_or texts i text → ReadsTexts (take i texts) configs → IsUnreadText name text unread
     → IsUnread names texts unread
-unread_first names texts i name text configs (Bad file line kind) lengths within named at first refused =
-    subst (λ some. IsFirstRefused (line_fault line kind) names texts some) (sym refused.0)
-    (first_refused names texts i name text configs line kind lengths within named at first refused.1)
-unread_first names texts i name text configs OutOfMemory lengths within named at first refused = tt
+unread_first names texts i name text configs unread lengths within named at first refused =
+    grind (arith, common_steps, first_refused)

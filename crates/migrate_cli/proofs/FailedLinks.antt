@@ -1,5 +1,6 @@
 -- The links of a network are one list, and a list of routers comes to one thing without each.
-use Rattle.std.proofs.Common.{◌≡◌, ◌≢◌, ◌⊎◌, ◌↔◌, inl, inr, ℕ, zero, suc, List, [], ◌∷◌, All, AllPairs, Contains, ap, arith, map, refl, subst, sym}
+use Rattle.std.proofs.lemmas.Grind.{common_steps}
+use Rattle.std.proofs.Common.{◌≡◌, ◌≢◌, ◌⊎◌, ◌↔◌, inl, inr, ℕ, suc, List, [], ◌∷◌, All, AllPairs, Contains, ap, arith, map, refl, subst, sym}
 use Rattle.std.proofs.lemmas.List.Elements.{All-contains}
 use Rattle.net_addr.specs.Addresses.{Block}
 use Rattle.net_model.specs.Least.{IsBlockAtMost}
@@ -26,8 +27,7 @@ use Rattle.migrate_cli.specs.FailuresDecision.IsVerdictOver.{old_end, new_end, o
 -- ---- ascending lists of prefixes, each once ----
 
 in_first_or_rest : (x : Block) (xs : List Block) (p : Block) → Contains (x ∷ xs) p → (x ≡ p) ⊎ Contains xs p
-in_first_or_rest x xs p (zero, within, at) = inl at
-in_first_or_rest x xs p (suc k, within, at) = inr (k, omega arith, at)
+in_first_or_rest x xs p it_3 = grind (arith, common_steps)
 
 in_more : (x : Block) (xs : List Block) (p : Block) → Contains xs p → Contains (x ∷ xs) p
 in_more x xs p (k, within, at) = (suc k, omega arith, at)

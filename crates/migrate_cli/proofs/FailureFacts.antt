@@ -1,6 +1,7 @@
 -- What is found of a list without a link, and what `failures` comes to.
-use Rattle.std.proofs.Common.{◌≡◌, ◌≢◌, ◌+◌, ◌<◌, ◌≤◌, ◌∙◌, ◌++◌, ℕ, List, [], ◌∷◌, All, Option, None, Some, Result, Ok, Err, IfOk, OnOk}
-use Rattle.std.proofs.Common.{ap, ap₂, arith, get_or, length, map, refl, replicate, subst, sym, take}
+use Rattle.std.proofs.lemmas.Grind.{common_steps}
+use Rattle.std.proofs.Common.{◌≡◌, ◌≢◌, ◌+◌, ◌<◌, ◌≤◌, ◌∙◌, ◌++◌, ℕ, List, [], ◌∷◌, All, Option, Some, Result, Ok, Err, IfOk, OnOk}
+use Rattle.std.proofs.Common.{ap, ap₂, arith, get_or, length, map, replicate, subst, sym, take}
 use Rattle.std.proofs.lemmas.List.{get_or-replicate, map-append, take_more}
 use Rattle.std.proofs.lemmas.List.Elements.{All-append, All-cons}
 use Rattle.std.specs.Prelude.{slice_index_or}
@@ -36,7 +37,6 @@ use Rattle.migrate_words.specs.declared.command.Command.{Command}
 use Rattle.migrate_words.specs.declared.command.CommandKind.{CommandKind}
 use Rattle.migrate_words.specs.declared.command.CommandKind.TheVariants.{Failures}
 use Rattle.migration_report.specs.declared.decision.Decision.{Decision}
-use Rattle.migration_report.specs.declared.decision.Decision.TheVariants.{Safe, SafeWaves}
 use Rattle.migration_report.specs.declared.outcome.Outcome.{Outcome}
 use Rattle.migration_report.specs.declared.outcome.Outcome.TheVariants.{Refused}
 use Rattle.migration_report.specs.declared.refusal.Refusal.TheVariants.{OffStart}
@@ -62,9 +62,7 @@ use Rattle.migrate_cli.proofs.StopFacts.{element}
 
 -- a yes of `check` has a line
 pub yes_has_line : (net : Network) (checked : Decision) → IsYes checked → IsListVerdict net checked
-yes_has_line net Safe says = tt
-yes_has_line net (SafeWaves waves) says = tt
-yes_has_line net _ says = absurd says
+yes_has_line net checked says = grind (arith, common_steps)
 
 -- what a list comes to over the tables before and after a migration, it comes to in it
 module _ (of : NetworkMove) (m : Mixture OspfRoutes NewRoutes) (mixes : MixesTables of m) where
@@ -143,8 +141,7 @@ module _ (move : Migration) (phase : Phase) (phases : List Phase) (n : ℕ) (man
 -- where an end has no fault it is sound
 pub end_sound : (move : Migration) (phase : Phase) (found : Option EndFault) → ((fault : EndFault) → found ≡ Some fault → ⊥) →
     IsEndFault move phase found → IsSound move (λ _. phase)
-end_sound move phase None never is = is
-end_sound move phase (Some fault) never is = absurd (never fault refl)
+end_sound move phase found never is = grind (arith, common_steps)
 
 -- ---- one link more ----
 

@@ -1,4 +1,5 @@
 -- The routers that a fault names are those of the network.
+use Rattle.std.proofs.lemmas.Grind.{common_steps}
 use Rattle.std.proofs.Common.{ℕ, zero, suc, ◌<◌, List, [], ◌∷◌, length, All, arith}
 use Rattle.igp_theory.specs.Loops.{IsTagOf, IsTag, EachToNext, AroundRing, IsFault, missing_step, loop_arises}
 use Rattle.igp_theory.specs.Migrations.{Migration}
@@ -56,8 +57,7 @@ missing_within move state a u (missing_step _ _ must _ _) = must.router
 -- so what a fault tells is of the network's routers
 pub fault_below : (move : Migration) (state : State) (fault : EndFault) → IsFault move state (fault_told fault) →
     EndFaultBelow (length move.net) fault
-fault_below move state (Loop a turns) is = loop_within move state a turns is
-fault_below move state (Missing a u) is = missing_within move state a u is
+fault_below move state fault is = grind (arith, common_steps, loop_within, missing_within)
 
 -- the same of the fault of a set of states, as that of a wave
 loop_within_over : (move : Migration) (states : State → Type 0) (a : ℕ) (turns : List Turn) →

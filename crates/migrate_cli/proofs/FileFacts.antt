@@ -1,4 +1,5 @@
 -- The files of a command, and their texts.
+use Rattle.std.proofs.lemmas.Grind.{common_steps}
 use Rattle.std.proofs.Common.{◌≡◌, ◌∙◌, ℕ, ◌+◌, ◌-◌, ◌<◌, ◌≤◌, List, [], ◌∷◌, ◌++◌, length, map, take, drop, All, codes, lit≤, refl, sym, ap, subst, arith}
 use Rattle.std.proofs.lemmas.List.{length-map, get_or-map}
 use Rattle.std.specs.Borrow.{Bor}
@@ -9,7 +10,7 @@ use Rattle.migrate_words.specs.Usages.{usage_of}
 use Rattle.migrate_words.specs.declared.command.TheConstants.{LEAST_SAMPLE, MOST_SAMPLE}
 use Rattle.migrate_words.specs.declared.command.Command.{Command}
 use Rattle.migrate_words.specs.declared.command.CommandKind.{CommandKind}
-use Rattle.migrate_words.specs.declared.command.CommandKind.TheVariants.{Prepare, Delta, Sample, Survey}
+use Rattle.migrate_words.specs.declared.command.CommandKind.TheVariants.{Sample, Survey}
 use Rattle.migrate_cli.specs.Reading.{File, AreShort}
 use Rattle.migrate_cli.specs.CommandFiles.{config_file, config_texts, files_of, given_texts, made_texts, names_for, own_file, own_files, own_most, own_texts, text_names}
 use Rattle.migrate_cli.specs.steps.FilesRead.{ReadsFiles}
@@ -26,9 +27,7 @@ small_configs [] = no_files
 small_configs (n ∷ names) = All-cons IsSmall (config_file n) (map config_file names) (lit≤ tt) (small_configs names)
 
 pub most_small : (kind : CommandKind) → own_most kind ≤ 16777216
-most_small Prepare = lit≤ tt
-most_small Delta = lit≤ tt
-most_small _ = lit≤ tt
+most_small kind = grind (arith, common_steps)
 
 small_own : (kind : CommandKind) (names : List (List ℕ)) → All IsSmall (map (own_file kind) names)
 small_own kind [] = no_files
@@ -36,8 +35,7 @@ small_own kind (n ∷ names) = All-cons IsSmall (own_file kind n) (map (own_file
 
 -- no file of a command may be longer than 16 MiB
 pub small_files : (command : Command) → All (λ (file : File). file.most ≤ 16777216) (files_of command)
-small_files command =
-    All-append IsSmall (own_files command) (map config_file command.configs) (small_own command.kind command.own) (small_configs command.configs)
+small_files command = grind (arith, common_steps, All-append, small_configs, small_own)
 
 -- what holds of each image holds of each element that it comes from
 pub All-mapped : {X Y : Type 0} (P : Y → Type 0) (f : X → Y) (xs : List X) → All P (map f xs) → All (λ x. P (f x)) xs
@@ -79,12 +77,10 @@ files_length (f ∷ own) names = let e = files_length own names in omega (arith,
 -- ---- a command that reads files has its own texts, and then those of its configurations ----
 
 names_read : (kind : CommandKind) (names : List (List ℕ)) → ReadsFiles kind → names_for kind names ≡ names
-names_read Sample names reads = absurd reads
-names_read _ names reads = refl
+names_read kind names reads = grind (arith, common_steps)
 
 texts_read : (kind : CommandKind) (number : ℕ) (texts : List (List ℕ)) → ReadsFiles kind → made_texts kind number texts ≡ texts
-texts_read Sample number texts reads = absurd reads
-texts_read _ number texts reads = refl
+texts_read kind number texts reads = grind (arith, common_steps)
 
 -- the texts behind its own ones
 pub record AreSplit (command : Command) (texts own configs : List (List ℕ)) : Type 0 where
@@ -143,8 +139,7 @@ module _ (command : Command) (texts : List (List ℕ)) (reads : ReadsFiles comma
 -- ---- `sample` names no file ----
 
 none_of : (names : List (List ℕ)) → length names ≡ 0 → names ≡ []
-none_of [] none = refl
-none_of (n ∷ names) none = absurd (omega (arith, none))
+none_of names none = grind (arith, common_steps)
 
 module _ (command : Command) (is : command.kind ≡ Sample) (range : IsInRange command) where
   pub sample_number : (LEAST_SAMPLE ≤ command.number) × (command.number ≤ MOST_SAMPLE)

@@ -1,4 +1,6 @@
 -- Groups of texts of configurations: each gives one network, or the first that gives none is refused in one way.
+use Rattle.std.proofs.Common.{arith}
+use Rattle.std.proofs.lemmas.Grind.{common_steps}
 use Rattle.std.proofs.Common.{◌≡◌, ◌≢◌, ◌∙◌, List, [], ◌∷◌, ◌++◌, ℕ, map, refl, sym, ap, ap₂, subst, append-nil, append_assoc}
 use Rattle.isis_writer.specs.ReadTexts.{ReadsTexts}
 use Rattle.ios_reader.specs.Texts.{ReadsText}
@@ -10,7 +12,6 @@ use Rattle.net_model.specs.declared.refusal.NetRefusal.{NetRefusal}
 use Rattle.net_model.specs.declared.refusal.NetRefusal.TheVariants.{OutOfMemory}
 use Rattle.net_model.proofs.RefusalLaws.{IsNetworkOf-unique, MakeNetwork-refused, Refuses-unique}
 use Rattle.migrate_words.specs.declared.command.CommandKind.{CommandKind}
-use Rattle.migrate_words.specs.declared.command.CommandKind.TheVariants.{Pair, PairScripts, PairCheck, PairRefute, Survey, Observe}
 use Rattle.migrate_cli.specs.CommandFiles.{AsksNetworks, OverNetworks, alone, groups_of}
 use Rattle.migrate_cli.specs.Configurations.{GiveNetwork, GiveNetworks, IsFirstRefused, RefusesFirst, line_fault}
 use Rattle.migrate_cli.specs.Configurations.RefusesFirst.{here, later}
@@ -45,43 +46,24 @@ joined_alone [] = refl
 joined_alone (text ∷ texts) = ap (λ (rest : List (List ℕ)). text ∷ rest) (joined_alone texts)
 
 groups_join : (kind : CommandKind) (texts : List (List ℕ)) → AsksNetworks kind → joined (groups_of kind texts) ≡ texts
-groups_join Survey texts asks = absurd asks
-groups_join Observe texts asks = absurd asks
-groups_join Pair texts asks = joined_alone texts
-groups_join PairScripts texts asks = joined_alone texts
-groups_join PairCheck texts asks = joined_alone texts
-groups_join PairRefute texts asks = joined_alone texts
-groups_join _ texts asks = append-nil texts
+groups_join kind texts asks = grind (arith, common_steps, joined_alone)
 
 -- a command over one network has one group
 pub one_group : (kind : CommandKind) (texts : List (List ℕ)) → AsksNetworks kind → (OverNetworks kind → ⊥) → groups_of kind texts ≡ texts ∷ []
-one_group Survey texts asks not = absurd asks
-one_group Observe texts asks not = absurd asks
-one_group Pair texts asks not = absurd (not tt)
-one_group PairScripts texts asks not = absurd (not tt)
-one_group PairCheck texts asks not = absurd (not tt)
-one_group PairRefute texts asks not = absurd (not tt)
-one_group _ texts asks not = refl
+one_group kind texts asks not = grind (arith, common_steps)
 
 -- so its network is the one of its texts
 pub gives_one : (kind : CommandKind) (texts : List (List ℕ)) (net : Network) → AsksNetworks kind → (OverNetworks kind → ⊥) → GiveNetwork texts net →
     GiveNetworks (groups_of kind texts) (net ∷ [])
-gives_one kind texts net asks not gives =
-    subst (λ (groups : List (List (List ℕ))). GiveNetworks groups (net ∷ [])) (sym (one_group kind texts asks not)) (gives, tt)
+gives_one kind texts net asks not gives = grind (arith, common_steps, one_group)
 
 -- and one over two networks a group for each text
 pub two_groups : (kind : CommandKind) (old new : List ℕ) → OverNetworks kind → groups_of kind (old ∷ new ∷ []) ≡ alone old ∷ alone new ∷ []
-two_groups Pair old new over = refl
-two_groups PairScripts old new over = refl
-two_groups PairCheck old new over = refl
-two_groups PairRefute old new over = refl
-two_groups _ old new over = absurd over
+two_groups kind old new over = grind (arith, common_steps)
 
 -- it asks for networks
 pub over_asks : (kind : CommandKind) → OverNetworks kind → AsksNetworks kind
-over_asks Survey over = absurd over
-over_asks Observe over = absurd over
-over_asks _ over = tt
+over_asks kind over = grind (arith, common_steps)
 
 -- texts and more texts are read
 pub reads_append : (texts more : List (List ℕ)) (one other : List Configuration) → ReadsTexts texts one → ReadsTexts more other →
@@ -107,9 +89,7 @@ all_read (texts ∷ groups) (net ∷ nets) gives =
 -- so none is refused
 pub given_unrefused : (kind : CommandKind) (texts : List (List ℕ)) (nets : List Network) {names : List (List ℕ)} {file : List ℕ} {line : ℕ}
     {fault : ReadKind} → AsksNetworks kind → GiveNetworks (groups_of kind texts) nets → IsFirstRefused (line_fault line fault) names texts file → ⊥
-given_unrefused kind texts nets asks gives first =
-    let all = all_read (groups_of kind texts) nets gives in
-    none_refused first all.0 (subst (λ (some : List (List ℕ)). ReadsTexts some all.0) (groups_join kind texts asks) all.1)
+given_unrefused kind texts nets asks gives first = grind (arith, common_steps, all_read, groups_join, none_refused)
 
 -- groups give networks in one way
 pub same_networks : (groups : List (List (List ℕ))) (nets others : List Network) → GiveNetworks groups nets → GiveNetworks groups others →

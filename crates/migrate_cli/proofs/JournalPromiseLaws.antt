@@ -1,17 +1,14 @@
 -- What is said of calls that take an order file and a journal.
-use Rattle.std.proofs.Common.{◌≡◌, ◌∷◌, ℕ, List, [], ap₂, take}
+use Rattle.std.proofs.Common.{arith}
+use Rattle.std.proofs.lemmas.Grind.{common_steps}
+use Rattle.std.proofs.Common.{◌≡◌, ◌∷◌, ℕ, List, [], take}
 use Rattle.std.proofs.Common.{ap, sym, ◌∙◌}
 use Rattle.migrate_cli.specs.Reading.{NamedText, named_text, named_texts}
 
 -- the texts of two own files
 pub two_texts : (file journal_file : List ℕ) (texts : List (List ℕ)) (order journal : NamedText) →
     named_texts (file ∷ journal_file ∷ []) (take 2 texts) ≡ order ∷ journal ∷ [] → take 2 texts ≡ order.text ∷ journal.text ∷ []
-two_texts file journal_file [] order journal same = absurd (Prim.cc same)
-two_texts file journal_file (t ∷ []) order journal same = absurd (let none : [] ≡ journal ∷ [] = cc same in Prim.cc none)
-two_texts file journal_file (t ∷ u ∷ texts) order journal same =
-    let one : named_text file t ≡ order = cc same in
-    let other : named_text journal_file u ≡ journal = cc same in
-    ap₂ (λ (x y : NamedText). x.text ∷ y.text ∷ []) one other
+two_texts file journal_file texts order journal same = grind (arith, common_steps)
 
 -- what is said of the two own texts is said of the files that are decided on
 pub order_and_journal : (file journal_file : List ℕ) {own : List (List ℕ)} {order journal : List ℕ} {one other : NamedText} →

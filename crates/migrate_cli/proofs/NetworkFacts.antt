@@ -1,4 +1,5 @@
 -- The network of a command has a router: its words name a text of configurations at least, and a text has a configuration at least.
+use Rattle.std.proofs.lemmas.Grind.{common_steps}
 use Rattle.std.proofs.Common.{◌≡◌, ◌∙◌, ℕ, ◌+◌, ◌<◌, List, [], ◌∷◌, length, ap, arith}
 use Rattle.std.proofs.lemmas.List.{length-append}
 use Rattle.std.proofs.lemmas.List.Sorted.{length_permutation}
@@ -11,18 +12,13 @@ use Rattle.migrate_words.specs.Asked.{AreConfigsInRange, IsInRange}
 use Rattle.migrate_words.specs.Usages.{usage_of}
 use Rattle.migrate_words.specs.declared.command.Command.{Command}
 use Rattle.migrate_words.specs.declared.command.CommandKind.{CommandKind}
-use Rattle.migrate_words.specs.declared.command.CommandKind.TheVariants.{Sample, Pair, PairScripts, PairCheck, PairRefute}
+use Rattle.migrate_words.specs.declared.command.CommandKind.TheVariants.{Pair, PairScripts, PairCheck, PairRefute}
 use Rattle.migrate_cli.specs.CommandFiles.{OverNetworks, names_for, text_names}
 use Rattle.isis_writer.specs.ReadTexts.{ReadsTexts}
 
 -- a command has a text of configurations
 names_some : (kind : CommandKind) (configs : List (List ℕ)) → AreConfigsInRange (usage_of kind).configs configs → 0 < length (names_for kind configs)
-names_some Sample configs range = omega arith
-names_some Pair configs range = omega (arith, range)
-names_some PairScripts configs range = omega (arith, range)
-names_some PairCheck configs range = omega (arith, range)
-names_some PairRefute configs range = omega (arith, range)
-names_some _ configs range = range
+names_some kind configs range = grind (arith, common_steps)
 
 -- which has a configuration
 configs_some : (texts : List (List ℕ)) (configs : List Configuration) → 0 < length texts → ReadsTexts texts configs → 0 < length configs
@@ -43,10 +39,7 @@ net_has_router command texts configs net range each read make =
 -- so has that of a text
 pub first_has_router : (text : List ℕ) (configs : List Configuration) (net : Network) → ReadsText text configs → MakeNetwork configs net →
     0 < length net
-first_has_router text configs net reads make =
-    let some = some_configuration text configs reads in
-    let same = length_permutation configs net make.network.same in
-    omega (arith, some, same)
+first_has_router text configs net reads make = grind (arith, common_steps, length_permutation, some_configuration)
 
 -- a command over two networks has two names
 pub names_two : (command : Command) → OverNetworks command.kind → IsInRange command → length (text_names command) ≡ 2

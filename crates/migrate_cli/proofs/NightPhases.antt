@@ -1,19 +1,19 @@
 -- The configurations of a network after the first changes of some run show its state, and differ from those before in their
 -- distances alone.
-use Rattle.std.proofs.Common.{◌≡◌, ℕ, ◌<◌, true, false, Bool, List, cond, IsTrue, IsSome, refl, sym, ap, ◌∙◌, subst, inl, inr, is_some}
+use Rattle.std.proofs.Common.{arith}
+use Rattle.std.proofs.lemmas.Grind.{common_steps}
+use Rattle.std.proofs.Common.{◌≡◌, ℕ, ◌<◌, Bool, List, cond, IsTrue, IsSome, sym, ap, ◌∙◌, subst, inl, inr}
 use Rattle.std.proofs.lemmas.Bool.{cases_eq}
 use Rattle.net_model.specs.Configuration.{Configuration}
 use Rattle.net_model.specs.Network.{Network, HasConfiguration}
 use Rattle.net_model.specs.declared.bounds.TheConstants.{ISIS_DISTANCE, MOST_DISTANCE}
 use Rattle.igp_theory.specs.declared.phase.Phase.{Phase}
-use Rattle.igp_theory.specs.declared.phase.Phase.TheVariants.{Old, Middle, New}
 use Rattle.applied_changes.specs.AppliedTexts.{after_first, after_second, in_phase, with_distances}
 use Rattle.typed_distances.proofs.PhasesByDistance.{phase_alike}
 use Rattle.observed_night.specs.Differences.{AreOneNight}
 use Rattle.observed_night.specs.Parts.{AreAlikeIn, HaveSameItems}
 use Rattle.observed_night.specs.ShownPhases.{IsShownState, ShowPhase, isis_distance_in, ospf_distance_in}
 use Rattle.observed_night.specs.declared.part.Part.{Part}
-use Rattle.observed_night.specs.declared.part.Part.TheVariants.{Name, Interfaces, Process, Isis, Tag, Area, System, Levels, Leak, Ranges, Stubs, Rfc1583}
 use Rattle.observed_night.proofs.SightFacts.{configured_at}
 use Rattle.migrate_cli.specs.Configurations.{IsAtStart}
 use Rattle.migrate_cli.specs.ObservePromise.{IsAfterChanges}
@@ -21,61 +21,37 @@ use Rattle.migrate_cli.specs.ObservePromise.{IsAfterChanges}
 -- ---- one router ----
 
 both_ways : {A B : Type 0} (f : A → B) (v : B) (b : Bool) (x y : A) → f x ≡ v → f y ≡ v → f (cond b x y) ≡ v
-both_ways f v true x y one other = one
-both_ways f v false x y one other = other
+both_ways f v b x y one other = grind (arith, common_steps)
 
 -- the first change lets the distance of OSPF be, and the second one that of IS-IS
 ospf_let_be : (c : Configuration) → (after_first c).distances.ospf ≡ c.distances.ospf
-ospf_let_be c =
-    both_ways (λ (x : Configuration). x.distances.ospf) c.distances.ospf c.isis (with_distances c.distances.ospf ISIS_DISTANCE c) c refl refl
+ospf_let_be c = grind (arith, common_steps, both_ways)
 
 isis_let_be : (c : Configuration) → (after_second c).distances.isis ≡ c.distances.isis
-isis_let_be c =
-    both_ways (λ (x : Configuration). x.distances.isis) c.distances.isis (is_some c.process) (with_distances MOST_DISTANCE c.distances.isis c) c
-    refl refl
+isis_let_be c = grind (arith, common_steps, both_ways)
 
 isis_set : (c : Configuration) → IsTrue c.isis → (after_first c).distances.isis ≡ ISIS_DISTANCE
 isis_set c runs = ap (λ b. (cond b (with_distances c.distances.ospf ISIS_DISTANCE c) c).distances.isis) runs
 
 ospf_set : (c : Configuration) → IsSome c.process → (after_second (after_first c)).distances.ospf ≡ MOST_DISTANCE
-ospf_set c runs =
-    let there : is_some (after_first c).process ≡ true = ap (λ (x : Configuration). is_some x.process) (phase_alike Middle c) ∙ runs in
-    ap (λ b. (cond b (with_distances MOST_DISTANCE (after_first c).distances.isis (after_first c)) (after_first c)).distances.ospf) there
+ospf_set c runs = grind (arith, common_steps, phase_alike)
 
 isis_shown : (phase : Phase) (c : Configuration) → (IsTrue c.isis → c.distances.isis ≡ MOST_DISTANCE) → IsTrue c.isis →
     (in_phase phase c).distances.isis ≡ isis_distance_in phase
-isis_shown Old c start runs = start runs
-isis_shown Middle c start runs = isis_set c runs
-isis_shown New c start runs = isis_let_be (after_first c) ∙ isis_set c runs
+isis_shown phase c start runs = grind (arith, common_steps, isis_let_be, isis_set)
 
 ospf_shown : (phase : Phase) (c : Configuration) → IsSome c.process → (in_phase phase c).distances.ospf ≡ ospf_distance_in c.distances.ospf phase
-ospf_shown Old c runs = refl
-ospf_shown Middle c runs = ospf_let_be c
-ospf_shown New c runs = ospf_set c runs
+ospf_shown phase c runs = grind (arith, common_steps, ospf_let_be, ospf_set)
 
 phase_shown : (phase : Phase) (c : Configuration) → (IsTrue c.isis → c.distances.isis ≡ MOST_DISTANCE) → ShowPhase c (in_phase phase c) phase
-phase_shown phase c start = record {
-  isis = λ runs. isis_shown phase c start (sym (ap (λ (x : Configuration). x.isis) (phase_alike phase c)) ∙ runs);
-  ospf = λ runs. ospf_shown phase c (sym (ap (λ (x : Configuration). is_some x.process) (phase_alike phase c)) ∙ runs);
-}
+phase_shown phase c start = grind (arith, common_steps, isis_shown, ospf_shown, phase_alike)
 
 same_as : {A : Type 0} {ones others : List A} → ones ≡ others → HaveSameItems ones others
 same_as {A} {ones} same = subst (HaveSameItems ones) same (λ (item : A). (λ inside. inside, λ inside. inside))
 
 -- two configurations that differ in their distances alone are alike in each part
 alike_parts : (c d : Configuration) → with_distances 0 0 d ≡ with_distances 0 0 c → (part : Part) → AreAlikeIn part c d
-alike_parts c d same Name = sym (ap (λ (x : Configuration). x.name) same)
-alike_parts c d same Interfaces = same_as (sym (ap (λ (x : Configuration). x.interfaces) same))
-alike_parts c d same Process = sym (ap (λ (x : Configuration). x.process) same)
-alike_parts c d same Isis = sym (ap (λ (x : Configuration). x.isis) same)
-alike_parts c d same Tag = sym (ap (λ (x : Configuration). x.tag) same)
-alike_parts c d same Area = sym (ap (λ (x : Configuration). x.isis_area) same)
-alike_parts c d same System = sym (ap (λ (x : Configuration). x.system) same)
-alike_parts c d same Levels = sym (ap (λ (x : Configuration). x.levels) same)
-alike_parts c d same Leak = sym (ap (λ (x : Configuration). x.leak) same)
-alike_parts c d same Ranges = same_as (sym (ap (λ (x : Configuration). x.ranges) same))
-alike_parts c d same Stubs = same_as (sym (ap (λ (x : Configuration). x.stubs) same))
-alike_parts c d same Rfc1583 = sym (ap (λ (x : Configuration). x.rfc1583) same)
+alike_parts c d same it_3 = grind (arith, common_steps, same_as)
 
 -- ---- the networks ----
 

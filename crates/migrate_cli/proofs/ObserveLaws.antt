@@ -1,4 +1,5 @@
 -- `observe` comes to one outcome.
+use Rattle.std.proofs.lemmas.Grind.{common_steps}
 use Rattle.std.proofs.Common.{◌≡◌, ◌∙◌, ℕ, List, sym, ap, subst, arith}
 use Rattle.std.proofs.lemmas.Option.{same_Some}
 use Rattle.net_model.specs.Configuration.{Configuration}
@@ -10,7 +11,6 @@ use Rattle.net_model.proofs.RefusalLaws.{Refuses-unique}
 use Rattle.step_scripts.proofs.WaveFileLaws.{no_fault, one_faulty_line, one_wave_list}
 use Rattle.observed_night.specs.ObservedTexts.{IsObserved}
 use Rattle.observed_night.specs.declared.night.Observed.{Observed}
-use Rattle.observed_night.specs.declared.night.Observed.TheVariants.{Differs, Astray, Journal}
 use Rattle.observed_night.proofs.ObservedFacts.{one_observed}
 use Rattle.migration_report.specs.Outcomes.{HasOutcomeText, IsTellable}
 use Rattle.migration_report.specs.declared.decision.Decision.{Decision}
@@ -108,9 +108,7 @@ refusal_told (faulty_line _ _ _ _) = tt
 refusal_told (no_net _ _ _ _ told) = told
 
 told_tellable : (net : Network) (observed : Observed) → IsTellable net (told_decision observed)
-told_tellable net (Differs text) = tt
-told_tellable net (Astray text) = tt
-told_tellable net (Journal text) = tt
+told_tellable net observed = grind (arith, common_steps)
 
 observe_tellable : {before now : Network} {order : NamedText} {d : Decision} → IsObserveDecision before now order d → IsTellable before d
 observe_tellable (faulty_waves _ _ _) = tt

@@ -1,9 +1,10 @@
 -- What a call of `observe` promises.
+use Rattle.std.proofs.Common.{arith}
+use Rattle.std.proofs.lemmas.Grind.{common_steps}
 use Rattle.std.proofs.Common.{◌≡◌, ◌≢◌, ◌∙◌, [], ◌∷◌, ℕ, List, All, length, take, ap, refl, subst, sym}
 use Rattle.net_model.specs.Network.{Network}
 use Rattle.net_model.specs.Refusals.{IsNetwork, NamesAscend}
 use Rattle.net_model.specs.declared.refusal.NetRefusal.{NetRefusal}
-use Rattle.net_model.specs.declared.refusal.NetRefusal.TheVariants.{Limit as TooMany}
 use Rattle.order_core.specs.Rankings.{IsRanking}
 use Rattle.step_scripts.specs.WaveFiles.{NamesWaves}
 use Rattle.step_scripts.specs.declared.version.Version.{Version}
@@ -38,7 +39,6 @@ use Rattle.migrate_cli.specs.ObserveDecision.{ConfigTexts, IsNightOutcome, IsObs
 use Rattle.migrate_cli.specs.ObserveDecision.{night_texts, told_decision}
 use Rattle.migrate_cli.specs.ObserveDecision.IsNightOutcome.{refused_before, off_before, refused_now, night_decided}
 use Rattle.migrate_cli.specs.ObserveDecision.IsObserveDecision.{faulty_waves, of_waves}
-use Rattle.migrate_cli.specs.ObserveDecision.RefusesTexts.{faulty_line, no_net}
 use Rattle.migrate_cli.specs.ObservePromise.{AcceptsObserve, HasObserved, IsAfterChanges, observe_of}
 use Rattle.migrate_cli.specs.Outcomes.{IsOutcome}
 use Rattle.migrate_cli.specs.Reading.{AreRead, AreWithin, NamedText, named_text, named_texts}
@@ -57,27 +57,18 @@ use Rattle.migrate_cli.proofs.StopLaws.{IsToldOf, one_list, told_files, told_wit
 
 two_own_texts : (file before : List ℕ) (texts : List (List ℕ)) (order old : NamedText) →
     named_texts (file ∷ before ∷ []) (take 2 texts) ≡ order ∷ old ∷ [] → take 2 texts ≡ order.text ∷ old.text ∷ []
-two_own_texts file before [] order old is = absurd (cc is)
-two_own_texts file before (text ∷ []) order old is = absurd (cc is)
-two_own_texts file before (text ∷ other ∷ texts) order old is =
-    let first : named_text file text ≡ order = cc is in
-    let second : named_text before other ≡ old = cc is in
-    λ i. (first i).text ∷ (second i).text ∷ []
+two_own_texts file before texts order old is = grind (arith, common_steps)
 
 -- ---- a call that ended with yes has written a journal ----
 
 network_not_done : (refusal : NetRefusal) → network_status refusal ≢ Done
-network_not_done (TooMany _ _) e = Prim.cc e
-network_not_done _ e = Prim.cc e
+network_not_done refusal e = grind (arith, common_steps)
 
 refusal_not_done : {files : ConfigTexts} {outcome : Outcome} → RefusesTexts files outcome → status_of outcome ≢ Done
-refusal_not_done (faulty_line _ _ _ _) e = Prim.cc e
-refusal_not_done (no_net _ refusal _ _ _) e = network_not_done refusal e
+refusal_not_done it_0 e = grind (arith, common_steps, network_not_done)
 
 journal_if_done : (observed : Observed) → decision_status (told_decision observed) ≡ Done → (text : List ℕ) × (observed ≡ Journal text)
-journal_if_done (Differs text) e = absurd (Prim.cc e)
-journal_if_done (Astray text) e = absurd (Prim.cc e)
-journal_if_done (Journal text) e = (text, refl)
+journal_if_done observed e = grind (arith, common_steps)
 
 module _ (call : Call) (file before : List ℕ) (configs : List (List ℕ)) (outside : Course)
     (ask : Asks call.words (observe_of file before configs)) where

@@ -1,4 +1,6 @@
 -- `plan` and `sample` decide one thing of a network.
+use Rattle.std.proofs.Common.{arith}
+use Rattle.std.proofs.lemmas.Grind.{common_steps}
 use Rattle.std.proofs.Common.{◌≡◌, ℕ, List, [], sym, ap}
 use Rattle.net_model.specs.Network.{Network}
 use Rattle.igp_theory.specs.Migrations.{Migration, ospf_to_isis}
@@ -33,8 +35,7 @@ pub plan_decision_tellable : {budget : ℕ} {move : Migration} {d : Decision} �
 plan_decision_tellable {budget} {move} (plans planned _ _ is) = plan_tellable move budget planned is
 
 pub one_plan_decision : {budget : ℕ} {move : Migration} {d e : Decision} → IsPlanOver move budget d → IsPlanOver move budget e → d ≡ e
-one_plan_decision {budget} {move} (plans one _ _ is) (plans other _ _ its) =
-    ap (λ (p : Planned). Plan p) (one_plan move budget one other is its)
+one_plan_decision {budget} {move} (plans one _ _ is) (plans other _ _ its) = grind (arith, common_steps, one_plan)
 
 -- ---- a sample ----
 

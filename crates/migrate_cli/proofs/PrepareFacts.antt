@@ -1,10 +1,9 @@
 -- The prepared texts of some texts, one after the other.
+use Rattle.std.proofs.lemmas.Grind.{common_steps}
 use Rattle.std.proofs.Common.{◌≡◌, ◌∙◌, ◌+◌, ◌-◌, ◌<◌, ◌++◌, ◌∷◌, [], ℕ, zero, suc, Bool, true, List, Option, Some, None}
 use Rattle.std.proofs.Common.{Result, Ok, Err, IfOk, ap, append-nil, append_assoc, arith, get_or, length, refl, subst, sym, take}
 use Rattle.std.specs.Prelude.{slice_get}
-use Rattle.std.proofs.lemmas.Grind.{flat_map-append}
 use Rattle.std.proofs.lemmas.List.{take_more}
-use Rattle.std.specs.List.{flat_map}
 use Rattle.std.specs.declared.alloc.AllocError.{AllocError}
 use Rattle.net_addr.specs.JoinedLines.{is_of_whole_lines}
 use Rattle.net_addr.specs.Lines.{is_line_feed}
@@ -56,10 +55,7 @@ prepared_more net settled (t ∷ texts) (suc i) text within at =
 pub delta_more : (net : Network) (settled : List SettledRouter) (texts : List (List ℕ)) (i : ℕ) (text : List ℕ) →
     i < length texts → text ≡ get_or texts i text →
     delta_texts net settled (take (i + 1) texts) ≡ delta_texts net settled (take i texts) ++ delta_text text net settled
-delta_more net settled texts i text within at =
-    let new : List ℕ → List ℕ = λ t. delta_text t net settled in
-    ap (flat_map new) (take_more texts i text within) ∙ flat_map-append new (take i texts) (get_or texts i text ∷ [])
-    ∙ ap (λ more. flat_map new (take i texts) ++ more) (append-nil (new (get_or texts i text)) ∙ ap new (sym at))
+delta_more net settled texts i text within at = grind (arith, common_steps, take_more)
 
 -- ---- what is decided where a design is refused ----
 

@@ -1,5 +1,6 @@
 -- What a call of `prepare` wrote is read back.
-use Rattle.std.proofs.Common.{◌≡◌, ◌<◌, ◌∷◌, [], Contains, ℕ, List, ap, arith, length, map, subst, take}
+use Rattle.std.proofs.lemmas.Grind.{common_steps}
+use Rattle.std.proofs.Common.{◌≡◌, ◌<◌, ◌∷◌, [], Contains, ℕ, List, arith, length, map, subst, take}
 use Rattle.std.proofs.lemmas.List.Elements.{All-contains_itself}
 use Rattle.std.proofs.lemmas.List.Sorted.{All-permutation, IsPermutation-sym}
 use Rattle.store_edge.specs.Sink.{AddsBytes}
@@ -19,11 +20,11 @@ use Rattle.migration_report.specs.declared.outcome.Outcome.{Outcome}
 use Rattle.migration_report.specs.declared.status.Status.TheVariants.{Done}
 use Rattle.migrate_cli.specs.Answers.{IsAnswer}
 use Rattle.migrate_cli.specs.Calls.{Call, Course}
-use Rattle.migrate_cli.specs.CommandFiles.{command_of, config_texts, files_of, own_file}
+use Rattle.migrate_cli.specs.CommandFiles.{command_of, config_texts, files_of}
 use Rattle.migrate_cli.specs.Configurations.{GiveNetwork}
 use Rattle.migrate_cli.specs.PrepareDecision.{IsPrepareDecision, configured, with_settled_lines}
 use Rattle.migrate_cli.specs.PreparePromise.{HasPrepared}
-use Rattle.migrate_cli.specs.Reading.{AreWithin, NamedText, named_text, named_texts}
+use Rattle.migrate_cli.specs.Reading.{AreWithin, NamedText, named_texts}
 use Rattle.migrate_cli.proofs.DecidedLaws.{HasDecided, answer_decided, done_no_refusal}
 use Rattle.migrate_cli.proofs.FileFacts.{files_length, short_length}
 use Rattle.migrate_cli.proofs.SettlingLaws.{done_is_settled}
@@ -32,11 +33,7 @@ use Rattle.migrate_cli.proofs.SettlingLaws.{done_is_settled}
 
 config_count : (file : List ℕ) (configs texts : List (List ℕ)) → AreWithin (files_of (command_of Prepare (file ∷ []) configs 0)) texts →
     length (config_texts (command_of Prepare (file ∷ []) configs 0) texts) ≡ length configs
-config_count file configs [] within = absurd within.each
-config_count file configs (t ∷ texts) within =
-    let all = short_length (files_of (command_of Prepare (file ∷ []) configs 0)) (t ∷ texts) within.each in
-    let parts = files_length (own_file Prepare file ∷ []) configs in
-    omega (arith, all, parts)
+config_count file configs texts within = grind (arith, common_steps, files_length, short_length)
 
 -- ---- prepared texts are read as the configurations of all of them ----
 
@@ -58,8 +55,7 @@ network_read (text ∷ texts) net settled gives fits some = prepared_texts_read 
 -- the one own text is that of the file that is decided on
 pub own_is : (file : List ℕ) (texts : List (List ℕ)) (design : NamedText) → named_texts (file ∷ []) (take 1 texts) ≡ design ∷ [] →
     take 1 texts ≡ design.text ∷ []
-own_is file [] design is = absurd (cc is)
-own_is file (text ∷ texts) design is = let same : named_text file text ≡ design = cc is in ap (λ (d : NamedText). d.text ∷ []) same
+own_is file texts design is = grind (arith, common_steps)
 
 module _ (call : Call) (file : List ℕ) (configs : List (List ℕ)) (outside : Course) (asks : Asks call.words (command_of Prepare (file ∷ []) configs 0)) where
   abbrev command : Command

@@ -1,4 +1,5 @@
 -- Files read one after another.
+use Rattle.std.proofs.lemmas.Grind.{common_steps}
 use Rattle.std.proofs.Common.{◌≡◌, ℕ, ◌+◌, ◌≤◌, List, [], ◌∷◌, ◌++◌, length, refl, arith}
 use Rattle.migrate_cli.specs.Reading.{Contents, File, IsReadOf, AreRead, counted, total_of, IsShort, AreShort, AreWithin}
 
@@ -63,6 +64,4 @@ front_total content (f ∷ files) more (t ∷ texts) others read =
 pub within_front : (content : Contents) (files more : List File) (texts others : List (List ℕ)) → AreRead content files texts →
     AreWithin (files ++ more) (texts ++ others)
     → AreWithin files texts
-within_front content files more texts others read h =
-    let less : total_of files texts ≤ total_of (files ++ more) (texts ++ others) = front_total content files more texts others read in
-    record { each = front_short content files more texts others read h.each; together = omega (arith, less, h.together) }
+within_front content files more texts others read h = grind (arith, common_steps, front_short, front_total)

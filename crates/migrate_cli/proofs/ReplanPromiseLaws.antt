@@ -1,12 +1,12 @@
 -- What a call of `replan` promises.
+use Rattle.std.proofs.Common.{arith}
+use Rattle.std.proofs.lemmas.Grind.{common_steps}
 use Rattle.std.proofs.Common.{◌≢◌, [], ℕ, List, subst, sym}
 use Rattle.igp_theory.specs.Migrations.{ospf_to_isis}
 use Rattle.igp_theory.proofs.Delivery.{isis_hop_is_router, ospf_hop_is_router}
 use Rattle.net_model.specs.Refusals.{IsNetwork, NamesAscend}
 use Rattle.plan_theory.specs.declared.planned.Planned.{Planned}
 use Rattle.plan_theory.specs.Plans.{IsPlanned}
-use Rattle.order_search.specs.declared.found.Found.TheVariants.{Waves, Refuted, Spent}
-use Rattle.plan_theory.specs.declared.planned.Planned.TheVariants.{UnsoundOld, UnsoundNew, Searched}
 use Rattle.step_scripts.specs.WaveFiles.{NamesWaves}
 use Rattle.step_scripts.specs.declared.version.Version.{Version}
 use Rattle.step_scripts.proofs.WaveFileLaws.{no_fault}
@@ -109,11 +109,7 @@ module _ (call : Call) (budget : ℕ) (file journal_file : List ℕ) (configs : 
 -- ---- it decides ----
 
 plan_ends : (planned : Planned) → IsOfPlan (plan_status planned)
-plan_ends (UnsoundOld fault) = tt
-plan_ends (UnsoundNew fault) = tt
-plan_ends (Searched (Waves ranks pairs chain trail)) = tt
-plan_ends (Searched (Refuted tree)) = tt
-plan_ends (Searched (Spent tree)) = tt
+plan_ends planned = grind (arith, common_steps)
 
 rest_ends : {journal : Journal} {ranks : List ℕ} {budget : ℕ} {d : Decision} → IsRestPlanned (ospf_to_isis journal.net) journal ranks budget d →
     Replans (decision_status d)

@@ -1,5 +1,6 @@
 -- The waves of the rest that a search finds: a router that is New at the start is in no pair, so it stands in the first wave, beside
 -- another one where not all are New; and no chain of two or more has it.
+use Rattle.std.proofs.lemmas.Grind.{common_steps}
 use Rattle.std.proofs.Common.{◌≡◌, ◌≢◌, ◌⊎◌, inl, inr, ◌<◌, ◌≤◌, ◌∷◌, ◌++◌, true, ℕ, suc, zero, List, [], All, Contains, IsTrue, length, get_or, arith, ap, refl, subst, sym, ◌∙◌}
 use Rattle.std.proofs.lemmas.Bool.{cases_lt}
 use Rattle.std.proofs.lemmas.List.{get_or_default}
@@ -9,7 +10,7 @@ use Rattle.igp_theory.specs.Loops.{IsLoop}
 use Rattle.igp_theory.specs.Migrations.{Migration, started}
 use Rattle.igp_theory.specs.Phases.{state_in}
 use Rattle.igp_theory.specs.declared.phase.Phase.{Phase}
-use Rattle.igp_theory.specs.declared.phase.Phase.TheVariants.{Old, Middle, New}
+use Rattle.igp_theory.specs.declared.phase.Phase.TheVariants.{Old, New}
 use Rattle.igp_theory.proofs.LoopLaws.{new_turn, old_turn}
 use Rattle.igp_theory.proofs.Rings.{around_at}
 use Rattle.live_replan.specs.RestLaws.{AreRestWaves, KeepsChain, LeadWithNew}
@@ -40,9 +41,7 @@ IsLoopBranch move (Leaf cycle) = Unit {0}
 IsLoopBranch move Unvisited = Unit {0}
 
 loop_branch : (move : Migration) (place : Place) (node : Node) → IsFoundNode (waves_meaning move) place node → IsLoopBranch move node
-loop_branch move place (Branch address turns) is = is.is_node.0
-loop_branch move place (Leaf cycle) is = tt
-loop_branch move place Unvisited is = tt
+loop_branch move place node is = grind (arith, common_steps)
 
 abbrev IsAnyPlace : Place → Type 0
 IsAnyPlace place = Unit {0}
@@ -65,14 +64,10 @@ trail_loop move place ranks trail address turns leads has =
 
 -- a router in whose phase of the start packets take the steps of New isn't tagged otherwise
 same_not_old : {A B : Type 0} (g : Tag) → g ≡ tag.Old → (A → B) → IsTagOf g A B → ⊥
-same_not_old tag.Old is both steps = steps.1 (both steps.0)
-same_not_old tag.New is both steps = absurd (Prim.cc is)
-same_not_old tag.Both is both steps = absurd (Prim.cc is)
+same_not_old g is both steps = grind (arith, common_steps)
 
 same_not_new : {A B : Type 0} (g : Tag) → g ≡ tag.New → (B → A) → IsTagOf g A B → ⊥
-same_not_new tag.Old is both steps = absurd (Prim.cc is)
-same_not_new tag.New is both steps = steps.0 (both steps.1)
-same_not_new tag.Both is both steps = absurd (Prim.cc is)
+same_not_new g is both steps = grind (arith, common_steps)
 
 module _ (move : Migration) (a : ℕ) (ring : List Turn) (loops : IsLoop move a ring) where
   old_not_new : (u : ℕ) → Contains (old_routers ring) u → move.start u ≢ New
@@ -94,9 +89,7 @@ module _ (move : Migration) (a : ℕ) (ring : List Turn) (loops : IsLoop move a 
 -- ---- what is found ----
 
 left_or_new : (phase : Phase) → (phase ≢ New) → is_left phase ≡ true
-left_or_new Old not = refl
-left_or_new Middle not = refl
-left_or_new New not = absurd (not refl)
+left_or_new phase not = grind (arith, common_steps)
 
 module _ (move : Migration) (start : List Phase) (each : length start ≡ length move.net) (budget : ℕ) (found : FoundWaves)
     (are : AreFoundWaves (waves_meaning (started (state_in start) move)) budget found) where

@@ -1,4 +1,6 @@
 -- `rollback` decides one thing of an order file, a journal and a network; and what a journal that was replayed tells.
+use Rattle.std.proofs.Common.{arith}
+use Rattle.std.proofs.lemmas.Grind.{common_steps}
 use Rattle.std.proofs.Common.{◌≡◌, ◌∷◌, ℕ, [], List, ap, refl, subst, sym, ◌∙◌}
 use Rattle.std.specs.List.{AllZip}
 use Rattle.net_model.specs.Network.{Network}
@@ -40,10 +42,7 @@ reached_tells journal ranks done made at = record { lines = at.lines; all = at.a
 -- and no others
 pub tells_once : (journal : Journal) (one other : List Change) → NamesAscend journal.net → TellsChanges journal.net journal.text one →
     TellsChanges journal.net journal.text other → one ≡ other
-tells_once journal one other ascending is its =
-    let lines : is.lines ≡ its.lines = let all = sym is.all ∙ its.all in cc all in
-    told_list journal.net ascending its.lines one other
-    (subst (λ (l : List (List ℕ)). AllZip (TellsChange journal.net) l one) lines is.told) its.told
+tells_once journal one other ascending is its = grind (arith, common_steps, told_list)
 
 -- ---- one decision ----
 

@@ -1,5 +1,6 @@
 -- What a call of `rollback` promises.
-use Rattle.std.proofs.Common.{◌≡◌, ◌≢◌, ◌++◌, inl, inr, [], ℕ, List, length, take, ap, arith, subst, sym, ◌∙◌}
+use Rattle.std.proofs.lemmas.Grind.{common_steps}
+use Rattle.std.proofs.Common.{◌≡◌, ◌≢◌, ◌++◌, [], ℕ, List, length, take, ap, arith, subst, sym}
 use Rattle.std.proofs.lemmas.Bool.{cases_lt}
 use Rattle.std.proofs.lemmas.List.{length-take-le, take-append-le, take_all}
 use Rattle.igp_theory.specs.Changes.{Change}
@@ -46,15 +47,7 @@ use Rattle.migrate_cli.proofs.RollbackLaws.{reached_tells}
 
 -- the first ones of some changes stand in front of a run that they begin
 pub kept_front : (changes rest : List Change) (kept : ℕ) → take (length (take kept changes)) (changes ++ rest) ≡ take kept changes
-kept_front changes rest kept = elim (cases_lt (length changes) kept) [
-  | inl above ↦
-      let all : take kept changes ≡ changes = take_all kept changes (omega (arith, above)) in
-      ap (λ (l : List Change). take (length l) (changes ++ rest)) all
-      ∙ take-append-le (length changes) changes rest (omega arith) ∙ take_all (length changes) changes (omega arith) ∙ sym all
-  | inr within ↦
-      ap (λ (n : ℕ). take n (changes ++ rest)) (length-take-le kept changes (omega (arith, within)))
-      ∙ take-append-le kept changes rest (omega (arith, within))
-]
+kept_front changes rest kept = grind (arith, common_steps, cases_lt, length-take-le, take-append-le, take_all)
 
 -- so each state on the way back is one of the wave list
 back_is_sound : (net : Network) (ranks : List ℕ) (changes : List Change) → BeginRun (length net) ranks changes →

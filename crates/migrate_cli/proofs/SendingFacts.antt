@@ -1,5 +1,6 @@
 -- A text that is written piece by piece.
-use Rattle.std.proofs.Common.{◌≡◌, ℕ, ◌+◌, ◌-◌, ◌≤◌, List, ◌++◌, take, drop, Option, Result, Ok, Err, OnErr, arith, ap, ◌∙◌, sym, subst}
+use Rattle.std.proofs.lemmas.Grind.{common_steps}
+use Rattle.std.proofs.Common.{◌≡◌, ℕ, ◌+◌, ◌-◌, ◌≤◌, List, ◌++◌, take, drop, Option, Result, OnErr, arith, ap, ◌∙◌, sym, subst}
 use Rattle.std.proofs.lemmas.List.{take-append-drop}
 use Rattle.std.proofs.Math.Seq.{take-add}
 use Rattle.store_edge.specs.Sink.{AddsBytes, AddsFront}
@@ -7,8 +8,7 @@ use Rattle.store_edge.proofs.OutsideLaws.{AddsBytes-then, AddsFront-then, AddsFr
 
 -- what holds holds on an error too
 pub OnErr-from : {T E P : Type 0} (r : Result T E) → P → OnErr r P
-OnErr-from (Ok x) holds = tt
-OnErr-from (Err e) holds = holds
+OnErr-from r holds = grind (arith, common_steps)
 
 -- a front and the piece after it are a longer front
 pub front_and_piece : (text : List ℕ) (done stop : ℕ) → done ≤ stop → take done text ++ take (stop - done) (drop done text) ≡ take stop text
@@ -19,8 +19,7 @@ front_and_piece text done stop up =
 -- the next piece of a text
 pub adds_piece : (a b c : Option (List ℕ)) (text : List ℕ) (done stop : ℕ) → done ≤ stop → AddsBytes a b (take done text)
     → AddsBytes b c (take (stop - done) (drop done text)) → AddsBytes a c (take stop text)
-adds_piece a b c text done stop up first next =
-    subst (AddsBytes a c) (front_and_piece text done stop up) (AddsBytes-then a b c (take done text) (take (stop - done) (drop done text)) first next)
+adds_piece a b c text done stop up first next = grind (arith, common_steps, AddsBytes-then, front_and_piece)
 
 -- a part of the next piece
 pub adds_part : (a b c : Option (List ℕ)) (text : List ℕ) (done stop : ℕ) → done ≤ stop → AddsBytes a b (take done text)

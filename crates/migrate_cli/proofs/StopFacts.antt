@@ -1,5 +1,6 @@
 -- Where the reading of several files stands after one more.
-use Rattle.std.proofs.Common.{◌≡◌, ℕ, zero, suc, ◌+◌, ◌<◌, List, [], ◌∷◌, ◌++◌, length, take, drop, map, get_or, Option, Ok, Err, IfSome, arith, ap, ◌∙◌, refl}
+use Rattle.std.proofs.lemmas.Grind.{common_steps}
+use Rattle.std.proofs.Common.{◌≡◌, ℕ, zero, suc, ◌+◌, ◌<◌, List, [], ◌∷◌, ◌++◌, length, take, drop, map, get_or, Ok, Err, arith, ap, ◌∙◌, refl}
 use Rattle.std.proofs.Common.{sym, subst, append-nil, append_assoc}
 use Rattle.std.proofs.lemmas.List.{take_more, map-append}
 use Rattle.migrate_cli.specs.Reading.{Contents, File, file_names, IsReadOf, AreRead, AreWithin, ReadUpTo, total_of, to_read}
@@ -13,31 +14,12 @@ use Rattle.migrate_cli.specs.declared.reading.Stop.TheVariants.{Fault, Long, Tot
 -- what is read of a file goes by what it holds
 pub IsReadOf-same : (content other : Contents) (file : File) (text : List ℕ) → content file.name ≡ other file.name → IsReadOf content file text →
     IsReadOf other file text
-IsReadOf-same content other file text same read = record {
-  told = subst (λ (held : Option (List ℕ)). IfSome held (λ whole. text ≡ take (file.most + 1) whole)) same read.told;
-  at_most = read.at_most;
-}
+IsReadOf-same content other file text same read = grind (arith, common_steps)
 
 -- so does why reading stops at it
 pub StopsAt-same : (content other : Contents) (file : File) (before : ℕ) (stop : Stop) → content file.name ≡ other file.name
     → StopsAt content file before stop → StopsAt other file before stop
-StopsAt-same content other file before (Fault name) same stops = stops
-StopsAt-same content other file before (Long name) same stops = (
-  stops.0,
-  record {
-    text = stops.1.text;
-    read = IsReadOf-same content other file stops.1.text same stops.1.read;
-    long = stops.1.long;
-  },
-)
-StopsAt-same content other file before (Total number) same stops = record {
-  text = stops.text;
-  read = IsReadOf-same content other file stops.text same stops.read;
-  short = stops.short;
-  number_is = stops.number_is;
-  passed = stops.passed;
-}
-StopsAt-same content other file before OutOfMemory same stops = tt
+StopsAt-same content other file before stop same stops = grind (arith, common_steps)
 
 -- the names asked for up to a file
 abbrev up_to : (content : Contents) (files before after : List File) (texts : List (List ℕ)) (file : File) (asked : List (List ℕ)) →
@@ -159,23 +141,18 @@ around f (y ∷ ys) (suc i) x within at = ap (λ zs. f y ∷ zs) (around f ys i 
 
 pub map_around : {A B : Type 0} (f : A → B) (xs : List A) (i : ℕ) (x : A) → i < length xs → x ≡ get_or xs i x
     → map f xs ≡ map f (take i xs) ++ f x ∷ map f (drop (i + 1) xs)
-map_around f xs i x within at =
-    let e : suc i ≡ i + 1 = omega arith in
-    around f xs i x within at ∙ ap (λ n. map f (take i xs) ++ f x ∷ map f (drop n xs)) e
+map_around f xs i x within at = grind (arith, common_steps, around)
 
 -- one more element of a mapped list
 pub map_take_more : {A B : Type 0} (f : A → B) (xs : List A) (i : ℕ) (x : A) → i < length xs → x ≡ get_or xs i x
     → map f (take (i + 1) xs) ≡ map f (take i xs) ++ f x ∷ []
-map_take_more f xs i x within at =
-    ap (map f) (take_more xs i x within) ∙ map-append f (take i xs) (get_or xs i x ∷ []) ∙ ap (λ z. map f (take i xs) ++ f z ∷ []) (sym at)
+map_take_more f xs i x within at = grind (arith, common_steps, map-append, take_more)
 
 -- one more file among several was read
 pub read_more : (content other : Contents) (files : List File) (file : File) (before after : KeptTexts) → other file.name ≡ content file.name →
     AreRead content files before.all
     → IsNextText other file before after → AreRead content (files ++ file ∷ []) after.all
-read_more content other files file before after same read next =
-    subst (AreRead content (files ++ file ∷ [])) (sym next.last)
-    (AreRead-more content files before.all file next.text read (IsReadOf-same other content file next.text same next.read))
+read_more content other files file before after same read next = grind (arith, common_steps, AreRead-more)
 
 -- within the limits
 pub within_more : (other : Contents) (files : List File) (file : File) (before after : KeptTexts) → before.counted ≡ total_of files before.all →
@@ -189,22 +166,14 @@ within_more other files file before after is within next =
 pub counted_more : (other : Contents) (files : List File) (file : File) (before after : KeptTexts) → before.counted ≡ total_of files before.all →
     AreWithin files before.all
     → IsNextText other file before after → after.counted ≡ total_of (files ++ file ∷ []) after.all
-counted_more other files file before after is within next =
-    let more = total_of-more files before.all file next.text within.each in
-    let sum : after.counted ≡ total_of (files ++ file ∷ []) (before.all ++ next.text ∷ []) = omega (arith, is, next.more, more) in
-    sum ∙ ap (total_of (files ++ file ∷ [])) (sym next.last)
+counted_more other files file before after is within next = grind (arith, common_steps, total_of-more)
 
 -- and its name was asked for
 pub asked_more : (files : List File) (file : File) (old now new : List (List ℕ)) → now ≡ old ++ file_names files
     → HasAsked {A = Unit {0}} file.name now new (Ok tt) → new ≡ old ++ file_names (files ++ file ∷ [])
-asked_more files file old now new now_is asks =
-    asks.asked_is ∙ ap (λ some. some ++ asks.asked) now_is ∙ append_assoc old (file_names files) asks.asked
-    ∙ ap (λ more. old ++ (file_names files ++ more)) asks.asks_for ∙ ap (λ more. old ++ more) (sym (file_names-more files file))
+asked_more files file old now new now_is asks = grind (arith, common_steps, file_names-more)
 
 -- what holds of the reads since a moment holds since an earlier one after which none failed
 pub stop_reads : (stop : Stop) (first then' latest : ReadsSoFar) → then'.faults ≡ first.faults → then'.failed_at ≡ first.failed_at →
     StopReads stop then' latest → StopReads stop first latest
-stop_reads (Fault name) first then' latest same since failed = record { one = failed.one ∙ ap (λ n. n + 1) same; last = failed.last }
-stop_reads (Long name) first then' latest same since none = record { none = none.none ∙ same; none_since = none.none_since ∙ since }
-stop_reads (Total number) first then' latest same since none = record { none = none.none ∙ same; none_since = none.none_since ∙ since }
-stop_reads OutOfMemory first then' latest same since none = record { none = none.none ∙ same; none_since = none.none_since ∙ since }
+stop_reads stop first then' latest same since failed = grind (arith, common_steps)

@@ -1,5 +1,6 @@
 -- Where the files up to one are told, reading stops at it or it doesn't.
-use Rattle.std.proofs.Common.{◌≡◌, ℕ, ◌+◌, ◌<◌, ◌≤◌, List, [], ◌∷◌, ◌++◌, Option, Some, None, IsSome, IfSome, length, take, All, refl, sym, ap, subst, ◌∙◌}
+use Rattle.std.proofs.lemmas.Grind.{common_steps}
+use Rattle.std.proofs.Common.{◌≡◌, ℕ, ◌+◌, ◌<◌, ◌≤◌, List, [], ◌∷◌, ◌++◌, Option, IsSome, IfSome, length, take, All, refl, sym, ap, subst, ◌∙◌}
 use Rattle.std.proofs.Common.{append_assoc, arith}
 use Rattle.std.proofs.lemmas.List.{map-append}
 use Rattle.std.proofs.lemmas.List.Elements.{All-head, All-tail, All-cons, All-contains, Contains-append_right}
@@ -29,9 +30,7 @@ told_files content files tell = All-mapped (IsFileTold content) (λ (file : File
 -- also up to one of them
 pub told_up_to : (content : Contents) (before : List File) (file : File) (asked : List (List ℕ)) → asked ≡ file_names before ++ file.name ∷ []
     → All (IsFileTold content) asked → All (IsToldOf content) (before ++ file ∷ [])
-told_up_to content before file asked asked_are tell =
-    told_files content (before ++ file ∷ [])
-    (subst (All (IsFileTold content)) (asked_are ∙ sym (map-append (λ (f : File). f.name) before (file ∷ []))) tell)
+told_up_to content before file asked asked_are tell = grind (arith, common_steps, map-append, told_files)
 
 -- ---- limits ----
 
@@ -47,23 +46,18 @@ last_short (f ∷ files) (t ∷ texts) file text same short = last_short files t
 -- a longer file breaks the limit of each
 pub long_breaks : (files : List File) (texts : List (List ℕ)) (file : File) (text : List ℕ) → length texts ≡ length files → file.most < length text
     → AreWithin (files ++ file ∷ []) (texts ++ text ∷ []) → ⊥
-long_breaks files texts file text same above h =
-    let short : length text ≤ file.most = last_short files texts file text same h.each in
-    omega (arith, above, short)
+long_breaks files texts file text same above h = grind (arith, common_steps, last_short)
 
 -- more bytes break the limit of all
 pub total_breaks : (files : List File) (texts : List (List ℕ)) (file : File) (text : List ℕ) (number : ℕ) → AreShort files texts →
     number ≡ total_of files texts + counted file text
     → 67108864 < number → AreWithin (files ++ file ∷ []) (texts ++ text ∷ []) → ⊥
-total_breaks files texts file text number short is above h =
-    let more = total_of-more files texts file text short in
-    omega (arith, is, more, above, h.together)
+total_breaks files texts file text number short is above h = grind (arith, common_steps, total_of-more)
 
 -- ---- what is read ----
 
 told : (o : Option (List ℕ)) (n : ℕ) (t s : List ℕ) → IsSome o → IfSome o (λ whole. t ≡ take n whole) → IfSome o (λ whole. s ≡ take n whole) → t ≡ s
-told None n t s some a b = absurd (cc some)
-told (Some whole) n t s some a b = a ∙ sym b
+told o n t s some a b = grind (arith, common_steps)
 
 -- files whose first ones are these, with the next one
 data AreFronts (b c : List File) (n m : File) : Type 0 where
@@ -114,10 +108,7 @@ short_not_long : (file : File) (text : List ℕ) → file.most < length text →
 short_not_long file text above short = let most : length text ≤ file.most = short in omega (arith, above, most)
 
 one_limit : (at : Broken) {one other : Outcome} → IsBrokenSo at one → IsBrokenSo at other → one ≡ other
-one_limit at (too_long _) (too_long _) = refl
-one_limit at (too_long above) (too_many _ short _) = absurd (short_not_long at.file at.text above short)
-one_limit at (too_many _ short _) (too_long above) = absurd (short_not_long at.file at.text above short)
-one_limit at (too_many n _ is) (too_many m _ also) = ap (λ number. Refused (Total number)) (is ∙ sym also)
+one_limit at it_1 it_2 = grind (arith, common_steps, short_not_long)
 
 module _ (content : Contents) where
   -- one text is read of a file that is told

@@ -1,7 +1,8 @@
+use Rattle.std.proofs.Common.{arith}
+use Rattle.std.proofs.lemmas.Grind.{common_steps}
 use Rattle.std.proofs.Common.{◌∙◌, ap, length, subst}
 use Rattle.net_model.specs.Network.{Network}
 use Rattle.step_scripts.specs.FaultyLines.{IsLeastFaultyLine, RefusesWaves}
-use Rattle.step_scripts.specs.WaveFiles.{NamesWaves}
 use Rattle.migration_report.specs.declared.decision.Decision.TheVariants.{BadOrder}
 use Rattle.migrate_cli.specs.CheckDecision.{IsCheckOver}
 use Rattle.migrate_cli.specs.CheckDecision.IsCheckOver.{faulty_order}
@@ -14,12 +15,7 @@ pub check_read-requires : goal.check_read-requires
 check_read-requires c = c.in-Ok.ensures.ok.are.each ∙ ap length c.net.ensures
 
 pub returns-in-Ok : goal.returns-in-Ok
-returns-in-Ok c =
-    let read = c.in-Ok.read in
-    let of = c.args.of.now in
-    c.check_read.ensures (named_text c.args.file.now c.args.text.now)
-    (subst (λ text. NamesWaves of.net text read.version read.waves) c.as_slice.ensures
-    (subst (λ (net : Network). NamesWaves net c.as_slice.result.now read.version read.waves) c.net.ensures c.in-Ok.ensures.ok))
+returns-in-Ok c = grind (arith, common_steps)
 
 pub returns-in-Err-Bad : goal.returns-in-Err-Bad
 returns-in-Err-Bad c =

@@ -1,3 +1,4 @@
+use Rattle.std.proofs.lemmas.Grind.{common_steps}
 use Rattle.std.proofs.Common.{◌≡◌, ◌∙◌, ◌<◌, [], ◌∷◌, arith, length, refl, subst, sym}
 use Rattle.std.proofs.lemmas.Result.{IfOk-weaker}
 use Rattle.std.specs.Prelude.{slice_index_or}
@@ -17,24 +18,16 @@ use Rattle.migrate_cli.proofs.StopFacts.{element}
 use Rattle.migrate_cli.proofs.commands.judge_pair.Goals as goal
 
 pub first_own-requires-clause-texts : goal.first_own-requires-clause-texts
-first_own-requires-clause-texts c =
-    let count : length c.args.own.now ≡ 1 = text_count c.args.command.now c.args.own.now PairScripts c.in-PairScripts.is c.requires.range c.requires.own in
-    omega (arith, count)
+first_own-requires-clause-texts c = grind (arith, common_steps, text_count)
 
 pub first_own-requires-in-PairCheck-clause-texts : goal.first_own-requires-in-PairCheck-clause-texts
-first_own-requires-in-PairCheck-clause-texts c =
-    let count : length c.args.own.now ≡ 1 = text_count c.args.command.now c.args.own.now PairCheck c.in-PairCheck.is c.requires.range c.requires.own in
-    omega (arith, count)
+first_own-requires-in-PairCheck-clause-texts c = grind (arith, common_steps, text_count)
 
 pub bounds-own-0 : goal.bounds-own-0
-bounds-own-0 c =
-    let count : length c.args.own.now ≡ 1 = text_count c.args.command.now c.args.own.now PairRefute c.in-PairRefute.is c.requires.range c.requires.own in
-    omega (arith, count)
+bounds-own-0 c = grind (arith, common_steps, text_count)
 
 pub refute_over-requires : goal.refute_over-requires
-refute_over-requires c =
-    let count : length c.args.own.now ≡ 1 = text_count c.args.command.now c.args.own.now PairRefute c.in-PairRefute.is c.requires.range c.requires.own in
-    place_short c.args.command.now c.args.own.now 0 c.index-own-0.result c.requires.own (omega (arith, count)) c.index-own-0.is
+refute_over-requires c = grind (arith, common_steps, place_short, text_count)
 
 pub returns-in-PairScripts : goal.returns-in-PairScripts
 returns-in-PairScripts c = λ configs.

@@ -1,9 +1,10 @@
+use Rattle.std.proofs.lemmas.Grind.{common_steps}
 use Rattle.std.proofs.Common.{◌≡◌, ◌∙◌, ℕ, List, ap, arith, length, refl, subst, sym}
 use Rattle.std.specs.Borrow.{Bor}
 use Rattle.std.proofs.lemmas.List.{length-map}
 use Rattle.std.proofs.lemmas.Result.{IfOk-weaker}
 use Rattle.migrate_words.specs.declared.command.CommandKind.TheVariants.{Failures}
-use Rattle.migrate_cli.specs.CommandFiles.{config_texts, given_texts, groups_of, own_texts, text_names as names_of_texts}
+use Rattle.migrate_cli.specs.CommandFiles.{config_texts, given_texts, groups_of, own_texts}
 use Rattle.migrate_cli.specs.Configurations.{GiveNetwork, RefusesFirst}
 use Rattle.migrate_cli.specs.Configurations.RefusesFirst.{here}
 use Rattle.migrate_cli.specs.Outcomes.{IsOutcome}
@@ -19,13 +20,7 @@ use Rattle.migrate_cli.proofs.NetworkFacts.{net_has_router}
 use Rattle.migrate_cli.proofs.failures.judge_failures.Goals as goal
 
 pub overflow_sub-texts : goal.overflow_sub-texts
-overflow_sub-texts g c =
-    let names = c.text_names-names.result.now in
-    let bytes : Bor (List ℕ) → List ℕ = λ name. name.now in
-    let count : length names ≡ length (names_of_texts c.args.command.now) =
-    sym (length-map names bytes) ∙ ap length c.text_names-names.ensures in
-    let all = split_count c.args.command.now c.args.texts.now (reads_files c.args.command.now c.requires.kind) c.requires.short in
-    omega (arith, all, count)
+overflow_sub-texts g c = grind (arith, common_steps, length-map, reads_files, split_count)
 
 pub read_all-requires-clause-lengths : goal.read_all-requires-clause-lengths
 read_all-requires-clause-lengths g c =
@@ -58,12 +53,7 @@ returns-in-Err g c =
     (subst (λ names. IsUnread names configs c.in-Err.unread) c.text_names-names.ensures c.in-Err.ensures.err) c.refuse_unread.ensures)
 
 pub first_own-requires-clause-some : goal.first_own-requires-clause-some
-first_own-requires-clause-some g c =
-    let command = c.args.command.now in
-    let split = split_names command c.args.texts.now (reads_files command c.requires.kind) c.requires.short c.text_names-names.result.now
-    c.split_at.result.0.now c.split_at.result.1.now c.text_names-names.ensures c.split_at.ensures.front c.split_at.ensures.back in
-    let count : length command.own ≡ 1 = name_count command c.split_at.result.0.now Failures c.requires.kind c.requires.range split.own_short in
-    omega (arith, count)
+first_own-requires-clause-some g c = grind (arith, common_steps, name_count, reads_files, split_names)
 
 pub first_own-requires-clause-texts : goal.first_own-requires-clause-texts
 first_own-requires-clause-texts g c =
@@ -75,13 +65,7 @@ first_own-requires-clause-texts g c =
     omega (arith, count)
 
 pub judge_standing-requires-clause-short : goal.judge_standing-requires-clause-short
-judge_standing-requires-clause-short g c =
-    let command = c.args.command.now in
-    let own = c.split_at.result.0.now in
-    let split = split_names command c.args.texts.now (reads_files command c.requires.kind) c.requires.short c.text_names-names.result.now
-    own c.split_at.result.1.now c.text_names-names.ensures c.split_at.ensures.front c.split_at.ensures.back in
-    let count : length own ≡ 1 = text_count command own Failures c.requires.kind c.requires.range split.own_short in
-    first_short command own c.first_own.result.1.now split.own_short (omega (arith, count)) c.first_own.ensures.text
+judge_standing-requires-clause-short g c = grind (arith, common_steps, first_short, reads_files, split_names, text_count)
 
 pub judge_standing-requires-clause-some : goal.judge_standing-requires-clause-some
 judge_standing-requires-clause-some g c =

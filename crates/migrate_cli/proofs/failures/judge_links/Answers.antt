@@ -1,6 +1,7 @@
+use Rattle.std.proofs.Common.{arith}
+use Rattle.std.proofs.lemmas.Grind.{common_steps}
 use Rattle.std.proofs.Common.{subst}
 use Rattle.step_scripts.specs.FaultyLines.{IsLeastFaultyLine, RefusesWaves}
-use Rattle.step_scripts.specs.WaveFiles.{NamesWaves}
 use Rattle.migration_report.specs.declared.decision.Decision.TheVariants.{BadOrder}
 use Rattle.migrate_cli.specs.CheckDecision.IsCheckOver.{faulty_order}
 use Rattle.migrate_cli.specs.FailuresDecision.{IsFailuresDecision}
@@ -13,10 +14,7 @@ pub judge_list-requires : goal.judge_list-requires
 judge_list-requires g c = record { each = c.in-Ok.ensures.ok.are.each }
 
 pub returns-in-Ok : goal.returns-in-Ok
-returns-in-Ok g c =
-    let read = c.in-Ok.read in
-    c.judge_list.ensures (named_text c.args.order.0.now c.args.order.1.now)
-    (subst (λ text. NamesWaves c.args.net.now text read.version read.waves) c.as_slice.ensures c.in-Ok.ensures.ok)
+returns-in-Ok g c = grind (arith, common_steps)
 
 pub returns-in-Err-Bad : goal.returns-in-Err-Bad
 returns-in-Err-Bad g c =

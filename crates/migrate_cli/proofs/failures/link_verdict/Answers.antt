@@ -1,4 +1,6 @@
-use Rattle.std.proofs.Common.{◌∙◌, ap, length, subst, sym}
+use Rattle.std.proofs.Common.{arith}
+use Rattle.std.proofs.lemmas.Grind.{common_steps}
+use Rattle.std.proofs.Common.{subst}
 use Rattle.std.proofs.lemmas.Result.{IfOk-weaker}
 use Rattle.net_model.specs.Network.{Network}
 use Rattle.igp_theory.specs.Migrations.{ospf_to_isis}
@@ -10,9 +12,7 @@ use Rattle.migrate_cli.proofs.FailureFacts.{told_refused}
 use Rattle.migrate_cli.proofs.failures.link_verdict.Goals as goal
 
 pub verdict_over-requires : goal.verdict_over-requires
-verdict_over-requires c =
-    c.requires ∙ sym (KeepsRouters-all c.args.link c.args.net.now).0 ∙ ap (λ (net : Network). length net) (sym c.in-Ok.ensures.ok)
-    ∙ ap (λ (m : NetworkMove). length m.net) (sym c.to_isis.ensures)
+verdict_over-requires c = grind (arith, common_steps, KeepsRouters-all)
 
 pub returns-in-Ok : goal.returns-in-Ok
 returns-in-Ok c =
@@ -24,7 +24,4 @@ returns-in-Ok c =
     (subst (λ (of : NetworkMove). IsVerdictOver (move_of of) read.waves read.version verdict) c.to_isis.ensures is))) c.verdict_over.ensures
 
 pub returns-in-Err : goal.returns-in-Err
-returns-in-Err c =
-    let read = c.args.read.now in
-    told_refused c.args.net.now read.version read.waves c.args.link c.in-Err.refusal c.refused_verdict.result c.refused_verdict.ensures.told
-    c.refused_verdict.ensures.verdict c.in-Err.ensures.err
+returns-in-Err c = grind (arith, common_steps, told_refused)

@@ -1,11 +1,10 @@
-use Rattle.std.proofs.Common.{◌∙◌, IfOk, ap, length, subst, sym}
+use Rattle.std.proofs.Common.{arith}
+use Rattle.std.proofs.lemmas.Grind.{common_steps}
+use Rattle.std.proofs.Common.{◌∙◌, subst, sym}
 use Rattle.igp_theory.specs.LoopLaws.{AreSoundEnds}
 use Rattle.igp_theory.specs.declared.phase.Phase.TheVariants.{New, Old}
 use Rattle.ospf_routes.specs.RouteTables.{table_at}
 use Rattle.rib_mix.specs.Mixture.{migration_of}
-use Rattle.step_scripts.specs.declared.version.Version.{Version}
-use Rattle.step_scripts.specs.declared.version.Version.TheVariants.{One, Two}
-use Rattle.migrate_cli.specs.FailuresDecision.{IsVerdictOver}
 use Rattle.migrate_cli.specs.FailuresDecision.IsVerdictOver.{new_end, old_end}
 use Rattle.migrate_cli.specs.steps.FirstUnsound.{IsEndFault}
 use Rattle.migrate_cli.specs.steps.Tables.{new_table}
@@ -13,13 +12,10 @@ use Rattle.migrate_cli.proofs.FailureFacts.{end_sound}
 use Rattle.migrate_cli.proofs.failures.mixed_verdict.Goals as goal
 
 pub end_fault-requires : goal.end_fault-requires
-end_fault-requires c =
-    c.routers-routers.ensures.count ∙ ap length c.net.ensures ∙ ap (λ m. length m.net) (sym c.in_ok-finder.ensures.mixture)
+end_fault-requires c = grind (arith, common_steps)
 
 pub end_fault-requires-2 : goal.end_fault-requires-2
-end_fault-requires-2 c =
-    c.routers-routers.ensures.count ∙ ap length c.net.ensures
-    ∙ ap (λ m. length m.net) (sym (c.in_ok-fault.ensures.mixture ∙ c.in_ok-finder.ensures.mixture))
+end_fault-requires-2 c = grind (arith, common_steps)
 
 pub returns-in-Some : goal.returns-in-Some
 returns-in-Some c =
@@ -40,9 +36,7 @@ returns-in-Some-2 c =
     })
 
 pub order_verdict-requires-clause-each : goal.order_verdict-requires-clause-each
-order_verdict-requires-clause-each c =
-    c.requires
-    ∙ ap (λ m. length m.net) (sym (c.in_ok-fault-2.ensures.mixture ∙ c.in_ok-fault.ensures.mixture ∙ c.in_ok-finder.ensures.mixture))
+order_verdict-requires-clause-each c = grind (arith, common_steps)
 
 pub order_verdict-requires-clause-ones : goal.order_verdict-requires-clause-ones
 order_verdict-requires-clause-ones c = c.args.read.now.ones c.in-One.is
@@ -62,9 +56,7 @@ order_verdict-requires-clause-ends c =
     (sym (c.in_ok-fault-2.ensures.mixture ∙ c.in_ok-fault.ensures.mixture ∙ c.in_ok-finder.ensures.mixture)) ends
 
 pub waves_verdict-requires-clause-each : goal.waves_verdict-requires-clause-each
-waves_verdict-requires-clause-each c =
-    c.requires
-    ∙ ap (λ m. length m.net) (sym (c.in_ok-fault-2.ensures.mixture ∙ c.in_ok-fault.ensures.mixture ∙ c.in_ok-finder.ensures.mixture))
+waves_verdict-requires-clause-each c = grind (arith, common_steps)
 
 pub waves_verdict-requires-clause-ends : goal.waves_verdict-requires-clause-ends
 waves_verdict-requires-clause-ends c =
@@ -81,17 +73,7 @@ waves_verdict-requires-clause-ends c =
     (sym (c.in_ok-fault-2.ensures.mixture ∙ c.in_ok-fault.ensures.mixture ∙ c.in_ok-finder.ensures.mixture)) ends
 
 pub returns-in-One : goal.returns-in-One
-returns-in-One c =
-    let read = c.args.read.now in
-    subst (λ (version : Version). IfOk c.order_verdict.result (IsVerdictOver (migration_of table_at new_table c.args.mixed.now) read.waves version))
-    (sym c.in-One.is)
-    (subst (λ m. IfOk c.order_verdict.result (IsVerdictOver (migration_of table_at new_table m) read.waves One))
-    (c.in_ok-fault-2.ensures.mixture ∙ c.in_ok-fault.ensures.mixture ∙ c.in_ok-finder.ensures.mixture) c.order_verdict.ensures)
+returns-in-One c = grind (arith, common_steps)
 
 pub returns : goal.returns
-returns c =
-    let read = c.args.read.now in
-    subst (λ (version : Version). IfOk c.waves_verdict.result (IsVerdictOver (migration_of table_at new_table c.args.mixed.now) read.waves version))
-    (sym c.in-Two.is)
-    (subst (λ m. IfOk c.waves_verdict.result (IsVerdictOver (migration_of table_at new_table m) read.waves Two))
-    (c.in_ok-fault-2.ensures.mixture ∙ c.in_ok-fault.ensures.mixture ∙ c.in_ok-finder.ensures.mixture) c.waves_verdict.ensures)
+returns c = grind (arith, common_steps)

@@ -1,5 +1,6 @@
-use Rattle.std.proofs.Common.{◌∙◌, ap, sym, subst, ℕ, List, length}
-use Rattle.std.specs.Borrow.{Bor}
+use Rattle.std.proofs.Common.{arith}
+use Rattle.std.proofs.lemmas.Grind.{common_steps}
+use Rattle.std.proofs.Common.{◌∙◌, sym, subst}
 use Rattle.std.proofs.lemmas.List.{length-map}
 use Rattle.migrate_cli.specs.CommandFiles.{given_texts}
 use Rattle.migrate_cli.specs.steps.Unread.{IsUnread}
@@ -9,9 +10,7 @@ use Rattle.migrate_cli.proofs.NetworkFacts.{first_has_router, names_two}
 use Rattle.migrate_cli.proofs.judging.judge_networks.Goals as goal
 
 pub read_two-requires-clause-names : goal.read_two-requires-clause-names
-read_two-requires-clause-names c =
-    let bytes : Bor (List ℕ) → List ℕ = λ name. name.now in
-    sym (length-map c.text_names.result.now bytes) ∙ ap length c.text_names.ensures ∙ names_two c.args.command.now c.requires.over c.requires.range
+read_two-requires-clause-names c = grind (arith, common_steps, length-map, names_two)
 
 pub read_two-requires-clause-texts : goal.read_two-requires-clause-texts
 read_two-requires-clause-texts c = sym c.requires.each ∙ names_two c.args.command.now c.requires.over c.requires.range

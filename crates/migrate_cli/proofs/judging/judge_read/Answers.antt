@@ -1,20 +1,14 @@
-use Rattle.std.proofs.Common.{◌≡◌, ◌∙◌, ℕ, List, length, ap, sym, subst, arith}
-use Rattle.std.specs.Borrow.{Bor}
+use Rattle.std.proofs.lemmas.Grind.{common_steps}
+use Rattle.std.proofs.Common.{subst, arith}
 use Rattle.std.proofs.lemmas.List.{length-map}
 use Rattle.std.proofs.lemmas.Result.{IfOk-weaker}
-use Rattle.migrate_cli.specs.CommandFiles.{config_texts, own_texts, text_names, given_texts}
+use Rattle.migrate_cli.specs.CommandFiles.{config_texts, own_texts, given_texts}
 use Rattle.migrate_cli.specs.Outcomes.{IsOutcome}
 use Rattle.migrate_cli.proofs.FileFacts.{split_count, split_names}
 use Rattle.migrate_cli.proofs.judging.judge_read.Goals as goal
 
 pub overflow_sub-texts : goal.overflow_sub-texts
-overflow_sub-texts c =
-    let names = c.text_names-number.result.now in
-    let bytes : Bor (List ℕ) → List ℕ = λ name. name.now in
-    let count : length names ≡ length (text_names c.args.command.now) =
-    sym (length-map names bytes) ∙ ap length c.text_names-number.ensures in
-    let all = split_count c.args.command.now c.args.texts.now c.requires.reads c.requires.short in
-    omega (arith, all, count)
+overflow_sub-texts c = grind (arith, common_steps, length-map, split_count)
 
 pub judge_texts-requires-clause-own : goal.judge_texts-requires-clause-own
 judge_texts-requires-clause-own c =

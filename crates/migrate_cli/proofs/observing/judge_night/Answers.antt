@@ -1,3 +1,5 @@
+use Rattle.std.proofs.Common.{arith}
+use Rattle.std.proofs.lemmas.Grind.{common_steps}
 use Rattle.std.proofs.Common.{Result, IfErr, IfOk, [], ◌∷◌, subst}
 use Rattle.std.proofs.lemmas.Option.{slice_get_within}
 use Rattle.net_model.specs.Network.{Network}
@@ -15,8 +17,7 @@ returns-in-Err c =
     (subst (λ (r : Result Network Outcome). IfErr r (RefusesTexts (before_texts_in c.args.files.now))) c.in-Err.is c.in_ok-before.ensures.refused)
 
 pub refuse_start-requires : goal.refuse_start-requires
-refuse_start-requires c =
-    let off = c.in-Some.ensures.holds in slice_get_within c.in-Ok.before c.in-Some.router off.config off.router
+refuse_start-requires c = grind (arith, common_steps, slice_get_within)
 
 pub returns-in-Some : goal.returns-in-Some
 returns-in-Some c =

@@ -1,3 +1,5 @@
+use Rattle.std.proofs.Common.{arith}
+use Rattle.std.proofs.lemmas.Grind.{common_steps}
 use Rattle.std.proofs.Common.{◌<◌, List, length, subst}
 use Rattle.net_model.specs.Configuration.{Configuration}
 use Rattle.net_model.specs.Network.{Network}
@@ -24,6 +26,4 @@ returns-in-Ok-clause-refused c =
     (subst (λ (all : List Configuration). RefusesConfigs all outcome) c.from_vec.ensures refused)) c.network_of.ensures.refused
 
 pub returns-in_ok-refuse_unread-in-Err-clause-refused : goal.returns-in_ok-refuse_unread-in-Err-clause-refused
-returns-in_ok-refuse_unread-in-Err-clause-refused c =
-    unread_text_refusal c.args.files.now.before_file.now c.args.files.now.before.now c.in-Err.unread c.in_ok-refuse_unread-in-Err.field-0
-    c.in-Err.ensures.err c.in_ok-refuse_unread-in-Err.ensures
+returns-in_ok-refuse_unread-in-Err-clause-refused c = grind (arith, common_steps, unread_text_refusal)

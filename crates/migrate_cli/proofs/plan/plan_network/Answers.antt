@@ -1,7 +1,8 @@
-use Rattle.std.proofs.Common.{◌<◌, IfOk, length, subst, sym}
+use Rattle.std.proofs.Common.{arith}
+use Rattle.std.proofs.lemmas.Grind.{common_steps}
+use Rattle.std.proofs.Common.{◌<◌, length, subst, sym}
 use Rattle.net_model.specs.Refusals.{IsNetwork}
-use Rattle.plan_theory.specs.Plans.{IsPlanned}
-use Rattle.migrate_cli.specs.steps.Tables.{NetworkMove, move_of}
+use Rattle.migrate_cli.specs.steps.Tables.{NetworkMove}
 use Rattle.migrate_cli.proofs.plan.plan_network.Goals as goal
 
 pub plan_move-requires-clause-some : goal.plan_move-requires-clause-some
@@ -11,5 +12,4 @@ pub returns-clause-network : goal.returns-clause-network
 returns-clause-network c = subst (λ (of : NetworkMove). IsNetwork of.net) c.to_isis.ensures c.plan_move.ensures.network
 
 pub returns-clause-planned : goal.returns-clause-planned
-returns-clause-planned c =
-    subst (λ (of : NetworkMove). IfOk c.plan_move.result (IsPlanned (move_of of) c.args.budget)) c.to_isis.ensures c.plan_move.ensures.planned
+returns-clause-planned c = grind (arith, common_steps)

@@ -1,4 +1,6 @@
-use Rattle.std.proofs.Common.{◌≡◌, ◌∙◌, ◌<◌, List, ap, length, subst, sym}
+use Rattle.std.proofs.Common.{arith}
+use Rattle.std.proofs.lemmas.Grind.{common_steps}
+use Rattle.std.proofs.Common.{◌≡◌, ◌∙◌, ◌<◌, List, length, subst, sym}
 use Rattle.igp_theory.specs.Migrations.{ospf_to_isis, started}
 use Rattle.igp_theory.specs.Phases.{state_in}
 use Rattle.igp_theory.specs.declared.phase.Phase.{Phase}
@@ -16,12 +18,7 @@ pub plan_stopped-requires-clause-some : goal.plan_stopped-requires-clause-some
 plan_stopped-requires-clause-some c = subst (λ (of : NetworkMove). 0 < length of.net) (sym c.to_isis-of.ensures) c.requires.some
 
 pub plan_stopped-requires-clause-each : goal.plan_stopped-requires-clause-each
-plan_stopped-requires-clause-each c =
-    let net = c.args.stopped.now.net.now in
-    let journal = journal_of c.args.stopped.now.journal.now net in
-    ap (λ (l : List Phase). length l) (c.as_slice.ensures.value ∙ c.in_ok-start-in-Reached.ensures)
-    ∙ phases_each journal c.args.stopped.now.ranks.now c.replay.new.done c.in-Reached.field-0 c.in-Reached.ensures
-    ∙ ap (λ (of : NetworkMove). length of.net) (sym c.to_isis-of.ensures)
+plan_stopped-requires-clause-each c = grind (arith, common_steps, phases_each)
 
 pub returns-in_ok-planned-in-Reached : goal.returns-in_ok-planned-in-Reached
 returns-in_ok-planned-in-Reached c =

@@ -1,4 +1,6 @@
-use Rattle.std.proofs.Common.{◌∙◌, ℕ, List, subst, sym}
+use Rattle.std.proofs.Common.{arith}
+use Rattle.std.proofs.lemmas.Grind.{common_steps}
+use Rattle.std.proofs.Common.{ℕ, List, subst, sym}
 use Rattle.state_replay.specs.Journals.{HasReached, IsPlace, progress}
 use Rattle.state_replay.specs.declared.place.Place.TheVariants.{Departs}
 use Rattle.migration_report.specs.declared.decision.Decision.TheVariants.{WayBack}
@@ -10,11 +12,7 @@ use Rattle.migrate_cli.proofs.RollbackLaws.{reached_tells}
 use Rattle.migrate_cli.proofs.rollback.take_counted_back.Goals as goal
 
 pub back_text-requires : goal.back_text-requires
-back_text-requires c =
-    let journal = journal_of c.as_slice-in-Reached.result.now c.args.net.now in
-    let at = subst (λ (text : List ℕ). HasReached (progress c.args.net.now c.args.ranks.now c.replay.new.done) text c.in-Reached.field-0)
-    (c.as_slice.ensures ∙ sym c.as_slice-in-Reached.ensures) c.in-Reached.ensures in
-    record { changes = at.changes; tells = reached_tells journal c.args.ranks.now c.replay.new.done c.in-Reached.field-0 at }
+back_text-requires c = grind (arith, common_steps, reached_tells)
 
 pub returns-in_ok-text-in-Reached : goal.returns-in_ok-text-in-Reached
 returns-in_ok-text-in-Reached c =

@@ -1,6 +1,7 @@
+use Rattle.std.proofs.Common.{arith}
+use Rattle.std.proofs.lemmas.Grind.{common_steps}
 use Rattle.std.proofs.Common.{map, string_bytes}
 use Rattle.migrate_words.proofs.Ranges.{ranges}
-use Rattle.migrate_cli.specs.Calls.{call_of}
 use Rattle.migrate_cli.proofs.AnswerFacts.{refusal_answer}
 use Rattle.migrate_cli.proofs.run_call.decide.Goals as goal
 
@@ -8,6 +9,4 @@ pub decide_command-requires : goal.decide_command-requires
 decide_command-requires g c = ranges (map string_bytes c.args.words.now) c.in-Ok.command c.in-Ok.ensures
 
 pub returns-in-Err-clause-answer : goal.returns-in-Err-clause-answer
-returns-in-Err-clause-answer g c =
-    refusal_answer (call_of (map string_bytes c.args.words.now) (g.F.Files.content c.args.files.now)) (g.F.Files.asked c.args.files.now) c.in-Err.refused
-    c.refuse_words.result c.in-Err.ensures c.refuse_words.ensures
+returns-in-Err-clause-answer g c = grind (arith, common_steps, refusal_answer)

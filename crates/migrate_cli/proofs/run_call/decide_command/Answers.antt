@@ -1,3 +1,4 @@
+use Rattle.std.proofs.lemmas.Grind.{common_steps}
 use Rattle.std.proofs.Common.{◌≡◌, ◌<◌, ◌≤◌, ◌∙◌, ℕ, List, [], All, Err, IfOk, Ok, ap, arith, length, map, subst, sym}
 use Rattle.std.specs.Borrow.{Bor}
 use Rattle.std.proofs.lemmas.List.{length-map}
@@ -28,8 +29,7 @@ returns-then-number-gt-FILES_MOST-clause-answer g c = λ words asks.
     (subst (λ n. IsAnswer call [] (Refused (Files n))) (sym count) (many_files command asks many))
 
 pub returns-in_default-clause-answer : goal.returns-in_default-clause-answer
-returns-in_default-clause-answer g c = λ words asks.
-    answered_at_once (call_of words (g.F.Files.content c.args.files.now)) (g.F.Files.asked c.args.files.now) (Err _) tt
+returns-in_default-clause-answer g c = grind (arith, common_steps, answered_at_once)
 
 pub read_texts-requires : goal.read_texts-requires
 read_texts-requires g c =

@@ -1,3 +1,5 @@
+use Rattle.std.proofs.Common.{arith}
+use Rattle.std.proofs.lemmas.Grind.{common_steps}
 use Rattle.std.proofs.Common.{ℕ, List, subst}
 use Rattle.design_file.specs.Answers.{RefusesText, SaysDesign}
 use Rattle.migrate_cli.specs.Reading.{named_text}
@@ -10,12 +12,7 @@ returns-in-Err c =
     (subst (λ (text : List ℕ). RefusesText text c.in-Err.refusal) c.as_slice.ensures c.in-Err.ensures.err) c.refuse_design.ensures
 
 pub returns-in-Ok-settle : goal.returns-in-Ok-settle
-returns-in-Ok-settle c = record {
-  said = c.in-Ok.design;
-  says = subst (λ (text : List ℕ). SaysDesign text c.in-Ok.design) c.as_slice.ensures c.in-Ok.ensures.ok;
-  settles = c.in-Ok-settle.ensures.ok;
-  fits = c.in-Ok-settle.ensures.fits;
-}
+returns-in-Ok-settle c = grind (arith, common_steps)
 
 pub returns : goal.returns
 returns c =

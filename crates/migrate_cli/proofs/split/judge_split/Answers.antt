@@ -1,6 +1,7 @@
+use Rattle.std.proofs.Common.{arith}
+use Rattle.std.proofs.lemmas.Grind.{common_steps}
 use Rattle.std.proofs.Common.{subst}
 use Rattle.step_scripts.specs.FaultyLines.{IsLeastFaultyLine, RefusesWaves}
-use Rattle.step_scripts.specs.WaveFiles.{NamesWaves}
 use Rattle.migration_report.specs.declared.decision.Decision.TheVariants.{BadOrder}
 use Rattle.migrate_cli.specs.CheckDecision.IsCheckOver.{faulty_order}
 use Rattle.migrate_cli.specs.Reading.{named_text}
@@ -13,10 +14,7 @@ pub split_read-requires-clause-each : goal.split_read-requires-clause-each
 split_read-requires-clause-each c = c.in-Ok.ensures.ok.are.each
 
 pub returns-in-Ok : goal.returns-in-Ok
-returns-in-Ok c =
-    let read = c.in-Ok.read in
-    c.split_read.ensures (named_text c.args.file.now c.args.order.now)
-    (subst (λ text. NamesWaves c.args.net.now text read.version read.waves) c.as_slice.ensures c.in-Ok.ensures.ok)
+returns-in-Ok c = grind (arith, common_steps)
 
 pub returns-in-Err-Bad : goal.returns-in-Err-Bad
 returns-in-Err-Bad c =

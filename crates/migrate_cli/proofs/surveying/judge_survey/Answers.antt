@@ -1,5 +1,5 @@
-use Rattle.std.proofs.Common.{◌∙◌, ℕ, List, ap, arith, length, subst, sym}
-use Rattle.std.specs.Borrow.{Bor}
+use Rattle.std.proofs.lemmas.Grind.{common_steps}
+use Rattle.std.proofs.Common.{ℕ, List, arith, subst, sym}
 use Rattle.std.proofs.lemmas.List.{length-map}
 use Rattle.survey_report.specs.SurveyFiles.{survey_files}
 use Rattle.survey_report.specs.SurveyTexts.{IsSurveyText, SurveyText}
@@ -8,17 +8,10 @@ use Rattle.migrate_cli.proofs.FileFacts.{short_configs, survey_each, survey_shor
 use Rattle.migrate_cli.proofs.surveying.judge_survey.Goals as goal
 
 pub survey_text-requires-clause-lengths : goal.survey_text-requires-clause-lengths
-survey_text-requires-clause-lengths c =
-    let bytes : Bor (List ℕ) → List ℕ = λ name. name.now in
-    sym (length-map c.as_slice.result.now bytes) ∙ ap length c.as_slice.ensures
-    ∙ survey_each c.args.command.now c.requires.kind c.requires.range c.args.texts.now c.requires.short
+survey_text-requires-clause-lengths c = grind (arith, common_steps, length-map, survey_each)
 
 pub survey_text-requires-clause-short : goal.survey_text-requires-clause-short
-survey_text-requires-clause-short c = λ k d within.
-    let command = c.args.command.now in
-    let texts = c.args.texts.now in
-    let short = short_configs command.configs texts (survey_short command c.requires.kind c.requires.range texts c.requires.short) k d within in
-    omega (arith, short)
+survey_text-requires-clause-short c = grind (arith, common_steps, short_configs, survey_short)
 
 pub returns : goal.returns
 returns c =

@@ -1,7 +1,8 @@
-use Rattle.std.proofs.Common.{◌∙◌, ap, length, sym}
+use Rattle.std.proofs.Common.{arith}
+use Rattle.std.proofs.lemmas.Grind.{common_steps}
+use Rattle.std.proofs.Common.{◌∙◌, sym}
 use Rattle.std.proofs.lemmas.Result.{IfOk-weaker}
 use Rattle.igp_theory.specs.Migrations.{listed_migration}
-use Rattle.net_model.specs.Network.{Network}
 use Rattle.ospf_routes.specs.RouteTables.{table_at}
 use Rattle.plan_theory.specs.Plans.{fault_told}
 use Rattle.explained_texts.specs.FaultPlaces.{span_of}
@@ -14,12 +15,10 @@ pub way_text-requires-clause-net : goal.way_text-requires-clause-net
 way_text-requires-clause-net c = c.requires.mixes.net_is ∙ sym c.sources-sources.ensures.net
 
 pub way_text-requires-clause-old : goal.way_text-requires-clause-old
-way_text-requires-clause-old c =
-    c.sources-sources.ensures.tables.old_tables.routers ∙ ap (λ (net : Network). length net) (sym c.sources-sources.ensures.net)
+way_text-requires-clause-old c = grind (arith, common_steps)
 
 pub way_text-requires-clause-new : goal.way_text-requires-clause-new
-way_text-requires-clause-new c =
-    c.sources-sources.ensures.tables.new_tables.routers ∙ ap (λ (net : Network). length net) (sym c.sources-sources.ensures.net)
+way_text-requires-clause-new c = grind (arith, common_steps)
 
 pub way_text-requires-clause-same : goal.way_text-requires-clause-same
 way_text-requires-clause-same c =
@@ -28,10 +27,7 @@ way_text-requires-clause-same c =
     c.sources-sources.ensures.net
 
 pub way_text-requires-clause-fault : goal.way_text-requires-clause-fault
-way_text-requires-clause-fault c =
-    let sources = c.sources-sources.result in
-    stands_given c.args.tables.now c.args.mixed.now c.requires.mixes sources.old.now sources.new.now c.sources-sources.ensures.tables sources.net.now
-    (span_of c.args.place) (fault_told c.args.fault.now) c.sources-sources.ensures.net c.requires.fault
+way_text-requires-clause-fault c = grind (arith, common_steps, stands_given)
 
 pub returns : goal.returns
 returns c =

@@ -1,38 +1,28 @@
-use Rattle.std.proofs.Common.{◌≡◌, ◌∙◌, List, ℕ, ap, length, subst, sym}
-use Rattle.igp_theory.specs.States.{state_of}
+use Rattle.std.proofs.Common.{arith}
+use Rattle.std.proofs.lemmas.Grind.{common_steps}
+use Rattle.std.proofs.Common.{◌≡◌, ◌∙◌, List, ℕ, ap, subst}
 use Rattle.igp_theory.proofs.FaultLaws.{faulty_not_seamless}
 use Rattle.net_model.specs.Network.{Network}
 use Rattle.net_model.specs.Refusals.{IsNetwork}
 use Rattle.net_model.specs.RouterNames.{names_of}
 use Rattle.order_core.specs.Rankings.{flat_of}
-use Rattle.ospf_routes.specs.RouteTables.{table_at}
 use Rattle.plan_theory.specs.Plans.{fault_told}
-use Rattle.rib_mix.specs.Mixture.{migration_of}
-use Rattle.explained_texts.specs.WayTexts.{IsFaultInSpan, IsWayText, order_span}
+use Rattle.explained_texts.specs.WayTexts.{IsWayText, order_span}
 use Rattle.explained_texts.proofs.WayFaults.{order_stands}
-use Rattle.migration_report.specs.EndTexts.{EndFaultBelow}
 use Rattle.migration_report.specs.Texts.{unsafe_text}
 use Rattle.migrate_cli.specs.CheckDecision.IsOrderDecision.{unsafe}
 use Rattle.migrate_cli.specs.ExplainedTexts.{TellsBehind}
 use Rattle.migrate_cli.specs.ExplainedDecision.IsExplainedOrder.{order_way}
-use Rattle.migrate_cli.specs.steps.Tables.{move_of, new_table}
+use Rattle.migrate_cli.specs.steps.Tables.{move_of}
 use Rattle.migrate_cli.proofs.FaultFacts.{fault_below}
 use Rattle.migrate_cli.proofs.TableFacts.{first_fault}
 use Rattle.migrate_cli.proofs.why.order_way.Goals as goal
 
 pub unsafe_text-requires : goal.unsafe_text-requires
-unsafe_text-requires c =
-    let move = migration_of table_at new_table c.args.mixed.now in
-    let told = c.args.told in
-    subst (λ (net : Network). EndFaultBelow (length net) told.1.now) (sym c.net-net.ensures)
-    (fault_below move (state_of (flat_of c.args.waves.now) told.0) told.1.now c.requires.fault.here)
+unsafe_text-requires c = grind (arith, common_steps, fault_below)
 
 pub with_way-requires-clause-fault : goal.with_way-requires-clause-fault
-with_way-requires-clause-fault c =
-    let move = migration_of table_at new_table c.args.mixed.now in
-    let told = c.args.told in
-    subst (λ (order : List ℕ). IsFaultInSpan move (order_span order told.0) (fault_told told.1.now)) (sym c.flat-order.ensures)
-    (order_stands move (flat_of c.args.waves.now) told.0 (fault_told told.1.now) c.requires.fault)
+with_way-requires-clause-fault c = grind (arith, common_steps, order_stands)
 
 pub returns : goal.returns
 returns c =

@@ -1,40 +1,30 @@
-use Rattle.std.proofs.Common.{◌≡◌, ◌∙◌, List, ℕ, ap, length, refl, subst, sym}
+use Rattle.std.proofs.Common.{arith}
+use Rattle.std.proofs.lemmas.Grind.{common_steps}
+use Rattle.std.proofs.Common.{◌≡◌, ◌∙◌, List, ℕ, ap, subst}
 use Rattle.igp_theory.specs.Phases.{all_old}
-use Rattle.igp_theory.specs.Timetables.{IsStateOfWave, router_times}
+use Rattle.igp_theory.specs.Timetables.{router_times}
 use Rattle.igp_theory.proofs.Switches.{routers_have_times}
 use Rattle.igp_theory.proofs.WaveFaultLaws.{times_fault_unsound}
 use Rattle.net_model.specs.Network.{Network}
 use Rattle.net_model.specs.Refusals.{IsNetwork}
 use Rattle.net_model.specs.RouterNames.{names_of}
-use Rattle.ospf_routes.specs.RouteTables.{table_at}
 use Rattle.plan_theory.specs.Plans.{fault_told}
-use Rattle.rib_mix.specs.Mixture.{migration_of}
-use Rattle.explained_texts.specs.WayTexts.{IsFaultInSpan, IsWayText, wave_span}
+use Rattle.explained_texts.specs.WayTexts.{IsWayText, wave_span}
 use Rattle.explained_texts.proofs.WayFaults.{times_stand}
-use Rattle.migration_report.specs.EndTexts.{EndFaultBelow}
 use Rattle.migration_report.specs.Texts.{waves_unsafe_text}
 use Rattle.migrate_cli.specs.CheckDecision.IsWavesDecision.{unsafe_wave}
 use Rattle.migrate_cli.specs.ExplainedTexts.{TellsBehind}
 use Rattle.migrate_cli.specs.ExplainedDecision.IsExplainedWaves.{waves_way}
-use Rattle.migrate_cli.specs.steps.Tables.{move_of, new_table}
+use Rattle.migrate_cli.specs.steps.Tables.{move_of}
 use Rattle.migrate_cli.proofs.FaultFacts.{fault_over_below}
 use Rattle.migrate_cli.proofs.TableFacts.{times_fault}
 use Rattle.migrate_cli.proofs.why.waves_way.Goals as goal
 
 pub waves_unsafe_text-requires : goal.waves_unsafe_text-requires
-waves_unsafe_text-requires c =
-    let move = migration_of table_at new_table c.args.mixed.now in
-    let told = c.args.told in
-    subst (λ (net : Network). EndFaultBelow (length net) told.1.now) (sym c.net-net.ensures)
-    (fault_over_below move (IsStateOfWave (length move.net) (router_times all_old c.args.waves.now) told.0) told.1.now c.requires.fault.here)
+waves_unsafe_text-requires c = grind (arith, common_steps, fault_over_below)
 
 pub with_way-requires-clause-fault : goal.with_way-requires-clause-fault
-with_way-requires-clause-fault c =
-    let move = migration_of table_at new_table c.args.mixed.now in
-    let told = c.args.told in
-    subst (λ (ranks : List ℕ). IsFaultInSpan move (wave_span all_old ranks told.0) (fault_told told.1.now)) (sym c.ranks-ranks.ensures.ranks)
-    (times_stand move (router_times all_old c.args.waves.now) told.0 (fault_told told.1.now) (λ u. refl)
-    (routers_have_times (length move.net) all_old c.args.waves.now) c.requires.fault)
+with_way-requires-clause-fault c = grind (arith, common_steps, routers_have_times, times_stand)
 
 pub returns : goal.returns
 returns c =

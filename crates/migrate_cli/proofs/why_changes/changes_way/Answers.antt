@@ -1,5 +1,7 @@
-use Rattle.std.proofs.Common.{◌≡◌, ◌∙◌, List, ℕ, ap, length, refl, subst, sym}
-use Rattle.igp_theory.specs.Timetables.{IsStateOfWave, change_times}
+use Rattle.std.proofs.Common.{arith}
+use Rattle.std.proofs.lemmas.Grind.{common_steps}
+use Rattle.std.proofs.Common.{◌≡◌, ◌∙◌, List, ℕ, ap, refl, subst, sym}
+use Rattle.igp_theory.specs.Timetables.{change_times}
 use Rattle.igp_theory.proofs.WaveFaultLaws.{times_fault_unsound}
 use Rattle.net_model.specs.Network.{Network}
 use Rattle.net_model.specs.Refusals.{IsNetwork}
@@ -9,7 +11,6 @@ use Rattle.plan_theory.specs.Plans.{fault_told}
 use Rattle.rib_mix.specs.Mixture.{migration_of}
 use Rattle.explained_texts.specs.WayTexts.{IsFaultInSpan, IsWayText, change_span}
 use Rattle.explained_texts.proofs.WayFaults.{times_stand}
-use Rattle.migration_report.specs.EndTexts.{EndFaultBelow}
 use Rattle.migration_report.specs.Texts.{waves_unsafe_text}
 use Rattle.migrate_cli.specs.ChangesDecision.IsChangesDecision.{unsafe_changes}
 use Rattle.migrate_cli.specs.ExplainedChanges.AreExplainedChanges.{changes_way}
@@ -21,11 +22,7 @@ use Rattle.migrate_cli.proofs.TableFacts.{times_fault}
 use Rattle.migrate_cli.proofs.why_changes.changes_way.Goals as goal
 
 pub waves_unsafe_text-requires : goal.waves_unsafe_text-requires
-waves_unsafe_text-requires c =
-    let move = migration_of table_at new_table c.args.mixed.now in
-    let told = c.args.told in
-    subst (λ (net : Network). EndFaultBelow (length net) told.1.now) (sym c.net-net.ensures)
-    (fault_over_below move (IsStateOfWave (length move.net) (change_times c.args.waves.now) told.0) told.1.now c.requires.fault.here)
+waves_unsafe_text-requires c = grind (arith, common_steps, fault_over_below)
 
 pub with_way-requires-clause-fault : goal.with_way-requires-clause-fault
 with_way-requires-clause-fault c =

@@ -1,3 +1,5 @@
+use Rattle.std.proofs.Common.{arith}
+use Rattle.std.proofs.lemmas.Grind.{common_steps}
 use Rattle.std.proofs.Common.{length, subst}
 use Rattle.std.proofs.lemmas.Result.{IfOk-weaker}
 use Rattle.net_model.specs.Network.{Network}
@@ -13,8 +15,7 @@ use Rattle.migrate_cli.proofs.AnswerFacts.{from_equal}
 use Rattle.migrate_cli.proofs.why_changes.explain_changes.Goals as goal
 
 pub explain_list_of_changes-requires-clause-waves : goal.explain_list_of_changes-requires-clause-waves
-explain_list_of_changes-requires-clause-waves c =
-    subst (λ (net : Network). AreTwoWaves (length net) c.in-Ok.waves) c.net.ensures c.in-Ok.ensures.in_turn
+explain_list_of_changes-requires-clause-waves c = grind (arith, common_steps)
 
 pub returns-in-Ok : goal.returns-in-Ok
 returns-in-Ok c =

@@ -1,20 +1,16 @@
-use Rattle.std.proofs.Common.{◌≡◌, ◌∙◌, None, Option, Some, ap, length, subst, sym}
+use Rattle.std.proofs.Common.{arith}
+use Rattle.std.proofs.lemmas.Grind.{common_steps}
+use Rattle.std.proofs.Common.{◌≡◌, ◌∙◌, Option, Some, ap, length, subst, sym}
 use Rattle.std.specs.Borrow.{Bor}
 use Rattle.std.specs.Prelude.{IfSome, option_map}
 use Rattle.net_model.specs.Network.{Network}
-use Rattle.isis_routes.specs.RouteTables.{AreIsisRoutes}
-use Rattle.migrate_cli.specs.declared.tables.NewRoutes.TheVariants.{Isis, Ospf}
+use Rattle.migrate_cli.specs.declared.tables.NewRoutes.TheVariants.{Ospf}
 use Rattle.migrate_cli.specs.steps.Tables.{AreNewRoutes, network_move}
 use Rattle.migrate_cli.proofs.TableFacts.{isis_tables, redesign_tables}
 use Rattle.migrate_cli.proofs.tables.NewRoutes.over.Goals as goal
 
 pub returns-in_ok-build_over-in-None : goal.returns-in_ok-build_over-in-None
-returns-in_ok-build_over-in-None c =
-    let of = c.args.of.now in
-    let redesign : None ≡ of.redesign = ap (option_map (λ (new : Bor Network). new.now)) (sym c.in-None.is) ∙ c.redesign.ensures.value in
-    let routes = c.in_ok-build_over-in-None.field-0 in
-    subst (λ (some : Option Network). AreNewRoutes (network_move of.net some) (Isis routes)) redesign
-    (isis_tables of.net routes (subst (λ (net : Network). AreIsisRoutes net routes) c.net.ensures c.in_ok-build_over-in-None.ensures))
+returns-in_ok-build_over-in-None c = grind (arith, common_steps, isis_tables)
 
 pub returns-in_ok-build_over-in-Some : goal.returns-in_ok-build_over-in-Some
 returns-in_ok-build_over-in-Some c =
