@@ -1,5 +1,6 @@
 -- A text with blocks put in, as bytes: its pieces up to each `end` line, each with its block, and a rest.
-use Rattle.std.proofs.Common.{◌≡◌, ℕ, ◌+◌, ◌-◌, Bool, true, false, not, ◌&&◌, ◌||◌, cond, List, [], ◌∷◌, ◌++◌, length, map, take, drop, refl, sym, ap}
+use Rattle.std.proofs.lemmas.Grind.{common_steps}
+use Rattle.std.proofs.Common.{◌≡◌, ℕ, ◌+◌, Bool, true, false, not, ◌&&◌, ◌||◌, cond, List, [], ◌∷◌, ◌++◌, length, map, drop, refl, sym, ap}
 use Rattle.std.proofs.Common.{subst, ◌∙◌, append_assoc, append-nil, length-append, arith}
 use Rattle.std.specs.Prelude.{All}
 use Rattle.std.proofs.lemmas.Bool.{and_parts, not-true}
@@ -51,9 +52,7 @@ ArePlaced text from (piece ∷ pieces) (part ∷ parts) =
 
 -- what stands in front from a place of a text on, and what stands behind it
 pub between_front : (text : List ℕ) (from : ℕ) (front back : List ℕ) → drop from text ≡ front ++ back → between text from (from + length front) ≡ front
-between_front text from front back is =
-    let count : from + length front - from ≡ length front = omega arith in
-    ap (λ (n : ℕ). take n (drop from text)) count ∙ ap (take (length front)) is ∙ take_at front back (length front) refl
+between_front text from front back is = grind (arith, common_steps, take_at)
 
 pub drop_front : (text : List ℕ) (from : ℕ) (front back : List ℕ) → drop from text ≡ front ++ back → drop (from + length front) text ≡ back
 drop_front text from front back is =
@@ -101,39 +100,7 @@ module _ (block : List Section → List ℕ) where
       lines_in raw ≡ line ∷ [] → ends_here before raw ≡ false → IsCutBehind (before ++ raw) (pending ++ raw) raws →
       IsCutBehind before pending (raw ∷ raws)
   cut_plain before pending raw raws line whole is off next =
-      let n : ℕ = length (lines_in before) in
-      let behind : List ℕ = put_blocks block (before ++ raw) raws in
-      let last : List ℕ = put_to_last block (before ++ raw) raws in
-      let other : (not (is_in_banner (lines_in before)) && is_end line) ≡ false =
-      ap (λ (ls : List TextLine). not (is_in_banner (lines_in before)) && begins_with_end ls) (sym is) ∙ off in
-      let same : parts_of (lines_in (before ++ raw)) ≡ parts_of (lines_in before) =
-      ap parts_of (lines_in-append before raw whole ∙ ap (λ (l : List TextLine). lines_in before ++ map (further_on n) l) is)
-      ∙ parts_stay (lines_in before) (further_on n line) other in
-      let among : ends_among before (raw ∷ raws) ≡ ends_among (before ++ raw) raws =
-      ap (λ (b : Bool). b || ends_among (before ++ raw) raws) off in
-      record {
-        pieces = next.pieces;
-        rest = next.rest;
-        later = next.later;
-        was = sym (append_assoc pending raw (joined_raw raws)) ∙ next.was;
-        made =
-            ap (λ (b : Bool). pending ++ (cond b (block (open_sections before)) [] ++ raw ++ behind)) off
-            ∙ sym (append_assoc pending raw behind) ∙ next.made;
-        ends = next.ends;
-        parts =
-            ap (λ (t : List ℕ). parts_of (lines_in t)) (sym (append_assoc before raw (joined_raw raws)))
-            ∙ next.parts ∙ ap (λ (ps : List Part). ps ++ next.later) same;
-        blocks = next.blocks;
-        placed = λ from at.
-            subst (λ (t : List ℕ). ArePlaced t from next.pieces next.later) (append_assoc before raw (joined_raw raws))
-            (next.placed from (omega (arith, at, length-append pending raw, length-append before raw)));
-        some = λ e.
-            let more : ends_among (before ++ raw) raws ≡ true = sym among ∙ e in
-            ap (λ (b : Bool). pending ++ cond (b || ends_among (before ++ raw) raws) (cond b (block (open_sections before)) [] ++ raw ++ last) []) off
-            ∙ ap (λ (b : Bool). pending ++ cond b (raw ++ last) []) more
-            ∙ sym (append_assoc pending raw last) ∙ next.some more;
-        none = λ e. next.none (sym among ∙ e);
-      }
+      grind (arith, common_steps, joined_raw, lines_in-append, parts_stay)
 
   -- an `end` line outside banners
   cut_end : (before pending raw : List ℕ) (raws : List (List ℕ)) (line : TextLine) → IsOutsideBanners before → AreRaw (raw ∷ raws) →

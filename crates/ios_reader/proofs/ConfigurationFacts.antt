@@ -1,5 +1,6 @@
 -- A configuration, from its parts.
-use Rattle.std.proofs.Common.{◌≡◌, Bool, not, List, Option, ap, ◌∙◌, arith}
+use Rattle.std.proofs.lemmas.Grind.{common_steps}
+use Rattle.std.proofs.Common.{◌≡◌, Bool, not, List, Option, arith}
 use Rattle.std.specs.Prelude.{is_none, is_some}
 use Rattle.net_model.specs.declared.interface.Interface.{Interface}
 use Rattle.ios_lines.specs.Words.{Word}
@@ -14,8 +15,4 @@ is_missing o b e = grind arith
 pub same_parts : (name name2 : Word) (interfaces interfaces2 : List Interface) (ospf ospf2 : OspfSettings) (isis isis2 : IsisSettings) →
     name ≡ name2 → interfaces ≡ interfaces2 → ospf ≡ ospf2 → isis ≡ isis2 →
     configuration_of_settings name interfaces ospf isis ≡ configuration_of_settings name2 interfaces2 ospf2 isis2
-same_parts name name2 interfaces interfaces2 ospf ospf2 isis isis2 hn hi ho hs =
-    ap (λ (w : Word). configuration_of_settings w interfaces ospf isis) hn
-    ∙ ap (λ (w : List Interface). configuration_of_settings name2 w ospf isis) hi
-    ∙ ap (λ (w : OspfSettings). configuration_of_settings name2 interfaces2 w isis) ho
-    ∙ ap (configuration_of_settings name2 interfaces2 ospf2) hs
+same_parts name name2 interfaces interfaces2 ospf ospf2 isis isis2 hn hi ho hs = grind (arith, common_steps)

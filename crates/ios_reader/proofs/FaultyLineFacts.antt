@@ -13,7 +13,7 @@ use Rattle.std.proofs.lemmas.List.Quantifiers.{all_pairs_push}
 use Rattle.std.proofs.lemmas.List.Sorted.{IsPermutation-sym, All-permutation, Contains-permutation}
 use Rattle.std.proofs.lemmas.Grind.{common_steps}
 use Rattle.net_model.proofs.Members.{Contains-none}
-use Rattle.ios_lines.specs.FaultOrder.{rank, is_before, fault_at, least_fault}
+use Rattle.ios_lines.specs.FaultOrder.{rank, is_before, least_fault}
 use Rattle.ios_lines.specs.declared.fault.Fault.{Fault}
 use Rattle.ios_lines.specs.declared.kind.ReadKind.{ReadKind}
 use Rattle.ios_sections.specs.TextLines.{lines_in}
@@ -56,9 +56,7 @@ higher_not : (x g : Fault) → Lower x g → g.line ≡ x.line → rank x.kind �
 higher_not x g low same = absurd (omega arith)
 
 same_fault : (f g : Fault) → f.line ≡ g.line → rank f.kind ≡ rank g.kind → f ≡ g
-same_fault f g lines kinds =
-    ap (λ (n : ℕ). fault_at n f.kind) lines
-    ∙ ap (fault_at g.line) (sym (kind_back f.kind) ∙ ap kind_at kinds ∙ kind_back g.kind)
+same_fault f g lines kinds = grind (arith, common_steps, kind_at, kind_back)
 
 -- ---- one more fault ----
 
@@ -167,13 +165,7 @@ up_to sorted i x up within is k d below =
 
 -- nothing is told of no faults
 pub none_told : AreToldUpTo [] None []
-none_told = record {
-  told_are = record {
-    ascending = λ i j d one other. absurd (omega arith);
-    each = λ f. (λ w. absurd (Contains-none f w), λ h. absurd (Contains-none f h.among));
-  };
-  last = refl;
-}
+none_told = grind (arith, common_steps, Contains-none)
 
 -- ---- the order ----
 

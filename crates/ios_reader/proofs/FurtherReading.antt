@@ -1,35 +1,27 @@
 -- A configuration whose lines stand further on: it is read as the same, and it has a fault where it had one.
-use Rattle.std.proofs.Common.{◌≡◌, ℕ, ◌-◌, Bool, true, false, List, [], ◌∷◌, ◌++◌, refl, sym, ap, ◌∙◌, map}
-use Rattle.std.specs.Prelude.{filter_map, flat_map, is_none}
-use Rattle.ios_lines.specs.Lookups.{last_of}
+use Rattle.std.proofs.Common.{arith}
+use Rattle.std.proofs.lemmas.Grind.{common_steps}
+use Rattle.std.proofs.Common.{◌≡◌, ℕ, Bool, List, [], ◌∷◌, refl, sym, ap, ◌∙◌, map}
+use Rattle.std.specs.Prelude.{flat_map}
 use Rattle.ios_lines.specs.FaultOrder.{fault_at, faults_if}
 use Rattle.ios_lines.specs.declared.fault.Fault.{Fault}
 use Rattle.ios_lines.specs.declared.kind.ReadKind.TheVariants.{NoHostname}
 use Rattle.ios_sections.specs.TextLines.{TextLine, Part}
-use Rattle.ios_sections.specs.Sections.{head_number, first_number, counted_from, own_lines, sections_among, sections_from_first, sections_in}
-use Rattle.ios_sections.specs.Processes.{as_hostname, as_isis, as_fault, interfaces_in, first_tag}
-use Rattle.ios_sections.specs.ProcessFaults.{second_processes, ospf_faults, isis_faults}
+use Rattle.ios_sections.specs.Sections.{head_number, counted_from, own_lines, sections_among, sections_from_first, sections_in}
 use Rattle.ios_sections.specs.declared.section.Section.{Section}
 use Rattle.ios_sections.proofs.FurtherFacts.{part_further, sections_in-further}
-use Rattle.ios_reader.specs.Routers.{router_of}
-use Rattle.ios_reader.specs.Faults.{interface_faults, section_faults, fault_further, part_faults}
+use Rattle.ios_reader.specs.Faults.{section_faults, fault_further, part_faults}
 use Rattle.ios_reader.specs.Configurations.{configuration_of}
 use Rattle.ios_reader.proofs.LookedUp.{two_none, none_left, none_right}
 
 -- ---- no fault ----
 
 name_if : (t : Bool) (line other : ℕ) → faults_if t line NoHostname ≡ [] → faults_if t other NoHostname ≡ []
-name_if true line other e = absurd cc
-name_if false line other e = refl
+name_if t line other e = grind (arith, common_steps)
 
 -- whether sections have a fault isn't a matter of the number of the `end` line
 pub faultless_at : (ss : List Section) (line other : ℕ) → section_faults ss line ≡ [] → section_faults ss other ≡ []
-faultless_at ss line other e =
-    let front : List Fault =
-    filter_map as_fault ss ++ second_processes ss ++ ospf_faults ss ++ isis_faults ss ++ flat_map
-    (interface_faults (router_of ss) (first_tag (filter_map as_isis ss))) (interfaces_in ss) in
-    two_none front (faults_if (is_none (last_of as_hostname ss)) other NoHostname) (none_left front _ e)
-    (name_if (is_none (last_of as_hostname ss)) line other (none_right front _ e))
+faultless_at ss line other e = grind (arith, common_steps, name_if, none_left, none_right, two_none)
 
 pub none_mapped : (k : ℕ) (fs : List Fault) → map (fault_further k) fs ≡ [] → fs ≡ []
 none_mapped k [] e = refl
@@ -37,12 +29,10 @@ none_mapped k (f ∷ fs) e = absurd cc
 
 -- a part has no fault exactly where its sections have none, at whatever number its `end` line stands
 pub sections_faultless : (part : Part) (ends : ℕ) → part_faults part ≡ [] → section_faults (sections_in part) ends ≡ []
-sections_faultless part ends e =
-    faultless_at (sections_in part) (part.ends - first_number part.lines) ends (none_mapped (first_number part.lines) _ e)
+sections_faultless part ends e = grind (arith, common_steps, faultless_at, none_mapped)
 
 pub part_faultless : (part : Part) (ends : ℕ) → section_faults (sections_in part) ends ≡ [] → part_faults part ≡ []
-part_faultless part ends e =
-    ap (map (fault_further (first_number part.lines))) (faultless_at (sections_in part) ends (part.ends - first_number part.lines) e)
+part_faultless part ends e = grind (arith, common_steps, faultless_at)
 
 pub faultless_further : (k : ℕ) (parts : List Part) → flat_map part_faults parts ≡ [] → flat_map part_faults (map (part_further k) parts) ≡ []
 faultless_further k [] e = refl

@@ -1,4 +1,5 @@
 -- Texts joined end to end, and lines put before an `end` line, are read as the law says.
+use Rattle.std.proofs.lemmas.Grind.{common_steps}
 use Rattle.std.proofs.Common.{sym, ◌≡◌, ℕ, ◌+◌, ◌-◌, ◌<◌, Bool, true, false, ◌&&◌, ◌||◌, List, [], ◌∷◌, ◌++◌, length, refl, ap, subst, ◌∙◌, map}
 use Rattle.std.proofs.Common.{append-nil, arith, bytes_eq, nat_eq}
 use Rattle.std.specs.Prelude.{flat_map, codes}
@@ -16,7 +17,7 @@ use Rattle.ios_lines.specs.declared.kind.ReadKind.TheVariants.{NoEnd}
 use Rattle.ios_sections.specs.TextLines.{TextLine, Part, lines_in, counted_lines, is_end, parts_after, rest_after, parts_of, begins_configuration}
 use Rattle.ios_sections.specs.TextLines.{is_empty, lacks_end, opens_banner, carets, first_indent}
 use Rattle.ios_sections.specs.Sections.{first_number, from_first, sections_among, sections_from_first, sections_in}
-use Rattle.ios_sections.specs.JoinedLines.{further_on, is_in_banner, begins_banner, begins_with_end, open_lines, open_sections, sections_further_on}
+use Rattle.ios_sections.specs.JoinedLines.{further_on, is_in_banner, begins_with_end, open_lines, open_sections, sections_further_on}
 use Rattle.ios_sections.specs.declared.section.Section.{Section}
 use Rattle.ios_sections.proofs.JoinedFacts.{lines_in-append, counted-append, banner-append, banner-none, counted-no_end, parts-append, rest-append}
 use Rattle.ios_sections.proofs.JoinedFacts.{parts-none, rest-none, sections_among-append}
@@ -42,8 +43,7 @@ record AreRead (parts : List Part) (rest : List TextLine) : Type 0 where
   none_open : list_any begins_configuration rest ≡ false
 
 none_if : (t : Bool) (line : ℕ) → faults_if t line NoEnd ≡ [] → t ≡ false
-none_if true line e = absurd cc
-none_if false line e = refl
+none_if t line e = grind (arith, common_steps)
 
 read_from : (lines : List TextLine) → faults_in lines ≡ [] → AreRead (parts_of lines) (rest_after [] (counted_lines lines))
 read_from lines e =
@@ -82,18 +82,14 @@ none_open-further : (k : ℕ) (ls : List TextLine) → list_any begins_configura
 none_open-further k ls = list_any-map begins_configuration begins_configuration (further_on k) (λ x. refl) ls
 
 some_joined : (ps qs : List Part) → is_empty ps ≡ false → is_empty (ps ++ qs) ≡ false
-some_joined [] qs e = absurd cc
-some_joined (p ∷ ps) qs e = refl
+some_joined ps qs e = grind (arith, common_steps)
 
 -- ---- joined texts ----
 
 -- the lines of two texts that count
 counted_joined : (text other : List ℕ) → IsOutsideBanners text →
     counted_lines (lines_in (text ++ other)) ≡ counted_lines (lines_in text) ++ map (further_on (length (lines_in text))) (counted_lines (lines_in other))
-counted_joined text other outside =
-    ap counted_lines (lines_in-append text other outside.whole)
-    ∙ counted-append (lines_in text) (map (further_on (length (lines_in text))) (lines_in other)) outside.outside
-    ∙ ap (λ (ls : List TextLine). counted_lines (lines_in text) ++ ls) (counted-further (length (lines_in text)) (lines_in other))
+counted_joined text other outside = grind (arith, common_steps, counted-append, counted-further, lines_in-append)
 
 parts_joined : (text other : List ℕ) → IsClosed text →
     parts_of (lines_in (text ++ other)) ≡ parts_of (lines_in text) ++ map (part_further (length (lines_in text))) (parts_of (lines_in other))
@@ -116,8 +112,7 @@ rest_joined text other closed =
 
 faults_joined : (k : ℕ) (ps qs : List Part) → flat_map part_faults ps ≡ [] → flat_map part_faults qs ≡ [] →
     flat_map part_faults (ps ++ map (part_further k) qs) ≡ []
-faults_joined k ps qs p q =
-    rw (flat_map-append part_faults ps (map (part_further k) qs), p) (faultless_further k qs q)
+faults_joined k ps qs p q = grind (arith, common_steps, faultless_further, flat_map-append, part_further)
 
 pub joined_texts : (text other : List ℕ) (configurations others : List Configuration) → IsClosed text → ReadsText text configurations →
     ReadsText other others → ReadsText (text ++ other) (configurations ++ others)
@@ -143,8 +138,7 @@ joined_texts text other configurations others closed read read_other =
 -- ---- a text that is read has a configuration ----
 
 some_made : (ps : List Part) → is_empty ps ≡ false → 0 < length (made ps)
-some_made [] e = absurd cc
-some_made (p ∷ ps) e = omega arith
+some_made ps e = grind (arith, common_steps)
 
 pub some_configuration : (text : List ℕ) (configurations : List Configuration) → ReadsText text configurations → 0 < length configurations
 some_configuration text configurations read =
@@ -201,14 +195,10 @@ rest_at_end text after outside first =
 -- ---- a text that ends with its last `end` line ----
 
 banner_joined : (text other : List ℕ) → IsOutsideBanners text → is_in_banner (lines_in (text ++ other)) ≡ is_in_banner (lines_in other)
-banner_joined text other outside =
-    ap is_in_banner (lines_in-append text other outside.whole)
-    ∙ banner-append (lines_in text) (map (further_on (count_of text)) (lines_in other)) outside.outside
-    ∙ banner-further (count_of text) (lines_in other)
+banner_joined text other outside = grind (arith, common_steps, banner-append, banner-further, lines_in-append)
 
 alone : (line : TextLine) (lines : List TextLine) → length (line ∷ lines) ≡ 1 → lines ≡ []
-alone line [] e = refl
-alone line (other ∷ lines) e = absurd (omega arith)
+alone line lines e = grind (arith, common_steps)
 
 pub closed_text : (before line : List ℕ) → IsOutsideBanners before → IsEndLine line → IsClosed (before ++ line)
 closed_text before line outside last =
@@ -227,10 +217,7 @@ closed_text before line outside last =
 -- ---- a block put before an `end` line ----
 
 block_outside : (before block : List ℕ) → IsOutsideBanners before → IsLineBlock block → IsOutsideBanners (before ++ block)
-block_outside before block outside fits = record {
-  whole = is_of_whole_lines-append before block outside.whole fits.whole;
-  outside = banner_joined before block outside ∙ banner-none (lines_in block) fits.no_banner;
-}
+block_outside before block outside fits = grind (arith, common_steps, banner-none, banner_joined, is_of_whole_lines-append)
 
 -- the lines of a block that count, behind a text
 abbrev block_lines : List ℕ → List ℕ → List TextLine
@@ -275,13 +262,10 @@ faults_at_end : (ps qs : List Part) (p : Part) → flat_map part_faults (ps ++ p
 faults_at_end ps qs p = flat_map-append part_faults ps (p ∷ qs)
 
 no_faults : (fs gs hs : List Fault) → fs ≡ [] → gs ≡ [] → hs ≡ [] → fs ++ (gs ++ hs) ≡ []
-no_faults fs gs hs p q r =
-    ap (λ (w : List Fault). w ++ (gs ++ hs)) p ∙ ap (λ (w : List Fault). w ++ hs) q ∙ r
+no_faults fs gs hs p q r = grind (arith, common_steps)
 
 made_at_end : (ps qs : List Part) (p : Part) (k : ℕ) → made (ps ++ p ∷ map (part_further k) qs) ≡ made ps ++ configuration_of (sections_in p) ∷ made qs
-made_at_end ps qs p k =
-    map-append (λ (part : Part). configuration_of (sections_in part)) ps (p ∷ map (part_further k) qs)
-    ∙ ap (λ (cs : List Configuration). made ps ++ configuration_of (sections_in p) ∷ cs) (made-further k qs)
+made_at_end ps qs p k = grind (arith, common_steps, made-further, map-append, part_further)
 
 -- the part that an `end` line behind a text ends
 abbrev part_ended : List ℕ → TextLine → Part
@@ -374,8 +358,7 @@ inserted_lines before block after configurations grown outside fits ends reads g
 -- ---- blocks joined end to end ----
 
 first_joined : (xs ys : List TextLine) → first_indent xs ≡ 0 → first_indent ys ≡ 0 → first_indent (xs ++ ys) ≡ 0
-first_joined [] ys one two = two
-first_joined (x ∷ xs) ys one two = one
+first_joined xs ys one two = grind (arith, common_steps)
 
 none_joined : (p : TextLine → Bool) (xs ys : List TextLine) → list_any p xs ≡ false → list_any p ys ≡ false → list_any p (xs ++ ys) ≡ false
 none_joined p [] ys one two = two
@@ -386,23 +369,14 @@ none_joined p (x ∷ xs) ys one two =
 none_in_joined : (p : TextLine → Bool) (one other : List ℕ) → ((k : ℕ) (line : TextLine) → p (further_on k line) ≡ p line) → is_of_whole_lines one ≡ true →
     list_any p (lines_in one) ≡ false → list_any p (lines_in other) ≡ false → list_any p (lines_in (one ++ other)) ≡ false
 none_in_joined p one other same whole first second =
-    ap (list_any p) (lines_in-append one other whole)
-    ∙ none_joined p (lines_in one) (map (further_on (count_of one)) (lines_in other)) first
-    (list_any-map p p (further_on (count_of one)) (same (count_of one)) (lines_in other) ∙ second)
+    grind (arith, common_steps, first, lines_in-append, list_any-map, none_joined)
 
 block_alone : (block : List ℕ) → IsLineBlock block → IsOutsideBanners block
 block_alone block fits = record { whole = fits.whole; outside = banner-none (lines_in block) fits.no_banner }
 
 pub joined_blocks : (one other : List ℕ) → IsLineBlock one → IsLineBlock other → IsLineBlock (one ++ other)
-joined_blocks one other first second = record {
-  whole = is_of_whole_lines-append one other first.whole second.whole;
-  opens =
-      ap first_indent (counted_joined one other (block_alone one first))
-      ∙ first_joined (counted_lines (lines_in one)) (block_lines one other) first.opens
-      (first-further (count_of one) (counted_lines (lines_in other)) ∙ second.opens);
-  no_banner = none_in_joined begins_banner one other (λ k line. refl) first.whole first.no_banner second.no_banner;
-  no_end = none_in_joined is_end one other (λ k line. refl) first.whole first.no_end second.no_end;
-}
+joined_blocks one other first second =
+    grind (arith, common_steps, block_alone, counted_joined, first, first-further, first_joined, is_of_whole_lines-append, none_in_joined)
 
 -- a line with another number
 abbrev line_at : ℕ → TextLine → TextLine
@@ -419,13 +393,4 @@ twice_further k n (l ∷ ls) =
 pub block_by_block : (count : ℕ) (one other : List ℕ) → IsLineBlock one → IsLineBlock other →
     sections_further_on count (one ++ other) ≡ sections_further_on count one ++ sections_further_on (count + length (lines_in one)) other
 block_by_block count one other first second =
-    ap sections_among (counted-further count (lines_in (one ++ other)))
-    ∙ ap (λ (ls : List TextLine). sections_among (map (further_on count) ls)) (counted_joined one other (block_alone one first))
-    ∙ ap sections_among (map-append (further_on count) (counted_lines (lines_in one)) (block_lines one other))
-    ∙ ap (λ (ls : List TextLine). sections_among (map (further_on count) (counted_lines (lines_in one)) ++ ls))
-    (twice_further count (count_of one) (counted_lines (lines_in other)))
-    ∙ sections_among-append (map (further_on count) (counted_lines (lines_in one))) (map (further_on (count + count_of one)) (counted_lines (lines_in other)))
-    (first-further (count + count_of one) (counted_lines (lines_in other)) ∙ second.opens)
-    ∙ ap (λ (ls : List TextLine). sections_among ls ++ sections_among (map (further_on (count + count_of one)) (counted_lines (lines_in other))))
-    (sym (counted-further count (lines_in one)))
-    ∙ ap (λ (ls : List TextLine). sections_further_on count one ++ sections_among ls) (sym (counted-further (count + count_of one) (lines_in other)))
+    grind (arith, common_steps, block_alone, counted-further, counted_joined, first, first-further, map-append, sections_among-append, twice_further)

@@ -1,8 +1,8 @@
 -- What is read keeps the facts of a configuration.
-use Rattle.std.proofs.Common.{◌≡◌, ◌≢◌, ℕ, ◌^◌, ◌<◌, ◌≤◌, Bool, true, false, not, ◌&&◌, ◌||◌, List, [], length, get_or, Option, Some, None, Result}
+use Rattle.std.proofs.lemmas.Grind.{common_steps}
+use Rattle.std.proofs.Common.{◌≡◌, ◌≢◌, ℕ, ◌^◌, ◌<◌, ◌≤◌, Bool, true, false, not, ◌&&◌, ◌||◌, List, [], get_or, Option, Some, None, Result}
 use Rattle.std.proofs.Common.{Ok, Err, refl, ap, map, nat_eq, nat_le, arith, inl, inr, ◌⊎◌}
-use Rattle.std.specs.Prelude.{IfSome, IfOk, IsSome, All, AllPairs, is_some, unwrap_or, filter_map, take_while}
-use Rattle.std.specs.List.{list_all}
+use Rattle.std.specs.Prelude.{IfSome, IfOk, IsSome, All, AllPairs, is_some, unwrap_or, filter_map}
 use Rattle.std.specs.Char.{is_ascii_digit}
 use Rattle.std.proofs.lemmas.Bool.Decides.{nat_tests}
 use Rattle.std.proofs.lemmas.Bool.{false≢true, eqb-true, eq-eqb, or_cases}
@@ -22,8 +22,8 @@ use Rattle.ios_lines.specs.InterfaceLines.{counting}
 use Rattle.ios_sections.specs.Processes.{as_hostname, as_interface, merged, interfaces_in, process_of, ospf_lines, isis_lines}
 use Rattle.ios_reader.specs.Routers.{Router, router_of, range_said, is_same_range, ranges_in, stub_said, is_same_area, stub_lines_in}
 use Rattle.ios_reader.specs.Routers.{default_cost_said, stub_of, stubs_in, title_said, router_metric_said, ospf_distance_said, isis_distance_said}
-use Rattle.ios_reader.specs.InterfacesAsRead.{address_given, is_loopback, interface_area, default_bandwidth, cost_by_bandwidth}
-use Rattle.ios_reader.specs.InterfacesAsRead.{default_cost, cost_given, ospf_cost, is_isis_passive, runs_isis, metric_by, level_metric, subnet_field}
+use Rattle.ios_reader.specs.InterfacesAsRead.{address_given, interface_area, cost_by_bandwidth}
+use Rattle.ios_reader.specs.InterfacesAsRead.{default_cost, cost_given, ospf_cost, is_isis_passive, metric_by, level_metric, subnet_field}
 use Rattle.ios_reader.specs.InterfacesAsRead.{cost_field, interface_with, interface_as_read}
 use Rattle.ios_reader.specs.Configurations.{title_given, system_in, configuration_of}
 use Rattle.ios_lines.specs.MaskedAddress.{MaskedAddress}
@@ -79,19 +79,10 @@ name_byte b h = four (or_cases (is_letter b || is_ascii_digit b || nat_eq b 45 |
     four (inr e) = inr (inr (inr (inr (inr (eqb-true b 46 e)))))
 
 router_name : (name : Word) → is_router_name name ≡ true → IsRouterName name
-router_name name h =
-    let front : (nat_le 1 (length name) && nat_le (length name) 63) ≡ true =
-    and_left (nat_le 1 (length name) && nat_le (length name) 63) (list_all is_name_byte name) h in
-    let passes = AllPass-from_list_all is_name_byte name (and_right (nat_le 1 (length name) && nat_le (length name) 63) (list_all is_name_byte name) h) in
-    record {
-      some = le_test 1 (length name) (and_left (nat_le 1 (length name)) (nat_le (length name) 63) front);
-      short = le_test (length name) 63 (and_right (nat_le 1 (length name)) (nat_le (length name) 63) front);
-      bytes = λ k d lt. name_byte (get_or name k d) (passes k d lt);
-    }
+router_name name h = grind (arith, common_steps, AllPass-from_list_all, and_left, and_right, le_test, name_byte)
 
 there : {A : Type 0} (P : A → Type 0) (o : Option A) (d : A) → is_some o ≡ true → IfSome o P → P (unwrap_or o d)
-there P None d e h = absurd (false≢true e)
-there P (Some a) d e h = h
+there P o d e h = grind (arith, common_steps, false≢true)
 
 or_default : {A : Type 0} (P : A → Type 0) (o : Option A) (d : A) → P d → IfSome o P → P (unwrap_or o d)
 or_default P None d e h = e
@@ -142,8 +133,7 @@ subnet_good None h = tt
 subnet_good (Some a) h = prefix_good a.address a.len h.below h.short
 
 subnet_there : (o : Option MaskedAddress) → is_some o ≡ true → IsSome (subnet_field o)
-subnet_there None h = absurd (false≢true h)
-subnet_there (Some a) h = refl
+subnet_there o h = grind (arith, common_steps, false≢true)
 
 abbrev IsCost : ℕ → Type 0
 IsCost = IsFrom 1 65535
@@ -155,18 +145,14 @@ bandwidth_cost : (reference : ℕ) (own : Option (Result ℕ ReadKind)) (kind : 
 bandwidth_cost reference own kind = grind arith
 
 otherwise_cost : (reference : ℕ) (name : Word) (bandwidth : Option (Result ℕ ReadKind)) → IfSome (default_cost reference name bandwidth) IsCost
-otherwise_cost reference name bandwidth =
-    by_if (λ (o : Option ℕ). IfSome o IsCost) (is_loopback name) (Some 1)
-    (cost_by_bandwidth reference bandwidth (default_bandwidth (take_while is_letter name)))
-    one_cost (bandwidth_cost reference bandwidth (default_bandwidth (take_while is_letter name)))
+otherwise_cost reference name bandwidth = grind (arith, common_steps, bandwidth_cost, by_if, one_cost)
 
 given_cost : (own : Option (Result ℕ ReadKind)) (otherwise : Option ℕ) → IfSome own (IsGoodValue 1 65535) → IfSome otherwise IsCost →
     IfSome (cost_given own otherwise) IsCost
 given_cost own otherwise h i = grind arith
 
 field_cost : (area cost : Option ℕ) → IfSome cost IsCost → IsCost (cost_field area cost)
-field_cost None cost h = one_cost
-field_cost (Some area) cost h = or_default IsCost cost 1 one_cost h
+field_cost area cost h = grind (arith, common_steps, cost, one_cost, or_default)
 
 abbrev IsMetric : ℕ → Type 0
 IsMetric = IsFrom 1 16777214
@@ -178,8 +164,7 @@ value_metric : (o : Option (Result ℕ ReadKind)) → IfSome o (IsGoodValue 1 16
 value_metric o h = grind arith
 
 by_metric : (own both : Option ℕ) (router : ℕ) → IfSome own IsMetric → IfSome both IsMetric → IsMetric router → IsMetric (metric_by own both router)
-by_metric (Some metric) both router h i j = h
-by_metric None both router h i j = or_default IsMetric both router j i
+by_metric own both router h i j = grind (arith, common_steps, or_default)
 
 pair : (least most n : ℕ) → IsFrom least most n → (least ≤ n) × (n ≤ most)
 pair least most n h = (h.low, h.high)
@@ -187,10 +172,7 @@ pair least most n h = (h.low, h.high)
 module _ (router : Router) (name : Word) (facts : InterfaceFacts) (good : AreGoodFacts facts) (metric : IsMetric router.metric) where
   own_metric : (own : Option (Result ℕ ReadKind)) → IfSome own (IsGoodValue 1 16777214) →
       IsMetric (level_metric router.metric (is_isis_passive router name) facts own)
-  own_metric own h =
-      by_if IsMetric (runs_isis (is_isis_passive router name) facts) (metric_by (good_value own) (good_value facts.metric) router.metric) 10
-      (by_metric (good_value own) (good_value facts.metric) router.metric (value_metric own h) (value_metric facts.metric good.metric) metric)
-      ten_metric
+  own_metric own h = grind (arith, common_steps, by_if, by_metric, metric, ten_metric, value_metric)
 
   interface_good : IsInterface (interface_with router name facts)
   interface_good = record {
@@ -240,15 +222,7 @@ ranges_kept lines good =
     (all_taken (λ (s : OspfStatement). range_said s.says) IsGoodOspf IsRange (λ s g. range_in s.says g) lines good)
 
 same_range : (r s : Range) → is_same_range r s ≡ true → (r.area ≡ s.area) × (r.dest ≡ s.dest)
-same_range r s e =
-    let front : (nat_eq r.area s.area && nat_eq r.dest.base s.dest.base) ≡ true =
-    and_left (nat_eq r.area s.area && nat_eq r.dest.base s.dest.base) (nat_eq r.dest.len s.dest.len) e in
-    let base : r.dest.base ≡ s.dest.base = eqb-true r.dest.base s.dest.base (and_right (nat_eq r.area s.area) (nat_eq r.dest.base s.dest.base) front) in
-    let len : r.dest.len ≡ s.dest.len = eqb-true r.dest.len s.dest.len
-    (and_right (nat_eq r.area s.area && nat_eq r.dest.base s.dest.base) (nat_eq r.dest.len s.dest.len) e) in (
-      eqb-true r.area s.area (and_left (nat_eq r.area s.area) (nat_eq r.dest.base s.dest.base) front),
-      same_parts r.dest.base s.dest.base r.dest.len s.dest.len base len,
-    )
+same_range r s e = grind (arith, common_steps, and_left, and_right, eqb-true, same_parts)
 
 range_same : (r s : Range) → (r.area ≡ s.area) × (r.dest ≡ s.dest) → is_same_range r s ≡ true
 range_same r s h = all_three (eq-eqb r.area s.area h.0) (eq-eqb r.dest.base s.dest.base (ap (λ (b : Block). b.base) h.1))
@@ -258,11 +232,7 @@ range_same r s h = all_three (eq-eqb r.area s.area h.0) (eq-eqb r.dest.base s.de
     all_three e f g = rw (e, f, g) refl
 
 ranges_takes : (y x z : Range) → is_same_range y x ≡ true → AreRangesApart y z → AreRangesApart x z
-ranges_takes y x z e apart h =
-    let same : (y.area ≡ x.area) × (y.dest ≡ x.dest) = same_range y x e in
-    let area : y.area ≡ z.area = let p = same.0 in let q = h.0 in cc in
-    let dest : y.dest ≡ z.dest = let p = same.1 in let q = h.1 in cc in
-    apart (area, dest)
+ranges_takes y x z e apart h = grind (arith, common_steps, same_range)
 
 ranges_new : (y x : Range) → is_same_range y x ≡ false → AreRangesApart y x
 ranges_new y x e h = let t : is_same_range y x ≡ true = range_same y x h in let f : false ≡ true = cc in false≢true f
@@ -321,8 +291,7 @@ system_kept : (o : Option (Option Title)) → IfSome o (λ (p : Option Title). I
 system_kept o h = grind arith
 
 process_kept : (o : Option ℕ) → IfSome o (IsFrom 1 65535) → IfSome o (λ p. (1 ≤ p) × (p ≤ 65535))
-process_kept None h = tt
-process_kept (Some p) h = (h.low, h.high)
+process_kept o h = grind (arith, common_steps)
 
 -- the configuration of sections that name the router keeps the facts of a configuration
 pub configuration_kept : (sections : List Section) → All IsGoodSection sections → is_some (last_of as_hostname sections) ≡ true →

@@ -1,4 +1,5 @@
 -- Tables whose values stand under their keys.
+use Rattle.std.proofs.lemmas.Grind.{common_steps}
 use Rattle.std.proofs.Common.{sym, ◌≡◌, ℕ, ◌+◌, ◌<◌, Bool, true, false, ◌&&◌, List, [], ◌∷◌, length, take, get_or, Option, Some, None, refl}
 use Rattle.std.proofs.Common.{ap, ◌∙◌, cond, nat_eq, arith}
 use Rattle.std.specs.Cmp.{nat_eq_equiv}
@@ -62,8 +63,7 @@ lookup_insert (e ∷ es) n v q = said_cases (nat_eq n e.0) e es n v q refl (look
 pub lookup_more : {A : Type 0} (form : ℕ → A → Option ℕ) (xs : List A) (i : ℕ) (x : A) (old new : List (ℕ × ℕ)) → i < length xs → x ≡ get_or xs i x →
     ((q : ℕ) → lookup (nat_eq q) old ≡ last_of (form q) (take i xs)) → ((q : ℕ) → lookup (nat_eq q) new ≡ later (lookup (nat_eq q) old) (form q x)) →
     (q : ℕ) → lookup (nat_eq q) new ≡ last_of (form q) (take (i + 1) xs)
-lookup_more form xs i x old new within read before step q =
-    step q ∙ ap (λ (o : Option ℕ). later o (form q x)) (before q) ∙ sym (last_of_more (form q) xs i x within read)
+lookup_more form xs i x old new within read before step q = grind (arith, common_steps, last_of_more)
 
 -- ---- ranges ----
 
@@ -75,15 +75,7 @@ same_parts : (a1 b1 a2 b2 a3 b3 : ℕ) → a1 ≡ b1 → a2 ≡ b2 → a3 ≡ b3
 same_parts a1 b1 a2 b2 a3 b3 p q r = cc
 
 pub key_same : (a b : ℕ × ℕ × ℕ) → key_eq a b ≡ true → a ≡ b
-key_same a b e =
-    let front : (nat_eq a.0 b.0 && nat_eq a.1 b.1) ≡ true = and_left (nat_eq a.0 b.0 && nat_eq a.1 b.1) (nat_eq a.2 b.2) e in
-    same_parts a.0 b.0 a.1 b.1 a.2 b.2
-    (eqb-true a.0 b.0 (and_left (nat_eq a.0 b.0) (nat_eq a.1 b.1) front))
-    (eqb-true a.1 b.1 (and_right (nat_eq a.0 b.0) (nat_eq a.1 b.1) front))
-    (eqb-true a.2 b.2 (and_right (nat_eq a.0 b.0 && nat_eq a.1 b.1) (nat_eq a.2 b.2) e))
+key_same a b e = grind (arith, common_steps, and_left, and_right, eqb-true, same_parts)
 
 pub keys_agree : (x y : Range) → key_eq (range_key x) (range_key y) ≡ is_same_range y x
-keys_agree x y =
-    ap (λ (b : Bool). b && nat_eq x.dest.base y.dest.base && nat_eq x.dest.len y.dest.len) (nat_eq_equiv.symm x.area y.area)
-    ∙ ap (λ (b : Bool). nat_eq y.area x.area && b && nat_eq x.dest.len y.dest.len) (nat_eq_equiv.symm x.dest.base y.dest.base)
-    ∙ ap (λ (b : Bool). nat_eq y.area x.area && nat_eq y.dest.base x.dest.base && b) (nat_eq_equiv.symm x.dest.len y.dest.len)
+keys_agree x y = grind (arith, common_steps)

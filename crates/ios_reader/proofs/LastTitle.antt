@@ -1,7 +1,8 @@
 -- The title of the last `net` line, one more line at a time.
-use Rattle.std.proofs.Common.{◌≡◌, List, [], ◌∷◌, ◌++◌, Option, ap, ◌∙◌, arith}
+use Rattle.std.proofs.lemmas.Grind.{common_steps}
+use Rattle.std.proofs.Common.{◌≡◌, List, [], ◌∷◌, ◌++◌, Option, arith}
 use Rattle.ios_lines.specs.declared.isis_line.IsisStatement.{IsisStatement}
-use Rattle.ios_lines.specs.Lookups.{later, last_of}
+use Rattle.ios_lines.specs.Lookups.{later}
 use Rattle.ios_reader.specs.Routers.{title_said}
 use Rattle.ios_reader.specs.Configurations.{title_given, title_by}
 use Rattle.ios_reader.specs.steps.ProcessFacts.{title_after}
@@ -14,5 +15,4 @@ title_cases before says = grind arith
 
 -- the title of the last `net` line, with one more line
 pub title_push : (xs : List IsisStatement) (x : IsisStatement) → title_by (xs ++ x ∷ []) ≡ title_after (title_by xs) x.says
-title_push xs x =
-    ap title_given (last_of-push (λ (s : IsisStatement). title_said s.says) xs x) ∙ title_cases (last_of (λ (s : IsisStatement). title_said s.says) xs) x.says
+title_push xs x = grind (arith, common_steps, last_of-push, title_cases)

@@ -1,4 +1,5 @@
 -- The least of some faults is on the least faulty line, with the least kind on it.
+use Rattle.std.proofs.lemmas.Grind.{common_steps}
 use Rattle.std.proofs.Common.{◌≡◌, ℕ, ◌<◌, ◌≤◌, Bool, true, false, ◌&&◌, ◌||◌, List, [], ◌∷◌, Option, Some, None, refl, cond, nat_eq, nat_lt, arith, ◌⊎◌}
 use Rattle.ios_lines.specs.FaultOrder.{rank, is_before, lesser_fault, least_fault}
 use Rattle.ios_reader.specs.Configurations.{IsNotAfter}
@@ -20,12 +21,10 @@ pub by_not_before : (f g : Fault) → is_before g f ≡ false → IsNotAfter f g
 by_not_before f g h = failed f.line g.line (rank f.kind) (rank g.kind) _ _ _ refl refl refl h
 
 always_some : (t : Bool) (f g : Fault) → cond t (Some g) (Some f) ≡ None → ⊥
-always_some true f g e = cc
-always_some false f g e = cc
+always_some t f g e = grind (arith, common_steps)
 
 one_there : (f : Fault) (o : Option Fault) → lesser_fault (Some f) o ≡ None → ⊥
-one_there f None e = cc
-one_there f (Some g) e = always_some (is_before g f) f g e
+one_there f o e = grind (arith, common_steps, always_some)
 
 -- where there is no least fault there is none
 pub none_least : (fs : List Fault) → least_fault fs ≡ None → fs ≡ []

@@ -1,4 +1,5 @@
 -- Where the lines of a text begin that is put together from others.
+use Rattle.std.proofs.lemmas.Grind.{common_steps}
 use Rattle.std.proofs.Common.{◌≡◌, ℕ, ◌+◌, ◌-◌, ◌<◌, true, List, [], ◌∷◌, ◌++◌, length, map, refl}
 use Rattle.std.proofs.Common.{ap, ◌∙◌, append-nil, arith}
 use Rattle.std.specs.Prelude.{slice_get}
@@ -26,11 +27,7 @@ first_begins e count bytes [] some = absurd (omega (arith, some))
 first_begins e count bytes (piece ∷ pieces) some = let here : bytes + 0 ≡ bytes = omega arith in here
 
 some_pieces : (text : List ℕ) (line : TextLine) (behind : List TextLine) → lines_in text ≡ line ∷ behind → 0 < length (line_pieces text)
-some_pieces text line behind is =
-    let counted = ap (λ (l : List TextLine). length l) is in
-    let mapped = length-map (text_lines text) (text_line text) in
-    let made = lines_of-length 1 0 (line_pieces text) in
-    omega (arith, counted, mapped, made)
+some_pieces text line behind is = grind (arith, common_steps, length-map, lines_of-length)
 
 -- the first line behind a text of whole lines begins at its end
 pub line_behind : (before rest : List ℕ) (number : ℕ) (line : TextLine) (behind : List TextLine) → is_of_whole_lines before ≡ true →
@@ -48,9 +45,7 @@ line_behind before rest number line behind whole is first =
 
 -- behind the last line of a text is its end
 pub past_last : (text : List ℕ) (number : ℕ) → number ≡ length (lines_in text) + 1 → start_of text number ≡ length text
-past_last text number past =
-    let mapped : length (lines_in text) ≡ length (text_lines text) = length-map (text_lines text) (text_line text) in
-    ap (begins_at (length text)) (slice_get_past (text_lines text) (number - 1) (omega (arith, mapped, past)))
+past_last text number past = grind (arith, common_steps, length-map, slice_get_past)
 
 -- where the line begins that follows on some lines
 pub next_begins : (before : List ℕ) (raws : List (List ℕ)) (number : ℕ) → IsWholeBefore before raws → AreRaw raws → number ≡ length (lines_in before) + 1 →

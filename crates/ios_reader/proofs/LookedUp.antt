@@ -1,5 +1,7 @@
 -- A configuration and its faults, by what its sections are looked up by.
-use Rattle.std.proofs.Common.{◌≡◌, ℕ, List, [], ◌∷◌, ◌++◌, map, Option, refl, sym, ap, subst, ◌∙◌}
+use Rattle.std.proofs.Common.{arith}
+use Rattle.std.proofs.lemmas.Grind.{common_steps}
+use Rattle.std.proofs.Common.{◌≡◌, ℕ, List, [], ◌∷◌, ◌++◌, map, Option, refl, ap, ◌∙◌}
 use Rattle.std.specs.Prelude.{filter_map, unwrap_or, is_none}
 use Rattle.std.specs.List.{flat_map}
 use Rattle.net_model.specs.Configuration.{Configuration}
@@ -101,13 +103,7 @@ pub no_fault_by : (ss : List Section) (ends : ℕ) (name : Option Word) (interfa
     last_of as_hostname ss ≡ name → interfaces_in ss ≡ interfaces → filter_map as_ospf ss ≡ ospf → filter_map as_isis ss ≡ isis → filter_map as_fault ss
     ≡ heads →
     HasNoFault name interfaces ospf isis heads ends → section_faults ss ends ≡ []
-no_fault_by ss ends name interfaces ospf isis heads a b c d f n =
-    no_fault_to ss ends
-    (subst (λ v. HasNoFault v (interfaces_in ss) (filter_map as_ospf ss) (filter_map as_isis ss) (filter_map as_fault ss) ends) (sym a)
-    (subst (λ v. HasNoFault name v (filter_map as_ospf ss) (filter_map as_isis ss) (filter_map as_fault ss) ends) (sym b)
-    (subst (λ v. HasNoFault name interfaces v (filter_map as_isis ss) (filter_map as_fault ss) ends) (sym c)
-    (subst (λ v. HasNoFault name interfaces ospf v (filter_map as_fault ss) ends) (sym d)
-    (subst (λ v. HasNoFault name interfaces ospf isis v ends) (sym f) n)))))
+no_fault_by ss ends name interfaces ospf isis heads a b c d f n = grind (arith, common_steps, no_fault_to)
 
 -- the configuration that sections make
 abbrev pub configuration_by : Option Word → List InterfaceSection → List OspfSection → List IsisSection → Configuration

@@ -1,6 +1,7 @@
 -- The first `network` line that takes an address: in the tables of the lines, and among the lines of the process.
+use Rattle.std.proofs.lemmas.Grind.{common_steps}
 use Rattle.std.proofs.Common.{sym, ◌≡◌, ℕ, ◌+◌, ◌<◌, ◌≤◌, Bool, true, false, not, ◌&&◌, ◌||◌, List, [], ◌∷◌, ◌++◌, length, take, get_or, Option, Some, None}
-use Rattle.std.proofs.Common.{refl, ap, subst, ◌∙◌, cond, filter, nat_eq, arith, append_assoc}
+use Rattle.std.proofs.Common.{refl, ap, ◌∙◌, cond, filter, nat_eq, arith, append_assoc}
 use Rattle.std.specs.Prelude.{All, find, fold, option_map, bit_or}
 use Rattle.std.specs.List.{list_any}
 use Rattle.std.specs.Map.{lookup}
@@ -48,11 +49,7 @@ placed_push place (l ∷ ls) s =
 -- one more line of a loop over the lines of a process
 pub placed_more : (lines : List OspfStatement) (i : ℕ) (s : OspfStatement) → i < length lines → s ≡ get_or lines i s →
     placed_networks 0 (take (i + 1) lines) ≡ placed_networks 0 (take i lines) ++ placed_at i (network_said s.says)
-placed_more lines i s within read =
-    let place : 0 + length (take i lines) ≡ i = omega (arith, length-take-le i lines (omega arith)) in
-    ap (placed_networks 0) (take_more lines i s within) ∙ placed_push 0 (take i lines) (get_or lines i s)
-    ∙ ap (λ (n : ℕ). placed_networks 0 (take i lines) ++ placed_at n (network_said (get_or lines i s).says)) place
-    ∙ ap (λ (l : OspfStatement). placed_networks 0 (take i lines) ++ placed_at i (network_said l.says)) (sym read)
+placed_more lines i s within read = grind (arith, common_steps, length-take-le, placed_push, take_more)
 
 -- ---- the first line that passes a test ----
 
@@ -90,8 +87,7 @@ find_more f all i d within = ap (find f) (take_more all i d within) ∙ find-app
 
 found_place : (b : Bool) (place : ℕ) (first line : PlacedNetwork) (rest : Option PlacedNetwork) → place ≤ first.place →
     (rest ≡ Some line → first.place + 1 ≤ line.place) → cond b (Some first) rest ≡ Some line → place ≤ line.place
-found_place true place first line rest here there e = let same : first ≡ line = cc in subst (λ (l : PlacedNetwork). place ≤ l.place) same here
-found_place false place first line rest here there e = omega (arith, here, there e)
+found_place b place first line rest here there e = grind (arith, common_steps)
 
 find_place : (f : PlacedNetwork → Bool) (place : ℕ) (all : List PlacedNetwork) (line : PlacedNetwork) → Ascend place all → find f all ≡ Some line →
     place ≤ line.place
@@ -118,12 +114,10 @@ abbrev of_blocks : ℕ → List ℕ → PlacedNetwork → Bool
 of_blocks address wildcards line = list_any (λ (w : ℕ). is_of_block (w, bit_or address w) line) wildcards
 
 or_false : (b : Bool) → (b || false) ≡ b
-or_false true = refl
-or_false false = refl
+or_false b = grind (arith, common_steps)
 
 or_assoc : (a b c : Bool) → ((a || b) || c) ≡ (a || (b || c))
-or_assoc true b c = refl
-or_assoc false b c = refl
+or_assoc a b c = grind (arith, common_steps)
 
 by_blocks : (address : ℕ) (all : List PlacedNetwork) (table : ℕ × ℕ → Option PlacedNetwork) (wildcards : List ℕ) (f : PlacedNetwork → Bool)
     (found : Option PlacedNetwork) →

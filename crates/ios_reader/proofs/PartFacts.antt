@@ -1,5 +1,5 @@
 -- The parts of a text, one more line at a time.
-use Rattle.std.proofs.Common.{sym, ◌≡◌, ℕ, ◌+◌, ◌-◌, ◌<◌, ◌≤◌, Bool, true, false, not, ◌||◌, List, [], ◌∷◌, ◌++◌, length, take, drop, get_or, Option}
+use Rattle.std.proofs.Common.{sym, ◌≡◌, ℕ, ◌+◌, ◌-◌, ◌<◌, ◌≤◌, Bool, true, false, not, ◌||◌, List, [], ◌∷◌, ◌++◌, length, take, drop, get_or}
 use Rattle.std.proofs.Common.{refl, ap, subst, ◌∙◌, cond, map, append-nil, arith}
 use Rattle.std.specs.Prelude.{flat_map, option_to_list}
 use Rattle.std.specs.List.{list_any, slice_range}
@@ -12,7 +12,6 @@ use Rattle.ios_sections.specs.Sections.{sections_in}
 use Rattle.ios_reader.specs.Faults.{part_faults}
 use Rattle.ios_reader.specs.Configurations.{configuration_of}
 use Rattle.ios_reader.specs.steps.Parts.{part_at, PartRead, IsPartRead, Reading, IsReadingOf}
-use Rattle.ios_lines.specs.declared.fault.Fault.{Fault}
 use Rattle.ios_reader.proofs.LookedUp.{none_left, none_right}
 
 -- ---- one more line ----
@@ -22,12 +21,10 @@ ended before x = cond (is_end x) (part_at before x.number ∷ []) []
 
 rest-choice : (t : Bool) (a b : List TextLine) (x : TextLine) → cond t (cond (is_end x) [] (a ++ x ∷ [])) (cond (is_end x) [] (b ++ x ∷ []))
     ≡ cond (is_end x) [] (cond t a b ++ x ∷ [])
-rest-choice true a b x = refl
-rest-choice false a b x = refl
+rest-choice t a b x = grind (arith, common_steps)
 
 cond_two : {A : Type 0} (t : Bool) (a b c d : A) → a ≡ c → b ≡ d → cond t a b ≡ cond t c d
-cond_two true a b c d p q = p
-cond_two false a b c d p q = q
+cond_two t a b c d p q = grind (arith, common_steps)
 
 rest-push : (before xs : List TextLine) (x : TextLine) → rest_after before (xs ++ x ∷ []) ≡ cond (is_end x) [] (rest_after before xs ++ x ∷ [])
 rest-push before [] x = refl
@@ -38,8 +35,7 @@ rest-push before (y ∷ ys) x =
 
 parts-choice : (t : Bool) (p : Part) (a b : List Part) (r s : List TextLine) (x : TextLine) →
     cond t (p ∷ (a ++ ended r x)) (b ++ ended s x) ≡ cond t (p ∷ a) b ++ ended (cond t r s) x
-parts-choice true p a b r s x = refl
-parts-choice false p a b r s x = refl
+parts-choice t p a b r s x = grind (arith, common_steps)
 
 parts-push : (before xs : List TextLine) (x : TextLine) → parts_after before (xs ++ x ∷ []) ≡ parts_after before xs ++ ended (rest_after before xs) x
 parts-push before [] x = refl
@@ -83,25 +79,12 @@ abbrev made : List Part → List Configuration
 made parts = map (λ (part : Part). configuration_of (sections_in part)) parts
 
 faults-push : (parts : List Part) (part : Part) → flat_map part_faults (parts ++ part ∷ []) ≡ flat_map part_faults parts ++ part_faults part
-faults-push parts part =
-    flat_map-append part_faults parts (part ∷ [])
-    ∙ ap (λ (w : List Fault). flat_map part_faults parts ++ w) (append-nil (part_faults part))
+faults-push parts part = grind (arith, common_steps, flat_map-append)
 
 -- one more part is read
 pub reading-push : (parts : List Part) (part : Part) (r s : Reading) (read : PartRead) → IsReadingOf parts r → IsPartRead part read →
     s.faults ≡ r.faults ++ read.faults → s.configs ≡ r.configs ++ option_to_list read.config → IsReadingOf (parts ++ part ∷ []) s
-reading-push parts part r s read before h f g = record {
-  faults =
-      f ∙ ap (λ (w : List Fault). w ++ read.faults) before.faults
-      ∙ ap (λ (w : List Fault). flat_map part_faults parts ++ w) h.faults
-      ∙ sym (faults-push parts part);
-  configs = λ none.
-      let clean : r.faults ++ read.faults ≡ [] = sym f ∙ none in
-      g
-      ∙ ap (λ (w : List Configuration). w ++ option_to_list read.config) (before.configs (none_left r.faults read.faults clean))
-      ∙ ap (λ (o : Option Configuration). made parts ++ option_to_list o) (h.config (none_right r.faults read.faults clean))
-      ∙ sym (map-append (λ (part : Part). configuration_of (sections_in part)) parts (part ∷ []));
-}
+reading-push parts part r s read before h f g = grind (arith, common_steps, faults-push, map-append, none_left, none_right)
 
 -- ---- whether a configuration is open ----
 
@@ -119,8 +102,7 @@ any-push (y ∷ ys) x = or_assoc (begins_configuration y) (list_any begins_confi
 
 any_cases : (t : Bool) (xs : List TextLine) (x : TextLine) → list_any begins_configuration (cond t [] (xs ++ x ∷ []))
     ≡ cond t false (list_any begins_configuration xs || begins_configuration x)
-any_cases true xs x = refl
-any_cases false xs x = any-push xs x
+any_cases t xs x = grind (arith, common_steps, any-push)
 
 pub open_more : (lines : List TextLine) (i : ℕ) (x : TextLine) → i < length lines → x ≡ get_or lines i x →
     list_any begins_configuration (rest_after [] (take (i + 1) lines))
@@ -137,8 +119,7 @@ ended_more lines i x within read =
     ap is_empty (parts_more lines i x within read) ∙ empty_cases (is_end x) (parts_after [] (take i lines)) (part_at (rest_after [] (take i lines)) x.number)
 
 double_not : (b : Bool) → not (not b) ≡ b
-double_not true = refl
-double_not false = refl
+double_not b = grind (arith, common_steps)
 
 -- the same, of the flag that an `end` line was there
 pub flag_more : (lines : List TextLine) (i : ℕ) (x : TextLine) (was now : Bool) → i < length lines → x ≡ get_or lines i x →

@@ -1,6 +1,8 @@
 -- A text that is put together part by part, one more line that counts at a time.
-use Rattle.std.proofs.Common.{◌≡◌, ◌≤◌, ◌<◌, ◌+◌, ℕ, Bool, true, false, cond, List, [], ◌∷◌, ◌++◌, length, get_or, drop}
-use Rattle.std.proofs.Common.{append_assoc, ap, sym, ◌∙◌}
+use Rattle.std.proofs.Common.{arith}
+use Rattle.std.proofs.lemmas.Grind.{common_steps}
+use Rattle.std.proofs.Common.{◌≡◌, ◌≤◌, ◌<◌, ◌+◌, ℕ, true, false, cond, List, [], ◌∷◌, ◌++◌, length, get_or, drop}
+use Rattle.std.proofs.Common.{ap, sym, ◌∙◌}
 use Rattle.std.specs.List.{slice_range}
 use Rattle.std.proofs.lemmas.List.{drop_more}
 use Rattle.ios_sections.specs.TextLines.{Part, TextLine, is_end, parts_after}
@@ -24,22 +26,10 @@ module _ (text_of_parts : ℕ → List Part → List ℕ) (counted : List TextLi
       ((more : List Part) → text_of_parts from (part_here (slice_range counted start i) ∷ more) ≡ new ++ text_of_parts next more) →
       done ++ text_of_parts from (parts_after (slice_range counted start i) (drop i counted)) ≡ all →
       (done ++ new) ++ text_of_parts next (behind (slice_range counted (i + 1) (i + 1))) ≡ all
-  at_end start from next done new all ends own before =
-      let lines : List TextLine = slice_range counted start i in
-      ap (λ (ls : List TextLine). (done ++ new) ++ text_of_parts next (behind ls)) (slice_none counted (i + 1))
-      ∙ append_assoc done new (text_of_parts next (behind []))
-      ∙ ap (λ (t : List ℕ). done ++ t) (sym (own (behind [])))
-      ∙ sym (ap (λ (ps : List Part). done ++ text_of_parts from ps)
-      (parts_here lines ∙ ap (λ (b : Bool). cond b (part_here lines ∷ behind []) (behind (lines ++ x ∷ []))) ends))
-      ∙ before
+  at_end start from next done new all ends own before = grind (arith, common_steps, parts_here, slice_none)
 
   -- another line goes on with the part
   pub at_other : (start from : ℕ) (done all : List ℕ) → start ≤ i → is_end x ≡ false →
       done ++ text_of_parts from (parts_after (slice_range counted start i) (drop i counted)) ≡ all →
       done ++ text_of_parts from (behind (slice_range counted start (i + 1))) ≡ all
-  at_other start from done all low other before =
-      let lines : List TextLine = slice_range counted start i in
-      ap (λ (ls : List TextLine). done ++ text_of_parts from (behind ls)) (slice_more counted start i x low within read)
-      ∙ sym (ap (λ (ps : List Part). done ++ text_of_parts from ps)
-      (parts_here lines ∙ ap (λ (b : Bool). cond b (part_here lines ∷ behind []) (behind (lines ++ x ∷ []))) other))
-      ∙ before
+  at_other start from done all low other before = grind (arith, common_steps, parts_here, slice_more)

@@ -1,5 +1,7 @@
 -- Tables of passive interfaces, against the last line that names an interface.
-use Rattle.std.proofs.Common.{sym, ◌≡◌, ℕ, ◌+◌, ◌<◌, Bool, true, false, List, [], ◌∷◌, length, take, get_or, Option, Some, None, refl, ap, ◌∙◌, cond, map}
+use Rattle.std.proofs.Common.{arith}
+use Rattle.std.proofs.lemmas.Grind.{common_steps}
+use Rattle.std.proofs.Common.{sym, ◌≡◌, ℕ, ◌+◌, ◌<◌, Bool, true, List, [], ◌∷◌, length, take, get_or, Option, Some, None, refl, ap, ◌∙◌, cond, map}
 use Rattle.std.proofs.Common.{bytes_eq}
 use Rattle.std.specs.Cmp.Lexicographic.{nat_list_eq_equiv}
 use Rattle.std.proofs.lemmas.Slice.Eq.{bytes_eq-Decides}
@@ -17,27 +19,16 @@ eq_swap : (n m : Word) → bytes_eq n m ≡ bytes_eq m n
 eq_swap = nat_list_eq_equiv.symm
 
 here_cases : (b : Bool) (old v : Bool) (rest : Option Bool) → cond b (Some v) rest ≡ later (cond b (Some old) rest) (cond b (Some v) None)
-here_cases true old v rest = refl
-here_cases false old v rest = refl
+here_cases b old v rest = grind (arith, common_steps)
 
 there_cases : (b : Bool) (old : Bool) (rest more new : Option Bool) → (b ≡ true → new ≡ None) → more ≡ later rest new → cond b (Some old) more
     ≡ later (cond b (Some old) rest) new
-there_cases true old rest more new none later_is = sym (ap (later (Some old)) (none refl))
-there_cases false old rest more new none later_is = later_is
+there_cases b old rest more new none later_is = grind (arith, common_steps)
 
 said_cases : (t : Bool) (e : Word × Bool) (es : List (Word × Bool)) (n : Word) (v : Bool) (name : Word) → bytes_eq n e.0 ≡ t →
     said_of (with_said es n v) name ≡ later (said_of es name) (cond (bytes_eq n name) (Some v) None) →
     said_of (cond t ((e.0, v) ∷ es) (e ∷ with_said es n v)) name ≡ later (said_of (e ∷ es) name) (cond (bytes_eq n name) (Some v) None)
-said_cases true e es n v name same rest =
-    let swap : bytes_eq name e.0 ≡ bytes_eq n name = eq_swap name e.0 ∙ ap (λ (w : Word). bytes_eq w name) (sym (same_word n e.0 same)) in
-    here_cases (bytes_eq name e.0) e.1 v (said_of es name)
-    ∙ ap (λ (b : Bool). later (cond (bytes_eq name e.0) (Some e.1) (said_of es name)) (cond b (Some v) None)) swap
-said_cases false e es n v name same rest =
-    there_cases (bytes_eq name e.0) e.1 (said_of es name) (said_of (with_said es n v) name) (cond (bytes_eq n name) (Some v) None)
-    (λ there.
-    let other : bytes_eq n name ≡ false = ap (bytes_eq n) (same_word name e.0 there) ∙ same in
-    ap (λ (b : Bool). cond b (Some v) None) other)
-    rest
+said_cases t e es n v name same rest = grind (arith, common_steps, eq_swap, here_cases, same_word, there_cases)
 
 -- what a table says of a name after one more line
 pub said_with : (es : List (Word × Bool)) (n : Word) (v : Bool) (name : Word) → said_of (with_said es n v) name
@@ -57,8 +48,7 @@ module _ {K : Type 0} (items : K → Word) where
 
   insert_cases : (t : Bool) (e : K × Bool) (es rest : List (K × Bool)) (v : Bool) (more : List (Word × Bool)) → shown rest ≡ more →
       shown (cond t ((e.0, v) ∷ es) (e ∷ rest)) ≡ cond t ((items e.0, v) ∷ shown es) ((items e.0, e.1) ∷ more)
-  insert_cases true e es rest v more h = refl
-  insert_cases false e es rest v more h = ap (λ (w : List (Word × Bool)). (items e.0, e.1) ∷ w) h
+  insert_cases t e es rest v more h = grind (arith, common_steps)
 
   pub table_insert : (es : List (K × Bool)) (k : K) (v : Bool) → shown (insert_entry (λ (a b : K). bytes_eq (items a) (items b)) es k v)
       ≡ with_said (shown es) (items k) v
@@ -68,8 +58,7 @@ module _ {K : Type 0} (items : K → Word) where
       (with_said (shown es) (items k) v) (table_insert es k v)
 
   lookup_cases : (t : Bool) (v : Bool) (a b : Option Bool) → a ≡ b → cond t (Some v) a ≡ cond t (Some v) b
-  lookup_cases true v a b h = refl
-  lookup_cases false v a b h = h
+  lookup_cases t v a b h = grind (arith, common_steps)
 
   pub table_lookup : (es : List (K × Bool)) (name : Word) → lookup (λ (k : K). bytes_eq name (items k)) es ≡ said_of (shown es) name
   table_lookup [] name = refl
@@ -82,5 +71,4 @@ pub table_more : {A : Type 0} (form : Word → A → Option Bool) (xs : List A) 
     ≡ get_or xs i x →
     ((name : Word) → said_of old name ≡ last_of (form name) (take i xs)) → ((name : Word) → said_of new name ≡ later (said_of old name) (form name x)) →
     (name : Word) → said_of new name ≡ last_of (form name) (take (i + 1) xs)
-table_more form xs i x old new within read before step name =
-    step name ∙ ap (λ (o : Option Bool). later o (form name x)) (before name) ∙ sym (last_of_more (form name) xs i x within read)
+table_more form xs i x old new within read before step name = grind (arith, common_steps, last_of_more)

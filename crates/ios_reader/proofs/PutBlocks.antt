@@ -1,11 +1,12 @@
 -- A text with blocks put before its `end` lines: it reads as its configurations, each with what its block makes of it.
+use Rattle.std.proofs.Common.{arith}
+use Rattle.std.proofs.lemmas.Grind.{common_steps}
 use Rattle.std.proofs.Common.{◌≡◌, ℕ, ◌+◌, ◌-◌, Bool, true, false, not, ◌&&◌, cond, List, [], ◌∷◌, ◌++◌, length, map, refl, sym, ap}
 use Rattle.std.proofs.Common.{subst, ◌∙◌}
 use Rattle.std.proofs.Common.{append_assoc, append-nil}
 use Rattle.std.specs.Prelude.{All, fold}
 use Rattle.std.proofs.lemmas.Bool.{and_parts, not-true}
 use Rattle.std.proofs.lemmas.List.Elements.{All-head, All-tail}
-use Rattle.std.proofs.lemmas.Grind.{fold-append}
 use Rattle.net_addr.specs.JoinedLines.{is_of_whole_lines}
 use Rattle.net_addr.proofs.JoinedFacts.{is_of_whole_lines-append}
 use Rattle.net_model.specs.Configuration.{Configuration}
@@ -30,17 +31,13 @@ use Rattle.ios_reader.proofs.GrownSections.{Grows}
 -- whether a banner is open behind a text and another one
 banner_by : (before raw : List ℕ) → is_of_whole_lines before ≡ true →
     is_in_banner (lines_in (before ++ raw)) ≡ fold banner_after (is_in_banner (lines_in before)) (lines_in raw)
-banner_by before raw whole =
-    ap is_in_banner (lines_in-append before raw whole)
-    ∙ fold-append banner_after false (lines_in before) (map (further_on (length (lines_in before))) (lines_in raw))
-    ∙ banner-fold (length (lines_in before)) (is_in_banner (lines_in before)) (lines_in raw)
+banner_by before raw whole = grind (arith, common_steps, banner-fold, lines_in-append, raw)
 
 -- it is so behind another text too, if it was before
 banner_same : (before done raw : List ℕ) → is_of_whole_lines before ≡ true → is_of_whole_lines done ≡ true →
     is_in_banner (lines_in done) ≡ is_in_banner (lines_in before) →
     is_in_banner (lines_in (done ++ raw)) ≡ is_in_banner (lines_in (before ++ raw))
-banner_same before done raw whole whole_done same =
-    banner_by done raw whole_done ∙ ap (λ (b : Bool). fold banner_after b (lines_in raw)) same ∙ sym (banner_by before raw whole)
+banner_same before done raw whole whole_done same = grind (arith, common_steps, banner_by, raw)
 
 -- ---- how a text ends ----
 
@@ -73,11 +70,8 @@ stays_closed before raw tail (_ ∷ raws) whole next off rest last done whole_do
 -- a text with its block is outside banners where it was
 still_outside : (before block done : List ℕ) → IsOutsideBanners before → IsLineBlock block → is_of_whole_lines done ≡ true →
     is_in_banner (lines_in done) ≡ is_in_banner (lines_in before) → IsOutsideBanners (done ++ block)
-still_outside before block done outside fine whole same = record {
-  whole = is_of_whole_lines-append done block whole fine.whole;
-  outside = banner_by done block whole
-      ∙ ap (λ (b : Bool). fold banner_after b (lines_in block)) (same ∙ outside.outside) ∙ banner-none (lines_in block) fine.no_banner;
-}
+still_outside before block done outside fine whole same =
+    grind (arith, common_steps, banner-none, banner_by, is_of_whole_lines-append, outside)
 
 -- an `end` line outside banners, with a block before it
 ends_closed : (before block raw tail : List ℕ) (raws : List (List ℕ)) (line : TextLine) → IsOutsideBanners before → IsLineBlock block →
@@ -192,8 +186,7 @@ module _ (block : List Section → List ℕ) (moved : Configuration → Configur
       }
 
   none_put : (before : List ℕ) (raws : List (List ℕ)) → raws ≡ [] → put_blocks block before raws ≡ []
-  none_put before [] none = refl
-  none_put before (raw ∷ raws) none = absurd cc
+  none_put before raws none = grind (arith, common_steps)
 
   -- some lines behind a text, with the blocks put in
   pub put_reads : (raws : List (List ℕ)) (before : List ℕ) (configurations : List Configuration) → IsWholeBefore before raws → AreRaw raws →

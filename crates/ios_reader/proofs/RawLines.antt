@@ -1,7 +1,8 @@
 -- The lines of a text, one by one, and what a text of whole lines becomes with one line more.
+use Rattle.std.proofs.lemmas.Grind.{common_steps}
 use Rattle.std.proofs.Common.{◌≡◌, ℕ, ◌+◌, ◌<◌, ◌≤◌, Bool, true, false, not, ◌&&◌, ◌||◌, cond, List, [], ◌∷◌, ◌++◌, length, map, take, drop, refl, sym, ap}
-use Rattle.std.proofs.Common.{◌∙◌, append-nil, arith}
-use Rattle.std.specs.Prelude.{filter, flat_map, bytes_eq, nat_eq, slice_index, codes}
+use Rattle.std.proofs.Common.{◌∙◌, arith}
+use Rattle.std.specs.Prelude.{filter, flat_map, codes}
 use Rattle.std.specs.List.{list_any, position_or_len}
 use Rattle.std.proofs.lemmas.Bool.{and_parts, eqb-true}
 use Rattle.std.proofs.lemmas.List.{map-append, drop_all}
@@ -13,9 +14,9 @@ use Rattle.net_addr.specs.JoinedLines.{is_of_whole_lines}
 use Rattle.net_addr.proofs.JoinedFacts.{is_of_whole_lines-append}
 use Rattle.net_addr.proofs.PieceFacts.{line_pieces-first}
 use Rattle.net_model.specs.Configuration.{Configuration}
-use Rattle.ios_lines.specs.Words.{Word, word_at, says, lacks}
-use Rattle.ios_sections.specs.TextLines.{TextLine, Part, text_line, lines_in, carets, opens_banner, outside_banner, outside_banners, counts}
-use Rattle.ios_sections.specs.TextLines.{counted_lines, is_end, parts_after, rest_after, parts_of}
+use Rattle.ios_lines.specs.Words.{word_at}
+use Rattle.ios_sections.specs.TextLines.{TextLine, Part, text_line, lines_in, outside_banner, counts}
+use Rattle.ios_sections.specs.TextLines.{counted_lines, is_end, parts_after, parts_of}
 use Rattle.ios_sections.specs.Sections.{sections_in}
 use Rattle.ios_sections.specs.JoinedLines.{further_on, is_in_banner, open_lines, open_sections}
 use Rattle.ios_sections.proofs.JoinedFacts.{lines_in-append, outside-append, counted-append, parts-append, parts-none}
@@ -50,8 +51,7 @@ with_byte_raw : (b : ℕ) (raws : List (List ℕ)) → is_line_feed b ≡ false 
 with_byte_raw b raws plain are = grind arith
 
 with_byte_joined : (b : ℕ) (raws : List (List ℕ)) → joined_raw (with_byte b raws) ≡ b ∷ joined_raw raws
-with_byte_joined b [] = refl
-with_byte_joined b (raw ∷ raws) = refl
+with_byte_joined b raws = grind (arith, common_steps)
 
 feed_first : (raws : List (List ℕ)) → AreRaw raws → AreRaw ((10 ∷ []) ∷ raws)
 feed_first [] are = (record { some = omega arith; one = omega arith }, (tt, tt))
@@ -93,9 +93,7 @@ one_line raw is =
 -- the lines that count of some lines and of one more
 counted_more : (xs : List TextLine) (line : TextLine) → counted_lines (xs ++ line ∷ []) ≡ counted_lines xs
     ++ filter counts (outside_banner (is_in_banner xs) line)
-counted_more xs line =
-    ap (filter counts) (outside-append false xs (line ∷ []) ∙ ap (λ l. outside_banners false xs ++ l) (append-nil (outside_banner (is_in_banner xs) line)))
-    ∙ filter-append counts (outside_banners false xs) (outside_banner (is_in_banner xs) line)
+counted_more xs line = grind (arith, common_steps, filter-append, line, outside-append)
 
 -- none of these lines is an `end` line
 none_ends : (inside : Bool) (line : TextLine) → (not inside && is_end line) ≡ false → list_any is_end (filter counts (outside_banner inside line)) ≡ false
@@ -108,26 +106,15 @@ none_ends false line off = by_count (counts line)
 
 -- a line that is no `end` line outside banners ends no part
 pub parts_stay : (xs : List TextLine) (line : TextLine) → (not (is_in_banner xs) && is_end line) ≡ false → parts_of (xs ++ line ∷ []) ≡ parts_of xs
-parts_stay xs line off =
-    ap (parts_after []) (counted_more xs line)
-    ∙ parts-append [] (counted_lines xs) (filter counts (outside_banner (is_in_banner xs) line))
-    ∙ ap (λ l. parts_of xs ++ l) (parts-none (rest_after [] (counted_lines xs)) (filter counts (outside_banner (is_in_banner xs) line))
-    (none_ends (is_in_banner xs) line off))
-    ∙ append-nil (parts_of xs)
+parts_stay xs line off = grind (arith, common_steps, counted_more, line, none_ends, parts-append, parts-none)
 
 -- ---- an `end` line behind a text ----
 
 pub end_word : (line : TextLine) → is_end line ≡ true → word_at line.words 0 ≡ codes "end"
-end_word line e =
-    let front = (and_parts (nat_eq line.indent 0 && says line.words 0 (codes "end")) (lacks line.words 1) e).0 in
-    (bytes_eq-Decides (word_at line.words 0) (codes "end")).0 (and_parts (nat_eq line.indent 0) (says line.words 0 (codes "end")) front).1
+end_word line e = grind (arith, common_steps, and_parts, bytes_eq-Decides, line)
 
 pub counted_end : (line : TextLine) (ls : List TextLine) → is_end line ≡ true → counted_lines (line ∷ ls) ≡ line ∷ counted_lines ls
-counted_end line ls e =
-    ap (λ (w : Word). cond (not (nat_eq (length w) 0) && not (nat_eq (slice_index w 0) 33)) (line ∷ filter counts (outside_banners (opens_banner line) ls))
-    (filter counts (outside_banners (opens_banner line) ls)))
-    (end_word line e)
-    ∙ ap (λ (w : Word). line ∷ filter counts (outside_banners (bytes_eq w (codes "banner") && nat_eq (carets line.bytes) 1) ls)) (end_word line e)
+counted_end line ls e = grind (arith, common_steps, end_word, line)
 
 abbrev pub part_with : List TextLine → ℕ → Part
 part_with lines ends = record { lines = lines; ends = ends }
@@ -138,32 +125,19 @@ pub parts_at_end : (before after : List ℕ) (line : TextLine) (behind : List Te
     ≡ parts_of (lines_in before) ++ part_with (open_lines before) (length (lines_in before) + line.number) ∷ parts_after []
     (map (further_on (length (lines_in before))) (counted_lines behind))
 parts_at_end before after line behind outside is e =
-    let count : ℕ = length (lines_in before) in
-    ap parts_of (lines_in-append before after outside.whole)
-    ∙ ap (parts_after []) (counted-append (lines_in before) (map (further_on count) (lines_in after)) outside.outside
-    ∙ ap (λ l. counted_lines (lines_in before) ++ l) (counted-further count (lines_in after) ∙ ap (λ l. map (further_on count) (counted_lines l)) is
-    ∙ ap (map (further_on count)) (counted_end line behind e)))
-    ∙ parts-append [] (counted_lines (lines_in before)) (further_on count line ∷ map (further_on count) (counted_lines behind))
-    ∙ ap (λ (b : Bool). parts_of (lines_in before) ++ cond b
-    (part_with (open_lines before) (count + line.number) ∷ parts_after [] (map (further_on count) (counted_lines behind)))
-    (parts_after (open_lines before ++ further_on count line ∷ []) (map (further_on count) (counted_lines behind)))) e
+    grind (arith, common_steps, counted-append, counted-further, counted_end, is, line, lines_in-append, parts-append)
 
 pub whole_next : (before raw : List ℕ) (raws : List (List ℕ)) → is_of_whole_lines before ≡ true → IsWholeBefore raw raws → IsWholeBefore (before ++ raw) raws
-whole_next before raw [] whole next = tt
-whole_next before raw (_ ∷ raws) whole next = is_of_whole_lines-append before raw whole next
+whole_next before raw raws whole next = grind (arith, common_steps, is_of_whole_lines-append)
 
 pub whole_start : (raws : List (List ℕ)) → IsWholeBefore [] raws
-whole_start [] = tt
-whole_start (_ ∷ raws) = refl
+whole_start raws = grind (arith, common_steps)
 
 -- ---- configurations ----
 
 pub configurations_stay : (before raw : List ℕ) (line : TextLine) → is_of_whole_lines before ≡ true → lines_in raw ≡ line ∷ [] →
     (not (is_in_banner (lines_in before)) && is_end line) ≡ false → configurations_in (lines_in (before ++ raw)) ≡ configurations_in (lines_in before)
-configurations_stay before raw line whole is off =
-    ap (λ l. map (λ (part : Part). configuration_of (sections_in part)) (parts_of l))
-    (lines_in-append before raw whole ∙ ap (λ l. lines_in before ++ map (further_on (length (lines_in before))) l) is)
-    ∙ ap (map (λ (part : Part). configuration_of (sections_in part))) (parts_stay (lines_in before) (further_on (length (lines_in before)) line) off)
+configurations_stay before raw line whole is off = grind (arith, common_steps, is, line, lines_in-append, parts_stay)
 
 pub configurations_end : (before raw : List ℕ) (line : TextLine) → IsOutsideBanners before → lines_in raw ≡ line ∷ [] → is_end line ≡ true →
     configurations_in (lines_in (before ++ raw)) ≡ configurations_in (lines_in before) ++ configuration_of (open_sections before) ∷ []

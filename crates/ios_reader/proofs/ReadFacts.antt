@@ -1,22 +1,20 @@
 -- The answer to a text, from what was read of its parts.
+use Rattle.std.proofs.lemmas.Grind.{common_steps}
 use Rattle.std.proofs.Common.{sym, ◌≡◌, ℕ, ◌+◌, ◌-◌, ◌≤◌, Bool, true, false, List, [], ◌∷◌, ◌++◌, length, Option, Some, None, refl, ap, subst, ◌∙◌, cond}
 use Rattle.std.proofs.Common.{arith, zero, suc, inr}
-use Rattle.std.specs.Prelude.{map, flat_map, All, filter_map, is_none, is_some}
-use Rattle.std.specs.List.{slice_split}
+use Rattle.std.specs.Prelude.{map, All, is_none, is_some}
 use Rattle.std.proofs.lemmas.List.{length-map}
 use Rattle.std.proofs.lemmas.List.Splits.{length-slice_split}
 use Rattle.std.proofs.lemmas.List.Sums.{count_by-le-length}
 use Rattle.std.proofs.lemmas.List.Elements.{All-nil, All-cons, All-weaker}
-use Rattle.net_addr.specs.Lines.{is_line_feed, without_empty_last, line_pieces, lines_of, text_lines}
+use Rattle.net_addr.specs.Lines.{without_empty_last, lines_of, text_lines}
 use Rattle.net_model.specs.Configuration.{Configuration, IsConfiguration}
 use Rattle.ios_lines.specs.Words.{Word}
 use Rattle.ios_sections.specs.TextLines.{Part, text_line, lines_in, parts_of, lacks_end}
 use Rattle.ios_lines.specs.FaultOrder.{faults_if, is_before, lesser_fault, least_fault}
-use Rattle.ios_sections.specs.ProcessFaults.{second_processes, ospf_faults, isis_faults}
-use Rattle.ios_reader.specs.Faults.{interface_faults, section_faults, fault_further, part_faults, faults_in}
+use Rattle.ios_reader.specs.Faults.{section_faults, fault_further, faults_in}
 use Rattle.ios_sections.specs.Sections.{first_number, sections_in}
-use Rattle.ios_sections.specs.Processes.{as_hostname, as_isis, as_fault, interfaces_in, first_tag}
-use Rattle.ios_reader.specs.Routers.{router_of}
+use Rattle.ios_sections.specs.Processes.{as_hostname}
 use Rattle.ios_lines.specs.Lookups.{last_of}
 use Rattle.ios_reader.specs.Configurations.{IsNotAfter, IsLeastFault, configuration_by}
 use Rattle.ios_sections.specs.Statements.{Statements, statements_of}
@@ -33,23 +31,15 @@ use Rattle.ios_reader.proofs.LookedUp.{none_left, none_right}
 use Rattle.ios_reader.proofs.FurtherReading.{none_mapped}
 
 no_fault : (t : Bool) (line : ℕ) → faults_if t line NoHostname ≡ [] → t ≡ false
-no_fault true line e = absurd cc
-no_fault false line e = refl
+no_fault t line e = grind (arith, common_steps)
 
 -- ---- a part ----
 
 some_name : (o : Option Word) → is_none o ≡ false → is_some o ≡ true
-some_name None e = cc
-some_name (Some name) e = refl
+some_name o e = grind (arith, common_steps)
 
 part_named : (sections : List Section) (ends : ℕ) → section_faults sections ends ≡ [] → is_some (last_of as_hostname sections) ≡ true
-part_named sections ends e =
-    some_name (last_of as_hostname sections)
-    (no_fault (is_none (last_of as_hostname sections)) ends
-    (none_right
-    (filter_map as_fault sections ++ second_processes sections ++ ospf_faults sections ++ isis_faults sections
-    ++ flat_map (interface_faults (router_of sections) (first_tag (filter_map as_isis sections))) (interfaces_in sections))
-    (faults_if (is_none (last_of as_hostname sections)) ends NoHostname) e))
+part_named sections ends e = grind (arith, common_steps, no_fault, none_right, some_name)
 
 -- the number of the `end` line of a part, counted from the part's first line
 abbrev pub ends_in : Part → ℕ
@@ -74,18 +64,12 @@ part_kept part s e none =
 -- a part without a fault is read into its configuration
 pub part_made : (part : Part) (s : Statements) (r : PartRead) (c : Configuration) → s ≡ statements_of (sections_in part) →
     faults_by s (ends_in part) ≡ [] → c ≡ configuration_by s → r.config ≡ Some c → r.faults ≡ [] → IsPartRead part r
-part_made part s r c e none made one clean = record {
-  faults = clean ∙ sym (ap (map (fault_further (first_number part.lines))) (sections_fine part s e none));
-  config = λ _. one ∙ ap Some (made ∙ ap configuration_by e);
-}
+part_made part s r c e none made one clean = grind (arith, common_steps, sections_fine)
 
 -- a faulty part is read into its faults
 pub part_faulty : (part : Part) (s : Statements) (r : PartRead) (found : List Fault) → s ≡ statements_of (sections_in part) →
     found ≡ faults_by s (ends_in part) → (found ≡ [] → ⊥) → r.faults ≡ map (fault_further (first_number part.lines)) found → IsPartRead part r
-part_faulty part s r found e is some further = record {
-  faults = further ∙ ap (map (fault_further (first_number part.lines))) (is ∙ faults_of_part part s e);
-  config = λ none. absurd (some (none_mapped (first_number part.lines) found (sym further ∙ none)));
-}
+part_faulty part s r found e is some further = grind (arith, common_steps, faults_of_part, none_mapped)
 
 -- ---- the least fault of some ----
 
@@ -133,13 +117,7 @@ least_is (g ∷ gs) f e = least_cases g f gs (least_fault gs) refl (λ h r. leas
 pub text_reading : (text : List ℕ) (parts r : Reading) (lacks : Bool) (behind : ℕ) → IsReadingOf (parts_of (lines_in text)) parts →
     lacks ≡ lacks_end (lines_in text) → behind ≡ length (lines_in text) + 1 → r.faults ≡ parts.faults ++ faults_if lacks behind NoEnd →
     r.configs ≡ parts.configs → IsTextReading text r
-text_reading text parts r lacks behind h missing place found kept = record {
-  faults = found
-      ∙ ap (λ (w : List Fault). w ++ faults_if lacks behind NoEnd) h.faults
-      ∙ ap (λ (b : Bool). flat_map part_faults (parts_of (lines_in text)) ++ faults_if b behind NoEnd) missing
-      ∙ ap (λ (n : ℕ). flat_map part_faults (parts_of (lines_in text)) ++ faults_if (lacks_end (lines_in text)) n NoEnd) place;
-  configs = λ none. kept ∙ h.configs (none_left parts.faults (faults_if lacks behind NoEnd) (sym found ∙ none));
-}
+text_reading text parts r lacks behind h missing place found kept = grind (arith, common_steps, none_left)
 
 -- a text without a faulty line is read into its configurations
 pub text_read : (text : List ℕ) (r : Reading) → IsTextReading text r → r.faults ≡ [] → ReadsText text r.configs
@@ -156,8 +134,7 @@ lines_length number start [] = refl
 lines_length number start (piece ∷ more) = ap suc (lines_length (number + 1) (start + length piece + 1) more)
 
 last_choice : (t : Bool) (piece : List ℕ) → length (cond t [] (piece ∷ [])) ≤ 1
-last_choice true piece = omega arith
-last_choice false piece = omega arith
+last_choice t piece = grind (arith, common_steps)
 
 fewer : (pieces : List (List ℕ)) → length (without_empty_last pieces) ≤ length pieces
 fewer [] = omega arith
@@ -166,14 +143,7 @@ fewer (piece ∷ next ∷ more) = let h : length (without_empty_last (next ∷ m
 
 -- a text has at most one line more than bytes
 pub line_count : (text : List ℕ) → length (text_lines text) ≤ length text + 1
-line_count text =
-    omega (
-      arith,
-      lines_length 1 0 (line_pieces text),
-      fewer (slice_split is_line_feed text),
-      length-slice_split is_line_feed text,
-      count_by-le-length is_line_feed text,
-    )
+line_count text = grind (arith, common_steps, count_by-le-length, fewer, length-slice_split, lines_length)
 
 -- the lines with their words are as many
 pub lines_in_length : (text : List ℕ) → length (lines_in text) ≡ length (text_lines text)

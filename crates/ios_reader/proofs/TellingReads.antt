@@ -1,24 +1,21 @@
 -- A text is read by the lines that tell something.
-use Rattle.std.proofs.Common.{◌≡◌, ℕ, ◌-◌, Bool, false, ◌||◌, List, [], ◌∷◌, ◌++◌, map, refl, ap, ◌∙◌}
+use Rattle.std.proofs.Common.{arith}
+use Rattle.std.proofs.lemmas.Grind.{common_steps}
+use Rattle.std.proofs.Common.{◌≡◌, Bool, false, ◌||◌, List, [], ◌∷◌, ◌++◌, map, refl, ap, ◌∙◌}
 use Rattle.std.specs.Prelude.{flat_map}
 use Rattle.std.specs.List.{list_any}
 use Rattle.net_model.specs.Configuration.{Configuration}
 use Rattle.ios_lines.specs.declared.fault.Fault.{Fault}
 use Rattle.ios_sections.specs.TextLines.{TextLine, Part, parts_after, rest_after, is_empty, begins_configuration}
 use Rattle.ios_sections.specs.TellingLines.{telling_lines}
-use Rattle.ios_sections.specs.Sections.{first_number, sections_in}
-use Rattle.ios_sections.specs.Statements.{Statements, statements_of}
+use Rattle.ios_sections.specs.Sections.{sections_in}
 use Rattle.ios_sections.proofs.TellingFacts.{told_part, parts_told, rest_told, begins_told, none_told, first_told, statements_told}
-use Rattle.ios_reader.specs.Faults.{fault_further, part_faults}
+use Rattle.ios_reader.specs.Faults.{part_faults}
 use Rattle.ios_reader.specs.Configurations.{configuration_of, configuration_by}
-use Rattle.ios_reader.specs.steps.FaultsBy.{faults_by}
 use Rattle.ios_reader.specs.steps.Parts.{Reading, IsReadingOf}
 
 faults_of_told : (part : Part) → part_faults (told_part part) ≡ part_faults part
-faults_of_told part =
-    ap (λ (s : Statements). map (fault_further (first_number (telling_lines false part.lines)))
-    (faults_by s (part.ends - first_number (telling_lines false part.lines)))) (statements_told part)
-    ∙ ap (λ (n : ℕ). map (fault_further n) (faults_by (statements_of (sections_in part)) (part.ends - n))) (first_told part.lines)
+faults_of_told part = grind (arith, common_steps, first_told, statements_told)
 
 abbrev made : Part → Configuration
 made part = configuration_of (sections_in part)

@@ -1,5 +1,6 @@
 -- A text is read in one way or refused in one way.
-use Rattle.std.proofs.Common.{◌≡◌, ℕ, List, [], ◌∷◌, Option, Some, None, get_or, Contains, inl, inr, ◌⊎◌, refl, sym, ap, subst, ◌∙◌, arith}
+use Rattle.std.proofs.lemmas.Grind.{common_steps}
+use Rattle.std.proofs.Common.{◌≡◌, ℕ, List, [], ◌∷◌, Option, Some, None, get_or, Contains, inl, inr, ◌⊎◌, refl, sym, subst, ◌∙◌, arith}
 use Rattle.std.proofs.lemmas.List.Elements.{All-contains}
 use Rattle.net_model.specs.Configuration.{Configuration}
 use Rattle.net_model.proofs.Members.{Contains-none}
@@ -31,11 +32,7 @@ neither_after f g one other = grind arith
 
 -- faults have one least
 one_least : (faults : List Fault) (l m : ℕ) (k j : ReadKind) → IsLeastFault faults (fault_at l k) → IsLeastFault faults (fault_at m j) → (l ≡ m) × (k ≡ j)
-one_least faults l m k j one other =
-    let before = All-contains (IsNotAfter (fault_at l k)) faults (fault_at m j) one.least other.among in
-    let after = All-contains (IsNotAfter (fault_at m j)) faults (fault_at l k) other.least one.among in
-    let same = neither_after (fault_at l k) (fault_at m j) before after in
-    (same.0, sym (kind_back k) ∙ ap kind_at same.1 ∙ kind_back j)
+one_least faults l m k j one other = grind (arith, common_steps, All-contains, kind_back, neither_after)
 
 none_among : (faults : List Fault) (fault : Fault) → faults ≡ [] → IsLeastFault faults fault → ⊥
 none_among faults fault none least = Contains-none fault (subst (λ (some : List Fault). Contains some fault) none least.among)

@@ -1,8 +1,8 @@
-use Rattle.std.proofs.Common.{List, ap, subst, sym, ◌∙◌}
-use Rattle.net_model.specs.Configuration.{Configuration}
+use Rattle.std.proofs.Common.{arith}
+use Rattle.std.proofs.lemmas.Grind.{common_steps}
+use Rattle.std.proofs.Common.{ap, sym, ◌∙◌}
 use Rattle.ios_lines.specs.FaultOrder.{least_fault}
 use Rattle.ios_reader.specs.steps.Parts.{Reading}
-use Rattle.ios_reader.specs.Texts.{ReadsText}
 use Rattle.ios_reader.proofs.LeastFaults.{none_least}
 use Rattle.ios_reader.proofs.ReadFacts.{text_read, text_refused}
 use Rattle.ios_reader.proofs.reader.read_configs.Goals as goal
@@ -13,8 +13,4 @@ returns-in-Some-clause-refused c =
     (sym (c.in-Some.ensures ∙ ap least_fault (c.as_slice.ensures.value ∙ ap (λ (r : Reading). r.faults) c.reading.view_is)))
 
 pub returns-in-None-clause-read : goal.returns-in-None-clause-read
-returns-in-None-clause-read c =
-    subst (λ (w : List Configuration). ReadsText c.args.text.now w) (sym (c.from_vec.ensures ∙ ap (λ (r : Reading). r.configs) c.reading.view_is))
-    (text_read c.args.text.now c.in_ok-reading.reading c.in_ok-reading.ensures
-    (none_least c.in_ok-reading.reading.faults
-    (sym (c.in-None.ensures ∙ ap least_fault (c.as_slice.ensures.value ∙ ap (λ (r : Reading). r.faults) c.reading.view_is)))))
+returns-in-None-clause-read c = grind (arith, common_steps, none_least, text_read)

@@ -1,8 +1,6 @@
-use Rattle.std.proofs.Common.{◌≡◌, ◌+◌, ◌≤◌, ℕ, false, ◌||◌, List, [], length, map, sym, ap, subst, ◌∙◌, arith}
-use Rattle.std.specs.List.{list_any}
-use Rattle.net_addr.specs.declared.line.Line.{Line}
-use Rattle.ios_sections.specs.TextLines.{TextLine, Part, text_line, lines_in, counted_lines, parts_after, parts_of, lacks_end, rest_after, is_empty}
-use Rattle.ios_sections.specs.TextLines.{begins_configuration}
+use Rattle.std.proofs.lemmas.Grind.{common_steps}
+use Rattle.std.proofs.Common.{◌≡◌, ◌+◌, ◌≤◌, ℕ, false, List, [], length, sym, ap, subst, ◌∙◌, arith}
+use Rattle.ios_sections.specs.TextLines.{Part, lines_in, counted_lines, parts_after, parts_of, lacks_end}
 use Rattle.ios_sections.specs.TellingLines.{telling_lines}
 use Rattle.ios_sections.proofs.TellingFacts.{parts_told}
 use Rattle.ios_reader.proofs.TellingReads.{reading_told, lacks_told}
@@ -21,9 +19,7 @@ pub overflow_add-last : goal.overflow_add-last
 overflow_add-last c = omega (arith, few ((goal.at.overflow_add-last c).After-as_slice-3), c.requires)
 
 told_is : (c : After-lacks_end) → c.in-Ok.told.items ≡ telling_lines false (counted_lines (lines_in c.args.text.now))
-told_is c =
-    c.in-Ok.ensures
-    ∙ ap (λ (w : List Line). telling_lines false (counted_lines (map (text_line c.args.text.now) w))) (c.as_slice.ensures ∙ c.in_ok-lines.ensures.exact)
+told_is c = grind (arith, common_steps)
 
 parts_read : (c : After-lacks_end) → IsReadingOf (parts_of (lines_in c.args.text.now)) c.in_ok-reading.reading
 parts_read c =
@@ -32,10 +28,7 @@ parts_read c =
     (ap (parts_after []) (c.as_slice-2.ensures.value ∙ told_is c) ∙ parts_told [] (counted_lines (lines_in c.args.text.now))) c.in_ok-reading.ensures)
 
 lacks_is : (c : After-lacks_end) → c.lacks_end.result ≡ lacks_end (lines_in c.args.text.now)
-lacks_is c =
-    c.lacks_end.ensures
-    ∙ ap (λ (w : List TextLine). is_empty (parts_after [] w) || list_any begins_configuration (rest_after [] w)) (c.as_slice-4.ensures.value ∙ told_is c)
-    ∙ lacks_told (counted_lines (lines_in c.args.text.now))
+lacks_is c = grind (arith, common_steps, lacks_told, told_is)
 
 pub returns : goal.returns
 returns c =
