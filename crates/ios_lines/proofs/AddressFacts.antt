@@ -1,6 +1,6 @@
 -- Addresses as words: the reader of addresses, as a function of the word.
 use Rattle.std.proofs.Common.{sym, ◌≡◌, ℕ, suc, ◌+◌, ◌*◌, ◌^◌, ◌<◌, ◌≤◌, Bool, true, false, [], ◌∷◌, ◌++◌, length, take, drop, Option, Some, None, refl, ap}
-use Rattle.std.proofs.Common.{subst, ◌∙◌, nat_le, cond, arith, get_or, length-drop, length-append, drop-cons, add-one, append_assoc}
+use Rattle.std.proofs.Common.{subst, ◌∙◌, cond, arith, get_or, length-drop, length-append, drop-cons, add-one, append_assoc}
 use Rattle.std.specs.List.{before_first, after_first, position_or_len}
 use Rattle.std.proofs.lemmas.Bool.Decides.{nat_tests}
 use Rattle.std.proofs.lemmas.List.{take-append-drop}
@@ -10,7 +10,7 @@ use Rattle.std.proofs.Math.Seq.{take-append_seam, drop-append_seam}
 use Rattle.net_addr.specs.Numerals.{decimal_value}
 use Rattle.net_addr.specs.AddressWords.{IsOctet, IsAddressWord}
 use Rattle.net_addr.specs.Readers.{Reads}
-use Rattle.ios_lines.specs.Words.{Word, number_of, is_dot, octet_of, joined_octets, address_of}
+use Rattle.ios_lines.specs.Words.{Word, is_dot, octet_of, joined_octets, address_of}
 use Rattle.ios_lines.proofs.NumberFacts.{number-some, number_back, le_test, test_le}
 
 digit_no_dot : (b : ℕ) → 48 ≤ b → is_dot b ≡ false
@@ -50,19 +50,13 @@ cut_word word h =
     sym (take-append-drop (position_or_len is_dot word) word) ∙ ap (λ (w : Word). take (position_or_len is_dot word) word ++ w) after
 
 octet-some : (word : Word) → IsOctet word → octet_of word ≡ Some (decimal_value word)
-octet-some word h =
-    let short : nat_le (length word) 3 ≡ true = test_le (length word) 3 h.short in
-    rw short (number-some 255 (decimal_value word) word h.numeral)
+octet-some word h = grind (arith, common_steps, number-some, test_le)
 
 octet_taken : (t : Bool) (o : Option ℕ) (n : ℕ) → cond t o None ≡ Some n → (t ≡ true) × (o ≡ Some n)
-octet_taken true o n e = (refl, e)
-octet_taken false o n e = absurd cc
+octet_taken t o n e = grind (arith, common_steps)
 
 octet_back : (word : Word) (n : ℕ) → octet_of word ≡ Some n → IsOctet word × (decimal_value word ≡ n)
-octet_back word n e =
-    let both = octet_taken (nat_le (length word) 3) (number_of 255 word) n e in
-    let stands = number_back 255 n word both.1 in
-    (record { numeral = stands.0; short = le_test (length word) 3 both.0 }, stands.1)
+octet_back word n e = grind (arith, common_steps, le_test, number_back, octet_taken)
 
 joined-some : (a b c d : Option ℕ) (w x y z : ℕ) → a ≡ Some w → b ≡ Some x → c ≡ Some y → d ≡ Some z → joined_octets a b c d
     ≡ Some (2 ^ 24 * w + 2 ^ 16 * x + 2 ^ 8 * y + z)
@@ -139,8 +133,7 @@ address_back word a e =
     }
 
 pub none_of : (o : Option ℕ) → ((n : ℕ) → o ≡ Some n → ⊥) → o ≡ None
-none_of None h = refl
-none_of (Some n) h = absurd (h n refl)
+none_of o h = grind (arith, common_steps)
 
 -- the reader of addresses is the function of the word
 pub address_read : (word : Word) (r : Option ℕ) → Reads r (IsAddressWord word) → r ≡ address_of word

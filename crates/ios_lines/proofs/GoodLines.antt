@@ -1,5 +1,6 @@
 -- The values that lines give are in their ranges.
-use Rattle.std.proofs.Common.{◌≡◌, ◌≢◌, ℕ, ◌+◌, ◌-◌, ◌^◌, ◌<◌, ◌≤◌, Bool, true, false, not, ◌&&◌, ◌||◌, List, length, get_or, Option, Some, None, Result, Ok}
+use Rattle.std.proofs.lemmas.Grind.{common_steps}
+use Rattle.std.proofs.Common.{◌≡◌, ◌≢◌, ℕ, ◌-◌, ◌^◌, ◌<◌, ◌≤◌, Bool, true, false, ◌&&◌, ◌||◌, List, length, get_or, Option, Some, None, Result, Ok}
 use Rattle.std.proofs.Common.{Err, refl, cond, nat_eq, nat_le, nat_lt, arith, ◌⊎◌, inl, inr}
 use Rattle.std.specs.Prelude.{IfSome, IfOk, codes}
 use Rattle.std.specs.List.{list_all}
@@ -10,19 +11,18 @@ use Rattle.net_addr.specs.Addresses.{Block, IsBlock}
 use Rattle.net_addr.specs.AddressWords.{IsAddressWord}
 use Rattle.net_addr.proofs.Blocks.{IsBlock-around}
 use Rattle.net_model.specs.Configuration.{IsRange}
-use Rattle.net_model.specs.declared.area.Range.{Range}
-use Rattle.ios_lines.specs.Words.{Word, word_at, says, begins_with_two, begins_with_three, lacks, number_of, at_least, number_from, address_of, mask_of}
+use Rattle.ios_lines.specs.Words.{Word, word_at, says, begins_with_two, number_of, at_least, number_from, address_of}
 use Rattle.ios_lines.specs.Words.{area_of}
 use Rattle.ios_lines.specs.InterfaceLines.{masked_address, address_line, process_area, ospf_of_interface, ip_of_interface, metric_line, isis_of_interface}
 use Rattle.ios_lines.specs.InterfaceLines.{bandwidth_line, plain_of_interface, interface_line}
-use Rattle.ios_lines.specs.OspfLines.{stub_values, default_cost_values, prefix_of, cost_place, optional_cost, range_cost, range_ends, range_prefix}
+use Rattle.ios_lines.specs.OspfLines.{stub_values, default_cost_values, prefix_of, optional_cost, range_cost, range_prefix}
 use Rattle.ios_lines.specs.OspfLines.{range_values, range_line, is_unsupported_area, area_line as ospf_area_line, apart_distance, ospf_distance, ospf_passive}
-use Rattle.ios_lines.specs.OspfLines.{is_unsupported_ospf, plain_of_ospf, ospf_line}
+use Rattle.ios_lines.specs.OspfLines.{plain_of_ospf, ospf_line}
 use Rattle.ios_lines.specs.IsisLines.{hex_value, group_value, system_value, system_part, is_title, title_of, isis_distance, isis_passive, is_leak}
 use Rattle.ios_lines.specs.IsisLines.{is_unsupported_isis, plain_of_isis, isis_line}
 use Rattle.ios_lines.specs.MaskedAddress.{MaskedAddress}
 use Rattle.ios_lines.specs.declared.kind.ReadKind.{ReadKind}
-use Rattle.ios_lines.specs.declared.kind.ReadKind.TheVariants.{BadCost, BadArea, SecondProcess, Unsupported, BadMetric, BadDistance, DistanceClash}
+use Rattle.ios_lines.specs.declared.kind.ReadKind.TheVariants.{BadCost, BadArea, BadMetric, BadDistance, DistanceClash}
 use Rattle.ios_lines.specs.declared.interface_line.ProcessArea.{ProcessArea}
 use Rattle.ios_lines.specs.declared.interface_line.InterfaceLine.{InterfaceLine}
 use Rattle.ios_lines.specs.declared.interface_line.InterfaceLine.TheVariants.{Address, Cost, Area, Metric, Metric1, Metric2}
@@ -65,14 +65,7 @@ pub number_good : (least most : ℕ) (kind : ReadKind) (word : Word) → IfOk (n
 number_good least most kind word = at_least_from least most kind (number_of most word) (number_within most word)
 
 small_address : (word : Word) (a : ℕ) → IsAddressWord word a → a < 2 ^ 32
-small_address word a h = omega (
-  arith,
-  h.value,
-  h.first_octet.numeral.within,
-  h.second_octet.numeral.within,
-  h.third_octet.numeral.within,
-  h.fourth_octet.numeral.within,
-)
+small_address word a h = grind (arith, common_steps)
 
 address_within : (word : Word) → IfSome (address_of word) (λ a. a < 2 ^ 32)
 address_within word = by_some (λ (a : ℕ). a < 2 ^ 32) (address_of word) (λ a e. small_address word a (address_back word a e))
@@ -102,54 +95,29 @@ masked_good : (a len : Option ℕ) (secondary : Bool) → IfSome a (λ n. n < 2 
 masked_good a len secondary h i = grind arith
 
 address_good : (words : List Word) → IfOk (address_line words) IsGoodAddress
-address_good words =
-    by_if (λ (r : Result MaskedAddress ReadKind). IfOk r IsGoodAddress)
-    (says words 2 (codes "dhcp") || says words 2 (codes "negotiated"))
-    (Err Unsupported) (masked_address (address_of (word_at words 2)) (mask_of (word_at words 3)) (says words 4 (codes "secondary"))) tt
-    (masked_good (address_of (word_at words 2)) (mask_of (word_at words 3)) (says words 4 (codes "secondary")) (address_within (word_at words 2))
-    (mask_within (word_at words 3)))
+address_good words = grind (arith, common_steps, address_within, by_if, mask_within, masked_good)
 
 area_good : (area : Option ℕ) (process : Result ℕ ReadKind) → IfOk process (IsFrom 1 65535) →
     IfOk (process_area area process) (λ (a : ProcessArea). IsFrom 1 65535 a.process)
 area_good area process h = grind arith
 
 ospf_good : (words : List Word) → IsGoodInterfaceLine (ospf_of_interface words)
-ospf_good words =
-    by_if IsGoodInterfaceLine (says words 2 (codes "cost")) _ _ (number_good 1 65535 BadCost (word_at words 3))
-    (by_if IsGoodInterfaceLine (says words 2 (codes "network")) _ _ tt
-    (by_if IsGoodInterfaceLine (says words 3 (codes "area")) _ _ (area_good (area_of (word_at words 4)) (number_from 1 65535 SecondProcess (word_at words 2))
-    (number_good 1 65535 SecondProcess (word_at words 2))) tt))
+ospf_good words = grind (arith, common_steps, area_good, by_if, number_good)
 
 ip_good : (words : List Word) → IsGoodInterfaceLine (ip_of_interface words)
-ip_good words =
-    by_if IsGoodInterfaceLine (says words 1 (codes "address")) _ _ (address_good words)
-    (by_if IsGoodInterfaceLine (says words 1 (codes "unnumbered")) _ _ tt
-    (by_if IsGoodInterfaceLine (says words 1 (codes "ospf")) _ _ (ospf_good words)
-    (by_if IsGoodInterfaceLine (says words 1 (codes "vrf") && says words 2 (codes "forwarding")) _ _ tt
-    (by_if IsGoodInterfaceLine (says words 1 (codes "router") && says words 2 (codes "isis")) _ _ tt tt))))
+ip_good words = grind (arith, common_steps, address_good, by_if, ospf_good)
 
 metric_good : (words : List Word) → IsGoodInterfaceLine (metric_line words)
-metric_good words =
-    let number : IfOk (number_from 1 16777214 BadMetric (word_at words 2)) (IsFrom 1 16777214) = number_good 1 16777214 BadMetric (word_at words 2) in
-    by_if IsGoodInterfaceLine (lacks words 3) _ _ number
-    (by_if IsGoodInterfaceLine (says words 3 (codes "level-1")) _ _ number
-    (by_if IsGoodInterfaceLine (says words 3 (codes "level-2")) _ _ number tt))
+metric_good words = grind (arith, common_steps, by_if, number_good)
 
 isis_good : (words : List Word) → IsGoodInterfaceLine (isis_of_interface words)
-isis_good words =
-    by_if IsGoodInterfaceLine (says words 1 (codes "circuit-type")) _ _ tt
-    (by_if IsGoodInterfaceLine (says words 1 (codes "metric")) _ _ (metric_good words) tt)
+isis_good words = grind (arith, common_steps, by_if, metric_good)
 
 bandwidth_good : (word : Word) → IsGoodInterfaceLine (bandwidth_line word)
 bandwidth_good word = by_if IsGoodInterfaceLine (is_ascii_digit (get_or word 0 0)) _ _ tt tt
 
 plain_good : (words : List Word) → IsGoodInterfaceLine (plain_of_interface words)
-plain_good words =
-    by_if IsGoodInterfaceLine (says words 0 (codes "bandwidth")) _ _ (bandwidth_good (word_at words 1))
-    (by_if IsGoodInterfaceLine (says words 0 (codes "shutdown")) _ _ tt
-    (by_if IsGoodInterfaceLine (begins_with_two words (codes "no") (codes "shutdown")) _ _ tt
-    (by_if IsGoodInterfaceLine (begins_with_three words (codes "no") (codes "ip") (codes "address")) _ _ tt
-    (by_if IsGoodInterfaceLine (begins_with_two words (codes "vrf") (codes "forwarding")) _ _ tt tt))))
+plain_good words = grind (arith, common_steps, bandwidth_good, by_if)
 
 pub interface_line_good : (words : List Word) → IsGoodInterfaceLine (interface_line words)
 interface_line_good words =
@@ -192,29 +160,18 @@ optional_good (Err kind) h = tt
 optional_good (Ok cost) h = h.high
 
 range_cost_good : (words : List Word) (k : ℕ) → IfOk (range_cost words k) (λ (c : Option ℕ). IfSome c (λ n. n ≤ 16777214))
-range_cost_good words k =
-    by_if (λ (r : Result (Option ℕ) ReadKind). IfOk r (λ (c : Option ℕ). IfSome c (λ n. n ≤ 16777214))) (says words k (codes "cost"))
-    (optional_cost (number_from 0 16777214 BadCost (word_at words (k + 1)))) (Ok None)
-    (optional_good (number_from 0 16777214 BadCost (word_at words (k + 1))) (number_good 0 16777214 BadCost (word_at words (k + 1)))) tt
+range_cost_good words k = grind (arith, common_steps, by_if, number_good, optional_good)
 
 range_prefix_good : (a len : Option ℕ) → IfSome a (λ n. n < 2 ^ 32) → IfSome len (λ n. n ≤ 32) → IfOk (range_prefix a len) IsBlock
-range_prefix_good None len h i = tt
-range_prefix_good (Some a) None h i = tt
-range_prefix_good (Some a) (Some len) h i = prefix_good a len h i
+range_prefix_good a len h i = grind (arith, common_steps, prefix_good)
 
 range_values_good : (words : List Word) (dest : Result Block ReadKind) (cost : Result (Option ℕ) ReadKind) (area : Option ℕ) →
     IfOk dest IsBlock → IfOk cost (λ (c : Option ℕ). IfSome c (λ n. n ≤ 16777214)) → IfOk (range_values words dest cost area) IsRange
-range_values_good words (Err kind) cost area h i = tt
-range_values_good words (Ok dest) (Err kind) area h i = tt
-range_values_good words (Ok dest) (Ok cost) None h i = tt
-range_values_good words (Ok dest) (Ok cost) (Some n) h i =
-    by_if (λ (r : Result Range ReadKind). IfOk r IsRange) (range_ends words (cost_place words)) _ _ (record { prefix = h; cost = i }) tt
+range_values_good words dest cost area h i = grind (arith, common_steps, by_if)
 
 range_good : (words : List Word) → IfOk (range_line words) IsRange
 range_good words =
-    range_values_good words (range_prefix (address_of (word_at words 3)) (mask_of (word_at words 4))) (range_cost words (cost_place words))
-    (area_of (word_at words 1))
-    (range_prefix_good _ _ (address_within (word_at words 3)) (mask_within (word_at words 4))) (range_cost_good words (cost_place words))
+    grind (arith, common_steps, address_within, mask_within, range_cost_good, range_prefix_good, range_values_good)
 
 area_line_good : (words : List Word) → IsGoodOspfLine (ospf_area_line words)
 area_line_good words =
@@ -236,22 +193,13 @@ apart_good (Ok n) h = choice (nat_eq n 115) refl
     choice false e = record { some = h.low; most = h.high; apart = not_clash n e }
 
 distance_good : (words : List Word) → IfOk (ospf_distance words) IsOspfDistance
-distance_good words =
-    by_if (λ (r : Result ℕ ReadKind). IfOk r IsOspfDistance) (says words 1 (codes "ospf") || not (lacks words 2))
-    (Err Unsupported) (apart_distance (number_from 1 255 BadDistance (word_at words 1))) tt
-    (apart_good (number_from 1 255 BadDistance (word_at words 1)) (number_good 1 255 BadDistance (word_at words 1)))
+distance_good words = grind (arith, common_steps, apart_good, by_if, number_good)
 
 passive_good : (words : List Word) (k : ℕ) (passive : Bool) → IsGoodOspfLine (ospf_passive words k passive)
-passive_good words k passive =
-    by_if IsGoodOspfLine (lacks words k) _ _ tt (by_if IsGoodOspfLine (says words k (codes "default")) _ _ tt tt)
+passive_good words k passive = grind (arith, common_steps, by_if)
 
 plain_ospf_good : (words : List Word) → IsGoodOspfLine (plain_of_ospf words)
-plain_ospf_good words =
-    by_if IsGoodOspfLine (begins_with_two words (codes "auto-cost") (codes "reference-bandwidth")) _ _ tt
-    (by_if IsGoodOspfLine (says words 0 (codes "distance")) _ _ (distance_good words)
-    (by_if IsGoodOspfLine (begins_with_two words (codes "compatible") (codes "rfc1583")) _ _ tt
-    (by_if IsGoodOspfLine (begins_with_three words (codes "no") (codes "compatible") (codes "rfc1583")) _ _ tt
-    (by_if IsGoodOspfLine (is_unsupported_ospf (word_at words 0)) _ _ tt tt))))
+plain_ospf_good words = grind (arith, common_steps, by_if, distance_good)
 
 pub ospf_line_good : (words : List Word) → IsGoodOspfLine (ospf_line words)
 ospf_line_good words =
@@ -277,8 +225,7 @@ hex_small : (b : ℕ) → hex_value b < 16
 hex_small b = grind (arith, nat_tests)
 
 group_small : (word : Word) (k : ℕ) → group_value word k < 65536
-group_small word k =
-    omega (arith, hex_small (get_or word k 0), hex_small (get_or word (k + 1) 0), hex_small (get_or word (k + 2) 0), hex_small (get_or word (k + 3) 0))
+group_small word k = grind (arith, common_steps, hex_small)
 
 system_small : (groups : List ℕ) → system_value groups < 2 ^ 48
 system_small groups = omega (arith, group_small groups 1, group_small groups 6, group_small groups 11)
@@ -304,8 +251,7 @@ isis_distance_good (Ok n) = choice (nat_eq n 115 || nat_eq n 255) refl
     choice false e = tt
 
 isis_passive_good : (words : List Word) (k : ℕ) (passive : Bool) → IsGoodIsisLine (isis_passive words k passive)
-isis_passive_good words k passive =
-    by_if IsGoodIsisLine (lacks words k) _ _ tt (by_if IsGoodIsisLine (says words k (codes "default")) _ _ tt tt)
+isis_passive_good words k passive = grind (arith, common_steps, by_if)
 
 plain_isis_good : (words : List Word) → IsGoodIsisLine (plain_of_isis words)
 plain_isis_good words =

@@ -1,4 +1,6 @@
 -- The lines at indent 0 that say something, form by form.
+use Rattle.std.proofs.Common.{arith}
+use Rattle.std.proofs.lemmas.Grind.{common_steps}
 use Rattle.std.proofs.Common.{◌≡◌, ◌⊎◌, inl, inr, Bool, true, false, not, cond, ◌&&◌, ◌||◌, List, Ok, Err, bytes_eq, codes, refl, sym, ap, subst, ◌∙◌}
 use Rattle.std.proofs.lemmas.Bool.{and_parts}
 use Rattle.std.proofs.lemmas.Slice.Eq.{bytes_eq-Decides}
@@ -41,8 +43,7 @@ named words true first good = names_router first good
 named words false first bad = names_badly first bad
 
 either_true : (t u : Bool) → (t || u) ≡ true → (t ≡ true) ⊎ (u ≡ true)
-either_true true u e = inl refl
-either_true false u e = inr e
+either_true t u e = grind (arith, common_steps)
 
 process_form : (words : List Word) (v : Bool) → word_at words 0 ≡ codes "router" → word_at words 1 ≡ codes "ospf" →
     (says words 3 (codes "vrf") && not (lacks words 4)) ≡ v →
@@ -92,24 +93,19 @@ head_form words false false false true eh ei er ep =
 head_form words false false false false eh ei er ep = inl refl
 
 there : (words : List Word) → HasForm words (head_of words)
-there words =
-    head_form words (bytes_eq (word_at words 0) (codes "hostname")) (bytes_eq (word_at words 0) (codes "interface"))
-    (bytes_eq (word_at words 0) (codes "router"))
-    (bytes_eq (word_at words 0) (codes "ip") && says words 1 (codes "route") && not (says words 2 (codes "vrf"))) refl refl refl refl
+there words = grind (arith, common_steps, head_form)
 
 -- ---- a line of a form says that ----
 
 by_name : (words : List Word) (t : Bool) → word_at words 0 ≡ codes "hostname" → is_router_name (word_at words 1) ≡ t →
     head_of words ≡ Hostname (cond t (Ok (word_at words 1)) (Err NoHostname))
-by_name words t first good =
-    ap (by_first words) first ∙ ap (λ (b : Bool). Hostname (cond b (Ok (word_at words 1)) (Err NoHostname))) good
+by_name words t first good = grind (arith, common_steps)
 
 by_router : (words : List Word) (second : Word) → word_at words 0 ≡ codes "router" → word_at words 1 ≡ second → head_of words ≡ by_second words second
 by_router words second first e = ap (by_first words) first ∙ ap (by_second words) e
 
 not_true : (b : Bool) → (b ≡ true → ⊥) → b ≡ false
-not_true true none = absurd (none refl)
-not_true false none = refl
+not_true b none = grind (arith, common_steps)
 
 said : (words : List Word) (head : Head) → SaysHead words head → head_of words ≡ head
 said words head (names_router first good) = by_name words true first good

@@ -1,5 +1,6 @@
 -- What holds of each element of a list, through the ways in which lines are picked.
-use Rattle.std.proofs.Common.{◌≡◌, ◌≢◌, zero, suc, Bool, true, false, not, List, [], ◌∷◌, Option, Some, None, refl, subst, cond, map, bytes_eq, arith}
+use Rattle.std.proofs.lemmas.Grind.{common_steps}
+use Rattle.std.proofs.Common.{◌≡◌, ◌≢◌, zero, suc, Bool, true, false, not, List, [], ◌∷◌, Option, Some, None, refl, cond, map, bytes_eq, arith}
 use Rattle.std.specs.Prelude.{IfSome, All, AllPairs, filter_map, flat_map, fold, filter}
 use Rattle.std.specs.List.{cons_option}
 use Rattle.std.proofs.lemmas.Bool.{false≢true}
@@ -16,8 +17,7 @@ by_if P false x y p q = q
 
 -- what holds of a value that is there
 pub by_some : {A : Type 0} (P : A → Type 0) (o : Option A) → ((a : A) → o ≡ Some a → P a) → IfSome o P
-by_some P None h = tt
-by_some P (Some a) h = h a refl
+by_some P o h = grind (arith, common_steps)
 
 taken_cases : {B : Type 0} (Q : B → Type 0) (o : Option B) (ys : List B) → IfSome o Q → All Q ys → All Q (cons_option o ys)
 taken_cases Q None ys q r = r
@@ -101,10 +101,7 @@ pairs_replaced R same takes apart (y ∷ ys) x h =
 -- ---- names, each once ----
 
 other : (n m : Word) → not (bytes_eq n m) ≡ true → n ≢ m
-other n m e = λ same.
-    let equal : bytes_eq n m ≡ true = (bytes_eq-Decides n m).1 same in
-    let wrong : false ≡ true = subst (λ (b : Bool). not b ≡ true) equal e in
-    false≢true wrong
+other n m e = grind (arith, common_steps, bytes_eq-Decides, false≢true)
 
 pub names_apart : (ns : List Word) → AllPairs (λ (n m : Word). n ≢ m) (first_seen ns)
 names_apart [] = pairs_nil (λ (n m : Word). n ≢ m)

@@ -1,4 +1,5 @@
 -- A title by its parts: groups of a dot and four hexadecimal digits.
+use Rattle.std.proofs.lemmas.Grind.{common_steps}
 use Rattle.std.proofs.Common.{◌≡◌, ℕ, ◌+◌, ◌-◌, ◌*◌, ◌≤◌, Bool, true, false, ◌&&◌, List, [], ◌∷◌, ◌++◌, length, take, drop, Some, None, All}
 use Rattle.std.proofs.Common.{cond, refl, sym, ap, subst, ◌∙◌, arith, codes, bytes_eq, nat_le, flat_map, length-append, length-drop, length-take}
 use Rattle.std.specs.List.{list_all}
@@ -18,8 +19,7 @@ flat groups = flat_map (λ (group : Word). group) groups
 -- ---- groups ----
 
 no_more : (t : Bool) → (t && false) ≡ true → ⊥
-no_more true e = cc
-no_more false e = cc
+no_more t e = grind (arith, common_steps)
 
 -- groups are as many as they are, with five bytes each
 pub groups_there : (bytes : List ℕ) → grouped_from 0 bytes ≡ true → (count : ℕ) × AreTitleGroups bytes count
@@ -137,8 +137,7 @@ abbrev title_with : Word → Title
 title_with word = titled_by (area_part word) (system_value (system_part word))
 
 chosen : (t : Bool) (made title : Title) → cond t (Some made) None ≡ Some title → (t ≡ true) × (made ≡ title)
-chosen true made title e = (refl, cc)
-chosen false made title e = absurd cc
+chosen t made title e = grind (arith, common_steps)
 
 module _ (word : Word) (good : is_title word ≡ true) where
   abbrev low : Bool
@@ -163,9 +162,7 @@ module _ (word : Word) (good : is_title word ≡ true) where
   three_parts = and_parts (low && high) area four_parts.0
 
   bounds : (20 ≤ length word) × (length word ≤ 50)
-  bounds =
-      let two = and_parts low high three_parts.0 in
-      (leb-true 20 (length word) two.0, leb-true (length word) 50 two.1)
+  bounds = grind (arith, common_steps, and_parts, leb-true, three_parts)
 
   front_length : length (front_part word) ≡ length word - 3
   front_length = omega (arith, length-take (length word - 3) word)
@@ -202,9 +199,7 @@ module _ (word : Word) (title : Title) (is : IsTitleWord word title) where
   length_word = omega (arith, ap length is.joined, length-append (title.area ++ is.system) (codes ".00"), length_front)
 
   front_is : front_part word ≡ title.area ++ is.system
-  front_is =
-      ap (take (length word - 3)) is.joined
-      ∙ take_at (title.area ++ is.system) (codes ".00") (length word - 3) (omega (arith, length_word, length_front))
+  front_is = grind (arith, common_steps, length_front, length_word, take_at)
 
   place_is : length title.area ≡ length (title.area ++ is.system) - 15
   place_is = omega (arith, length_front)
@@ -216,9 +211,7 @@ module _ (word : Word) (title : Title) (is : IsTitleWord word title) where
   system_is = ap (λ (f : Word). drop (length f - 15) f) front_is ∙ drop_at title.area is.system (length (title.area ++ is.system) - 15) place_is
 
   selector_is : drop (length word - 3) word ≡ codes ".00"
-  selector_is =
-      ap (drop (length word - 3)) is.joined
-      ∙ drop_at (title.area ++ is.system) (codes ".00") (length word - 3) (omega (arith, length_word, length_front))
+  selector_is = grind (arith, common_steps, drop_at, length_front, length_word)
 
   is_good : is_title word ≡ true
   is_good =
@@ -234,10 +227,7 @@ module _ (word : Word) (title : Title) (is : IsTitleWord word title) where
       ((bytes_eq-Decides (drop (length word - 3) word) (codes ".00")).1 selector_is)
 
   title_is : title_with word ≡ title
-  title_is =
-      ap (λ (w : Word). titled_by w (system_value (system_part word))) area_is
-      ∙ ap (λ (w : Word). titled_by title.area (system_value w)) system_is
-      ∙ ap (titled_by title.area) (sym is.value)
+  title_is = grind (arith, common_steps, area_is, system_is)
 
 pub title_word : TitleWordLaw
 unfolding title_of

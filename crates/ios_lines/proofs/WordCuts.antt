@@ -1,7 +1,8 @@
 -- The words of some bytes, cut off one after the other.
+use Rattle.std.proofs.lemmas.Grind.{common_steps}
 use Rattle.std.proofs.Common.{◌≡◌, ℕ, suc, ◌+◌, ◌-◌, ◌<◌, ◌≤◌, ◌⊎◌, inl, inr, ⊎_elim, Bool, true, false, cond, List, [], ◌∷◌, ◌++◌}
-use Rattle.std.proofs.Common.{length, take, drop, filter, append-nil, refl, sym, ap, ◌∙◌, arith}
-use Rattle.std.specs.Prelude.{not, nat_lt}
+use Rattle.std.proofs.Common.{length, take, drop, filter, refl, sym, ap, ◌∙◌, arith}
+use Rattle.std.specs.Prelude.{nat_lt}
 use Rattle.std.specs.List.{slice_split, position_or_len, prefix_len, onto_first}
 use Rattle.std.proofs.lemmas.Bool.{cases_lt}
 use Rattle.std.proofs.lemmas.Bool.Decides.{nat_tests}
@@ -29,9 +30,7 @@ blanks_dropped (b ∷ bs) = cases (is_blank b) (blanks_dropped bs)
 
 -- all that is left behind the blanks
 pub blanks_cut : (bytes : List ℕ) (n : ℕ) → n ≡ prefix_len is_blank bytes → take (length bytes - n) (drop n bytes) ≡ without_blanks bytes
-blanks_cut bytes n count =
-    take_all (length bytes - n) (drop n bytes) (omega (arith, length-drop n bytes))
-    ∙ ap (λ (k : ℕ). drop k bytes) count ∙ blanks_dropped bytes
+blanks_cut bytes n count = grind (arith, common_steps, blanks_dropped, length-drop, take_all)
 
 -- whether a piece holds a byte
 abbrev holds : Word → Bool
@@ -62,30 +61,14 @@ place bytes = position_or_len is_blank bytes
 
 -- the first piece before a blank, and the words behind it
 words_first : (bytes : List ℕ) → words_in bytes ≡ filter holds (take (place bytes) bytes ∷ []) ++ words_in (drop (place bytes + 1) bytes)
-words_first bytes =
-    ⊎_elim
-    (λ (found : place bytes < length bytes).
-    ap (filter holds) (slice_split_first is_blank bytes 0 found)
-    ∙ filter-append holds (take (place bytes) bytes ∷ []) (slice_split is_blank (drop (place bytes + 1) bytes)))
-    (λ (none : length bytes ≤ place bytes).
-    let whole : take (place bytes) bytes ≡ bytes = take_all (place bytes) bytes none in
-    let rest : drop (place bytes + 1) bytes ≡ [] = drop_all (place bytes + 1) bytes (omega arith) in
-    ap (filter holds) (no_separator is_blank bytes none)
-    ∙ ap (λ (piece : Word). filter holds (piece ∷ [])) (sym whole)
-    ∙ sym (append-nil (filter holds (take (place bytes) bytes ∷ [])))
-    ∙ ap (λ (after : List ℕ). filter holds (take (place bytes) bytes ∷ []) ++ words_in after) (sym rest))
-    (cases_lt (place bytes) (length bytes))
+words_first bytes = grind (arith, common_steps, cases_lt, drop_all, filter-append, no_separator, slice_split_first, take_all)
 
 some_bytes : (n : ℕ) → 0 < n → nat_lt 0 n ≡ true
 some_bytes n some = grind (arith, nat_tests)
 
 -- the first word of bytes that begin with no blank, and the words behind it
 word_there : (bytes : List ℕ) → 0 < place bytes → words_in bytes ≡ take (place bytes) bytes ∷ words_in (drop (place bytes + 1) bytes)
-word_there bytes some =
-    let long : 0 < length (take (place bytes) bytes) = omega (arith, some, length-prefix_len (λ (b : ℕ). not (is_blank b)) bytes) in
-    words_first bytes
-    ∙ ap (λ (t : Bool). cond t (take (place bytes) bytes ∷ []) [] ++ words_in (drop (place bytes + 1) bytes))
-    (some_bytes (length (take (place bytes) bytes)) long)
+word_there bytes some = grind (arith, common_steps, length-prefix_len, some_bytes, words_first)
 
 -- the first word of some bytes
 pub first_word_is : (bytes : List ℕ) → take (place (without_blanks bytes)) (without_blanks bytes) ≡ word_at (words_in bytes) 0
@@ -111,9 +94,7 @@ words_after bytes =
 
 -- a word by its place among those that are left of others, behind so many
 pub word_behind : (later words : List Word) (n k : ℕ) → later ≡ drop n words → word_at later k ≡ word_at words (n + k)
-word_behind later words n k behind =
-    ap (λ (ws : List Word). word_at ws k) behind
-    ∙ unwrap_or-slice_get (drop n words) k [] ∙ get_or-drop n words k [] ∙ sym (unwrap_or-slice_get words (n + k) [])
+word_behind later words n k behind = grind (arith, common_steps, get_or-drop, unwrap_or-slice_get)
 
 -- the same of a place among all
 pub word_further : (later words : List Word) (n k : ℕ) → n ≤ k → later ≡ drop n words → word_at later (k - n) ≡ word_at words k
