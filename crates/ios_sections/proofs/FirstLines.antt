@@ -1,5 +1,6 @@
 -- The lines of a configuration, counted from its first one, with others behind them.
-use Rattle.std.proofs.Common.{sym, ◌≡◌, ℕ, ◌+◌, ◌-◌, ◌≤◌, Bool, true, false, List, [], ◌∷◌, ◌++◌, length, refl, ap, subst, ◌∙◌, cond, map, arith}
+use Rattle.std.proofs.lemmas.Grind.{common_steps}
+use Rattle.std.proofs.Common.{◌≡◌, ℕ, ◌+◌, ◌-◌, ◌≤◌, Bool, true, false, List, [], ◌∷◌, ◌++◌, length, refl, ap, ◌∙◌, cond, map, arith}
 use Rattle.std.specs.Prelude.{filter}
 use Rattle.std.proofs.lemmas.List.{map-append, length-map}
 use Rattle.net_addr.specs.Lines.{line_pieces, lines_of, text_lines}
@@ -32,12 +33,7 @@ counted_further n k (y ∷ ys) within =
 -- lines further on behind those of a configuration are counted from the configuration's first one
 pub from_first-append : (k : ℕ) (xs ys : List TextLine) (x : TextLine) (more : List TextLine) → own_lines xs ≡ x ∷ more → first_number xs ≤ k →
     from_first (xs ++ map (further_on k) ys) ≡ from_first xs ++ map (further_on (k - first_number xs)) ys
-from_first-append k xs ys x more e within =
-    ap (λ (ls : List TextLine). map (counted_from (head_number ls)) ls) (own-append xs (map (further_on k) ys) x more e)
-    ∙ map-append (counted_from x.number) (x ∷ more) (map (further_on k) ys)
-    ∙ ap (λ (ls : List TextLine). map (counted_from x.number) (x ∷ more) ++ ls)
-    (counted_further x.number k ys (subst (λ (n : ℕ). n ≤ k) (ap head_number e) within))
-    ∙ sym (ap (λ (ls : List TextLine). map (counted_from (head_number ls)) ls ++ map (further_on (k - head_number ls)) ys) e)
+from_first-append k xs ys x more e within = grind (arith, common_steps, counted_further, map-append, own-append)
 
 -- ---- no line has a greater number than the last one ----
 

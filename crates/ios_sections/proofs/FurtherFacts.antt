@@ -1,11 +1,12 @@
 -- Lines further on: their parts are the same, with the line numbers further on, and what their sections say is the same.
-use Rattle.std.proofs.Common.{sym, ◌≡◌, ℕ, ◌+◌, ◌-◌, Bool, true, false, ◌||◌, List, [], ◌∷◌, ◌++◌, refl, ap, ◌∙◌, cond, map, arith}
+use Rattle.std.proofs.lemmas.Grind.{common_steps}
+use Rattle.std.proofs.Common.{sym, ◌≡◌, ℕ, ◌+◌, ◌-◌, Bool, false, ◌||◌, List, [], ◌∷◌, ◌++◌, refl, ap, ◌∙◌, cond, map, arith}
 use Rattle.std.specs.Prelude.{filter, fold}
 use Rattle.std.specs.List.{list_any}
 use Rattle.std.proofs.lemmas.List.{map-append}
-use Rattle.ios_sections.specs.TextLines.{TextLine, Part, banner_after, outside_banner, outside_banners, counts, counted_lines, is_end}
+use Rattle.ios_sections.specs.TextLines.{TextLine, Part, banner_after, outside_banner, outside_banners, counted_lines, is_end}
 use Rattle.ios_sections.specs.TextLines.{parts_after, rest_after, first_indent}
-use Rattle.ios_sections.specs.Sections.{counted_from, may_begin, own_lines, head_number, first_number, from_first, sections_among, sections_in}
+use Rattle.ios_sections.specs.Sections.{counted_from, may_begin, own_lines, head_number, from_first, sections_among, sections_in}
 use Rattle.ios_sections.specs.JoinedLines.{further_on, is_in_banner}
 
 -- a line with another number
@@ -15,8 +16,7 @@ line_at number line = record { number = number; indent = line.indent; bytes = li
 -- ---- lists that are taken over one by one ----
 
 filter_choice : {A : Type 0} (t : Bool) (f : A → A) (x : A) (xs : List A) → cond t (f x ∷ map f xs) (map f xs) ≡ map f (cond t (x ∷ xs) xs)
-filter_choice true f x xs = refl
-filter_choice false f x xs = refl
+filter_choice t f x xs = grind (arith, common_steps)
 
 pub filter-map : {A : Type 0} (p : A → Bool) (f : A → A) → ((x : A) → p (f x) ≡ p x) → (xs : List A) → filter p (map f xs) ≡ map f (filter p xs)
 filter-map p f same [] = refl
@@ -33,8 +33,7 @@ list_any-map p q f same (x ∷ xs) = ap (λ (b : Bool). b || list_any p (map f x
 
 outside_choice : (t : Bool) (k : ℕ) (x : TextLine) (ls : List TextLine) →
     cond t [] (further_on k x ∷ []) ++ map (further_on k) ls ≡ map (further_on k) (cond t [] (x ∷ []) ++ ls)
-outside_choice true k x ls = refl
-outside_choice false k x ls = refl
+outside_choice t k x ls = grind (arith, common_steps)
 
 outside-further : (k : ℕ) (inside : Bool) (xs : List TextLine) →
     outside_banners inside (map (further_on k) xs) ≡ map (further_on k) (outside_banners inside xs)
@@ -44,8 +43,7 @@ outside-further k inside (x ∷ xs) =
     ∙ outside_choice inside k x (outside_banners (banner_after inside x) xs)
 
 pub counted-further : (k : ℕ) (xs : List TextLine) → counted_lines (map (further_on k) xs) ≡ map (further_on k) (counted_lines xs)
-counted-further k xs =
-    ap (filter counts) (outside-further k false xs) ∙ filter-map counts (further_on k) (λ x. refl) (outside_banners false xs)
+counted-further k xs = grind (arith, common_steps, filter-map, outside-further)
 
 pub banner-fold : (k : ℕ) (inside : Bool) (xs : List TextLine) → fold banner_after inside (map (further_on k) xs) ≡ fold banner_after inside xs
 banner-fold k inside [] = refl
@@ -60,12 +58,10 @@ part_further k part = record { lines = map (further_on k) part.lines; ends = k +
 
 parts_choice : (t : Bool) (k : ℕ) (p : Part) (ps qs : List Part) →
     cond t (part_further k p ∷ map (part_further k) ps) (map (part_further k) qs) ≡ map (part_further k) (cond t (p ∷ ps) qs)
-parts_choice true k p ps qs = refl
-parts_choice false k p ps qs = refl
+parts_choice t k p ps qs = grind (arith, common_steps)
 
 cond_two : {A : Type 0} (t : Bool) (a b c d : A) → a ≡ c → b ≡ d → cond t a b ≡ cond t c d
-cond_two true a b c d p q = p
-cond_two false a b c d p q = q
+cond_two t a b c d p q = grind (arith, common_steps)
 
 pub parts-further : (k : ℕ) (before xs : List TextLine) →
     parts_after (map (further_on k) before) (map (further_on k) xs) ≡ map (part_further k) (parts_after before xs)
@@ -79,8 +75,7 @@ parts-further k before (x ∷ xs) =
     ∙ parts_choice (is_end x) k (record { lines = before; ends = x.number }) (parts_after [] xs) (parts_after (before ++ x ∷ []) xs)
 
 lines_choice : (t : Bool) (k : ℕ) (xs ys : List TextLine) → cond t (map (further_on k) xs) (map (further_on k) ys) ≡ map (further_on k) (cond t xs ys)
-lines_choice true k xs ys = refl
-lines_choice false k xs ys = refl
+lines_choice t k xs ys = grind (arith, common_steps)
 
 pub rest-further : (k : ℕ) (before xs : List TextLine) →
     rest_after (map (further_on k) before) (map (further_on k) xs) ≡ map (further_on k) (rest_after before xs)
@@ -95,8 +90,7 @@ rest-further k before (x ∷ xs) =
 -- ---- what a configuration says ----
 
 pub first-further : (k : ℕ) (xs : List TextLine) → first_indent (map (further_on k) xs) ≡ first_indent xs
-first-further k [] = refl
-first-further k (x ∷ xs) = refl
+first-further k xs = grind (arith, common_steps)
 
 counted_again : (k n : ℕ) (xs : List TextLine) → map (counted_from (k + n)) (map (further_on k) xs) ≡ map (counted_from n) xs
 counted_again k n [] = refl
@@ -113,12 +107,10 @@ own-further k (x ∷ xs) =
 
 from_head : (k : ℕ) (xs : List TextLine) →
     map (counted_from (head_number (map (further_on k) xs))) (map (further_on k) xs) ≡ map (counted_from (head_number xs)) xs
-from_head k [] = refl
-from_head k (x ∷ xs) = counted_again k x.number (x ∷ xs)
+from_head k xs = grind (arith, common_steps, counted_again)
 
 from_first-further : (k : ℕ) (xs : List TextLine) → from_first (map (further_on k) xs) ≡ from_first xs
-from_first-further k xs =
-    ap (λ (ls : List TextLine). map (counted_from (head_number ls)) ls) (own-further k xs) ∙ from_head k (own_lines xs)
+from_first-further k xs = grind (arith, common_steps, from_head, own-further)
 
 -- what the sections of a part say, wherever it stands
 pub sections_in-further : (k : ℕ) (part : Part) → sections_in (part_further k part) ≡ sections_in part

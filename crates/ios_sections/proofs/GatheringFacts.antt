@@ -1,4 +1,5 @@
 -- The sections gathered one after the other are the sections looked up by what they say.
+use Rattle.std.proofs.lemmas.Grind.{common_steps}
 use Rattle.std.proofs.Common.{sym, ◌≡◌, ℕ, Bool, true, false, not, ◌&&◌, ◌||◌, List, [], ◌∷◌, ◌++◌, Option, refl, ap, subst, ◌∙◌, cond, map, bytes_eq}
 use Rattle.std.proofs.Common.{append_assoc, append-nil, arith}
 use Rattle.std.specs.Prelude.{filter, filter_map, flat_map, fold}
@@ -15,7 +16,6 @@ use Rattle.ios_sections.specs.Gathering.{Gathering, gathering_of, with_interface
 use Rattle.ios_lines.specs.declared.fault.Fault.{Fault}
 use Rattle.ios_sections.specs.declared.section.InterfaceSection.{InterfaceSection}
 use Rattle.ios_sections.specs.declared.section.Section.{Section}
-use Rattle.ios_sections.specs.declared.section.Section.TheVariants.{Hostname, Interface, Ospf, Isis, Faulty, Other}
 use Rattle.ios_sections.specs.declared.section.OspfSection.{OspfSection}
 use Rattle.ios_sections.specs.declared.section.IsisSection.{IsisSection}
 use Rattle.ios_lines.specs.declared.interface_line.InterfaceStatement.{InterfaceStatement}
@@ -51,20 +51,17 @@ abbrev all_lines : List InterfaceSection → List InterfaceStatement
 all_lines ss = flat_map (λ (s : InterfaceSection). s.lines) ss
 
 named-same : (n : Word) (xs : List InterfaceSection) (i : InterfaceSection) → bytes_eq n i.name ≡ true → named n (xs ++ i ∷ []) ≡ named n xs ++ i ∷ []
-named-same n xs i e =
-    filter-append (λ (s : InterfaceSection). bytes_eq n s.name) xs (i ∷ []) ∙ ap (λ (b : Bool). named n xs ++ cond b (i ∷ []) []) e
+named-same n xs i e = grind (arith, common_steps, filter-append)
 
 named-other : (n : Word) (xs : List InterfaceSection) (i : InterfaceSection) → bytes_eq n i.name ≡ false → named n (xs ++ i ∷ []) ≡ named n xs
-named-other n xs i e =
-    filter-append (λ (s : InterfaceSection). bytes_eq n s.name) xs (i ∷ []) ∙ ap (λ (b : Bool). named n xs ++ cond b (i ∷ []) []) e ∙ append-nil (named n xs)
+named-other n xs i e = grind (arith, common_steps, filter-append)
 
 merged-other : (n : Word) (xs : List InterfaceSection) (i : InterfaceSection) → bytes_eq n i.name ≡ false → merged (xs ++ i ∷ []) n ≡ merged xs n
 merged-other n xs i e = ap (λ (ss : List InterfaceSection). made (first_line ss) n (all_lines ss)) (named-other n xs i e)
 
 first_cases : (t b : Bool) (x i : InterfaceSection) (ss : List InterfaceSection) → (b ≡ true → first_line (ss ++ i ∷ []) ≡ first_line ss) → (t || b) ≡ true →
     first_line (cond t (x ∷ ss) ss ++ i ∷ []) ≡ first_line (cond t (x ∷ ss) ss)
-first_cases true b x i ss later h = refl
-first_cases false b x i ss later h = later h
+first_cases t b x i ss later h = grind (arith, common_steps)
 
 first-push : (n : Word) (xs : List InterfaceSection) (i : InterfaceSection) → has n (names_of xs) ≡ true → first_line (named n xs ++ i ∷ [])
     ≡ first_line (named n xs)
@@ -73,43 +70,30 @@ first-push n (x ∷ xs) i h = first_cases (bytes_eq n x.name) (has n (names_of x
 
 merged-same : (n : Word) (xs : List InterfaceSection) (i : InterfaceSection) → bytes_eq n i.name ≡ true → has n (names_of xs) ≡ true →
     merged (xs ++ i ∷ []) n ≡ made (first_line (named n xs)) n (all_lines (named n xs) ++ i.lines)
-merged-same n xs i e h =
-    let lines : all_lines (named n xs ++ i ∷ []) ≡ all_lines (named n xs) ++ i.lines =
-    flat_map-append (λ (s : InterfaceSection). s.lines) (named n xs) (i ∷ [])
-    ∙ ap (λ (w : List InterfaceStatement). all_lines (named n xs) ++ w) (append-nil i.lines) in
-    ap (λ (ss : List InterfaceSection). made (first_line ss) n (all_lines ss)) (named-same n xs i e)
-    ∙ ap (λ (l : ℕ). made l n (all_lines (named n xs ++ i ∷ []))) (first-push n xs i h)
-    ∙ ap (λ (w : List InterfaceStatement). made (first_line (named n xs)) n w) lines
+merged-same n xs i e h = grind (arith, common_steps, first-push, flat_map-append, named-same)
 
 none_cases : (t b : Bool) (x : InterfaceSection) (ss : List InterfaceSection) → (b ≡ false → ss ≡ []) → (t || b) ≡ false → cond t (x ∷ ss) ss ≡ []
-none_cases true b x ss later h = absurd cc
-none_cases false b x ss later h = later h
+none_cases t b x ss later h = grind (arith, common_steps)
 
 named-none : (n : Word) (xs : List InterfaceSection) → has n (names_of xs) ≡ false → named n xs ≡ []
 named-none n [] h = refl
 named-none n (x ∷ xs) h = none_cases (bytes_eq n x.name) (has n (names_of xs)) x (named n xs) (λ g. named-none n xs g) h
 
 merged-new : (xs : List InterfaceSection) (i : InterfaceSection) → has i.name (names_of xs) ≡ false → merged (xs ++ i ∷ []) i.name ≡ i
-merged-new xs i h =
-    ap (λ (ss : List InterfaceSection). made (first_line ss) i.name (all_lines ss))
-    (named-same i.name xs i (name_same i.name) ∙ ap (λ (ss : List InterfaceSection). ss ++ i ∷ []) (named-none i.name xs h))
-    ∙ ap (λ (w : List InterfaceStatement). made i.line i.name w) (append-nil i.lines)
+merged-new xs i h = grind (arith, common_steps, name_same, named-none, named-same)
 
 abbrev distinct : List Word → Bool
 distinct [] = true
 distinct (n ∷ ns) = not (has n ns) && distinct ns
 
 or_left : (a b : Bool) → (a || b) ≡ false → a ≡ false
-or_left false b h = refl
-or_left true b h = h
+or_left a b h = grind (arith, common_steps)
 
 or_right : (a b : Bool) → (a || b) ≡ false → b ≡ false
-or_right false b h = h
-or_right true b h = absurd cc
+or_right a b h = grind (arith, common_steps)
 
 not_true : (a : Bool) → not a ≡ true → a ≡ false
-not_true false h = refl
-not_true true h = absurd cc
+not_true a h = grind (arith, common_steps)
 
 map-others : (ns : List Word) (xs : List InterfaceSection) (i : InterfaceSection) → has i.name ns ≡ false → map (merged xs) ns ≡ map (merged (xs ++ i ∷ [])) ns
 map-others [] xs i h = refl
@@ -120,8 +104,7 @@ map-others (m ∷ ms) xs i h =
 
 map_cond : (b : Bool) (f : Word → InterfaceSection) (n x : Word) (ns : List Word) → f n ∷ map f (cond b ns (ns ++ x ∷ []))
     ≡ map f (cond b (n ∷ ns) ((n ∷ ns) ++ x ∷ []))
-map_cond true f n x ns = refl
-map_cond false f n x ns = refl
+map_cond b f n x ns = grind (arith, common_steps)
 
 table_cases : (t : Bool) (n : Word) (ns : List Word) (xs : List InterfaceSection) (i : InterfaceSection) → bytes_eq i.name n ≡ t →
     (not (has n ns) && distinct ns) ≡ true → (has n (names_of xs) && list_all (λ (m : Word). has m (names_of xs)) ns) ≡ true →
@@ -130,18 +113,8 @@ table_cases : (t : Bool) (n : Word) (ns : List Word) (xs : List InterfaceSection
     ≡ map (merged (xs ++ i ∷ [])) (cond (has i.name ns) ns (ns ++ i.name ∷ []))) →
     cond t (made (first_line (named n xs)) n (all_lines (named n xs) ++ i.lines) ∷ map (merged xs) ns) (merged xs n ∷ with_interface (map (merged xs) ns) i)
     ≡ map (merged (xs ++ i ∷ [])) (cond (t || has i.name ns) (n ∷ ns) ((n ∷ ns) ++ i.name ∷ []))
-table_cases true n ns xs i e apart seen same later =
-    let name : i.name ≡ n = same_name i.name n e in
-    let back : bytes_eq n i.name ≡ true = subst (λ (w : Word). bytes_eq n w ≡ true) (sym name) (name_same n) in
-    let absent : has n ns ≡ false = not_true (has n ns) (and_left (not (has n ns)) (distinct ns) apart) in
-    let absent_i : has i.name ns ≡ false = subst (λ (w : Word). has w ns ≡ false) (sym name) absent in
-    let there : has n (names_of xs) ≡ true = and_left (has n (names_of xs)) (list_all (λ (m : Word). has m (names_of xs)) ns) seen in
-    ap (λ (s : InterfaceSection). s ∷ map (merged xs) ns) (sym (merged-same n xs i back there))
-    ∙ ap (λ (ss : List InterfaceSection). merged (xs ++ i ∷ []) n ∷ ss) (map-others ns xs i absent_i)
-table_cases false n ns xs i e apart seen same later =
-    ap (λ (s : InterfaceSection). s ∷ with_interface (map (merged xs) ns) i) (sym (merged-other n xs i (other_name i.name n e)))
-    ∙ ap (λ (ss : List InterfaceSection). merged (xs ++ i ∷ []) n ∷ ss) (later same)
-    ∙ map_cond (has i.name ns) (merged (xs ++ i ∷ [])) n i.name ns
+table_cases t n ns xs i e apart seen same later =
+    grind (arith, common_steps, and_left, map-others, map_cond, merged-other, merged-same, name_same, not_true, other_name, same_name)
 
 table-push : (ns : List Word) (xs : List InterfaceSection) (i : InterfaceSection) → distinct ns ≡ true → list_all (λ (m : Word). has m (names_of xs)) ns
     ≡ true →
@@ -170,8 +143,7 @@ has-but n m [] apart = refl
 has-but n m (x ∷ xs) apart = but_cases (bytes_eq m x) n m x xs refl apart (has-but n m xs apart)
 
 gone_cases : (t : Bool) (m x : Word) (xs : List Word) → bytes_eq m x ≡ t → has m (but m xs) ≡ false → has m (cond (not t) (x ∷ but m xs) (but m xs)) ≡ false
-gone_cases true m x xs e later = later
-gone_cases false m x xs e later = ap (λ (b : Bool). b || has m (but m xs)) e ∙ later
+gone_cases t m x xs e later = grind (arith, common_steps)
 
 has-gone : (m : Word) (xs : List Word) → has m (but m xs) ≡ false
 has-gone m [] = refl
@@ -187,10 +159,7 @@ has-fewer n m (x ∷ xs) h = fewer_cases (not (bytes_eq m x)) n m x xs h (λ g. 
 
 apart_cases : (t : Bool) (m x : Word) (xs : List Word) → (not (has x xs) && distinct xs) ≡ true → (distinct xs ≡ true → distinct (but m xs) ≡ true) →
     distinct (cond t (x ∷ but m xs) (but m xs)) ≡ true
-apart_cases true m x xs h later =
-    let absent : has x (but m xs) ≡ false = has-fewer x m xs (not_true (has x xs) (and_left (not (has x xs)) (distinct xs) h)) in
-    ap (λ (b : Bool). not b && distinct (but m xs)) absent ∙ later (and_right (not (has x xs)) (distinct xs) h)
-apart_cases false m x xs h later = later (and_right (not (has x xs)) (distinct xs) h)
+apart_cases t m x xs h later = grind (arith, common_steps, and_left, and_right, has-fewer, not_true)
 
 distinct-but : (m : Word) (xs : List Word) → distinct xs ≡ true → distinct (but m xs) ≡ true
 distinct-but m [] h = refl
@@ -203,16 +172,14 @@ distinct-seen (m ∷ ms) =
 
 seen_cases : (t : Bool) (n m : Word) (ms : List Word) → bytes_eq n m ≡ t → has n (first_seen ms) ≡ has n ms → (t || has n (but m (first_seen ms)))
     ≡ (t || has n ms)
-seen_cases true n m ms e later = refl
-seen_cases false n m ms e later = has-but n m (first_seen ms) e ∙ later
+seen_cases t n m ms e later = grind (arith, common_steps, has-but)
 
 has-seen : (n : Word) (ns : List Word) → has n (first_seen ns) ≡ has n ns
 has-seen n [] = refl
 has-seen n (m ∷ ms) = seen_cases (bytes_eq n m) n m ms refl (has-seen n ms)
 
 or_true : (a b : Bool) → b ≡ true → (a || b) ≡ true
-or_true true b h = refl
-or_true false b h = h
+or_true a b h = grind (arith, common_steps)
 
 all-has : (ys zs : List Word) → ((m : Word) → has m ys ≡ true → has m zs ≡ true) → list_all (λ (m : Word). has m zs) ys ≡ true
 all-has [] zs f = refl
@@ -222,15 +189,7 @@ all-has (y ∷ ys) zs f =
 
 push_cases : (t b : Bool) (n m : Word) (fs : List Word) → bytes_eq n m ≡ t →
     m ∷ but m (cond b fs (fs ++ n ∷ [])) ≡ cond (t || b) (m ∷ but m fs) ((m ∷ but m fs) ++ n ∷ [])
-push_cases true true n m fs e = refl
-push_cases false true n m fs e = refl
-push_cases true false n m fs e =
-    let same : bytes_eq m n ≡ true = subst (λ (w : Word). bytes_eq m w ≡ true) (sym (same_name n m e)) (name_same m) in
-    ap (λ (w : List Word). m ∷ w) (filter-append (λ (o : Word). not (bytes_eq m o)) fs (n ∷ [])
-    ∙ ap (λ (b : Bool). but m fs ++ cond (not b) (n ∷ []) []) same ∙ append-nil (but m fs))
-push_cases false false n m fs e =
-    ap (λ (w : List Word). m ∷ w) (filter-append (λ (o : Word). not (bytes_eq m o)) fs (n ∷ [])
-    ∙ ap (λ (b : Bool). but m fs ++ cond (not b) (n ∷ []) []) (other_name n m e))
+push_cases t b n m fs e = grind (arith, common_steps, filter-append, name_same, other_name, same_name)
 
 seen-push : (ns : List Word) (n : Word) → first_seen (ns ++ n ∷ []) ≡ cond (has n ns) (first_seen ns) (first_seen ns ++ n ∷ [])
 seen-push [] n = refl
@@ -278,33 +237,8 @@ same_interfaces : (xs : List InterfaceSection) → merged_interfaces xs ≡ merg
 same_interfaces xs = ap merged_interfaces (sym (append-nil xs))
 
 section-push : (ss : List Section) (x : Section) → with_section (gathering_of ss) x ≡ gathering_of (ss ++ x ∷ [])
-section-push ss (Hostname n) =
-    five _ _ _ _ _ _ _ _ _ _ (sym (name_now ss (Hostname n))) (same_interfaces (filter_map as_interface ss)
-    ∙ ap merged_interfaces (sym (interface_now ss (Hostname n)))) (sym (append-nil (filter_map as_ospf ss)) ∙ sym (ospf_now ss (Hostname n)))
-    (sym (append-nil (filter_map as_isis ss)) ∙ sym (isis_now ss (Hostname n)))
-    (sym (append-nil (filter_map as_fault ss)) ∙ sym (fault_now ss (Hostname n)))
-section-push ss (Interface i) =
-    five _ _ _ _ _ _ _ _ _ _ (sym (name_now ss (Interface i))) (interfaces-push (filter_map as_interface ss) i
-    ∙ ap merged_interfaces (sym (interface_now ss (Interface i)))) (sym (append-nil (filter_map as_ospf ss)) ∙ sym (ospf_now ss (Interface i)))
-    (sym (append-nil (filter_map as_isis ss)) ∙ sym (isis_now ss (Interface i)))
-    (sym (append-nil (filter_map as_fault ss)) ∙ sym (fault_now ss (Interface i)))
-section-push ss (Ospf o) =
-    five _ _ _ _ _ _ _ _ _ _ (sym (name_now ss (Ospf o))) (same_interfaces (filter_map as_interface ss)
-    ∙ ap merged_interfaces (sym (interface_now ss (Ospf o)))) (sym (ospf_now ss (Ospf o)))
-    (sym (append-nil (filter_map as_isis ss)) ∙ sym (isis_now ss (Ospf o)))
-    (sym (append-nil (filter_map as_fault ss)) ∙ sym (fault_now ss (Ospf o)))
-section-push ss (Isis o) =
-    five _ _ _ _ _ _ _ _ _ _ (sym (name_now ss (Isis o))) (same_interfaces (filter_map as_interface ss)
-    ∙ ap merged_interfaces (sym (interface_now ss (Isis o)))) (sym (append-nil (filter_map as_ospf ss)) ∙ sym (ospf_now ss (Isis o)))
-    (sym (isis_now ss (Isis o))) (sym (append-nil (filter_map as_fault ss)) ∙ sym (fault_now ss (Isis o)))
-section-push ss (Faulty f) =
-    five _ _ _ _ _ _ _ _ _ _ (sym (name_now ss (Faulty f))) (same_interfaces (filter_map as_interface ss)
-    ∙ ap merged_interfaces (sym (interface_now ss (Faulty f)))) (sym (append-nil (filter_map as_ospf ss)) ∙ sym (ospf_now ss (Faulty f)))
-    (sym (append-nil (filter_map as_isis ss)) ∙ sym (isis_now ss (Faulty f))) (sym (fault_now ss (Faulty f)))
-section-push ss Other =
-    five _ _ _ _ _ _ _ _ _ _ (sym (name_now ss Other)) (same_interfaces (filter_map as_interface ss) ∙ ap merged_interfaces (sym (interface_now ss Other)))
-    (sym (append-nil (filter_map as_ospf ss)) ∙ sym (ospf_now ss Other)) (sym (append-nil (filter_map as_isis ss)) ∙ sym (isis_now ss Other))
-    (sym (append-nil (filter_map as_fault ss)) ∙ sym (fault_now ss Other))
+section-push ss x =
+    grind (arith, common_steps, fault_now, five, interface_now, interfaces-push, isis_now, name_now, ospf_now, same_interfaces)
 
 gathered-after : (ss ts : List Section) → fold with_section (gathering_of ss) ts ≡ gathering_of (ss ++ ts)
 gathered-after ss [] = ap gathering_of (sym (append-nil ss))

@@ -1,8 +1,9 @@
 -- The values that sections give are in their ranges.
-use Rattle.std.proofs.Common.{◌≡◌, ℕ, Bool, true, false, not, bytes_eq, ◌&&◌, ◌||◌, List, [], get_or, Option, Some, None, Ok, Err, refl, cond, map, arith}
-use Rattle.std.specs.Prelude.{IfSome, IfOk, All, codes, filter_map, flat_map, option_map}
+use Rattle.std.proofs.lemmas.Grind.{common_steps}
+use Rattle.std.proofs.Common.{◌≡◌, ℕ, Bool, true, false, bytes_eq, List, [], get_or, Option, None, Ok, Err, refl, cond, map, arith}
+use Rattle.std.specs.Prelude.{IfSome, IfOk, All, filter_map, flat_map, option_map}
 use Rattle.std.proofs.lemmas.List.Elements.{All-nil, All-append, All-map, All-filter}
-use Rattle.ios_lines.specs.Words.{Word, word_at, says, begins_with_two, lacks}
+use Rattle.ios_lines.specs.Words.{Word, says}
 use Rattle.ios_lines.specs.Heads.{is_router_name, hostname_of, router_head, head_of}
 use Rattle.ios_sections.specs.TextLines.{TextLine, Part, sections_of}
 use Rattle.ios_lines.specs.InterfaceLines.{interface_line, in_vrf, counting}
@@ -13,7 +14,7 @@ use Rattle.ios_lines.specs.Lookups.{first_seen}
 use Rattle.ios_sections.specs.Processes.{as_hostname, as_interface, as_ospf, as_isis, named, merged, interfaces_in, mention_said, mentions_in, mention_of}
 use Rattle.ios_sections.specs.Processes.{mentions_of, mentions, first_mention, least_mention, process_of, is_of_process, lines_of_process, ospf_lines}
 use Rattle.ios_sections.specs.Processes.{first_tag, is_of_tag, lines_of_tag, isis_lines}
-use Rattle.ios_lines.specs.declared.kind.ReadKind.TheVariants.{NoHostname, SecondProcess}
+use Rattle.ios_lines.specs.declared.kind.ReadKind.TheVariants.{NoHostname}
 use Rattle.ios_lines.specs.declared.head.Head.{Head}
 use Rattle.ios_lines.specs.declared.head.Head.TheVariants.{Hostname as NameHead, Interface as InterfaceHead, Ospf as OspfHead, Isis as IsisHead}
 use Rattle.ios_lines.specs.declared.head.Head.TheVariants.{Faulty as FaultyHead, Other as OtherHead}
@@ -72,18 +73,10 @@ hostname_good word = choice (is_router_name word) refl
     choice false e = tt
 
 router_good : (words : List Word) → IsGoodHead (router_head words)
-router_good words =
-    by_if IsGoodHead (says words 1 (codes "ospf")) _ _
-    (by_if IsGoodHead (says words 3 (codes "vrf") && not (lacks words 4)) _ _ tt (number_good 1 65535 SecondProcess (word_at words 2)))
-    (by_if IsGoodHead (says words 1 (codes "isis")) _ _ tt
-    (by_if IsGoodHead (says words 1 (codes "eigrp") || says words 1 (codes "rip")) _ _ tt tt))
+router_good words = grind (arith, common_steps, by_if, number_good)
 
 head_good : (words : List Word) → IsGoodHead (head_of words)
-head_good words =
-    by_if IsGoodHead (says words 0 (codes "hostname")) _ _ (hostname_good (word_at words 1))
-    (by_if IsGoodHead (says words 0 (codes "interface")) _ _ tt
-    (by_if IsGoodHead (says words 0 (codes "router")) _ _ (router_good words)
-    (by_if IsGoodHead (begins_with_two words (codes "ip") (codes "route") && not (says words 2 (codes "vrf"))) _ _ tt tt)))
+head_good words = grind (arith, common_steps, by_if, hostname_good, router_good)
 
 -- ---- sections ----
 
@@ -176,12 +169,10 @@ mentions_good ospf interfaces h i =
     interfaces i)
 
 first_good : (o : Option Mention) (m : Mention) → IfSome o IsGoodMention → IsGoodMention m → IfSome (first_mention o m) IsGoodMention
-first_good None m h g = g
-first_good (Some n) m h g = by_if (λ (o : Option Mention). IfSome o IsGoodMention) _ (Some m) (Some n) g h
+first_good o m h g = grind (arith, common_steps, by_if)
 
 process_good : (o : Option Mention) → IfSome o IsGoodMention → IfSome (option_map (λ (m : Mention). m.process) o) (IsFrom 1 65535)
-process_good None h = tt
-process_good (Some m) h = h
+process_good o h = grind (arith, common_steps)
 
 -- the number of the process
 pub number_of_process : (sections : List Section) → All IsGoodSection sections → IfSome (process_of sections) (IsFrom 1 65535)

@@ -1,8 +1,9 @@
 -- The lines, the counted lines and the parts of texts joined end to end.
-use Rattle.std.proofs.Common.{sym, ◌≡◌, ℕ, ◌+◌, ◌-◌, ◌≤◌, Bool, true, false, not, ◌&&◌, ◌||◌, List, [], ◌∷◌, ◌++◌, length, take, drop, refl, ap, ◌∙◌, cond}
-use Rattle.std.proofs.Common.{map, append_assoc, append-nil, length-drop, nat_eq, arith}
+use Rattle.std.proofs.lemmas.Grind.{common_steps}
+use Rattle.std.proofs.Common.{sym, ◌≡◌, ℕ, ◌+◌, ◌-◌, Bool, true, false, not, ◌&&◌, List, [], ◌∷◌, ◌++◌, length, take, drop, refl, ap, ◌∙◌, cond}
+use Rattle.std.proofs.Common.{map, append_assoc, append-nil, arith}
 use Rattle.std.specs.Prelude.{filter, fold, All}
-use Rattle.std.specs.List.{list_any, prefix_len, before_first}
+use Rattle.std.specs.List.{list_any, prefix_len}
 use Rattle.std.proofs.lemmas.Bool.{or_parts, eq-eqb}
 use Rattle.std.proofs.lemmas.List.Sums.{prefix_len-le-length}
 use Rattle.std.proofs.lemmas.Grind.{fold-append}
@@ -11,7 +12,6 @@ use Rattle.std.proofs.lemmas.List.Elements.{All-head, All-tail, filter-append}
 use Rattle.net_addr.specs.declared.line.Line.{Line}
 use Rattle.net_addr.specs.Blanks.{words_in}
 use Rattle.net_addr.specs.Spans.{bytes_of, LiesIn}
-use Rattle.net_addr.specs.Lines.{text_lines}
 use Rattle.net_addr.specs.JoinedLines.{is_of_whole_lines, line_further_on}
 use Rattle.net_addr.proofs.JoinedFacts.{text_lines-append}
 use Rattle.net_addr.proofs.PlacedPieces.{text_lines-inside}
@@ -26,12 +26,7 @@ abbrev line_with : ℕ → ℕ → List ℕ → TextLine
 line_with number indent bytes = record { number = number; indent = indent; bytes = bytes; words = words_in bytes }
 
 bytes-first : (xs ys : List ℕ) (line : Line) → LiesIn xs line.span → bytes_of (xs ++ ys) line.span ≡ bytes_of xs line.span
-bytes-first xs ys line inside =
-    let ordered : line.span.start ≤ line.span.stop = inside.ordered in
-    let within : line.span.stop ≤ length xs = inside.inside in
-    let short : line.span.stop - line.span.start ≤ length (drop line.span.start xs) = omega (arith, length-drop line.span.start xs) in
-    ap (take (line.span.stop - line.span.start)) (drop-append-le line.span.start xs ys (omega arith))
-    ∙ take-append-le (line.span.stop - line.span.start) (drop line.span.start xs) ys short
+bytes-first xs ys line inside = grind (arith, common_steps, drop-append-le, take-append-le)
 
 first-lines : (xs ys : List ℕ) (lines : List Line) → All (λ (line : Line). LiesIn xs line.span) lines →
     map (text_line (xs ++ ys)) lines ≡ map (text_line xs) lines
@@ -60,18 +55,12 @@ second-lines xs ys count (line ∷ lines) =
 pub lines_in-append : (xs ys : List ℕ) → is_of_whole_lines xs ≡ true →
     lines_in (xs ++ ys) ≡ lines_in xs ++ map (further_on (length (lines_in xs))) (lines_in ys)
 lines_in-append xs ys whole =
-    ap (map (text_line (xs ++ ys))) (text_lines-append xs ys whole)
-    ∙ map-append (text_line (xs ++ ys)) (text_lines xs) (map (line_further_on (length (text_lines xs)) (length xs)) (text_lines ys))
-    ∙ ap (λ (ls : List TextLine). ls ++ map (text_line (xs ++ ys)) (map (line_further_on (length (text_lines xs)) (length xs)) (text_lines ys)))
-    (first-lines xs ys (text_lines xs) (text_lines-inside xs))
-    ∙ ap (λ (ls : List TextLine). lines_in xs ++ ls) (second-lines xs ys (length (text_lines xs)) (text_lines ys))
-    ∙ ap (λ (n : ℕ). lines_in xs ++ map (further_on n) (lines_in ys)) (sym (length-map (text_lines xs) (text_line xs)))
+    grind (arith, common_steps, first-lines, length-map, map-append, second-lines, text_lines-append, text_lines-inside)
 
 -- ---- the lines that count ----
 
 cond_append : {A : Type 0} (t : Bool) (x : A) (xs ys : List A) → cond t [] (x ∷ []) ++ (xs ++ ys) ≡ (cond t [] (x ∷ []) ++ xs) ++ ys
-cond_append true x xs ys = refl
-cond_append false x xs ys = refl
+cond_append t x xs ys = grind (arith, common_steps)
 
 pub outside-append : (inside : Bool) (xs ys : List TextLine) →
     outside_banners inside (xs ++ ys) ≡ outside_banners inside xs ++ outside_banners (fold banner_after inside xs) ys
@@ -82,17 +71,14 @@ outside-append inside (x ∷ xs) ys =
 
 -- the lines that count of some lines behind which no banner is open, and then those of the others
 pub counted-append : (xs ys : List TextLine) → is_in_banner xs ≡ false → counted_lines (xs ++ ys) ≡ counted_lines xs ++ counted_lines ys
-counted-append xs ys outside =
-    ap (filter counts) (outside-append false xs ys ∙ ap (λ (b : Bool). outside_banners false xs ++ outside_banners b ys) outside)
-    ∙ filter-append counts (outside_banners false xs) (outside_banners false ys)
+counted-append xs ys outside = grind (arith, common_steps, filter-append, outside-append)
 
 -- whether a banner is open behind some lines and then others
 pub banner-append : (xs ys : List TextLine) → is_in_banner xs ≡ false → is_in_banner (xs ++ ys) ≡ is_in_banner ys
 banner-append xs ys outside = fold-append banner_after false xs ys ∙ ap (λ (b : Bool). fold banner_after b ys) outside
 
 not_opening : (t u : Bool) → t ≡ false → (t && u) ≡ false
-not_opening true u e = absurd cc
-not_opening false u e = refl
+not_opening t u e = grind (arith, common_steps)
 
 no_banner_opened : (line : TextLine) → begins_banner line ≡ false → opens_banner line ≡ false
 no_banner_opened line e = not_opening (begins_banner line) _ e
@@ -111,8 +97,7 @@ outside-none (x ∷ xs) none =
     ap (λ (b : Bool). x ∷ outside_banners b xs) (no_banner_opened x parts.0) ∙ ap (λ (ls : List TextLine). x ∷ ls) (outside-none xs parts.1)
 
 none_kept : (u : Bool) (x : TextLine) (ls : List TextLine) → is_end x ≡ false → list_any is_end ls ≡ false → list_any is_end (cond u (x ∷ ls) ls) ≡ false
-none_kept true x ls off none = ap (λ (b : Bool). b || list_any is_end ls) off ∙ none
-none_kept false x ls off none = none
+none_kept u x ls off none = grind (arith, common_steps)
 
 no_end_among : (xs : List TextLine) → list_any is_end xs ≡ false → list_any is_end (filter counts xs) ≡ false
 no_end_among [] none = refl
@@ -122,8 +107,7 @@ no_end_among (x ∷ xs) none =
 
 -- the lines that count of a block without a banner and without an `end` line have no `end` line
 pub counted-no_end : (xs : List TextLine) → list_any begins_banner xs ≡ false → list_any is_end xs ≡ false → list_any is_end (counted_lines xs) ≡ false
-counted-no_end xs no_banner no_end =
-    ap (λ (ls : List TextLine). list_any is_end (filter counts ls)) (outside-none xs no_banner) ∙ no_end_among xs no_end
+counted-no_end xs no_banner no_end = grind (arith, common_steps, no_end_among, outside-none)
 
 -- ---- the parts ----
 
@@ -131,16 +115,13 @@ abbrev part_with : List TextLine → ℕ → Part
 part_with lines ends = record { lines = lines; ends = ends }
 
 cond_two : {A : Type 0} (t : Bool) (a b c d : A) → a ≡ c → b ≡ d → cond t a b ≡ cond t c d
-cond_two true a b c d p q = p
-cond_two false a b c d p q = q
+cond_two t a b c d p q = grind (arith, common_steps)
 
 parts_choice : (t : Bool) (p : Part) (a b c d : List Part) → cond t (p ∷ (a ++ c)) (b ++ d) ≡ cond t (p ∷ a) b ++ cond t c d
-parts_choice true p a b c d = refl
-parts_choice false p a b c d = refl
+parts_choice t p a b c d = grind (arith, common_steps)
 
 rest_choice : (t : Bool) (a b : List TextLine) (ys : List TextLine) → cond t (parts_after a ys) (parts_after b ys) ≡ parts_after (cond t a b) ys
-rest_choice true a b ys = refl
-rest_choice false a b ys = refl
+rest_choice t a b ys = grind (arith, common_steps)
 
 -- the parts of some lines, and then those of others, of which the first begins with what was open
 pub parts-append : (before xs ys : List TextLine) → parts_after before (xs ++ ys) ≡ parts_after before xs ++ parts_after (rest_after before xs) ys
@@ -153,8 +134,7 @@ parts-append before (x ∷ xs) ys =
     ∙ ap (λ (ps : List Part). parts_after before (x ∷ xs) ++ ps) (rest_choice (is_end x) (rest_after [] xs) (rest_after (before ++ x ∷ []) xs) ys)
 
 open_choice : (t : Bool) (a b : List TextLine) (ys : List TextLine) → cond t (rest_after a ys) (rest_after b ys) ≡ rest_after (cond t a b) ys
-open_choice true a b ys = refl
-open_choice false a b ys = refl
+open_choice t a b ys = grind (arith, common_steps)
 
 -- what is open behind some lines and then others
 pub rest-append : (before xs ys : List TextLine) → rest_after before (xs ++ ys) ≡ rest_after (rest_after before xs) ys
@@ -190,22 +170,16 @@ abbrev is_inside : TextLine → Bool
 is_inside line = not (opens_section line)
 
 none_inside : (ys : List TextLine) → first_indent ys ≡ 0 → prefix_len is_inside ys ≡ 0
-none_inside [] e = refl
-none_inside (y ∷ ys) e = ap (λ (b : Bool). cond (not b) (1 + prefix_len is_inside ys) 0) (eq-eqb y.indent 0 e)
+none_inside ys e = grind (arith, common_steps, eq-eqb)
 
 section_lines-append : (xs ys : List TextLine) → first_indent ys ≡ 0 → section_lines (xs ++ ys) ≡ section_lines xs
-section_lines-append xs ys e =
-    let within : prefix_len is_inside xs ≤ length xs = prefix_len-le-length is_inside xs in
-    let inside : before_first opens_section (xs ++ ys) ≡ before_first opens_section xs =
-    ap (λ (n : ℕ). take n (xs ++ ys)) (prefix-append is_inside xs ys (none_inside ys e)) ∙ take-append-le (prefix_len is_inside xs) xs ys within in
-    ap (λ (ls : List TextLine). filter (λ (line : TextLine). nat_eq line.indent (first_indent ls)) ls) inside
+section_lines-append xs ys e = grind (arith, common_steps, none_inside, prefix-append, prefix_len-le-length, take-append-le)
 
 abbrev text_section : TextLine → List TextLine → TextSection
 text_section head body = record { head = head; body = body }
 
 sections_choice : (t : Bool) (s : TextSection) (ss ts : List TextSection) → cond t (s ∷ (ss ++ ts)) (ss ++ ts) ≡ cond t (s ∷ ss) ss ++ ts
-sections_choice true s ss ts = refl
-sections_choice false s ss ts = refl
+sections_choice t s ss ts = grind (arith, common_steps)
 
 sections_of-append : (xs ys : List TextLine) → first_indent ys ≡ 0 → sections_of (xs ++ ys) ≡ sections_of xs ++ sections_of ys
 sections_of-append [] ys e = refl

@@ -1,4 +1,5 @@
 -- The laws of how the lines of a text are read.
+use Rattle.std.proofs.lemmas.Grind.{common_steps}
 use Rattle.std.proofs.Common.{◌≡◌, ◌<◌, ◌≤◌, ◌⊎◌, inl, inr, Bool, true, false, not, cond, List, [], ◌∷◌, ◌++◌, Option, Some, append-nil}
 use Rattle.std.proofs.Common.{append_assoc}
 use Rattle.std.proofs.Common.{refl, sym, ap, subst, ◌∙◌, arith}
@@ -29,8 +30,7 @@ record Opened (inside : Bool) (lines : List TextLine) : Type 0 where
   unclosed : Unclosed after
 
 not_true : (b : Bool) → not b ≡ true → b ≡ false
-not_true true e = sym e
-not_true false e = refl
+not_true b e = grind (arith, common_steps)
 
 opened_at : (inside : Bool) (line : TextLine) (lines : List TextLine) → banner_after inside line ≡ true → Unclosed lines →
     ((inside ≡ true) × Unclosed (line ∷ lines)) ⊎ Opened inside (line ∷ lines)

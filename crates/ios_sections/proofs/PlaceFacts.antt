@@ -1,4 +1,5 @@
 -- The first place that passes a test, as a place or as none.
+use Rattle.std.proofs.lemmas.Grind.{common_steps}
 use Rattle.std.proofs.Common.{◌≡◌, ℕ, ◌+◌, ◌≤◌, Bool, true, false, not, List, [], ◌∷◌, length, drop, suc, Some, None, refl, ap, ◌∙◌, nat_lt, cond, arith}
 use Rattle.std.specs.Prelude.{position}
 use Rattle.std.specs.List.{position_or_len}
@@ -8,12 +9,10 @@ use Rattle.ios_sections.specs.TextLines.{TextLine}
 use Rattle.ios_sections.specs.Sections.{may_begin, own_lines}
 
 chosen : (t : Bool) (place n : ℕ) → cond t (Some place) None ≡ Some n → n ≡ place
-chosen true place n e = cc
-chosen false place n e = absurd cc
+chosen t place n e = grind (arith, common_steps)
 
 refused : (t : Bool) (place : ℕ) → cond t (Some place) None ≡ None → t ≡ false
-refused true place e = absurd cc
-refused false place e = refl
+refused t place e = grind (arith, common_steps)
 
 pub some_place : {X : Type 0} (p : X → Bool) (xs : List X) (n : ℕ) → position p xs ≡ Some n → n ≡ position_or_len p xs
 some_place p xs n e = chosen _ (position_or_len p xs) n e

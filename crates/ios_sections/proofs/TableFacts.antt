@@ -1,6 +1,7 @@
 -- The table of interfaces by name: where one more section goes.
-use Rattle.std.proofs.Common.{sym, ◌≡◌, ℕ, suc, ◌+◌, ◌<◌, Bool, true, false, not, ◌||◌, List, [], ◌∷◌, ◌++◌, refl, ap, ◌∙◌, cond, map, bytes_eq, length}
-use Rattle.std.proofs.Common.{get_or, set, one-add, arith}
+use Rattle.std.proofs.lemmas.Grind.{common_steps}
+use Rattle.std.proofs.Common.{◌≡◌, ℕ, suc, ◌+◌, ◌<◌, Bool, true, false, not, ◌||◌, List, [], ◌∷◌, ◌++◌, refl, ap, cond, map, bytes_eq, length}
+use Rattle.std.proofs.Common.{get_or, set, arith}
 use Rattle.std.specs.List.{list_any, position_or_len}
 use Rattle.std.proofs.lemmas.Bool.{false≢true}
 use Rattle.std.proofs.lemmas.List.{map-append}
@@ -17,8 +18,7 @@ any-map f p [] = refl
 any-map f p (x ∷ xs) = ap (λ (b : Bool). p (f x) || b) (any-map f p xs)
 
 pub map-insert : {X : Type 0} (f : X → Word) (b : Bool) (xs : List X) (x : X) → map f (cond b xs (xs ++ x ∷ [])) ≡ cond b (map f xs) (map f xs ++ f x ∷ [])
-map-insert f true xs x = refl
-map-insert f false xs x = map-append f xs (x ∷ [])
+map-insert f b xs x = grind (arith, common_steps, map-append)
 
 abbrev pub names_of : List InterfaceSection → List Word
 names_of xs = map (λ (s : InterfaceSection). s.name) xs
@@ -28,8 +28,7 @@ joined s more = record { line = s.line; name = s.name; lines = s.lines ++ more.l
 
 new_cases : (t b : Bool) (x s : InterfaceSection) (xs rest : List InterfaceSection) → (b ≡ false → rest ≡ xs ++ s ∷ []) → (t || b) ≡ false →
     cond t (joined x s ∷ xs) (x ∷ rest) ≡ (x ∷ xs) ++ s ∷ []
-new_cases true b x s xs rest later h = absurd (false≢true (sym h))
-new_cases false b x s xs rest later h = ap (λ (w : List InterfaceSection). x ∷ w) (later h)
+new_cases t b x s xs rest later h = grind (arith, common_steps, false≢true)
 
 -- a section of a new name goes last
 pub table_new : (xs : List InterfaceSection) (s : InterfaceSection) → list_any (bytes_eq s.name) (names_of xs) ≡ false → with_interface xs s ≡ xs ++ s ∷ []
@@ -39,8 +38,7 @@ table_new (x ∷ xs) s h = new_cases (bytes_eq s.name x.name) (list_any (bytes_e
 old_cases : (t b : Bool) (x s d : InterfaceSection) (xs rest : List InterfaceSection) (n : ℕ) →
     (b ≡ true → rest ≡ set xs n (joined (get_or xs n d) s)) → (t || b) ≡ true →
     cond t (joined x s ∷ xs) (x ∷ rest) ≡ set (x ∷ xs) (cond (not t) (1 + n) 0) (joined (get_or (x ∷ xs) (cond (not t) (1 + n) 0) d) s)
-old_cases true b x s d xs rest n later h = refl
-old_cases false b x s d xs rest n later h = rw one-add (ap (λ (w : List InterfaceSection). x ∷ w) (later h))
+old_cases t b x s d xs rest n later h = grind (arith, common_steps)
 
 -- a section of a name that is there goes to that name's place
 pub table_old : (xs : List InterfaceSection) (s d : InterfaceSection) → list_any (bytes_eq s.name) (names_of xs) ≡ true →
@@ -61,8 +59,7 @@ names-table [] s = refl
 names-table (x ∷ xs) s = name_cases (bytes_eq s.name x.name) (list_any (bytes_eq s.name) (names_of xs)) x s xs (with_interface xs s) (names-table xs s)
 
 place_cases : (t b : Bool) (n m : ℕ) → (b ≡ true → n < m) → (t || b) ≡ true → cond (not t) (1 + n) 0 < suc m
-place_cases true b n m later h = omega arith
-place_cases false b n m later h = let l = later h in omega (arith, l)
+place_cases t b n m later h = grind (arith, common_steps)
 
 -- the place of a name that is there
 pub place_within : (ns : List Word) (n : Word) → list_any (bytes_eq n) ns ≡ true → position_or_len (bytes_eq n) ns < length ns
@@ -72,5 +69,4 @@ place_within (m ∷ ms) n h = place_cases (bytes_eq n m) (list_any (bytes_eq n) 
 -- the names go with the table
 pub names_after : (xs ys : List InterfaceSection) (s : InterfaceSection) (ns ms : List Word) → ys ≡ with_interface xs s → ns ≡ names_of xs → ms
     ≡ cond (list_any (bytes_eq s.name) ns) ns (ns ++ s.name ∷ []) → ms ≡ names_of ys
-names_after xs ys s ns ms table before after =
-    after ∙ ap (λ (w : List Word). cond (list_any (bytes_eq s.name) w) w (w ++ s.name ∷ [])) before ∙ sym (names-table xs s) ∙ sym (ap names_of table)
+names_after xs ys s ns ms table before after = grind (arith, common_steps, names-table)

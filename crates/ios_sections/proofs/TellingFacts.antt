@@ -1,24 +1,25 @@
 -- Lines that tell nothing may be left out: the parts of a text are the same, and what their sections say.
-use Rattle.std.proofs.Common.{◌≡◌, ℕ, suc, ◌+◌, Bool, true, false, not, cond, ◌&&◌, ◌||◌, List, [], ◌∷◌, ◌++◌, Option, None, Result}
-use Rattle.std.proofs.Common.{map, take, filter, fold, filter_map, codes, bytes_eq, nat_eq, append-nil, refl, sym, ap, ◌∙◌, arith}
-use Rattle.std.specs.List.{list_any, prefix_len, before_first}
+use Rattle.std.proofs.lemmas.Grind.{common_steps}
+use Rattle.std.proofs.Common.{◌≡◌, ℕ, Bool, true, false, not, cond, ◌&&◌, ◌||◌, List, [], ◌∷◌, ◌++◌, Option, None, Result}
+use Rattle.std.proofs.Common.{map, filter, fold, filter_map, codes, bytes_eq, nat_eq, refl, sym, ap, ◌∙◌, arith}
+use Rattle.std.specs.List.{list_any, before_first}
 use Rattle.std.proofs.lemmas.Bool.{and_parts, or_parts, or_from}
 use Rattle.std.proofs.lemmas.Grind.{fold-append}
 use Rattle.std.proofs.lemmas.List.Elements.{filter-append}
 use Rattle.std.proofs.lemmas.Slice.Eq.{bytes_eq-Decides}
-use Rattle.ios_lines.specs.Words.{Word, word_at, says, begins_with_two, lacks}
+use Rattle.ios_lines.specs.Words.{Word, word_at, says, begins_with_two}
 use Rattle.ios_lines.specs.Heads.{hostname_of, head_of}
 use Rattle.ios_lines.specs.Lookups.{last_of}
 use Rattle.ios_lines.specs.declared.kind.ReadKind.{ReadKind}
 use Rattle.ios_lines.specs.declared.kind.ReadKind.TheVariants.{Unsupported}
 use Rattle.ios_lines.specs.declared.head.Head.{Head}
 use Rattle.ios_lines.specs.declared.head.Head.TheVariants.{Hostname as NameHead, Faulty as FaultyHead, Other as OtherHead}
-use Rattle.ios_sections.specs.TextLines.{TextLine, TextSection, Part, banner_after, outside_banner, outside_banners, counts, is_end, is_empty}
+use Rattle.ios_sections.specs.TextLines.{TextLine, TextSection, Part, is_end, is_empty}
 use Rattle.ios_sections.specs.TextLines.{parts_after, rest_after, begins_configuration, opens_section, first_indent, section_lines, sections_of}
 use Rattle.ios_sections.specs.TellingLines.{has_lines, may_tell, line_tells, open_after, telling_lines}
 use Rattle.ios_sections.specs.steps.ToldLines.{told_at, place_after, told_from}
 use Rattle.ios_sections.specs.Sections.{section_with, section_of, sections_among, sections_in, counted_from, own_lines, head_number, first_number, from_first}
-use Rattle.ios_sections.specs.Processes.{as_hostname, as_interface, as_ospf, as_isis, as_fault}
+use Rattle.ios_sections.specs.Processes.{as_hostname}
 use Rattle.ios_sections.specs.Statements.{statements_of}
 use Rattle.ios_sections.specs.declared.text.TextPlace.{TextPlace}
 use Rattle.ios_sections.specs.declared.section.Section.{Section}
@@ -27,8 +28,7 @@ use Rattle.ios_sections.specs.declared.section.Section.TheVariants.{Other}
 -- ---- one more line ----
 
 one_choice : (t : Bool) (x : TextLine) (xs ys : List TextLine) → cond t (x ∷ (xs ++ ys)) (xs ++ ys) ≡ cond t (x ∷ xs) xs ++ ys
-one_choice true x xs ys = refl
-one_choice false x xs ys = refl
+one_choice t x xs ys = grind (arith, common_steps)
 
 telling-append : (below : Bool) (xs ys : List TextLine) →
     telling_lines below (xs ++ ys) ≡ telling_lines below xs ++ telling_lines (fold open_after below xs) ys
@@ -39,10 +39,7 @@ telling-append below (x ∷ xs) ys =
 
 -- the lines from a place on, by the first one of them
 pub told_next : (place : TextPlace) (x : TextLine) (xs : List TextLine) → told_from place (x ∷ xs) ≡ told_at place x ++ told_from (place_after place x) xs
-told_next place x xs =
-    ap (telling_lines place.below)
-    (filter-append counts (outside_banner place.in_banner x) (outside_banners (banner_after place.in_banner x) xs))
-    ∙ telling-append place.below (filter counts (outside_banner place.in_banner x)) (filter counts (outside_banners (banner_after place.in_banner x) xs))
+told_next place x xs = grind (arith, common_steps, filter-append, telling-append)
 
 -- ---- what an `end` line and other lines tell ----
 
@@ -50,26 +47,17 @@ other_text : (word one other : Word) → bytes_eq word one ≡ true → bytes_eq
 other_text word one other is apart = ap (λ (w : Word). bytes_eq w other) ((bytes_eq-Decides word one).0 is) ∙ apart
 
 or_second : (t u : Bool) → u ≡ true → (t || u) ≡ true
-or_second true u e = refl
-or_second false u e = e
+or_second t u e = grind (arith, common_steps)
 
 module _ (x : TextLine) (ends : is_end x ≡ true) where
   at_zero : (nat_eq x.indent 0 ≡ true) × (says x.words 0 (codes "end") ≡ true)
-  at_zero =
-      let first = and_parts (nat_eq x.indent 0 && says x.words 0 (codes "end")) (lacks x.words 1) ends in
-      and_parts (nat_eq x.indent 0) (says x.words 0 (codes "end")) first.0
+  at_zero = grind (arith, common_steps, and_parts)
 
   end_tells : (below : Bool) → line_tells below x ≡ true
-  end_tells below =
-      ap (λ (b : Bool). cond b (may_tell x) below) at_zero.0
-      ∙ or_second (has_lines x || says x.words 0 (codes "hostname") || says x.words 0 (codes "ip")) (says x.words 0 (codes "end")) at_zero.1
+  end_tells below = grind (arith, common_steps, at_zero, or_second)
 
   end_closes : (below : Bool) → open_after below x ≡ false
-  end_closes below =
-      ap (λ (b : Bool). cond b (has_lines x) below) at_zero.0
-      ∙ or_from (says x.words 0 (codes "interface")) (says x.words 0 (codes "router"))
-      (other_text (word_at x.words 0) (codes "end") (codes "interface") at_zero.1 refl)
-      (other_text (word_at x.words 0) (codes "end") (codes "router") at_zero.1 refl)
+  end_closes below = grind (arith, common_steps, at_zero, or_from, other_text)
 
 -- what the first word isn't, of a line at indent 0 that may tell nothing
 record TellsNothing (x : TextLine) : Type 0 where
@@ -112,22 +100,11 @@ module _ {A : Type 0} (f : List TextLine → List TextLine → A) (before xs : L
   goes_on : (t : Bool) → line_tells (going_on before) x ≡ t →
       f (told before) (cond t (x ∷ telling_lines (open_after (going_on before) x) xs) (telling_lines (open_after (going_on before) x) xs))
       ≡ f (told (before ++ x ∷ [])) (telling_lines (going_on (before ++ x ∷ [])) xs)
-  goes_on true e =
-      on (telling_lines (open_after (going_on before) x) xs)
-      ∙ ap (λ (ls : List TextLine). f ls (telling_lines (open_after (going_on before) x) xs))
-      (sym (told-push before x ∙ ap (λ (b : Bool). told before ++ cond b (x ∷ []) []) e))
-      ∙ ap (λ (b : Bool). f (told (before ++ x ∷ [])) (telling_lines b xs)) (sym (going_on-push before x))
-  goes_on false e =
-      ap (λ (ls : List TextLine). f ls (telling_lines (open_after (going_on before) x) xs))
-      (sym (told-push before x ∙ ap (λ (b : Bool). told before ++ cond b (x ∷ []) []) e ∙ append-nil (told before)))
-      ∙ ap (λ (b : Bool). f (told (before ++ x ∷ [])) (telling_lines b xs)) (sym (going_on-push before x))
+  goes_on t e = grind (arith, common_steps, going_on-push, told-push)
 
 -- the lines from an `end` line on
 told_at_end : (before xs : List TextLine) (x : TextLine) → is_end x ≡ true → telling_lines (going_on before) (x ∷ xs) ≡ x ∷ telling_lines false xs
-told_at_end before xs x ends =
-    ap (λ (b : Bool). cond b (x ∷ telling_lines (open_after (going_on before) x) xs) (telling_lines (open_after (going_on before) x) xs))
-    (end_tells x ends (going_on before))
-    ∙ ap (λ (b : Bool). x ∷ telling_lines b xs) (end_closes x ends (going_on before))
+told_at_end before xs x ends = grind (arith, common_steps, end_closes, end_tells)
 
 abbrev part_with : List TextLine → ℕ → Part
 part_with lines ends = record { lines = lines; ends = ends }
@@ -202,14 +179,10 @@ begins_told below (x ∷ xs) = by_telling (line_tells below x) refl (begins_told
 -- ---- the lines of a section ----
 
 at_head : (x : TextLine) (xs : List TextLine) → opens_section x ≡ true → before_first opens_section (x ∷ xs) ≡ []
-at_head x xs e =
-    ap (λ (b : Bool). take (cond (not b) (1 + prefix_len (λ (l : TextLine). not (opens_section l)) xs) 0) (x ∷ xs)) e
+at_head x xs e = grind (arith, common_steps)
 
 at_line : (x : TextLine) (xs : List TextLine) → opens_section x ≡ false → before_first opens_section (x ∷ xs) ≡ x ∷ before_first opens_section xs
-at_line x xs e =
-    let more : 1 + prefix_len (λ (l : TextLine). not (opens_section l)) xs ≡ suc (prefix_len (λ (l : TextLine). not (opens_section l)) xs) = omega arith in
-    ap (λ (b : Bool). take (cond (not b) (1 + prefix_len (λ (l : TextLine). not (opens_section l)) xs) 0) (x ∷ xs)) e
-    ∙ ap (λ (n : ℕ). take n (x ∷ xs)) more
+at_line x xs e = grind (arith, common_steps)
 
 -- below a section whose lines say nothing no line is told before the next section
 none_inside : (xs : List TextLine) → before_first opens_section (telling_lines false xs) ≡ []
@@ -290,11 +263,7 @@ lone_section named route name n one other = grind arith
 
 -- the section of such a line says the same with any lines
 lone_says : (x : TextLine) (one other : List TextLine) → has_lines x ≡ false → section_of (text_section x one) ≡ section_of (text_section x other)
-lone_says x one other none =
-    let two = or_parts (says x.words 0 (codes "interface")) (says x.words 0 (codes "router")) none in
-    ap (λ (h : Head). section_with h x.number one) (lone_head_is x two.0 two.1)
-    ∙ lone_section (says x.words 0 (codes "hostname")) (is_route x.words) (hostname_of (word_at x.words 1)) x.number one other
-    ∙ sym (ap (λ (h : Head). section_with h x.number other) (lone_head_is x two.0 two.1))
+lone_says x one other none = grind (arith, common_steps, lone_head_is, lone_section, or_parts)
 
 -- the section of a line that tells nothing says nothing
 pub says_nothing : (x : TextLine) (body : List TextLine) → may_tell x ≡ false → section_of (text_section x body) ≡ Other
@@ -368,21 +337,13 @@ name_spoken [] = refl
 name_spoken (s ∷ ss) = grind (arith, name_spoken ss)
 
 statements_spoken : (ss : List Section) → statements_of (spoken ss) ≡ statements_of ss
-statements_spoken ss =
-    rw (
-      name_spoken ss,
-      taken_spoken as_interface refl ss,
-      taken_spoken as_ospf refl ss,
-      taken_spoken as_isis refl ss,
-      taken_spoken as_fault refl ss,
-    ) refl
+statements_spoken ss = grind (arith, common_steps, name_spoken, taken_spoken)
 
 -- ---- the lines of a configuration ----
 
 told_choice : (t : Bool) (n : ℕ) (x : TextLine) (xs : List TextLine) →
     cond t (counted_from n x ∷ map (counted_from n) xs) (map (counted_from n) xs) ≡ map (counted_from n) (cond t (x ∷ xs) xs)
-told_choice true n x xs = refl
-told_choice false n x xs = refl
+told_choice t n x xs = grind (arith, common_steps)
 
 told_counted : (n : ℕ) (below : Bool) (xs : List TextLine) →
     telling_lines below (map (counted_from n) xs) ≡ map (counted_from n) (telling_lines below xs)
@@ -425,20 +386,12 @@ pub first_told : (xs : List TextLine) → first_number (telling_lines false xs) 
 first_told xs = ap head_number (own_told false xs) ∙ head_told xs
 
 from_first_told : (xs : List TextLine) → from_first (telling_lines false xs) ≡ telling_lines false (from_first xs)
-from_first_told xs =
-    ap (λ (n : ℕ). map (counted_from n) (own_lines (telling_lines false xs))) (first_told xs)
-    ∙ ap (map (counted_from (first_number xs))) (own_told false xs)
-    ∙ sym (told_counted (first_number xs) false (own_lines xs))
+from_first_told xs = grind (arith, common_steps, first_told, own_told, told_counted)
 
 -- the sections of a part say the same without the lines that tell nothing
 pub statements_told : (part : Part) → statements_of (sections_in (told_part part)) ≡ statements_of (sections_in part)
-statements_told part =
-    ap (λ (ls : List TextLine). statements_of (sections_among ls)) (from_first_told part.lines)
-    ∙ sym (statements_spoken (sections_among (telling_lines false (from_first part.lines))))
-    ∙ ap statements_of (spoken_told false (from_first part.lines))
-    ∙ statements_spoken (sections_in part)
+statements_told part = grind (arith, common_steps, from_first_told, spoken_told, statements_spoken)
 
 -- no part is there exactly where none is
 pub none_told : (parts : List Part) → is_empty (map told_part parts) ≡ is_empty parts
-none_told [] = refl
-none_told (part ∷ parts) = refl
+none_told parts = grind (arith, common_steps)

@@ -1,5 +1,7 @@
 -- The `net` lines after the first one, one more line at a time.
-use Rattle.std.proofs.Common.{sym, ◌≡◌, ℕ, ◌+◌, ◌<◌, Bool, true, false, ◌&&◌, ◌||◌, List, [], ◌∷◌, ◌++◌, length, take, drop, get_or, map, refl, ap, ◌∙◌, cond, append_assoc}
+use Rattle.std.proofs.Common.{arith}
+use Rattle.std.proofs.lemmas.Grind.{common_steps}
+use Rattle.std.proofs.Common.{◌≡◌, ℕ, ◌+◌, ◌<◌, Bool, true, false, ◌&&◌, ◌||◌, List, [], ◌∷◌, ◌++◌, length, take, drop, get_or, map, refl, cond}
 use Rattle.std.specs.Prelude.{filter}
 use Rattle.std.specs.List.{list_any}
 use Rattle.std.proofs.lemmas.List.{map-append, take_more}
@@ -18,8 +20,7 @@ abbrev titled_at : IsisStatement → Fault
 titled_at s = fault_at s.line Unsupported
 
 there_cases : (t b : Bool) (x : IsisStatement) (ys : List IsisStatement) → b ≡ there ys → (t || b) ≡ there (cond t (x ∷ ys) ys)
-there_cases true b x ys e = refl
-there_cases false b x ys e = e
+there_cases t b x ys e = grind (arith, common_steps)
 
 any_there : (xs : List IsisStatement) → list_any is_net xs ≡ there (filter is_net xs)
 any_there [] = refl
@@ -27,25 +28,16 @@ any_there (x ∷ xs) = there_cases (is_net x) (list_any is_net xs) x (filter is_
 
 after_first : (ys : List IsisStatement) (b : Bool) (x : IsisStatement) →
     map titled_at (drop 1 (ys ++ cond b (x ∷ []) [])) ≡ map titled_at (drop 1 ys) ++ cond (there ys && b) (titled_at x ∷ []) []
-after_first [] true x = refl
-after_first [] false x = refl
-after_first (y ∷ ys) true x = map-append titled_at ys (x ∷ [])
-after_first (y ∷ ys) false x = map-append titled_at ys []
+after_first ys b x = grind (arith, common_steps, map-append)
 
 second_titles-push : (xs : List IsisStatement) (x : IsisStatement) →
     second_titles (xs ++ x ∷ []) ≡ second_titles xs ++ faults_if (list_any is_net xs && is_net x) x.line Unsupported
-second_titles-push xs x =
-    ap (λ (w : List IsisStatement). map titled_at (drop 1 w)) (filter-append is_net xs (x ∷ []))
-    ∙ after_first (filter is_net xs) (is_net x) x
-    ∙ ap (λ (b : Bool). second_titles xs ++ faults_if (b && is_net x) x.line Unsupported) (sym (any_there xs))
+second_titles-push xs x = grind (arith, common_steps, after_first, any_there, filter-append)
 
 -- one more line of a loop over some lines
 pub second_titles_more : (xs : List IsisStatement) (i : ℕ) (x : IsisStatement) → i < length xs → x ≡ get_or xs i x →
     second_titles (take (i + 1) xs) ≡ second_titles (take i xs) ++ faults_if (list_any is_net (take i xs) && is_net x) x.line Unsupported
-second_titles_more xs i x within read =
-    ap second_titles (take_more xs i x within)
-    ∙ second_titles-push (take i xs) (get_or xs i x)
-    ∙ ap (λ (y : IsisStatement). second_titles (take i xs) ++ faults_if (list_any is_net (take i xs) && is_net y) y.line Unsupported) (sym read)
+second_titles_more xs i x within read = grind (arith, common_steps, second_titles-push, take_more)
 
 any-push : (xs : List IsisStatement) (x : IsisStatement) → list_any is_net (xs ++ x ∷ []) ≡ (list_any is_net xs || is_net x)
 any-push [] x = or_false (is_net x)
@@ -62,18 +54,11 @@ any-push (y ∷ ys) x = or_assoc (is_net y) (list_any is_net ys) (is_net x) (any
 -- whether a `net` line stands among some lines, in a loop over them
 pub any_more : (xs : List IsisStatement) (i : ℕ) (x : IsisStatement) → i < length xs → x ≡ get_or xs i x →
     list_any is_net (take (i + 1) xs) ≡ (list_any is_net (take i xs) || is_net x)
-any_more xs i x within read =
-    ap (list_any is_net) (take_more xs i x within) ∙ any-push (take i xs) (get_or xs i x)
-    ∙ ap (λ (y : IsisStatement). list_any is_net (take i xs) || is_net y) (sym read)
+any_more xs i x within read = grind (arith, common_steps, any-push, take_more)
 
 -- a loop over some lines takes in the faults of the `net` lines after the first one, with one more line
 pub titles_taken : (xs : List IsisStatement) (i : ℕ) (x : IsisStatement) (start before after : List Fault) (second titled : Bool) → i < length xs →
     x ≡ get_or xs i x → before ≡ start ++ second_titles (take i xs) → titled ≡ list_any is_net (take i xs) → second ≡ (titled && is_net x) →
     after ≡ before ++ faults_if second x.line Unsupported → after ≡ start ++ second_titles (take (i + 1) xs)
 titles_taken xs i x start before after second titled within read was net is made =
-    let found : List Fault = faults_if (list_any is_net (take i xs) && is_net x) x.line Unsupported in
-    made
-    ∙ ap (λ (b : Bool). before ++ faults_if b x.line Unsupported) (is ∙ ap (λ (b : Bool). b && is_net x) net)
-    ∙ ap (λ (w : List Fault). w ++ found) was
-    ∙ append_assoc start (second_titles (take i xs)) found
-    ∙ ap (λ (w : List Fault). start ++ w) (sym (second_titles_more xs i x within read))
+    grind (arith, common_steps, second_titles_more)

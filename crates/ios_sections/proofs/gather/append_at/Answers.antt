@@ -1,5 +1,5 @@
-use Rattle.std.proofs.Common.{ℕ, ◌≡◌, ◌<◌, length, List, set, get_or, sym, ap, ◌∙◌, arith, bytes_eq}
-use Rattle.std.specs.List.{position_or_len}
+use Rattle.std.proofs.lemmas.Grind.{common_steps}
+use Rattle.std.proofs.Common.{ℕ, List, set, get_or, sym, ap, ◌∙◌, arith}
 use Rattle.std.proofs.lemmas.List.{length-map}
 use Rattle.std.proofs.lemmas.Result.{on_ok_weaker}
 use Rattle.ios_lines.specs.declared.interface_line.InterfaceStatement.{InterfaceStatement}
@@ -8,12 +8,7 @@ use Rattle.ios_sections.proofs.TableFacts.{names_of, joined, table_old, place_wi
 use Rattle.ios_sections.proofs.gather.append_at.Goals as goal
 
 pub index_mut-requires : goal.index_mut-requires
-index_mut-requires c =
-    let within : position_or_len (bytes_eq c.args.section.name) (names_of c.args.interfaces.now.items) < length (names_of c.args.interfaces.now.items) =
-    place_within (names_of c.args.interfaces.now.items) c.args.section.name c.requires.known in
-    let count : length (names_of c.args.interfaces.now.items) ≡ length c.args.interfaces.now.items =
-    length-map c.args.interfaces.now.items (λ (s : InterfaceSection). s.name) in
-    omega (arith, c.requires.place, within, count, c.args.interfaces.now.ok.0)
+index_mut-requires c = grind (arith, common_steps, length-map, names_of, place_within)
 
 pub returns : goal.returns
 returns c =

@@ -1,4 +1,4 @@
-use Rattle.std.proofs.Common.{◌<◌, Bool, ◌||◌, length, take, sym, ap, ◌∙◌}
+use Rattle.std.proofs.Common.{◌<◌, Bool, ◌||◌, length, sym, ap, ◌∙◌}
 use Rattle.ios_sections.specs.ProcessFaults.{is_net}
 use Rattle.ios_sections.proofs.TitleFacts.{titles_taken, any_more}
 use Rattle.ios_sections.proofs.isis_process.push_second_titles.Goals as goal
