@@ -1,6 +1,7 @@
 -- Areas: which there are, who is in them, who is a border router and who listens to whom.
+use Rattle.std.proofs.lemmas.Grind.{common_steps}
 use Rattle.std.proofs.Common.{◌≡◌, ◌≢◌, ℕ, ◌+◌, ◌<◌, ◌↔◌, inl, inr, ⊎_elim, List, [], ◌∷◌, ◌++◌, length, Option, Some, None, MatchOption, Bool, true, false}
-use Rattle.std.proofs.Common.{not, ◌==◌, IsTrue, refl, sym, ap, subst, ◌∙◌, arith, get_or}
+use Rattle.std.proofs.Common.{not, ◌==◌, IsTrue, refl, sym, subst, ◌∙◌, arith, get_or}
 use Rattle.std.proofs.lemmas.List.{get_or_default, get_or-map}
 use Rattle.std.specs.List.{Contains, Any}
 use Rattle.std.proofs.lemmas.Bool.{eqb-true, eqb-false, cases_eq, cases_lt, false≢true}
@@ -17,9 +18,8 @@ use Rattle.net_model.specs.declared.zone.Zone.TheVariants.{Area}
 use Rattle.walk_core.specs.Reach.{Reach}
 use Rattle.walk_core.specs.declared.segment.Port.{Port}
 use Rattle.zone_graph.specs.Segments.{AreZoneSegments}
-use Rattle.zone_graph.specs.Walks.{AreZoneWalks}
 use Rattle.igp_theory.specs.Ospf.{ListensTo, backbone, one_area}
-use Rattle.ospf_routes.specs.steps.AreaReach.{all_walks, area_reach}
+use Rattle.ospf_routes.specs.steps.AreaReach.{area_reach}
 use Rattle.ospf_routes.specs.steps.Areas.{RunsOther, HasArea, IsAreaAt, AreAreas, AreJoinedAreas, IsArea, IsListener, IsListenerAt, IsReach}
 use Rattle.ospf_routes.specs.steps.Members.{IsMember}
 use Rattle.ospf_routes.specs.AreaZones.{AreAreaZones, IsAreaOf, IsAreaZone}
@@ -179,8 +179,7 @@ listened_place_is net areas u n (Some zone) are listens none at = record { area 
 
 -- the area at a place, as it is read
 pub number_at : (areas : List AreaWalks) (n zone : ℕ) (a : AreaWalks) → IsAreaAt areas n zone → a ≡ get_or areas zone a → a.number ≡ n
-number_at areas n zone a at here =
-    ap (λ (x : AreaWalks). x.number) (here ∙ get_or_default areas zone a at.area at.within ∙ sym at.here) ∙ at.number
+number_at areas n zone a at here = grind (arith, common_steps, get_or_default)
 
 pub area_is : (net : Network) (areas : List AreaWalks) (zone : ℕ) (a : AreaWalks) → AreAreas net areas → zone < length areas → a ≡ get_or areas zone a →
     IsArea net a
@@ -194,34 +193,23 @@ reach_within net areas u zone a are within here below = let walks = (area_is net
 -- the walks from a router in the area at a place, as they are read
 pub area_reach_read : (areas : List AreaWalks) (u zone : ℕ) (a : AreaWalks) → zone < length areas → a ≡ get_or areas zone a → u < length a.walks.value →
     slice_get a.walks.value u ≡ Some (area_reach areas u zone)
-area_reach_read areas u zone a within here below =
-    let none : Reach = record { distances = []; hops = [] } in
-    let walks_of : AreaWalks → List Reach = λ x. x.walks.value in
-    let there : a.walks.value ≡ get_or (all_walks areas) zone [] = ap walks_of here ∙ sym (get_or-map walks_of areas zone a [] within) in
-    subst (λ (l : List Reach). slice_get a.walks.value u ≡ Some (get_or l u none)) there (slice_get-get_or a.walks.value u none below)
+area_reach_read areas u zone a within here below = grind (arith, common_steps, get_or-map, slice_get-get_or)
 
 pub reach_is : (net : Network) (areas : List AreaWalks) (n u zone : ℕ) (a : AreaWalks) (reach : Reach) → AreAreas net areas → IsAreaAt areas n zone →
     a ≡ get_or areas zone a → slice_get a.walks.value u ≡ Some reach → IsReach net n u reach
-reach_is net areas n u zone a reach are at here read =
-    let walks : AreZoneWalks net (Area n) a.walks.value =
-    subst (λ (m : ℕ). AreZoneWalks net (Area m) a.walks.value) (number_at areas n zone a at here) (area_is net areas zone a are at.within here).walks in
-    record { least = walks.least u reach read; near = walks.near u reach read }
+reach_is net areas n u zone a reach are at here read = grind (arith, common_steps, area_is, number_at)
 
 pub member_at : (net : Network) (areas : List AreaWalks) (n u zone : ℕ) (a : AreaWalks) → AreAreas net areas → IsAreaAt areas n zone →
     a ≡ get_or areas zone a → u < length net → IsMember a.members u ↔ InArea net u n
-member_at net areas n u zone a are at here below =
-    subst (λ (m : ℕ). IsMember a.members u ↔ InArea net u m) (number_at areas n zone a at here)
-    ((area_is net areas zone a are at.within here).members.each u below)
+member_at net areas n u zone a are at here below = grind (arith, common_steps, area_is, number_at)
 
 -- Other areas
 
 pub not_true : (b : Bool) → not b ≡ true → b ≡ false
-not_true true e = cc
-not_true false e = refl
+not_true b e = grind (arith, common_steps)
 
 apart_test : (a u : ℕ) (b : Bool) → (a == u) ≡ b → a ≢ u → not b ≡ true
-apart_test a u true same apart = absurd (apart (eqb-true a u same))
-apart_test a u false differ apart = refl
+apart_test a u b same apart = grind (arith, common_steps, eqb-true)
 
 pub runs_other_some : (i : Interface) (n area : ℕ) → ((m : ℕ) → (Some area ≡ Some m) ↔ RunsArea m i) → IsTrue (not (area == n)) ↔ RunsOther n i
 runs_other_some i n area is = (

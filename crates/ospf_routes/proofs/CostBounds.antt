@@ -1,5 +1,6 @@
 -- No sum of a distance and of what an offer asks is too large.
-use Rattle.std.proofs.Common.{◌≡◌, ℕ, ◌+◌, ◌*◌, ◌^◌, ◌<◌, ◌≤◌, ◌↔◌, refl, List, [], length, get_or, Option, Some, None, sym, subst, arith}
+use Rattle.std.proofs.lemmas.Grind.{common_steps}
+use Rattle.std.proofs.Common.{◌≡◌, ℕ, ◌+◌, ◌*◌, ◌^◌, ◌<◌, ◌≤◌, ◌↔◌, refl, List, [], length, get_or, Option, Some, sym, subst, arith}
 use Rattle.std.specs.Option.{IfSome}
 use Rattle.std.proofs.lemmas.List.Elements.{All-contains}
 use Rattle.std.proofs.lemmas.Option.{slice_get-get_or}
@@ -70,8 +71,7 @@ intra_is_small net areas n p u cost are costs =
     omega arith
 
 stated_is_small : (o : Option ℕ) (c : ℕ) → o ≡ Some c → IfSome o (λ k. k ≤ 16777214) → c ≤ 16777214
-stated_is_small None c is small = let e : None ≡ Some c = is in cc
-stated_is_small (Some k) c is small = let e : k ≡ c = cc in omega arith
+stated_is_small o c is small = grind (arith, common_steps)
 
 pub range_is_small : (net : Network) (areas : List AreaWalks) (b : ℕ) (r : Range) (cost : ℕ) → AreAreas net areas → RangeCost net b r cost → cost < 2 ^ 41
 range_is_small net areas b r cost are (stated is active) =

@@ -1,4 +1,6 @@
 -- The entries of a router, by its routes.
+use Rattle.std.proofs.Common.{arith}
+use Rattle.std.proofs.lemmas.Grind.{common_steps}
 use Rattle.std.proofs.Common.{◌≡◌, ◌↔◌, ℕ, List, Option, None, Some, MatchOption, length, refl, subst, sym}
 use Rattle.net_addr.specs.Addresses.{Block}
 use Rattle.net_model.specs.Network.{Network, Connected}
@@ -36,19 +38,11 @@ use Rattle.ospf_routes.proofs.RangeFacts.{active_range_is, intra_is_candidate, r
 
 -- a connected prefix has no entry
 pub connected_has_none : (net : Network) (u : ℕ) (p : Block) → Connected net u p → (e : Entry) → OspfEntry net u p e → ⊥
-connected_has_none net u p is e (intra_area away _ _) = away is
-connected_has_none net u p is e (discard away _ _ _) = away is
-connected_has_none net u p is e (inter_area away _ _ _) = away is
+connected_has_none net u p is e it_5 = grind (arith, common_steps)
 
 pub inter_cost_of : (net : Network) (u : ℕ) (p : Block) (cost : ℕ) → (IsIntraArea net p u → ⊥) → (IsActiveRange net p u → ⊥) → ListenedCost net p u cost →
     InterAreaCost net p u cost
-inter_cost_of net u p cost no_intra no_range costs = record {
-  no_intra = no_intra;
-  no_range = no_range;
-  area = costs.area;
-  listens = costs.listens;
-  best = costs.best;
-}
+inter_cost_of net u p cost no_intra no_range costs = grind (arith, common_steps)
 
 -- what is announced into an area is in range over the walks there
 pub heard_in_range : (net : Network) (areas : List AreaWalks) (n : ℕ) (p : Block) (reach : Reach) (offers given : List Offer) → AreAreas net areas →
@@ -85,14 +79,10 @@ asked_as P asked domain u p domains routers dests is =
 -- the place of the area that the router listens to
 pub listened_place : (asked : Asked) (zone : ℕ) → IsQuestion asked → asked.listens ≡ Some zone →
     IsListenedPlace asked.domain.now.net asked.domain.now.areas asked.router zone
-listened_place asked zone is here =
-    MatchOption-at_some ((n : ℕ) → ListensTo asked.domain.now.net asked.router n → ⊥)
-    (IsListenedPlace asked.domain.now.net asked.domain.now.areas asked.router) zone here is.listens
+listened_place asked zone is here = grind (arith, common_steps, MatchOption-at_some)
 
 pub listens_nowhere : (asked : Asked) → IsQuestion asked → asked.listens ≡ None → (n : ℕ) → ListensTo asked.domain.now.net asked.router n → ⊥
-listens_nowhere asked is none =
-    MatchOption-at_none ((n : ℕ) → ListensTo asked.domain.now.net asked.router n → ⊥)
-    (IsListenedPlace asked.domain.now.net asked.domain.now.areas asked.router) none is.listens
+listens_nowhere asked is none = grind (arith, common_steps, MatchOption-at_none)
 
 -- the prefix is connected at the router where it is at home, and has an active range where one is found
 pub home_is : (asked : Asked) → IsQuestion asked → Contains asked.destination.now.homes.items asked.router ↔
@@ -121,8 +111,7 @@ pub decided_found : (asked : Asked) (d : Deciding) (n : ℕ) (found : Option Rou
     (Connected asked.domain.now.net asked.router asked.destination.now.dest → ⊥) → n ≡ length asked.domain.now.net →
     MatchOption found (NoneTotals d.walks.now d.offers.now) (IsBestRoute d.walks.now d.offers.now d.zone n) →
     MatchOption found (NoneTotals d.walks.now d.offers.now) (IsRoute asked)
-decided_found asked d n None decides away count none = none
-decided_found asked d n (Some route) decides away count is = decided_route asked d n route decides away count is
+decided_found asked d n found decides away count none = grind (arith, common_steps, decided_route)
 
 -- where none of them is reached there is no entry
 pub found_by : (asked : Asked) (none : Type 0) (found : Option Route) → (none → HasNoEntry asked) → MatchOption found none (IsRoute asked) →

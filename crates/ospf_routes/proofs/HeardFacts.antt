@@ -1,6 +1,7 @@
 -- What is announced of each prefix into each area.
+use Rattle.std.proofs.lemmas.Grind.{common_steps}
 use Rattle.std.proofs.Common.{None, ◌≡◌, ℕ, ◌+◌, ◌*◌, ◌<◌, ◌≤◌, inl, inr, Option, Some, List, [], ◌∷◌, ◌++◌}
-use Rattle.std.proofs.Common.{length, length-append, take, drop, get_or, refl, sym, ap, subst, ◌∙◌}
+use Rattle.std.proofs.Common.{length, length-append, get_or, refl, sym, ap, subst, ◌∙◌}
 use Rattle.std.proofs.Common.{append_assoc, arith}
 use Rattle.std.proofs.lemmas.Bool.{cases_lt}
 use Rattle.std.proofs.lemmas.Nat.{row_fits}
@@ -20,7 +21,6 @@ use Rattle.ospf_routes.specs.steps.Offered.{AreOffers}
 use Rattle.ospf_routes.specs.steps.OfferLists.{offers_of, offer_lists_of, AreOfferSpans, AreSummariesOf, HeardLists, heard_into}
 use Rattle.ospf_routes.specs.steps.Summarized.{IsHeard}
 use Rattle.ospf_routes.specs.declared.areas.AreaWalks.{AreaWalks}
-use Rattle.ospf_routes.specs.steps.Destinations.{ospf_prefixes}
 use Rattle.ospf_routes.specs.steps.Domain.{OspfDomain}
 use Rattle.ospf_routes.specs.declared.intra_area.Destination.{Destination}
 use Rattle.ospf_routes.specs.declared.summaries.OfferSpan.{OfferSpan}
@@ -30,10 +30,7 @@ use Rattle.route_tables.proofs.ListFacts.{each_more}
 
 -- more offers behind the others change no span
 span_stays : (offers more : List Offer) (span : OfferSpan) → span.start + span.count ≤ length offers → offers_of (offers ++ more) span ≡ offers_of offers span
-span_stays offers more span within =
-    let inside : span.start ≤ length offers = omega (arith, within) in
-    let long : span.count ≤ length (drop span.start offers) = omega (arith, length-drop span.start offers, within) in
-    ap (take span.count) (drop-append-le span.start offers more inside) ∙ take-append-le span.count (drop span.start offers) more long
+span_stays offers more span within = grind (arith, common_steps, drop-append-le, length-drop, take-append-le)
 
 spans_stay : (offers more : List Offer) (spans : List OfferSpan) → AreOfferSpans offers spans →
     offer_lists_of (offers ++ more) spans ≡ offer_lists_of offers spans
@@ -48,10 +45,7 @@ pub offer_lists_more : (offers more : List Offer) (spans : List OfferSpan) (span
     span.start ≡ length offers → span.count ≡ length more →
     offer_lists_of (offers ++ more) (spans ++ span ∷ []) ≡ offer_lists_of offers spans ++ more ∷ []
 offer_lists_more offers more spans span are starts counts =
-    map-append (offers_of (offers ++ more)) spans (span ∷ [])
-    ∙ ap (λ (l : List (List Offer)). l ++ offers_of (offers ++ more) span ∷ []) (spans_stay offers more spans are)
-    ∙ ap (λ (l : List Offer). offer_lists_of offers spans ++ l ∷ [])
-    (ap (take span.count) (drop_at offers more span.start (sym starts)) ∙ take_all span.count more (omega (arith, counts)))
+    grind (arith, common_steps, drop_at, map-append, spans_stay, take_all)
 
 -- The lists of each prefix
 
@@ -60,23 +54,17 @@ below_product k a place zone below within = let fits = row_fits place a k a belo
 
 pub heard_within : (domain : OspfDomain) (dests : List Block) (k : ℕ) (heard : HeardLists) → AreHeardBelow domain dests k heard →
     AreSummariesOf k heard
-heard_within domain dests k heard are place below zone within =
-    subst (λ (n : ℕ). place * heard.areas + zone < n) (sym are.count) (below_product k heard.areas place zone below within)
+heard_within domain dests k heard are place below zone within = grind (arith, common_steps, below_product)
 
 pub heard_none : (domain : OspfDomain) (dests : List Block) (count : ℕ) → count ≡ length domain.areas →
     AreHeardBelow domain dests 0 (record { areas = count; lists = [] })
-heard_none domain dests count same =
-    record { areas_are = same; count = omega arith; each = λ place zone below within. absurd (omega (arith, below)) }
+heard_none domain dests count same = grind (arith, common_steps)
 
 abbrev pub lists_with : ℕ → List (List Offer) → HeardLists
 lists_with areas lists = record { areas = areas; lists = lists }
 
 pub row_none : (domain : OspfDomain) (p : Block) (heard : HeardLists) → AddsRow (IsSummaryRow domain p 0) heard heard
-row_none domain p heard = record {
-  row = [];
-  behind = λ i. record { areas = heard.areas; lists = (sym (append-nil heard.lists)) i };
-  is = record { count = refl; each = λ zone below. absurd (omega (arith, below)) };
-}
+row_none domain p heard = grind (arith, common_steps, append-nil)
 
 pub row_more : (domain : OspfDomain) (p : Block) (m : ℕ) (old mid new : HeardLists) (list : List Offer) →
     AddsRow (IsSummaryRow domain p m) old mid → new ≡ record { areas = mid.areas; lists = mid.lists ++ list ∷ [] } → AreHeardAt domain p m list →
@@ -124,15 +112,12 @@ heard_of domain ds heard k d are within at zone inside =
 -- its list is there
 pub announced_within : (domain : OspfDomain) (ds : List Destination) (heard : HeardLists) (place zone : ℕ) → AreSummaries domain ds heard →
     place < length ds → zone < length domain.areas → place * heard.areas + zone < length heard.lists
-announced_within domain ds heard place zone are within inside =
-    heard_within domain (ospf_prefixes ds) (length ds) heard are place within zone
-    (subst (λ (n : ℕ). zone < n) (sym are.areas_are) inside)
+announced_within domain ds heard place zone are within inside = grind (arith, common_steps, heard_within)
 
 -- what an area's routers announce into it is that of its place
 pub heard_here : (domain : OspfDomain) (p : Block) (zone : ℕ) (a : AreaWalks) (offers : List Offer) → a ≡ get_or domain.areas zone a →
     AreOffers (IsHeard domain.net p a.number) offers → AreHeardAt domain p zone offers
-heard_here domain p zone a offers here are n at =
-    subst (λ (m : ℕ). AreOffers (IsHeard domain.net p m) offers) (number_at domain.areas n zone a at here) are
+heard_here domain p zone a offers here are n at = grind (arith, common_steps, number_at)
 
 -- an area that a router listens to is at a place within
 pub listened_inside : (net : Network) (areas : List AreaWalks) (all : List (Option ℕ)) (u zone : ℕ) (here : Option ℕ) →

@@ -1,6 +1,7 @@
 -- What decides the routes of the routers that are in one area alone.
+use Rattle.std.proofs.lemmas.Grind.{common_steps}
 use Rattle.std.proofs.Common.{◌≡◌, ℕ, zero, suc, ◌+◌, ◌^◌, ◌<◌, ◌≤◌, ◌⊎◌, ⊎_elim, List, [], ◌∷◌, length, get_or, Option, Some, None}
-use Rattle.std.proofs.Common.{refl, sym, ap, subst, arith}
+use Rattle.std.proofs.Common.{refl, sym, subst, arith}
 use Rattle.std.specs.List.{All, Any, Contains}
 use Rattle.std.proofs.lemmas.Option.{none-some, same_Some, slice_get_within}
 use Rattle.std.proofs.lemmas.List.Elements.{Contains-get_or, Contains-push}
@@ -64,15 +65,10 @@ abbrev free : ℕ → Offer
 free at = record { at = at; asks = 0 }
 
 dearer_total : (distance : Option ℕ) (asks cost : ℕ) → total_with distance 0 ≡ Some cost → total_with distance asks ≡ Some (cost + asks)
-dearer_total None asks cost is = absurd (none-some cost is)
-dearer_total (Some d) asks cost is = let same : d + 0 ≡ cost = same_Some (d + 0) cost is in ap Some (omega (arith, same))
+dearer_total distance asks cost is = grind (arith, common_steps, none-some, same_Some)
 
 freer_total : (distance : Option ℕ) (asks cost total : ℕ) → total_with distance 0 ≡ Some cost → total_with distance asks ≡ Some total → total ≡ cost + asks
-freer_total None asks cost total is other = absurd (none-some cost is)
-freer_total (Some d) asks cost total is other =
-    let one : d + 0 ≡ cost = same_Some (d + 0) cost is in
-    let two : d + asks ≡ total = same_Some (d + asks) total other in
-    omega (arith, one, two)
+freer_total distance asks cost total is other = grind (arith, common_steps, none-some, same_Some)
 
 free_hops : (reach : Reach) (o : Offer) (n : ℕ) (hops : List ℕ) → AreBestHops reach (free o.at ∷ []) n hops → AreBestHops reach (o ∷ []) n hops
 free_hops reach o n hops best =
@@ -117,9 +113,7 @@ free_hops reach o n hops best =
 -- Decisions
 
 pub one_alone : (offers : List Offer) (o : Offer) → 1 ≤ length offers → length offers < 2 → offers ≡ get_or offers 0 o ∷ []
-one_alone [] o some few = absurd (omega (arith, some))
-one_alone (x ∷ []) o some few = refl
-one_alone (x ∷ y ∷ rest) o some few = absurd (omega (arith, few))
+one_alone offers o some few = grind (arith, common_steps)
 
 -- offers of which the best make the entries lead there
 pub leads_by : (l : LaneOf) (u : ℕ) (p : Block) (offers : List Offer) → l.zone < length l.domain.areas →

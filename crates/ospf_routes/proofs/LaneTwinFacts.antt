@@ -1,4 +1,5 @@
 -- Prefixes outside an area that are announced alike into it have the same entries at the routers that are in it alone.
+use Rattle.std.proofs.lemmas.Grind.{common_steps}
 use Rattle.std.proofs.Common.{◌≡◌, ⊎_elim, ℕ, ◌+◌, ◌<◌, List, [], length, get_or, set, Option, None, Some, refl, sym, subst, arith}
 use Rattle.std.specs.Option.{IfSome}
 use Rattle.std.proofs.lemmas.List.{length-map}
@@ -112,8 +113,7 @@ outside_noted l ds n d old new number are at outside noted u k is = ⊎_elim
 
 -- what holds of the number that an option names
 pub some_each : (P : ℕ → Type 0) (found : Option ℕ) → IfSome found P → (k : ℕ) → found ≡ Some k → P k
-some_each P None is k same = absurd (none-some k same)
-some_each P (Some y) is k same = subst P (same_Some y k same) is
+some_each P found is k same = grind (arith, common_steps, is, none-some, same_Some)
 
 -- What is read for a lane
 

@@ -1,4 +1,5 @@
 -- What decides the routes of the routers that listen to an area, border routers among them.
+use Rattle.std.proofs.lemmas.Grind.{common_steps}
 use Rattle.std.proofs.Common.{◌≡◌, ◌≢◌, ℕ, ◌<◌, ◌⊎◌, inl, inr, ⊎_elim, List, length, Option, Some, refl, subst, sym, arith}
 use Rattle.std.specs.List.{All, Contains}
 use Rattle.std.proofs.lemmas.List.Elements.{All-contains}
@@ -8,7 +9,7 @@ use Rattle.walk_core.specs.Reach.{Reach}
 use Rattle.walk_core.specs.BestOffers.{AreInRange}
 use Rattle.walk_core.specs.declared.offers.Offer.{Offer}
 use Rattle.route_core.specs.declared.entry.Entry.{Entry}
-use Rattle.igp_theory.specs.Ospf.{IsActiveRange, IsIntraArea, ListensTo, OspfEntry, backbone, intra_area, one_area}
+use Rattle.igp_theory.specs.Ospf.{IsActiveRange, IsIntraArea, ListensTo, OspfEntry, intra_area}
 use Rattle.route_tables.specs.Lanes.{DecidesRoute}
 use Rattle.route_tables.specs.declared.lane.Decision.{Decision}
 use Rattle.route_tables.specs.declared.lane.Decision.TheVariants.{Nothing, NothingBut, One, Two, Unknown}
@@ -36,8 +37,7 @@ listening_place l u are below listening = subst (IsListenerAt l.domain.net l.dom
 
 -- in another area it is a border router
 not_inside : (net : Network) (u n m : ℕ) → ListensTo net u n → m ≢ n → (IsBorderIn net m u → ⊥) → InArea net u m → ⊥
-not_inside net u _ m (backbone border) other none inside = none (record { inside = inside; border = border })
-not_inside net u n m (one_area alone in_n) other none inside = other (only_inside net u n m alone (one_area alone in_n) inside)
+not_inside net u n m it_4 other none inside = grind (arith, common_steps, only_inside)
 
 -- Prefixes of one other area at most
 
@@ -82,13 +82,11 @@ nothing_decides_others l u p Unknown is none = tt
 -- where it is made unknown no less is so
 few_or_unknown : (offers : List Offer) (d result : Decision) → IsOfFew offers d → (result ≡ d) ⊎ (result ≡ Unknown) →
     IsOfFew offers result
-few_or_unknown offers d _ few (inl same) = subst (IsOfFew offers) (sym same) few
-few_or_unknown offers d _ few (inr unknown) = subst (IsOfFew offers) (sym unknown) tt
+few_or_unknown offers d result few it_4 = grind (arith, common_steps)
 
 heard_or_unknown : (heard : List Offer) (d result : Decision) → IsOfHeard heard d → (result ≡ d) ⊎ (result ≡ Unknown) →
     IsOfHeard heard result
-heard_or_unknown heard d _ is (inl same) = subst (IsOfHeard heard) (sym same) is
-heard_or_unknown heard d _ is (inr unknown) = subst (IsOfHeard heard) (sym unknown) (inr tt)
+heard_or_unknown heard d result is it_4 = grind (arith, common_steps)
 
 -- Decisions
 

@@ -1,6 +1,6 @@
 -- What OSPF gives routers keeps what every protocol keeps.
-use Rattle.std.proofs.Common.{◌≡◌, ℕ, ◌<◌, ◌≤◌, ◌⊎◌, inl, inr, List, length, get_or, arith}
-use Rattle.std.specs.List.{Contains}
+use Rattle.std.proofs.lemmas.Grind.{common_steps}
+use Rattle.std.proofs.Common.{◌≡◌, ℕ, ◌<◌, ◌≤◌, ◌⊎◌, List, length, get_or, arith}
 use Rattle.std.specs.List.Sorted.{IsStrictlyIncreasing}
 use Rattle.std.proofs.lemmas.List.Elements.{Contains-get_or}
 use Rattle.net_addr.specs.Addresses.{Block}
@@ -9,7 +9,7 @@ use Rattle.net_model.specs.Network.{Network}
 use Rattle.net_model.specs.declared.zone.Zone.TheVariants.{Area}
 use Rattle.route_core.specs.Tables.{AreLinkedHops}
 use Rattle.route_core.specs.declared.entry.Entry.TheVariants.{Via, Discard}
-use Rattle.igp_theory.specs.Ospf.{OspfEntry, intra_area, discard, inter_area}
+use Rattle.igp_theory.specs.Ospf.{OspfEntry}
 use Rattle.igp_theory.specs.Laws.{IsOspfNeighbor, Forwards}
 use Rattle.igp_theory.proofs.TableLaws.{ospf_entry_unique, ospf_entry_forwards, ospf_hop_is_neighbor}
 use Rattle.route_tables.specs.Entries.{IsLawful}
@@ -24,14 +24,11 @@ neighbor_is_router net u v is = Adjacent-to_within net (Area is.area) u v is.cos
 
 -- the list of an entry's hops ascends
 hops_ascend : (net : Network) (u : ℕ) (p : Block) (hops : List ℕ) → OspfEntry net u p (Via hops) → IsStrictlyIncreasing hops
-hops_ascend net u p hops (intra_area _ _ forwards) = forwards.ascending
-hops_ascend net u p hops (discard _ _ _ is) = let wrong : Via hops ≡ Discard = is in cc
-hops_ascend net u p hops (inter_area _ _ _ forwards) = forwards.ascending
+hops_ascend net u p hops it_4 = grind (arith, common_steps)
 
 -- an entry with hops has some
 has_hop : (hops : List ℕ) → Forwards (Via hops) ⊎ (Via hops ≡ Discard) → 0 < length hops
-has_hop hops (inl leads) = let inside : Contains hops leads.0 = leads.1 in omega (arith, inside.1)
-has_hop hops (inr wrong) = cc
+has_hop hops it_1 = grind (arith, common_steps)
 
 -- an entry's hops are neighbors of its router
 linked_hops : (net : Network) (u : ℕ) (p : Block) (hops : List ℕ) → OspfEntry net u p (Via hops) → AreLinkedHops (length net) (IsOspfNeighbor net u) hops

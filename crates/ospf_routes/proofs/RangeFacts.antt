@@ -1,4 +1,5 @@
 -- Components and active ranges.
+use Rattle.std.proofs.lemmas.Grind.{common_steps}
 use Rattle.std.proofs.Common.{◌≡◌, ℕ, ◌<◌, ◌≤◌, ◌↔◌, ◌⊎◌, inl, inr, ⊎_elim, List, [], ◌∷◌, ◌++◌, length, get_or, Option, Some, None, MatchOption, true}
 use Rattle.std.proofs.Common.{false, refl, sym, ap, subst, ◌∙◌, arith}
 use Rattle.std.specs.List.{Contains, Any, All}
@@ -108,15 +109,10 @@ components_near net b r ds near costs every covered are =
 -- Range costs
 
 pub range_cost_active : (net : Network) (b : ℕ) (r : Range) (cost : ℕ) → RangeCost net b r cost → IsActive net b r
-range_cost_active net b r cost (stated _ active) = active
-range_cost_active net b r cost (least _ _ p component _) = record { dest = p; cost = cost; component = component }
-range_cost_active net b r cost (greatest _ _ p component _) = record { dest = p; cost = cost; component = component }
+range_cost_active net b r cost it_4 = grind (arith, common_steps)
 
 compatible_one : (net : Network) (b : ℕ) → IsCompatible net b true → IsCompatible net b false → ⊥
-compatible_one net b one other =
-    let same : one.config ≡ other.config = HasConfiguration-unique net b one.config other.config one.router other.router in
-    let both : one.config.rfc1583 ≡ other.config.rfc1583 = ap (λ (c : Configuration). c.rfc1583) same in
-    false≢true (sym other.says ∙ sym both ∙ one.says)
+compatible_one net b one other = grind (arith, common_steps, HasConfiguration-unique, false≢true)
 
 pub range_cost_unique : (net : Network) (b : ℕ) (r : Range) (c d : ℕ) → RangeCost net b r c → RangeCost net b r d → c ≡ d
 range_cost_unique net b r c d (stated is _) (stated also _) = same_Some c d (sym is ∙ also)

@@ -1,5 +1,6 @@
 -- Of a prefix of which the same is offered as of another one the same is announced, where there are no active ranges.
-use Rattle.std.proofs.Common.{◌≡◌, ◌+◌, ◌*◌, ◌<◌, ◌∷◌, ◌++◌, ℕ, List, [], length, length-append, get_or, refl, sym, ap, subst, ◌∙◌, append_assoc, arith}
+use Rattle.std.proofs.lemmas.Grind.{common_steps}
+use Rattle.std.proofs.Common.{◌≡◌, ◌+◌, ◌*◌, ◌<◌, ◌∷◌, ◌++◌, ℕ, List, [], length, get_or, refl, sym, subst, ◌∙◌, arith}
 use Rattle.std.specs.List.{Contains}
 use Rattle.std.proofs.lemmas.List.{append-nil, get_or_append_left}
 use Rattle.std.proofs.lemmas.List.Elements.{All-contains, Contains-get_or}
@@ -47,13 +48,7 @@ offers_over net d e one other same n w cost offers =
     (Contains-get_or e.parts.items k x (omega (arith, has.among.1))) o).0 (subst (λ (l : List Offer). Contains l o) is.offers listed))
 
 same_parts_back : (xs ys : List AreaOffers) → AreSameParts xs ys → AreSameParts ys xs
-same_parts_back xs ys same = record {
-  count = sym same.count;
-  each = λ k d within.
-      let count : length xs ≡ length ys = same.count in
-      let is : IsSamePart (get_or xs k d) (get_or ys k d) = same.each k d (omega arith) in
-      record { area = sym is.area; offers = sym is.offers };
-}
+same_parts_back xs ys same = grind (arith, common_steps)
 
 is_repeat : (net : Network) (d e : Destination) (ranged : List Block) → HoldRanges net ranged → length ranged ≡ 0 → IsDestination net d →
     IsDestination net e → AreOfferedAlike d e → IsRepeat net d.dest e.dest
@@ -68,12 +63,7 @@ is_repeat net d e ranged hold none one other alike = record {
 }
 
 repeat_back : {net : Network} {p q : Block} → IsRepeat net p q → IsRepeat net q p
-repeat_back r = record {
-  apart = r.other_apart;
-  other_apart = r.apart;
-  no_range = r.no_range;
-  offered = λ n w cost. ((r.offered n w cost).1, (r.offered n w cost).0);
-}
+repeat_back r = grind (arith, common_steps)
 
 -- Announcements
 
@@ -128,33 +118,15 @@ heard_again net p q n offers r are o = (
 -- Lists
 
 pub again_none : (heard : HeardLists) (place : ℕ) → AddsRow (IsRowAgain heard place 0) heard heard
-again_none heard place = record {
-  row = [];
-  behind = λ i. record { areas = heard.areas; lists = (sym (append-nil heard.lists)) i };
-  is = record { count = refl; each = λ zone below. absurd (omega (arith, below)) };
-}
+again_none heard place = grind (arith, common_steps, append-nil)
 
 pub again_within : (old mid : HeardLists) (place m zone : ℕ) → AddsRow (IsRowAgain old place m) old mid → place * old.areas + zone < length old.lists →
     place * mid.areas + zone < length mid.lists
-again_within old mid place m zone r within =
-    let long = length-append old.lists r.row in
-    subst (λ (h : HeardLists). place * h.areas + zone < length h.lists) (sym r.behind) (omega (arith, long, within))
+again_within old mid place m zone r within = grind (arith, common_steps)
 
 pub again_more : (old mid new : HeardLists) (place m : ℕ) → AddsRow (IsRowAgain old place m) old mid → place * old.areas + m < length old.lists →
     new ≡ record { areas = mid.areas; lists = mid.lists ++ heard_into mid place m ∷ [] } → AddsRow (IsRowAgain old place (m + 1)) old new
-again_more old mid new place m r within same =
-    let list : List Offer = heard_into mid place m in
-    record {
-      row = r.row ++ list ∷ [];
-      behind = same
-          ∙ ap (λ (h : HeardLists). lists_with h.areas (h.lists ++ list ∷ [])) r.behind
-          ∙ ap (λ (l : List (List Offer)). lists_with old.areas l) (append_assoc old.lists r.row (list ∷ []));
-      is = record {
-        count = let long = length-append r.row (list ∷ []) in omega (arith, long, r.is.count);
-        each = each_more (λ (zone : ℕ) (l : List Offer). l ≡ heard_into old place zone) r.row m list [] r.is.count r.is.each
-            (ap (λ (h : HeardLists). heard_into h place m) r.behind ∙ get_or_append_left old.lists r.row [] (place * old.areas + m) within);
-      };
-    }
+again_more old mid new place m r within same = grind (arith, common_steps, each_more, get_or_append_left, lists_with)
 
 -- what is announced of a prefix is announced of one of which the same is offered
 pub repeat_row : (domain : OspfDomain) (ds : List Destination) (ranged : List Block) (old new : HeardLists) (one place : ℕ) → AreOspfDestinations domain ds →

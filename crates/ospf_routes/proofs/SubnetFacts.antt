@@ -1,6 +1,7 @@
 -- The subnets of the interfaces that are up, and what they say of a prefix.
+use Rattle.std.proofs.lemmas.Grind.{common_steps}
 use Rattle.std.proofs.Common.{◌≡◌, ℕ, ◌<◌, ◌↔◌, List, length, Some, refl, sym, ap, subst, ◌∙◌, arith}
-use Rattle.std.specs.List.{Contains, Any}
+use Rattle.std.specs.List.{Any}
 use Rattle.net_addr.specs.Addresses.{Block}
 use Rattle.net_model.proofs.Adjacency.{UpInterface-among}
 use Rattle.net_model.proofs.NetworkFacts.{UpInterface-within}
@@ -23,32 +24,7 @@ RouterSubnet net w s = (s.at ≡ w) × IsUpSubnet net s
 
 pub router_subnet_is : (net : Network) (w : ℕ) (config : Configuration) (given : List Interface) → HasConfiguration net w config →
     given ≡ config.interfaces → (s : Subnet) → Any (λ (i : Interface). IsInterfaceSubnet w i s) given ↔ RouterSubnet net w s
-router_subnet_is net w config given router are s = (
-  λ any.
-      let f = any_in (λ (i : Interface). IsInterfaceSubnet w i s) given any in
-      let up : UpInterface net w f.item = record {
-        config = config;
-        router = router;
-        among = subst (λ (l : List Interface). Contains l f.item) are f.among;
-        up = f.holds.up;
-      } in (
-        f.holds.at,
-        record {
-          interface = f.item;
-          up = subst (λ (k : ℕ). UpInterface net k f.item) (sym f.holds.at) up;
-          dest = f.holds.dest;
-          area = f.holds.area;
-          costs = f.holds.costs;
-          joins = f.holds.joins;
-        },
-      ),
-  λ both.
-      let is : IsUpSubnet net s = both.1 in
-      let up : UpInterface net w is.interface = subst (λ (k : ℕ). UpInterface net k is.interface) both.0 is.up in
-      any_of (λ (i : Interface). IsInterfaceSubnet w i s) given is.interface
-      (subst (λ (l : List Interface). Contains l is.interface) (sym are) (UpInterface-among net w config is.interface router up))
-      (record { up = up.up; dest = is.dest; at = both.0; area = is.area; costs = is.costs; joins = is.joins }),
-)
+router_subnet_is net w config given router are s = grind (arith, common_steps, UpInterface-among, any_in, any_of)
 
 pub subnet_below : (net : Network) (n : ℕ) → length net ≡ n → (s : Subnet) → IsUpSubnet net s → AnyBelow (RouterSubnet net) n s
 subnet_below net n count s is =

@@ -1,4 +1,5 @@
 -- What border routers summarize of a prefix, and announce into each area.
+use Rattle.std.proofs.lemmas.Grind.{common_steps}
 use Rattle.std.proofs.Common.{◌≡◌, ◌≢◌, ℕ, ◌<◌, ◌↔◌, ◌⊎◌, inl, inr, ⊎_elim, List, [], ◌∷◌, length, get_or, Option, Some, None, MatchOption, refl, sym, ap}
 use Rattle.std.proofs.Common.{arith, subst, ◌∙◌}
 use Rattle.std.specs.List.{Contains, Any, All}
@@ -149,8 +150,7 @@ summarized_both net p b r = (there, ⊎_elim (λ s. SummarizedFrom.of_subnet s) 
     there (SummarizedFrom.of_range s) = inr s
 
 pub summarized_at : (net : Network) (p : Block) (b : ℕ) (r : AreaRoute) → SummarizedFrom net p b r → (r.at ≡ b) × IsBorderRouter net b
-summarized_at net p b r (SummarizedFrom.of_subnet s) = (s.at, s.border)
-summarized_at net p b r (SummarizedFrom.of_range s) = (s.at, s.has.border)
+summarized_at net p b r it_4 = grind (arith, common_steps)
 
 -- What goes out of the other areas
 
@@ -192,14 +192,7 @@ outside_is net n p routes are o = (
 
 outgoing_is : (net : Network) (n : ℕ) (routes : List AreaRoute) (o : Offer) (Out : Type 0) → Any (λ (r : AreaRoute). OutsideOf n r o) routes ↔ Out →
     Any (IsOutgoing net n o) routes ↔ (Announces net n o.at × Out)
-outgoing_is net n routes o Out out = (
-  λ any.
-      let f = any_in (IsOutgoing net n o) routes any in
-      (f.holds.announces, out.0 (any_of (λ (r : AreaRoute). OutsideOf n r o) routes f.item f.among f.holds.outside)),
-  λ both.
-      let f = any_in (λ (r : AreaRoute). OutsideOf n r o) routes (out.1 both.1) in
-      any_of (IsOutgoing net n o) routes f.item f.among (record { outside = f.holds; announces = both.0 }),
-)
+outgoing_is net n routes o Out out = grind (arith, common_steps, any_in, any_of)
 
 -- into the backbone there goes nothing else
 pub backbone_is : (net : Network) (p : Block) (b cost : ℕ) → OutsideSummary net 0 p b cost ↔ BackboneSummary net p b cost

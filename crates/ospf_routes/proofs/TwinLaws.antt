@@ -1,4 +1,5 @@
 -- Prefixes that are connected at the same routers and offered and announced alike have the same entries.
+use Rattle.std.proofs.lemmas.Grind.{common_steps}
 use Rattle.std.proofs.Common.{◌≡◌, ℕ, ◌<◌, ◌↔◌, inl, inr, List, length, get_or, refl, sym, subst, ◌∙◌, arith}
 use Rattle.std.specs.List.{All}
 use Rattle.std.proofs.lemmas.List.Elements.{All-contains, Contains-get_or}
@@ -137,13 +138,7 @@ pub alike_offers_back : (one other : List Offer) → AreAlikeOffers one other �
 alike_offers_back one other alike = record { more = alike.more; dearer = elim alike.dearer [ inl up ↦ inr up | inr down ↦ inl down ] }
 
 twin_parts_back : (xs ys : List AreaOffers) → AreTwinParts xs ys → AreTwinParts ys xs
-twin_parts_back xs ys twins = record {
-  count = sym twins.count;
-  each = λ k d within.
-      let count : length xs ≡ length ys = twins.count in
-      let is : IsTwinPart (get_or xs k d) (get_or ys k d) = twins.each k d (omega arith) in
-      record { area = sym is.area; offers = alike_offers_back (get_or xs k d).offers.items (get_or ys k d).offers.items is.offers };
-}
+twin_parts_back xs ys twins = grind (arith, common_steps, alike_offers_back)
 
 -- Destinations
 

@@ -1,5 +1,6 @@
 -- Routes over the least walks of an area, by the place of the area among all.
-use Rattle.std.proofs.Common.{◌≡◌, ℕ, ◌<◌, List, length, get_or, Option, Some, None, MatchOption, Result, IfOk, sym, ap, subst, ◌∙◌}
+use Rattle.std.proofs.lemmas.Grind.{common_steps}
+use Rattle.std.proofs.Common.{◌≡◌, ℕ, ◌<◌, List, length, Option, Some, None, MatchOption, Result, IfOk, sym, ap, subst, ◌∙◌}
 use Rattle.std.proofs.Common.{arith}
 use Rattle.std.specs.List.{Contains}
 use Rattle.std.proofs.lemmas.List.{get_or_default}
@@ -38,9 +39,7 @@ zone_route net areas u zone n reach offers none some r within same count follows
 -- One area alone
 
 one_element : {X : Type 0} (xs : List X) (x y : X) → length xs ≡ 1 → Contains xs x → Contains xs y → x ≡ y
-one_element xs x y one a b =
-    let same : a.0 ≡ b.0 = omega (arith, a.1, b.1) in
-    sym a.2 ∙ ap (λ (k : ℕ). get_or xs k x) same ∙ get_or_default xs b.0 x y b.1 ∙ b.2
+one_element xs x y one a b = grind (arith, common_steps, get_or_default)
 
 -- where one area has offers, all offers are of this area
 only_area : (net : Network) (d : Destination) (part : AreaOffers) (n w cost : ℕ) → IsDestination net d → length d.parts.items ≡ 1 →

@@ -1,4 +1,6 @@
-use Rattle.std.proofs.Common.{[], ◌≡◌, ℕ, ◌<◌, get_or, length, sym, subst}
+use Rattle.std.proofs.Common.{arith}
+use Rattle.std.proofs.lemmas.Grind.{common_steps}
+use Rattle.std.proofs.Common.{[], ◌≡◌, ℕ, get_or, length, sym, subst}
 use Rattle.route_tables.proofs.ListFacts.{adds_at, adds_end}
 use Rattle.ospf_routes.proofs.AreaFacts.{number_at}
 use Rattle.ospf_routes.proofs.BorderLists.{inner_at, inner_is_router}
@@ -11,20 +13,13 @@ use Rattle.ospf_routes.specs.declared.area_route.AreaRoute.{AreaRoute}
 use Rattle.ospf_routes.proofs.area_boundary.push_area_subnets.Goals as goal
 
 pub subnet_summary-requires-clause-border : goal.subnet_summary-requires-clause-border
-subnet_summary-requires-clause-border c =
-    (inner_at c.args.domain.now.net c.area.result.now c.as_slice-b-items.result.now c.loop-b.b-index 0 c.area.ensures.area c.as_slice-b-items.ensures
-    c.loop-b-test.true).border
+subnet_summary-requires-clause-border c = grind (arith, common_steps, inner_at)
 
 pub subnet_summary-requires-clause-router : goal.subnet_summary-requires-clause-router
-subnet_summary-requires-clause-router c =
-    inner_is_router c.args.domain.now.net c.area.result.now c.as_slice-b-items.result.now c.loop-b.b-index 0 c.area.ensures.area
-    c.as_slice-b-items.ensures c.loop-b-test.true
+subnet_summary-requires-clause-router c = grind (arith, common_steps, inner_is_router)
 
 pub bounds-ranges-b : goal.bounds-ranges-b
-bounds-ranges-b c =
-    subst (λ (n : ℕ). get_or c.as_slice-b-items.result.now c.loop-b.b-index 0 < n) (sym c.requires.ranges.count)
-    (inner_is_router c.args.domain.now.net c.area.result.now c.as_slice-b-items.result.now c.loop-b.b-index 0 c.area.ensures.area
-    c.as_slice-b-items.ensures c.loop-b-test.true)
+bounds-ranges-b c = grind (arith, common_steps, inner_is_router)
 
 pub subnet_summary-requires-clause-ranges : goal.subnet_summary-requires-clause-ranges
 subnet_summary-requires-clause-ranges c =

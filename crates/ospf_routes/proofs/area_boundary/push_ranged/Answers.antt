@@ -1,4 +1,6 @@
-use Rattle.std.proofs.Common.{ℕ, ◌<◌, get_or, subst, sym}
+use Rattle.std.proofs.Common.{arith}
+use Rattle.std.proofs.lemmas.Grind.{common_steps}
+use Rattle.std.proofs.Common.{ℕ}
 use Rattle.std.specs.List.{Any}
 use Rattle.std.proofs.lemmas.Result.{on_ok_weaker}
 use Rattle.route_tables.proofs.ListFacts.{adds_same}
@@ -9,9 +11,7 @@ use Rattle.ospf_routes.specs.declared.area_route.AreaRoute.{AreaRoute}
 use Rattle.ospf_routes.proofs.area_boundary.push_ranged.Goals as goal
 
 pub push_ranges-requires : goal.push_ranges-requires
-push_ranges-requires c i d within =
-    subst (λ (n : ℕ). get_or c.args.boundary.borders.now i d < n) (sym c.requires.ranges.count)
-    (listed_is_router c.args.boundary.domain.now.net c.args.boundary.borders.now i d c.requires.borders within)
+push_ranges-requires c i d within = grind (arith, common_steps, listed_is_router)
 
 pub returns-then-not-has : goal.returns-then-not-has
 returns-then-not-has c =

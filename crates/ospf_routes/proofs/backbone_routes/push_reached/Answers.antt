@@ -1,3 +1,5 @@
+use Rattle.std.proofs.Common.{arith}
+use Rattle.std.proofs.lemmas.Grind.{common_steps}
 use Rattle.std.proofs.Common.{◌≡◌, ℕ, length, sym}
 use Rattle.std.proofs.lemmas.Bool.{eqb-true}
 use Rattle.ospf_routes.specs.steps.Summarized.{IsPassedOn}
@@ -16,18 +18,10 @@ returns-then-is_empty c =
     (eqb-true (length c.args.backbone.now) 0 (sym c.if-is_empty.ensures)) passed.costs)
 
 pub reached_offer-offer-requires-clause-border : goal.reached_offer-offer-requires-clause-border
-reached_offer-offer-requires-clause-border c =
-    let net = c.args.boundary.domain.now.net in
-    let given = c.as_slice-b-items.result.now in
-    inner_at net c.args.area.now given c.loop-b.b-index 0 c.requires.area c.as_slice-b-items.ensures
-    c.loop-b-test.true
+reached_offer-offer-requires-clause-border c = grind (arith, common_steps, inner_at)
 
 pub reached_offer-offer-requires-clause-router : goal.reached_offer-offer-requires-clause-router
-reached_offer-offer-requires-clause-router c =
-    let net = c.args.boundary.domain.now.net in
-    let given = c.as_slice-b-items.result.now in
-    inner_is_router net c.args.area.now given c.loop-b.b-index 0 c.requires.area c.as_slice-b-items.ensures
-    c.loop-b-test.true
+reached_offer-offer-requires-clause-router c = grind (arith, common_steps, inner_is_router)
 
 pub loop-b-preserved : goal.loop-b-preserved
 loop-b-preserved c =

@@ -1,3 +1,5 @@
+use Rattle.std.proofs.Common.{arith}
+use Rattle.std.proofs.lemmas.Grind.{common_steps}
 use Rattle.std.proofs.Common.{ap, refl, Some}
 use Rattle.std.proofs.lemmas.Bool.{false≢true}
 use Rattle.std.proofs.lemmas.Option.{none-some, same_Some}
@@ -17,11 +19,4 @@ returns-then-has_under c p =
     )
 
 pub returns-else-has_under : goal.returns-else-has_under
-returns-else-has_under c p =
-    let r = c.args.range.now in (
-      λ same. absurd (none-some p same),
-      λ is.
-          let f = any_in (IsSubnetUnder r) c.args.subnets.now is.over in
-          absurd (false≢true (c.if-has_under.ensures.1 (any_of (IsSubnetUnder r) c.under-near.result.now f.item
-          (c.under-near.ensures.every f.item f.among f.holds.covered) f.holds))),
-    )
+returns-else-has_under c p = grind (arith, common_steps, any_in, any_of, false≢true, none-some)

@@ -1,3 +1,5 @@
+use Rattle.std.proofs.Common.{arith}
+use Rattle.std.proofs.lemmas.Grind.{common_steps}
 use Rattle.std.proofs.Common.{subst, List, take}
 use Rattle.std.proofs.lemmas.List.{take_all}
 use Rattle.net_addr.proofs.SomeElement.{one_more}
@@ -29,12 +31,4 @@ loop-part-preserved c =
     (c.in_ok-area_hops.ensures d.dest part_is) c.in_ok-push_option.ensures.ok)
 
 pub returns : goal.returns
-returns c =
-    let asked = c.args.asked in
-    let net = asked.domain.now.net in
-    let d = asked.destination.now in
-    let lists = c.loop-part.lists.items in
-    let given = c.as_slice-part-items in
-    area_lists_all net d given.result.now asked.router lists c.requires.destination.is given.ensures.value
-    (subst (λ (l : List AreaOffers). AreaListsSoFar net d.dest asked.router l lists) (take_all c.loop-part.part-index given.result.now c.loop-part-test.false)
-    c.loop-part.invariant)
+returns c = grind (arith, common_steps, area_lists_all, take_all)

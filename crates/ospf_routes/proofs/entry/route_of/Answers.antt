@@ -1,27 +1,17 @@
-use Rattle.std.proofs.Common.{ℕ, length, MatchOption, refl}
+use Rattle.std.proofs.Common.{arith}
+use Rattle.std.proofs.lemmas.Grind.{common_steps}
+use Rattle.std.proofs.Common.{MatchOption}
 use Rattle.std.proofs.lemmas.Bool.{false≢true}
 use Rattle.std.proofs.lemmas.Option.{MatchOption-at_none}
 use Rattle.std.proofs.lemmas.Result.{IfOk-weaker}
-use Rattle.net_addr.specs.Addresses.{Block}
-use Rattle.igp_theory.specs.Ospf.{OspfEntry, discard}
 use Rattle.walk_core.specs.BestOffers.{NoneTotals}
-use Rattle.walk_core.specs.Reach.{Reach}
 use Rattle.route_tables.proofs.BestRoutes.{route_by_discard}
-use Rattle.ospf_routes.specs.steps.AreaReach.{area_reach}
-use Rattle.ospf_routes.specs.steps.Asked.{HasNoIntraRoute, IsFoundRoute, IsRoute, MakesIntraRoute}
+use Rattle.ospf_routes.specs.steps.Asked.{IsFoundRoute, IsRoute}
 use Rattle.ospf_routes.proofs.EntryFacts.{found_by, home_is, range_is}
 use Rattle.ospf_routes.proofs.entry.route_of.Goals as goal
 
 pub returns-then-contains : goal.returns-then-contains
-returns-then-contains c =
-    let asked = c.args.asked in
-    let net = asked.domain.now.net in
-    let p : Block = asked.destination.now.dest in
-    let reach : ℕ → Reach = area_reach asked.domain.now.areas asked.router in
-    route_by_discard reach (length asked.domain.now.areas) (length net) (OspfEntry net asked.router p)
-    (discard (λ is. false≢true (c.if-is_home.ensures.1 ((home_is asked c.requires).1 is)))
-    (MatchOption-at_none (HasNoIntraRoute asked) (MakesIntraRoute asked) c.in_default.is c.in_ok-route.ensures)
-    ((range_is asked c.requires).0 (c.if-contains.ensures.0 refl)) refl)
+returns-then-contains c = grind (arith, common_steps, MatchOption-at_none, false≢true, home_is, range_is, route_by_discard)
 
 pub announced-requires-clause-no_range : goal.announced-requires-clause-no_range
 announced-requires-clause-no_range c = λ is. false≢true (c.if-contains.ensures.1 ((range_is c.args.asked c.requires).1 is))

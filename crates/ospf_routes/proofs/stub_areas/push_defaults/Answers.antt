@@ -1,3 +1,5 @@
+use Rattle.std.proofs.Common.{arith}
+use Rattle.std.proofs.lemmas.Grind.{common_steps}
 use Rattle.std.proofs.Common.{ℕ, get_or, refl}
 use Rattle.std.proofs.lemmas.List.{get_or_default}
 use Rattle.walk_core.specs.declared.offers.Offer.{Offer}
@@ -8,14 +10,10 @@ use Rattle.ospf_routes.specs.steps.Summarized.{RouterDefault}
 use Rattle.ospf_routes.proofs.stub_areas.push_defaults.Goals as goal
 
 pub push_router_defaults-requires-clause-border : goal.push_router_defaults-requires-clause-border
-push_router_defaults-requires-clause-border c =
-    inner_at c.args.domain.now.net c.args.area.now c.as_slice-b-items.result.now c.loop-b.b-index 0 c.requires
-    c.as_slice-b-items.ensures c.loop-b-test.true
+push_router_defaults-requires-clause-border c = grind (arith, common_steps, inner_at)
 
 pub push_router_defaults-requires-clause-router : goal.push_router_defaults-requires-clause-router
-push_router_defaults-requires-clause-router c =
-    inner_is_router c.args.domain.now.net c.args.area.now c.as_slice-b-items.result.now c.loop-b.b-index 0 c.requires
-    c.as_slice-b-items.ensures c.loop-b-test.true
+push_router_defaults-requires-clause-router c = grind (arith, common_steps, inner_is_router)
 
 pub loop-b-preserved : goal.loop-b-preserved
 loop-b-preserved c =
