@@ -1,11 +1,12 @@
 -- The states between two: their steps are those of both.
-use Rattle.std.proofs.Common.{◌≡◌, ℕ, ◌⊎◌, List, ◌∷◌, length, Option, None, Some, IfNone, IfSome, inl, inr, arith, refl, sym, subst}
+use Rattle.std.proofs.lemmas.Grind.{common_steps}
+use Rattle.std.proofs.Common.{◌≡◌, ℕ, ◌⊎◌, List, ◌∷◌, length, Option, None, Some, IfNone, IfSome, inl, inr, arith, sym, subst}
 use Rattle.igp_theory.specs.Forwarding.{MustForward, HasStep}
 use Rattle.igp_theory.specs.Phases.{State, state_in}
 use Rattle.igp_theory.specs.States.{StepsIn}
 use Rattle.igp_theory.specs.Timetables.{IsBetweenPhases}
 use Rattle.igp_theory.specs.declared.phase.Phase.{Phase}
-use Rattle.igp_theory.specs.declared.phase.Phase.TheVariants.{Old, Middle, New}
+use Rattle.igp_theory.specs.declared.phase.Phase.TheVariants.{Old, New}
 use Rattle.igp_theory.proofs.ForwardingLaws.{every_phase_steps}
 use Rattle.igp_theory.proofs.Phases.{step_of_ends}
 use Rattle.igp_theory.proofs.SameTables.{follows_over}
@@ -23,17 +24,7 @@ has_step c u phase moves must = record { hop = (moves must).0; steps = (moves mu
 
 -- a phase between two is one of them, or the one is Old and the other New
 between_cases : (one other phase : Phase) → IsBetweenPhases one other phase → (phase ≡ one) ⊎ ((phase ≡ other) ⊎ ((one ≡ Old) × (other ≡ New)))
-between_cases Old other Old between = inl refl
-between_cases Middle other Old between = absurd (let from = between.from in omega (arith, from))
-between_cases New other Old between = absurd (let from = between.from in omega (arith, from))
-between_cases Old Old Middle between = absurd (let upto = between.upto in omega (arith, upto))
-between_cases Old Middle Middle between = inr (inl refl)
-between_cases Old New Middle between = inr (inr (refl, refl))
-between_cases Middle other Middle between = inl refl
-between_cases New other Middle between = absurd (let from = between.from in omega (arith, from))
-between_cases one Old New between = absurd (let upto = between.upto in omega (arith, upto))
-between_cases one Middle New between = absurd (let upto = between.upto in omega (arith, upto))
-between_cases one New New between = inr (inl refl)
+between_cases one other phase between = grind (arith, common_steps)
 
 -- a state is between itself and itself
 pub between_itself : (n : ℕ) (phases : List Phase) → IsBetween n phases phases (state_in phases)

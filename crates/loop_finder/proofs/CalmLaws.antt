@@ -1,4 +1,5 @@
 -- What calm parts tell of the waves of a timetable.
+use Rattle.std.proofs.lemmas.Grind.{common_steps}
 use Rattle.std.proofs.Common.{◌≡◌, ℕ, zero, suc, ◌+◌, ◌<◌, ◌≤◌, ◌⊎◌, Bool, true, List, [], ◌∷◌, length, get_or, set, inl, inr, arith, sym, ◌∙◌}
 use Rattle.std.proofs.Common.{subst, below_more, Contains}
 use Rattle.std.specs.Bool.{OnTrue}
@@ -38,10 +39,7 @@ use Rattle.loop_finder.proofs.WaveSteps.{part_wave_sound, begins_sound}
 
 -- what holds before a wave holds before each earlier one
 pub calm_sooner : (part : ClassPart) (time : Timetable) (w v : ℕ) → v ≤ w → IsCalmBefore part time w → IsCalmBefore part time v
-calm_sooner part time w v most is = record {
-  moves = λ some. is.moves (omega (arith, some, most));
-  calm = λ x one less. is.calm x one (omega (arith, less, most));
-}
+calm_sooner part time w v most is = grind (arith, common_steps)
 
 -- a router without hops in a part steps in no wave
 bare_wave : (part : ClassPart) (time : Timetable) (w u h : ℕ) → IsBareIn part.rows u → WaveStep part time w u h → ⊥

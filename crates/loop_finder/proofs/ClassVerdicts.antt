@@ -1,4 +1,6 @@
 -- What is read of a class before its steps are.
+use Rattle.std.proofs.Common.{arith}
+use Rattle.std.proofs.lemmas.Grind.{common_steps}
 use Rattle.std.proofs.Common.{◌≡◌, ℕ, ◌<◌, ◌↔◌, List, length, get_or, Contains, Option, IfSome, Bool, subst}
 use Rattle.std.proofs.lemmas.List.Elements.{All-contains}
 use Rattle.std.proofs.lemmas.Option.{slice_get_within, get_or_from_slice_get}
@@ -24,8 +26,7 @@ originated_block net p network o =
 
 -- an address has one target
 pub one_target : (net : Network) (a : ℕ) (p q : Block) → IsNetwork net → IsTarget net a p → IsTarget net a q → p ≡ q
-one_target net a p q network one two =
-    one_longest_match (IsOriginated net) a p q (originated_block net p network one.is_offered) (originated_block net q network two.is_offered) one two
+one_target net a p q network one two = grind (arith, common_steps, one_longest_match, originated_block)
 
 -- the routers at which the target isn't connected have to pass packets on
 pub forwarders_from : (net : Network) (a : ℕ) (p : Block) (forwards : List Bool) → IsNetwork net → IsTarget net a p
@@ -37,8 +38,4 @@ forwarders_from net a p forwards network target exact u = (
 
 -- the least address of a class is in it
 pub sample_in : {move : Migration} (c : Classes) (atom : ℕ) → AreClasses move c → atom < length c.samples → IsInClass c atom (get_or c.samples atom 0)
-sample_in c atom are within = record {
-  class = within;
-  address = are.classing.samples.addresses atom 0 within;
-  alike = λ p member. (λ h. h, λ h. h);
-}
+sample_in c atom are within = grind (arith, common_steps)

@@ -1,4 +1,5 @@
 -- No fault is told exactly where all is sound.
+use Rattle.std.proofs.lemmas.Grind.{common_steps}
 use Rattle.std.proofs.Common.{ℕ, ◌+◌, ◌*◌, ◌≤◌, ◌↔◌, List, length, Option, Some, None, IfSome, IfNone, IsNone, refl, sym, arith}
 use Rattle.std.proofs.lemmas.Bool.{false≢true}
 use Rattle.order_core.specs.Orders.{IsOrder}
@@ -15,8 +16,7 @@ use Rattle.loop_finder.specs.declared.fault.Fault.{Fault}
 -- no fault is told exactly of a sound state
 pub none_sound : (move : Migration) (state : State) (result : Option Fault) (turns : List Turn) → IfNone result (IsSound move state)
     → IfSome result (λ fault. IsFault move state (told_fault fault turns)) → IsNone result ↔ IsSound move state
-none_sound move state None turns sound fault = (λ is. sound, λ is. refl)
-none_sound move state (Some f) turns sound fault = (λ is. absurd (false≢true (sym is)), λ is. absurd (faulty_not_sound fault is))
+none_sound move state result turns sound fault = grind (arith, common_steps, false≢true, faulty_not_sound)
 
 -- no fault is told exactly of a seamless order
 pub none_seamless : (move : Migration) (order : List ℕ) (result : Option (ℕ × Fault)) (turns : List Turn) → IsOrder (length move.net) order

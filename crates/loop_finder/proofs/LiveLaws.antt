@@ -1,5 +1,6 @@
 -- Marked routers are the live ones, and where none is marked no list of steps returns.
-use Rattle.std.proofs.Common.{◌≡◌, ℕ, zero, suc, ◌+◌, ◌<◌, ◌≤◌, Bool, false, List, [], ◌∷◌, ◌++◌, length, arith, refl, sym, ap, ◌∙◌, subst, inl, inr}
+use Rattle.std.proofs.lemmas.Grind.{common_steps}
+use Rattle.std.proofs.Common.{◌≡◌, ℕ, zero, suc, ◌+◌, ◌<◌, ◌≤◌, Bool, List, [], ◌∷◌, ◌++◌, length, arith, refl, sym, ap, subst, inl, inr}
 use Rattle.std.proofs.lemmas.Bool.{false≢true, cases_lt}
 use Rattle.std.proofs.lemmas.List.{get_or_past, length-append}
 use Rattle.igp_theory.specs.Loops.{IsLive}
@@ -12,10 +13,7 @@ use Rattle.loop_finder.proofs.Peeling.{marked_count-set}
 
 -- a marked router is one of those that there are marks for
 pub marked_below : (marks : List Bool) (u : ℕ) → IsMarked marks u → u < length marks
-marked_below marks u marked = elim (cases_lt u (length marks)) [
-  | inl below ↦ below
-  | inr past ↦ absurd (false≢true (sym (get_or_past marks u false past) ∙ marked))
-]
+marked_below marks u marked = grind (arith, common_steps, cases_lt, false≢true, get_or_past)
 
 -- lists of steps, one after the other
 pub follows_append : (step : ℕ → ℕ → Type 0) (u : ℕ) (xs : List ℕ) (v : ℕ) (ys : List ℕ) (w : ℕ) → Follows step u xs v → Follows step v ys w →

@@ -1,4 +1,5 @@
 -- The changes of an order, one after another.
+use Rattle.std.proofs.lemmas.Grind.{common_steps}
 use Rattle.std.proofs.Common.{◌≡◌, ℕ, zero, suc, ◌+◌, ◌-◌, ◌*◌, ◌/◌, ◌<◌, ◌≤◌, ◌==◌, if◌then◌else◌, List, [], ◌∷◌, ◌++◌, length, get_or, take, Contains}
 use Rattle.std.proofs.Common.{Bool, false, arith, refl, sym, ap, ◌∙◌, subst, inl, inr}
 use Rattle.std.proofs.lemmas.Bool.Decides.{eqb_tells}
@@ -41,9 +42,7 @@ changes_on-push u (w ∷ changes) v = let e : changes_on u (changes ++ v ∷ [])
     changes_on-push u changes v in omega (arith, e)
 
 phase_after-more : (c : ℕ) → phase_after (c + 1) ≡ next_phase (phase_after c)
-phase_after-more zero = refl
-phase_after-more (suc zero) = refl
-phase_after-more (suc (suc c)) = let e : suc (suc c) + 1 ≡ suc (suc (suc c)) = omega arith in ap phase_after e
+phase_after-more c = grind (arith, common_steps)
 
 -- the router that changes is one of the order's
 pub changed_inside : (order : List ℕ) (n k : ℕ) → ((u : ℕ) → Contains order u → u < n) → k < length order → get_or order k 0 < n

@@ -1,4 +1,6 @@
 -- What parts tell of all classes.
+use Rattle.std.proofs.Common.{arith}
+use Rattle.std.proofs.lemmas.Grind.{common_steps}
 use Rattle.std.proofs.Common.{◌≡◌, ℕ, ◌<◌, ◌≤◌, Bool, true, List, [], ◌∷◌, length, get_or, Contains, None, inl, inr, refl, sym, ap, subst}
 use Rattle.std.proofs.lemmas.Bool.{OnTrue_at, cases_lt}
 use Rattle.std.proofs.lemmas.Bool.Decides.{eqb_tells}
@@ -124,7 +126,4 @@ part_inside part first last u h steps = elim (cases_lt u (length part.rows)) [
 
 -- without a target nothing is passed on, so every state is sound
 pub never_without : (m : Mix) (atom : ℕ) → HasTarget m.net (sample_of m.classes atom) None → NeverUnsound m atom
-never_without m atom none state = record {
-  forwards = λ u must. absurd (none must.target must.is_target);
-  returns_never = λ u h hops follows. none follows.0.must.target follows.0.must.is_target;
-}
+never_without m atom none state = grind (arith, common_steps)

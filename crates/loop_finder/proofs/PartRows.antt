@@ -1,4 +1,5 @@
 -- How the part of a class is made of its rows.
+use Rattle.std.proofs.lemmas.Grind.{common_steps}
 use Rattle.std.proofs.Common.{◌≡◌, ℕ, ◌+◌, ◌<◌, ◌≤◌, ◌↔◌, ◌⊎◌, Bool, List, [], ◌∷◌, ◌++◌, length, map, replicate, get_or, Contains}
 use Rattle.std.proofs.Common.{All, inl, inr, arith, ap, ◌∙◌, sym, subst, below_more, Option, Some, None, IfSome}
 use Rattle.std.specs.Bool.{OnTrue}
@@ -52,10 +53,7 @@ none_in f a n bare = record {
 
 -- what was read of a router is so where the same was read
 pub read_same : (c : ClassIn) (one other : ReadHops) (u : ℕ) → IsReadAt c one u → IsSameAt one other u → IsReadAt c other u
-read_same c one other u read same = record {
-  olds = subst (IsHopsOf c u Old) same.olds read.olds;
-  news = subst (IsHopsOf c u New) same.news read.news;
-}
+read_same c one other u read same = grind (arith, common_steps)
 
 -- and for a class for whose packets the router does the same
 pub read_alike : (m : Mix) (atom other : ℕ) (lists : ReadHops) (u : ℕ) → IsReadAt (class_in m atom) lists u → IsAlikeAt (migration_in m) m.classes u atom other
@@ -78,8 +76,7 @@ inside lists u h among = elim (cases_lt u (length lists)) [
 
 -- so no others step on
 pub steps_within : (lists : ReadHops) (n x y : ℕ) → length lists.olds ≡ n → length lists.news ≡ n → EndStep lists x y → x < n
-steps_within lists n x y olds news (inl among) = omega (arith, inside lists.olds x y among, olds)
-steps_within lists n x y olds news (inr among) = omega (arith, inside lists.news x y among, news)
+steps_within lists n x y olds news it_6 = grind (arith, common_steps, inside)
 
 -- where a walk passes none of the routers that changed, it was one before
 pub returns_again : (one other : ReadHops) (n : ℕ) (changed : List ℕ) (before marks : List Bool) → length other.olds ≡ n → length other.news ≡ n
@@ -160,17 +157,12 @@ row_made c marks u olds middles news kept_olds kept_middles kept_news least must
 
 -- nothing is among no hops
 pub none_among : (phase : Phase) (h : ℕ) → Contains (hops_of no_hops phase) h → ⊥
-none_among Old h = Contains-none h
-none_among Middle h = Contains-none h
-none_among New h = Contains-none h
+none_among phase h = grind (arith, common_steps, Contains-none)
 
 -- a router may have none that has no mark, or has no packets to pass on
 pub row_none : (c : ClassIn) (marks : List Bool) (u : ℕ) (row : PhaseHops)
     → row ≡ no_hops → (IsMarked marks u → ¬ MustForward c.mixture.net (least_of c) u) → IsRowOf c marks u row
-row_none c marks u row none never = record {
-  steps = λ phase h among. absurd (none_among phase h (subst (λ (x : PhaseHops). Contains (hops_of x phase) h) none among));
-  all = λ phase h steps here there. absurd (never here steps.must);
-}
+row_none c marks u row none never = grind (arith, common_steps, none_among)
 
 -- a row with the marked ones of a router's hops has all of these
 pub row_has : (c : ClassIn) (marks : List Bool) (u : ℕ) (row own : PhaseHops) → IsInClass c.mixture.classes c.atom (least_of c)

@@ -1,5 +1,6 @@
 -- Marks that are taken one after another.
-use Rattle.std.proofs.Common.{◌≡◌, ℕ, ◌+◌, ◌<◌, ◌≤◌, Bool, true, false, cond, List, [], ◌∷◌, length, get_or, set, arith, subst, sym, refl, ap, ◌∙◌, below_more}
+use Rattle.std.proofs.lemmas.Grind.{common_steps}
+use Rattle.std.proofs.Common.{◌≡◌, ℕ, ◌+◌, ◌<◌, ◌≤◌, Bool, true, false, List, [], ◌∷◌, length, set, arith, subst, sym, refl, ◌∙◌, below_more}
 use Rattle.std.proofs.Common.{inl, inr}
 use Rattle.std.proofs.lemmas.List.{get_or-set_other, get_or-set_same, get_or_past, length-set}
 use Rattle.std.proofs.lemmas.List.Sums.{sum_by-set, count_by-le-length}
@@ -16,10 +17,7 @@ unmarked_before marks u r bare apart marked = bare (get_or-set_other marks u r f
 
 -- one mark less
 pub marked_count-set : (marks : List Bool) (u : ℕ) → u < length marks → IsMarked marks u → marked_count (set marks u false) + 1 ≡ marked_count marks
-marked_count-set marks u within marked =
-    let one : Bool → ℕ = λ b. cond b 1 0 in
-    let k : one (get_or marks u false) ≡ one true = ap one marked in
-    omega (arith, sum_by-set one marks u false false within, k)
+marked_count-set marks u within marked = grind (arith, common_steps, sum_by-set)
 
 -- where each router that steps on is marked, no list of steps leads on from another
 pub bounded_first : (step : ℕ → ℕ → Type 0) (marks : List Bool) → ((u h : ℕ) → step u h → IsMarked marks u) → AreBounded step marks
@@ -28,10 +26,7 @@ bounded_first step marks all u (h ∷ hops) last bare follows = absurd (bare (al
 
 -- a mark stays where another router is marked too
 pub still_marked : (marks : List Bool) (r u : ℕ) → r < length marks → IsMarked marks u → IsMarked (set marks r true) u
-still_marked marks r u within marked = elim (eqb_tells u r) [
-  | inl same ↦ subst (IsMarked (set marks r true)) (sym same.1) (get_or-set_same marks r true false within)
-  | inr apart ↦ get_or-set_other marks r u true false apart.1 ∙ marked
-]
+still_marked marks r u within marked = grind (arith, common_steps, eqb_tells, get_or-set_other, get_or-set_same)
 
 -- where a router steps to no marked one, its mark can be taken
 pub bounded_more : (step : ℕ → ℕ → Type 0) (marks : List Bool) (u : ℕ) → u < length marks → IsMarked marks u → ((h : ℕ) → step u h → ¬ IsMarked marks h) →

@@ -1,4 +1,5 @@
 -- What the pieces of parts tell of them.
+use Rattle.std.proofs.lemmas.Grind.{common_steps}
 use Rattle.std.proofs.Common.{◌≡◌, ℕ, zero, suc, ◌+◌, ◌<◌, ◌≤◌, Bool, true, false, List, [], ◌∷◌, ◌++◌, length, get_or, All, Contains, inl, inr, refl, arith, sym, subst}
 use Rattle.std.specs.Bool.{OnTrue}
 use Rattle.std.proofs.lemmas.Bool.{cases_lt}
@@ -28,10 +29,7 @@ by_phase Is old middle new New = new
 
 -- only a router that has a row steps in a part
 pub ever_inside : (part : ClassPart) (u h : ℕ) → PartEver part u h → u < length part.rows
-ever_inside part u h step = elim (cases_lt u (length part.rows)) [
-  | inl below ↦ below
-  | inr past ↦ absurd (none_among step.0 h (subst (λ (row : PhaseHops). Contains (hops_of row step.0) h) (get_or_past part.rows u no_hops past) step.1))
-]
+ever_inside part u h step = grind (arith, common_steps, cases_lt, get_or_past, none_among)
 
 -- Growing
 
@@ -80,9 +78,7 @@ AreMadeOf-more pieces parts n made longer places is are one =
 -- one row more
 pub AreRowsIn-more : (layers : List ℕ) (layer : ℕ) (rows own longer : List PhaseHops) (row : PhaseHops) (n : ℕ) → longer ≡ own ++ row ∷ []
     → AreRowsIn layers layer rows n own → IsRowIn layers layer rows n row → AreRowsIn layers layer rows (n + 1) longer
-AreRowsIn-more layers layer rows own longer row n is are one =
-    let more = each_more (IsRowIn layers layer rows) own longer row no_hops n is are.many are.each one in
-    record { many = more.0; each = more.1 }
+AreRowsIn-more layers layer rows own longer row n is are one = grind (arith, common_steps, each_more)
 
 -- Cuts
 

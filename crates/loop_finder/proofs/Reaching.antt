@@ -1,7 +1,7 @@
 -- Routers that are reached one after another.
-use Rattle.std.proofs.Common.{◌≡◌, ℕ, suc, ◌+◌, ◌<◌, ◌≤◌, Bool, true, false, cond, List, [], ◌∷◌, ◌++◌, length, get_or, set, Contains, inl, inr, arith, refl}
-use Rattle.std.proofs.Common.{sym, ap, ◌∙◌, subst}
-use Rattle.std.specs.List.{All}
+use Rattle.std.proofs.lemmas.Grind.{common_steps}
+use Rattle.std.proofs.Common.{◌≡◌, ℕ, suc, ◌+◌, ◌<◌, ◌≤◌, Bool, true, false, List, [], ◌∷◌, ◌++◌, length, get_or, set, Contains, inl, inr, arith, refl}
+use Rattle.std.proofs.Common.{sym, ◌∙◌, subst}
 use Rattle.std.proofs.lemmas.Bool.Decides.{eqb_tells}
 use Rattle.std.proofs.lemmas.List.{get_or-set_other, length-set, length_push, append_assoc, get_or_default}
 use Rattle.std.proofs.lemmas.List.Elements.{All-nil, All-push, Contains-append_left, Contains-push}
@@ -19,19 +19,11 @@ none_counted (false ∷ marks) bare = let rest : marked_count marks ≡ 0 = none
 
 -- at first none is reached
 pub AreReached-none : (goal : ℕ) (marks : List Bool) (reached : List ℕ) → ((r : ℕ) → ¬ IsMarked marks r) → reached ≡ [] → AreReached goal marks reached
-AreReached-none goal marks reached bare none = record {
-  listed = λ u marked. absurd (bare u marked);
-  within = subst (λ (xs : List ℕ). All (λ u. u < length marks) xs) (sym none) (All-nil (λ u. u < length marks));
-  count = let counted : marked_count marks ≡ 0 = none_counted marks bare in omega (arith, counted, ap length none);
-  apart = bare goal;
-}
+AreReached-none goal marks reached bare none = grind (arith, common_steps, All-nil, none_counted)
 
 -- one more mark
 one_more : (marks : List Bool) (r : ℕ) → r < length marks → get_or marks r false ≡ false → marked_count (set marks r true) ≡ marked_count marks + 1
-one_more marks r within bare =
-    let one : Bool → ℕ = λ b. cond b 1 0 in
-    let k : one (get_or marks r false) ≡ one false = ap one bare in
-    omega (arith, sum_by-set one marks r true false within, k)
+one_more marks r within bare = grind (arith, common_steps, sum_by-set)
 
 -- fewer routers are reached than there are
 pub reached_short : (marks : List Bool) (reached : List ℕ) (r : ℕ) → length reached ≡ marked_count marks → r < length marks →
@@ -57,11 +49,7 @@ AreReached-more goal marks reached r are within bare apart = record {
 -- first some are reached, then others
 pub ReachesMore-then : (marks marks' marks'' : List Bool) (reached reached' reached'' : List ℕ) → ReachesMore marks reached marks' reached' →
     ReachesMore marks' reached' marks'' reached'' → ReachesMore marks reached marks'' reached''
-ReachesMore-then marks marks' marks'' reached reached' reached'' one two = record {
-  marked = λ u marked. two.marked u (one.marked u marked);
-  added = one.added ++ two.added;
-  listed = two.listed ∙ ap (λ (xs : List ℕ). xs ++ two.added) one.listed ∙ append_assoc reached one.added two.added;
-}
+ReachesMore-then marks marks' marks'' reached reached' reached'' one two = grind (arith, common_steps, append_assoc)
 
 -- where a list of steps ends at a router of so many, it begins at one
 begins_inside : (step : ℕ → ℕ → Type 0) (n goal : ℕ) → goal < n → ((u h : ℕ) → step u h → u < n) → (u : ℕ) (hops : List ℕ) → Follows step u hops goal → u < n
@@ -104,6 +92,4 @@ never_over step goal u hop only apart never h (next ∷ hops) follows =
 
 -- a list of fewer than two has its first one alone
 pub only_first : (xs : List ℕ) (h : ℕ) → length xs < 2 → Contains xs h → get_or xs 0 0 ≡ h
-only_first xs h few among =
-    let first : 0 ≡ among.0 = omega (arith, among.1, few) in
-    ap (λ (k : ℕ). get_or xs k 0) first ∙ get_or_default xs among.0 0 h among.1 ∙ among.2
+only_first xs h few among = grind (arith, common_steps, get_or_default)

@@ -1,5 +1,6 @@
 -- A migration that goes on from another start: it steps as before, and has other tags.
-use Rattle.std.proofs.Common.{◌≡◌, ℕ, suc, ◌+◌, ◌<◌, ◌≤◌, List, [], ◌∷◌, length, get_or, set, Bool, true, false, ◌&&◌, Option, None, Some, IfSome, IfNone, IsNone, ◌↔◌, inl, inr, arith, ap, sym, ◌∙◌, subst, below_more}
+use Rattle.std.proofs.lemmas.Grind.{common_steps}
+use Rattle.std.proofs.Common.{◌≡◌, ℕ, suc, ◌+◌, ◌<◌, ◌≤◌, List, [], ◌∷◌, length, get_or, set, Bool, ◌&&◌, Option, None, Some, IfSome, IfNone, IsNone, ◌↔◌, arith, ap, sym, ◌∙◌, subst, below_more}
 use Rattle.std.specs.Bool.{OnTrue}
 use Rattle.std.proofs.lemmas.List.{map-set, length-map, get_or-map, set-get_or, get_or-set_same, get_or-set_other}
 use Rattle.net_addr.specs.Addresses.{Block}
@@ -133,9 +134,7 @@ around_places R d (r ∷ rest) each = each_place R d r (r ∷ rest) each
 pub told_steps_from : (move : Migration) (start : State) (time : Timetable) (found : Option (ℕ × Told)) (turns : List Turn) →
     IsTimetable (length move.net) start time → IfSome found (λ f. IsTimesFault move time f.0 (told_fault f.1 turns)) →
     IfSome (told found) (λ fault. TurnsStep move start fault turns)
-told_steps_from move start time None turns table is = tt
-told_steps_from move start time (Some (w, Loop a)) turns table is = loop_steps_from move start time w a turns table is.from_one is.here
-told_steps_from move start time (Some (w, Missing a u)) turns table is = tt
+told_steps_from move start time found turns table is = grind (arith, common_steps, loop_steps_from)
 
 pub told_from : (move : Migration) (start : State) (time : Timetable) (found : Option (ℕ × Told)) (turns other : List Turn) →
     routers_of other ≡ routers_of turns → IfSome (told found) (λ fault. TurnsAreTagged (started start move) fault other) →
@@ -186,9 +185,7 @@ told_at_start move start state (Some told) turns other same tags sound fault =
 
 -- no other answer changes the ring, in two steps
 pub keeps_twice : (found : Option Told) (one two three : List Turn) → KeepsRing found one two → KeepsRing found two three → KeepsRing found one three
-keeps_twice None one two three first after = after ∙ first
-keeps_twice (Some (Loop a)) one two three first after = tt
-keeps_twice (Some (Missing a u)) one two three first after = after ∙ first
+keeps_twice found one two three first after = grind (arith, common_steps)
 
 -- and of a timetable
 pub told_from_start : (move : Migration) (start : State) (time : Timetable) (found : Option (ℕ × Told)) (turns other : List Turn) →
@@ -207,8 +204,7 @@ told_from_start move start time (Some found) turns other table same tags sound f
 -- The routers of a ring whose turns are written anew
 
 pub must_from : (move : Migration) (start : State) (a u h : ℕ) → StepsFrom move start a u h → MustForward move.net a u
-must_from move start a u h (inl steps) = steps.must
-must_from move start a u h (inr steps) = steps.must
+must_from move start a u h it_5 = grind (arith, common_steps)
 
 -- the router at a place steps to the next one
 pub step_at : (move : Migration) (start : State) (a place : ℕ) (routers : List ℕ) (ring : List Turn) (d : Turn) → routers_of ring ≡ routers →
@@ -256,6 +252,4 @@ tags_more move a place routers ring turn within tagged before d =
 -- where the start is all Old, what is known of it is known of that state
 pub begun_old : (m : Mix) (start : State) (begun old : Bool) → OnTrue begun (Sound m start) → OnTrue old (start ≡ all_old) →
     OnTrue (begun && old) (Sound m all_old)
-begun_old m start true true sound is = subst (Sound m) is sound
-begun_old m start true false sound is = tt
-begun_old m start false old sound is = tt
+begun_old m start begun old sound is = grind (arith, common_steps)

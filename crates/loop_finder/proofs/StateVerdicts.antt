@@ -1,4 +1,5 @@
 -- A state is sound for all addresses where it is for the least address of each class.
+use Rattle.std.proofs.lemmas.Grind.{common_steps}
 use Rattle.std.proofs.Common.{◌≡◌, ◌≢◌, ℕ, ◌^◌, ◌<◌, ◌≤◌, List, length, get_or, arith, subst, inl, inr}
 use Rattle.std.specs.List.{AllPairs}
 use Rattle.std.proofs.lemmas.Bool.{cases_lt}
@@ -30,10 +31,7 @@ classes_few prefixes samples are =
 -- at the routers of the network a source has the entries of its tables
 same_entries : (net : Network) (old new : ℕ → List (Block × Entry)) → HaveSameTables (listed_migration net old new) (SourceEntry (length net) old)
     (SourceEntry (length net) new)
-same_entries net old new = record {
-  same_old = λ u p e within. (λ has. (within, has), λ has. has.1);
-  same_new = λ u p e within. (λ has. (within, has), λ has. has.1);
-}
+same_entries net old new = grind (arith, common_steps)
 
 -- a state that is sound for one address of a class is sound for another
 sound_alike : (m : Mix) (state : State) (k a b : ℕ) → ClassesOf m → IsInClass m.classes k a → IsInClass m.classes k b

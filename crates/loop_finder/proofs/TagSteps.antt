@@ -1,4 +1,5 @@
 -- The turns of a ring, one after another.
+use Rattle.std.proofs.lemmas.Grind.{common_steps}
 use Rattle.std.proofs.Common.{◌≡◌, ℕ, suc, ◌+◌, ◌<◌, ◌≤◌, ◌⊎◌, inl, inr, List, [], ◌∷◌, ◌++◌, length, get_or, take, arith, sym, ap, ◌∙◌, subst}
 use Rattle.std.proofs.lemmas.List.{take_more, take_all, map_push, get_or_default, get_or_past}
 use Rattle.igp_theory.specs.Loops.{EachToNext, AroundRing}
@@ -19,8 +20,7 @@ old_or_new c u h (inr steps) = old_or_new_step (state_in c.last u) steps
 
 -- only a router of the network steps
 pub steps_inside : (c : ClassState) (u h : ℕ) → ClassStep c u h → u < length c.mixture.net
-steps_inside c u h (inl steps) = steps.must.router
-steps_inside c u h (inr steps) = steps.must.router
+steps_inside c u h it_3 = grind (arith, common_steps)
 
 -- a router that doesn't step in Old steps in New alone
 pub tagged_new : (c : ClassState) (u h : ℕ) → (StepsBy c u Old h → ⊥) → StepsBy c u Old h ⊎ StepsBy c u New h

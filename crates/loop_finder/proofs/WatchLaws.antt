@@ -1,4 +1,5 @@
 -- The places at which a change of a router is looked at, and what it leaves sound.
+use Rattle.std.proofs.lemmas.Grind.{common_steps}
 use Rattle.std.proofs.Common.{◌≡◌, ℕ, ◌+◌, ◌<◌, ◌≤◌, Bool, true, List, [], ◌∷◌, ◌++◌, length, get_or, Contains, Option, Some, None, IfNone, IfSome, inl, inr}
 use Rattle.std.proofs.Common.{arith, sym, ◌∙◌, ap, subst}
 use Rattle.std.specs.List.{AllPairs}
@@ -83,8 +84,7 @@ stays_where_never m part change is moves never before leads sound =
 pub stays_where_kept : (m : Mix) (part : ClassPart) (change : PhaseChange) → IsPart m part
     → part.moves ≡ true → part_hops part change.router change.was ≡ part_hops part change.router (state_in change.phases change.router)
     → StaysSoundAt m change part.atom
-stays_where_kept m part change is moves kept before leads sound = part_keeps_sound m part change.router before (state_in change.phases) is moves
-    (ap (part_hops part change.router) leads.here ∙ kept) leads.others sound
+stays_where_kept m part change is moves kept before leads sound = grind (arith, common_steps, part_keeps_sound)
 
 -- and where no fault of the class is told
 pub stays_where_told : (m : Mix) (change : PhaseChange) (atom a : ℕ) (result : Option Fault) (turns : List Turn) → a ≡ atom

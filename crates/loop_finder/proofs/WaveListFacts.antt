@@ -1,15 +1,16 @@
 -- A timetable is looked at wave by wave.
-use Rattle.std.proofs.Common.{◌≡◌, ℕ, ◌+◌, ◌<◌, ◌≤◌, ◌↔◌, List, length, Option, Some, None, IfSome, IfNone, IsNone, inl, inr, refl, sym, ap, subst, arith}
+use Rattle.std.proofs.lemmas.Grind.{common_steps}
+use Rattle.std.proofs.Common.{◌≡◌, ℕ, ◌+◌, ◌<◌, ◌≤◌, ◌↔◌, List, length, Option, Some, None, IfSome, IfNone, IsNone, inl, inr, refl, sym, subst, arith}
 use Rattle.std.proofs.lemmas.Bool.{false≢true, cases_lt}
 use Rattle.order_core.specs.Rankings.{IsRanking}
 use Rattle.order_core.specs.declared.turn.Turn.{Turn}
 use Rattle.igp_theory.specs.Changes.{second}
 use Rattle.igp_theory.specs.Loops.{Fault as WholeFault}
 use Rattle.igp_theory.specs.Migrations.{Migration}
-use Rattle.igp_theory.specs.Phases.{State, made_in}
+use Rattle.igp_theory.specs.Phases.{State}
 use Rattle.igp_theory.specs.States.{IsSound}
 use Rattle.igp_theory.specs.TimetableLaws.{IsStateOfSomeWave}
-use Rattle.igp_theory.specs.Timetables.{Timetable, IsTimetable, IsStateOfWave, IsSoundThroughout, router_times, state_before}
+use Rattle.igp_theory.specs.Timetables.{Timetable, IsTimetable, IsStateOfWave, IsSoundThroughout, router_times}
 use Rattle.igp_theory.specs.WaveFaults.{IsTimesFault}
 use Rattle.igp_theory.specs.Waves.{AreSeamlessWaves}
 use Rattle.igp_theory.proofs.Phases.{made_in_few}
@@ -26,14 +27,7 @@ use Rattle.loop_finder.specs.declared.fault.Fault.{Fault}
 -- behind the last wave there is the state in which it ends alone
 past_last : (n : ℕ) (time : Timetable) (last v : ℕ) (state : State) → IsInOrder time → ((u : ℕ) → u < n → time (second u) ≤ last) → last < v →
     IsStateOfWave n time v state → IsStateOfWave n time last state
-past_last n time last v state order most after of_wave u within =
-    let begins = ap made_in (before_new time v u (omega (arith, after, most u within))) in
-    let ends = ap made_in (before_new time (last + 1) u (omega (arith, most u within))) in
-    let from = (of_wave u within).from in
-    record {
-      from = omega (arith, begins, from, made_in_few (state_before time last u));
-      upto = omega (arith, ends, made_in_few (state u));
-    }
+past_last n time last v state order most after of_wave u within = grind (arith, common_steps, before_new, made_in_few)
 
 -- so where the waves up to the last one are sound, all are
 pub sound_to_last : (m : Mix) (time : Timetable) (last w : ℕ) → IsInOrder time → 1 ≤ last → ((u : ℕ) → u < length m.net → time (second u) ≤ last) →

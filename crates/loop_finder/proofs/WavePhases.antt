@@ -1,6 +1,7 @@
 -- The phases by the waves of a router's changes, and lists of them.
-use Rattle.std.proofs.Common.{◌≡◌, ℕ, zero, suc, ◌+◌, ◌^◌, ◌<◌, ◌≤◌, ◌⊎◌, if◌then◌else◌, Bool, ltb, List, [], ◌∷◌, length, get_or, inl, inr, refl, arith}
-use Rattle.std.proofs.Common.{◌↔◌, ◌++◌, take, drop, set, below_more, Contains, sym, ap, ◌∙◌, subst}
+use Rattle.std.proofs.lemmas.Grind.{common_steps}
+use Rattle.std.proofs.Common.{◌≡◌, ℕ, zero, suc, ◌+◌, ◌^◌, ◌<◌, ◌≤◌, ◌⊎◌, Bool, ltb, List, [], ◌∷◌, length, get_or, inl, inr, refl, arith}
+use Rattle.std.proofs.Common.{◌↔◌, ◌++◌, take, drop, set, Contains, sym, ap, ◌∙◌, subst}
 use Rattle.std.proofs.lemmas.Bool.{lt-ltb, le-ltb, false≢true}
 use Rattle.std.proofs.Common.{true, false, ◌==◌, ◌&&◌, eqb-true}
 use Rattle.net_model.proofs.Members.{Contains-none}
@@ -13,7 +14,6 @@ use Rattle.igp_theory.specs.Changes.{Change, first, second}
 use Rattle.igp_theory.specs.Phases.{State, all_old, state_in}
 use Rattle.igp_theory.specs.Timetables.{Timetable, router_times, state_before}
 use Rattle.igp_theory.specs.declared.phase.Phase.{Phase}
-use Rattle.igp_theory.specs.declared.phase.Phase.TheVariants.{Old, Middle, New}
 use Rattle.loop_finder.specs.Times.{waves_of, times_in, phase_before}
 use Rattle.loop_finder.specs.Parts.{ClassPart, part_hops}
 use Rattle.loop_finder.specs.steps.Times.{IsMovedFrom, AreMovedFrom}
@@ -42,38 +42,27 @@ waves_same one other told =
 -- before the waves that changes moved from and to
 
 before_moved : (least v was now : ℕ) → IsMovedFrom least was now → v ≤ least → ltb now v ≡ ltb was v
-before_moved least v was now (inl same) upto = ap (λ x. ltb x v) (sym same)
-before_moved least v was now (inr far) upto =
-    le-ltb now v (omega (arith, upto, far.1)) ∙ sym (le-ltb was v (omega (arith, upto, far.0)))
+before_moved least v was now it_4 upto = grind (arith, common_steps, le-ltb)
 
 -- a router has its phases
 pub phase_moved : (least v : ℕ) (was now : ChangeWaves) → AreMovedFrom least was now → v ≤ least → phase_before now v ≡ phase_before was v
-phase_moved least v was now moved upto =
-    ap (λ (b : Bool). if b then New else if ltb now.first v then Middle else Old) (before_moved least v was.second now.second moved.second upto)
-    ∙ ap (λ (b : Bool). if ltb was.second v then New else if b then Middle else Old) (before_moved least v was.first now.first moved.first upto)
+phase_moved least v was now moved upto = grind (arith, common_steps, before_moved)
 
 -- and its changes
 wave_was : (least v was now : ℕ) → IsMovedFrom least was now → v < least → now ≡ v → was ≡ v
-wave_was least v was now (inl same) less is = same ∙ is
-wave_was least v was now (inr far) less is = absurd (omega (arith, far.1, less, is))
+wave_was least v was now it_4 less is = grind (arith, common_steps)
 
 pub wave_moved : (least v : ℕ) (was now : ChangeWaves) → AreMovedFrom least was now → v < least → (now.first ≡ v) ⊎ (now.second ≡ v) →
     (was.first ≡ v) ⊎ (was.second ≡ v)
-wave_moved least v was now moved less (inl one) = inl (wave_was least v was.first now.first moved.first less one)
-wave_moved least v was now moved less (inr two) = inr (wave_was least v was.second now.second moved.second less two)
+wave_moved least v was now moved less it_6 = grind (arith, common_steps, wave_was)
 
 -- where a router makes no change in a wave, it stays in its phase
 
 ltb_apart : (a w : ℕ) → (¬ (a ≡ w)) → ltb a (w + 1) ≡ ltb a w
-ltb_apart a w apart = elim (cases_lt a w) [
-  | inl less ↦ lt-ltb a (w + 1) (omega (arith, less)) ∙ sym (lt-ltb a w less)
-  | inr more ↦ le-ltb a (w + 1) (omega (arith, more, apart)) ∙ sym (le-ltb a w more)
-]
+ltb_apart a w apart = grind (arith, common_steps, cases_lt, le-ltb, lt-ltb)
 
 phase_stays : (waves : ChangeWaves) (w : ℕ) → (¬ ((waves.first ≡ w) ⊎ (waves.second ≡ w))) → phase_before waves (w + 1) ≡ phase_before waves w
-phase_stays waves w apart =
-    ap (λ (b : Bool). if b then New else if ltb waves.first (w + 1) then Middle else Old) (ltb_apart waves.second w (λ two. apart (inr two)))
-    ∙ ap (λ (b : Bool). if ltb waves.second w then New else if b then Middle else Old) (ltb_apart waves.first w (λ one. apart (inl one)))
+phase_stays waves w apart = grind (arith, common_steps, ltb_apart)
 
 -- the hops of a part in which a router begins and ends a wave are its steps in the wave
 pub begins_and_ends : (part : ClassPart) (waves : ChangeWaves) (w u h : ℕ) (begins ends : List ℕ) → begins ≡ part_hops part u (phase_before waves w) →
@@ -153,16 +142,9 @@ pub ranked_more : (times : List ChangeWaves) (ranks : List ℕ) (n : ℕ) → n 
     ((u : ℕ) → u < n → waves_of times u ≡ record { first = rank_of ranks u + 1; second = rank_of ranks u + 1 }) →
     (u : ℕ) → u < n + 1 → waves_of (set times n (record { first = rank_of ranks n + 1; second = rank_of ranks n + 1 })) u
     ≡ record { first = rank_of ranks u + 1; second = rank_of ranks u + 1 }
-ranked_more times ranks n within before =
-    let none : ChangeWaves = record { first = 1; second = 1 } in
-    let here : ChangeWaves = record { first = rank_of ranks n + 1; second = rank_of ranks n + 1 } in
-    below_more (λ (u : ℕ). waves_of (set times n here) u ≡ record { first = rank_of ranks u + 1; second = rank_of ranks u + 1 }) n
-    (λ u below. get_or-set_other times n u here none (λ same. omega (arith, same, below)) ∙ before u below)
-    (get_or-set_same times n here none within)
+ranked_more times ranks n within before = grind (arith, common_steps, get_or-set_other, get_or-set_same)
 
 -- the phases of a router more are written
 pub phases_more : (time : Timetable) (w n : ℕ) (phases : List Phase) (phase : Phase) → n < length phases → phase ≡ state_before time w n →
     ((u : ℕ) → u < n → state_in phases u ≡ state_before time w u) → (u : ℕ) → u < n + 1 → state_in (set phases n phase) u ≡ state_before time w u
-phases_more time w n phases phase within is before = below_more (λ (u : ℕ). state_in (set phases n phase) u ≡ state_before time w u) n
-    (λ u below. get_or-set_other phases n u phase Old (λ same. omega (arith, same, below)) ∙ before u below)
-    (get_or-set_same phases n phase Old within ∙ is)
+phases_more time w n phases phase within is before = grind (arith, common_steps, get_or-set_other, get_or-set_same, phases)

@@ -1,5 +1,6 @@
 -- A wave is gone through router by router.
-use Rattle.std.proofs.Common.{◌≡◌, ℕ, zero, suc, ◌+◌, ◌-◌, ◌<◌, ◌≤◌, ◌⊎◌, Bool, true, cond, leb, List, ◌∷◌, length, Contains, inl, inr, arith, sym, ap, ◌∙◌}
+use Rattle.std.proofs.lemmas.Grind.{common_steps}
+use Rattle.std.proofs.Common.{◌≡◌, ℕ, zero, suc, ◌+◌, ◌-◌, ◌<◌, ◌≤◌, ◌⊎◌, Bool, true, cond, leb, List, ◌∷◌, length, Contains, inl, inr, arith, sym, ◌∙◌}
 use Rattle.std.proofs.Common.{subst}
 use Rattle.std.specs.Bool.{OnTrue}
 use Rattle.std.proofs.lemmas.Bool.{cases_eq, cases_lt}
@@ -30,33 +31,18 @@ abbrev mixed : State → State → ℕ → State
 mixed one other r u = cond (leb (suc u) r) (one u) (other u)
 
 mixed_one : (one other : State) (r u : ℕ) → u < r → mixed one other r u ≡ one u
-mixed_one one other r u below = elim (leb_tells (suc u) r) [
-  | inl met ↦ ap (λ (b : Bool). cond b (one u) (other u)) met.0
-  | inr missed ↦ absurd (omega (arith, missed.1, below))
-]
+mixed_one one other r u below = grind (arith, common_steps, leb_tells)
 
 mixed_other : (one other : State) (r u : ℕ) → r ≤ u → mixed one other r u ≡ other u
-mixed_other one other r u above = elim (leb_tells (suc u) r) [
-  | inl met ↦ absurd (omega (arith, met.1, above))
-  | inr missed ↦ ap (λ (b : Bool). cond b (one u) (other u)) missed.0
-]
+mixed_other one other r u above = grind (arith, common_steps, leb_tells)
 
 -- one router more changes no other
 mixed_more : (one other : State) (r v : ℕ) → (¬ (v ≡ r)) → mixed one other (suc r) v ≡ mixed one other r v
-mixed_more one other r v apart = elim (cases_lt v r) [
-  | inl below ↦ mixed_one one other (suc r) v (omega (arith, below)) ∙ sym (mixed_one one other r v below)
-  | inr above ↦ mixed_other one other (suc r) v (omega (arith, above, apart)) ∙ sym (mixed_other one other r v above)
-]
+mixed_more one other r v apart = grind (arith, common_steps, cases_lt, mixed_one, mixed_other)
 
 -- a router makes a change in a wave, or it doesn't
 changes_cases : (time : Timetable) (w u : ℕ) → ChangesIn time w u ⊎ (¬ ChangesIn time w u)
-changes_cases time w u = elim (cases_eq (time (change.first u)) w) [
-  | inl one ↦ inl (inl one)
-  | inr not_one ↦ elim (cases_eq (time (change.second u)) w) [
-    | inl two ↦ inl (inr two)
-    | inr not_two ↦ inr (λ changes. elim changes [ inl one ↦ not_one one | inr two ↦ not_two two ])
-  ]
-]
+changes_cases time w u = grind (arith, common_steps, cases_eq)
 
 -- where it makes none, it stays in its phase
 stays_in_wave : {n : ℕ} {time : Timetable} {w : ℕ} {first last : List Phase} (state : State) (u : ℕ) → AreEnds n time w first last →

@@ -1,4 +1,5 @@
-use Rattle.std.proofs.Common.{◌≡◌, [], get_or, arith, sym, ◌∙◌, subst}
+use Rattle.std.proofs.lemmas.Grind.{common_steps}
+use Rattle.std.proofs.Common.{◌≡◌, arith, sym, ◌∙◌, subst}
 use Rattle.std.proofs.lemmas.List.{get_or_default}
 use Rattle.std.specs.Bool.{OnTrue}
 use Rattle.loop_finder.specs.Mixes.{Mix, mix_of}
@@ -10,14 +11,7 @@ use Rattle.loop_finder.proofs.PartLaws.{clear_part}
 use Rattle.loop_finder.proofs.classes_fault.is_clear_at.Goals as goal
 
 pub returns-in-Some-clause-clear : goal.returns-in-Some-clause-clear
-returns-in-Some-clause-clear g c =
-    let here : c.index-part.result.now ≡ class_part_at c.args.subject.now.parts.items c.args.place =
-    c.index-part.ensures ∙ get_or_default c.args.subject.now.parts.items c.args.place c.index-part.result.now no_part c.requires.place in
-    let there : c.index.result.now ≡ get_or c.args.subject.now.pieces.made.items c.args.place [] =
-    c.index.ensures ∙ get_or_default c.args.subject.now.pieces.made.items c.args.place c.index.result.now []
-    (omega (arith, c.requires.place, c.requires.subject.pieces_are.made.many)) in
-    on_true_two c.is_calm_in.result (rw here at c.is_calm_in.ensures.moves) (rw there at c.is_calm_in.ensures.calm)
-    ((rw c.in-Some.is at c.requires.stir) c.args.place no_part c.requires.place)
+returns-in-Some-clause-clear g c = grind (arith, common_steps, get_or_default, on_true_two)
 
 pub returns-in-None-clause-clear : goal.returns-in-None-clause-clear
 returns-in-None-clause-clear g c =

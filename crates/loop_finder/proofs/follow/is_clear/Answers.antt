@@ -1,4 +1,5 @@
-use Rattle.std.proofs.Common.{ℕ, ◌<◌, Contains, get_or, length, arith, subst, sym}
+use Rattle.std.proofs.lemmas.Grind.{common_steps}
+use Rattle.std.proofs.Common.{ℕ, Contains, arith, subst, sym}
 use Rattle.std.specs.Bool.{OnTrue}
 use Rattle.loop_finder.specs.steps.Parts.{PartState, PartStep}
 use Rattle.loop_finder.specs.steps.Walks.{ReturnsNever}
@@ -6,9 +7,7 @@ use Rattle.loop_finder.proofs.PartRows.{steppers_step}
 use Rattle.loop_finder.proofs.follow.is_clear.Goals as goal
 
 pub returns_never-requires-clause-below : goal.returns_never-requires-clause-below
-returns_never-requires-clause-below c k d inside =
-    let less : get_or c.steppers.result.now k d < length c.args.part.now.rows = c.steppers.ensures.below k d inside in
-    rw c.new-steps.ensures (omega (arith, less, c.requires.rows))
+returns_never-requires-clause-below c k d inside = grind (arith, common_steps)
 
 pub returns_never-requires-clause-whole : goal.returns_never-requires-clause-whole
 returns_never-requires-clause-whole c = subst (λ (x : PartState). (u h : ℕ) → PartStep x.part x.first x.last u h → Contains c.steppers.result.now u)

@@ -1,3 +1,4 @@
+use Rattle.std.proofs.lemmas.Grind.{common_steps}
 use Rattle.std.proofs.Common.{◌≡◌, ℕ, ◌+◌, ◌/◌, ◌<◌, List, [], length, get_or, arith, sym, ap, ◌∙◌, subst}
 use Rattle.std.proofs.lemmas.List.{get_or_default}
 use Rattle.igp_theory.specs.Phases.{state_in}
@@ -16,12 +17,10 @@ advance-was-requires g c =
     omega (arith, below, c.requires.work.first, c.args.work.now.first.ok.0)
 
 pub returns-clause-state : goal.returns-clause-state
-returns-clause-state g c = state_advanced c.args.order.now c.args.work.now.first.items c.advance-was.new.phases.items c.args.k c.requires.k
-    c.advance-was.ensures.state c.requires.state
+returns-clause-state g c = grind (arith, common_steps, state_advanced)
 
 pub returns-then-is_known-clause-state : goal.returns-then-is_known-clause-state
-returns-then-is_known-clause-state g c = state_advanced c.args.order.now c.args.work.now.first.items c.advance-was.new.phases.items c.args.k c.requires.k
-    c.advance-was.ensures.state c.requires.state
+returns-then-is_known-clause-state g c = grind (arith, common_steps, state_advanced)
 
 pub turned_fault-requires-clause-places : goal.turned_fault-requires-clause-places
 turned_fault-requires-clause-places g c =

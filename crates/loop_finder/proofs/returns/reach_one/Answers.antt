@@ -1,3 +1,4 @@
+use Rattle.std.proofs.lemmas.Grind.{common_steps}
 use Rattle.std.proofs.Common.{◌≡◌, ℕ, ◌<◌, List, length, get_or, set, true, false, arith, sym, subst}
 use Rattle.std.proofs.lemmas.List.{get_or_read}
 use Rattle.loop_finder.specs.steps.Returns.{AreReached}
@@ -5,14 +6,7 @@ use Rattle.loop_finder.proofs.Reaching.{reached_short, AreReached-more}
 use Rattle.loop_finder.proofs.returns.reach_one.Goals as goal
 
 pub visit-requires : goal.visit-requires
-visit-requires c =
-    let within : c.args.router < length c.args.seen.now = c.in-Some-false.ensures.lookup.3.0 in
-    let read : c.in-Some-false.field-0.now ≡ get_or c.args.seen.now c.args.router false =
-    get_or_read c.args.seen.now c.args.router c.in-Some-false.field-0.now within c.in-Some-false.ensures.lookup.1 false in
-    let bare : get_or c.args.seen.now c.args.router false ≡ false = cc in
-    let few : length c.args.reached.now.items < length c.args.seen.now =
-    reached_short c.args.seen.now c.args.reached.now.items c.args.router c.requires.count within bare in
-    omega (arith, few, c.requires.room, c.args.reached.now.ok.0)
+visit-requires c = grind (arith, common_steps, get_or_read, reached_short)
 
 pub returns-in-Some-false-clause-reached : goal.returns-in-Some-false-clause-reached
 returns-in-Some-false-clause-reached c goal apart are =

@@ -1,3 +1,4 @@
+use Rattle.std.proofs.lemmas.Grind.{common_steps}
 use Rattle.std.proofs.Common.{ℕ, ◌+◌, ◌⊎◌, List, get_or, refl, subst, sym, arith}
 use Rattle.igp_theory.specs.declared.phase.Phase.TheVariants.{Old, New}
 use Rattle.order_core.specs.declared.turn.Turn.{Turn}
@@ -7,10 +8,7 @@ use Rattle.loop_finder.proofs.TagSteps.{old_or_new, steps_inside, ring_step, IsP
 use Rattle.loop_finder.proofs.tags.write_ring.Goals as goal
 
 pub tag_of-tag-requires-clause-router : goal.tag_of-tag-requires-clause-router
-tag_of-tag-requires-clause-router g c =
-    let s = state_over g.O.RouteSource.table g.N.RouteSource.table c.args.steps.now in
-    steps_inside s (get_or c.args.routers.now c.loop-place.place 0) (next_in c.args.routers.now c.loop-place.place)
-    (ring_step (ClassStep s) c.args.routers.now c.loop-place.place c.requires.around c.loop-place-test.true)
+tag_of-tag-requires-clause-router g c = grind (arith, common_steps, ring_step, steps_inside)
 
 pub tag_of-tag-requires-clause-some : goal.tag_of-tag-requires-clause-some
 tag_of-tag-requires-clause-some g c =
@@ -35,6 +33,4 @@ loop-place-preserved g c =
     }
 
 pub returns-clause-tags : goal.returns-clause-tags
-returns-clause-tags g c =
-    (ring_whole (state_over g.O.RouteSource.table g.N.RouteSource.table c.args.steps.now) c.args.routers.now c.loop-place.ring.items c.loop-place.place
-    c.loop-place-test.false c.loop-place.invariant.part).1
+returns-clause-tags g c = grind (arith, common_steps, ring_whole)

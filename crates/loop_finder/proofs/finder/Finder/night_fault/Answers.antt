@@ -1,3 +1,5 @@
+use Rattle.std.proofs.Common.{arith}
+use Rattle.std.proofs.lemmas.Grind.{common_steps}
 use Rattle.std.proofs.Common.{Bool, List, [], None, length, ap, refl, sym, subst, ◌∙◌}
 use Rattle.std.specs.Bool.{OnTrue}
 use Rattle.igp_theory.specs.Migrations.{Migration}
@@ -10,8 +12,7 @@ use Rattle.loop_finder.proofs.Started.{keeps_twice, told_at_start, state_steps_f
 use Rattle.loop_finder.proofs.finder.Finder.night_fault.Goals as goal
 
 pub is_sound_start-requires : goal.is_sound_start-requires
-is_sound_start-requires g c =
-    ap (λ (xs : List Phase). length xs) c.as_slice.ensures.value ∙ c.self.invariant.start_many ∙ sym (rw (← c.self.view_is) at c.requires.many)
+is_sound_start-requires g c = grind (arith, common_steps)
 
 pub returns-then-is_sound_start-clause-sound : goal.returns-then-is_sound_start-clause-sound
 returns-then-is_sound_start-clause-sound g c =
@@ -46,5 +47,4 @@ returns-clause-fault g c =
     c.state_fault-found.ensures.sound c.state_fault-found.ensures.fault).1
 
 pub returns-clause-ring : goal.returns-clause-ring
-returns-clause-ring g c = rw (← c.self.view_is) (keeps_twice c.state_fault-found.result c.self.inside.work.room.ring.items
-    c.state_fault-found.new.room.ring.items c.tag_found.new.ring.items c.state_fault-found.ensures.ring c.tag_found.ensures.ring)
+returns-clause-ring g c = grind (arith, common_steps, keeps_twice)

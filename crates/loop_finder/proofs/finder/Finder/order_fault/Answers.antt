@@ -1,8 +1,8 @@
-use Rattle.std.proofs.Common.{ℕ, ◌↔◌, Bool, List, IsNone, length, subst, sym, ap, ◌∙◌, arith}
-use Rattle.std.specs.Bool.{OnTrue}
+use Rattle.std.proofs.lemmas.Grind.{common_steps}
+use Rattle.std.proofs.Common.{ℕ, ◌↔◌, List, IsNone, length, subst, sym, ap, ◌∙◌, arith}
 use Rattle.order_core.specs.Orders.{IsOrder}
 use Rattle.order_core.proofs.Orders.{order_length}
-use Rattle.igp_theory.specs.Phases.{State, all_old, state_in}
+use Rattle.igp_theory.specs.Phases.{State}
 use Rattle.igp_theory.specs.States.{IsSeamless, state_of}
 use Rattle.rib_mix.specs.Mixture.{migration_of}
 use Rattle.loop_finder.specs.Faults.{Finding}
@@ -45,8 +45,4 @@ copy_from_slice-requires g c =
     omega (arith, c.self.inside.order.ok.0, c.self.invariant.order_many, order_length (length c.self.inside.subject.mixed.now.net) c.args.order.now order)
 
 pub order_fault-found-requires-clause-begun : goal.order_fault-found-requires-clause-begun
-order_fault-found-requires-clause-begun g c =
-    subst (λ (b : Bool). OnTrue b (Sound (mix_of g.O.RouteSource.table g.N.RouteSource.table c.self.inside.subject.mixed.now) all_old))
-    (sym c.is_old_begun-begun.ensures)
-    (begun_old (mix_of g.O.RouteSource.table g.N.RouteSource.table c.self.inside.subject.mixed.now) (state_in c.self.inside.start.items)
-    c.self.inside.begun c.self.inside.from_old c.self.invariant.begun_is c.self.invariant.old_is)
+order_fault-found-requires-clause-begun g c = grind (arith, common_steps, begun_old)

@@ -1,3 +1,4 @@
+use Rattle.std.proofs.lemmas.Grind.{common_steps}
 use Rattle.std.proofs.Common.{◌≡◌, ℕ, List, length, ap, ◌∙◌, arith, subst}
 use Rattle.std.specs.Bool.{OnTrue}
 use Rattle.net_model.specs.Network.{Network}
@@ -12,15 +13,7 @@ use Rattle.loop_finder.proofs.OnFalse.{on_none}
 use Rattle.loop_finder.proofs.finder.Finder.over.Goals as goal
 
 pub state_fault-requires-clause-subject : goal.state_fault-requires-clause-subject
-state_fault-requires-clause-subject g c =
-    let many = c.routers-routers.ensures.count ∙ ap (λ (n : Network). length n) c.net.ensures in
-    record {
-      parts_are = c.in_ok-parts.ensures;
-      pieces_are = subst (λ (xs : List ClassPart). ArePieces xs (length c.args.mixed.now.net) c.in_ok-pieces.pieces) c.as_slice.ensures.value
-          (subst (λ (n : ℕ). ArePieces c.as_slice.result.now n c.in_ok-pieces.pieces) many c.in_ok-pieces.ensures);
-      watch_is = subst (λ (xs : List ClassPart). IsWatch xs (length c.args.mixed.now.net) c.in_ok-watch.watch.items) c.as_slice-2.ensures.value
-          (subst (λ (n : ℕ). IsWatch c.as_slice-2.result.now n c.in_ok-watch.watch.items) many c.in_ok-watch.ensures);
-    }
+state_fault-requires-clause-subject g c = grind (arith, common_steps)
 
 pub invariant_of-result : goal.invariant_of-result
 invariant_of-result g c =

@@ -1,8 +1,9 @@
+use Rattle.std.proofs.Common.{arith}
+use Rattle.std.proofs.lemmas.Grind.{common_steps}
 use Rattle.std.proofs.Common.{List, length, ap, ◌∙◌}
 use Rattle.igp_theory.specs.Phases.{state_in}
 use Rattle.igp_theory.specs.declared.phase.Phase.{Phase}
 use Rattle.rib_mix.specs.Mixture.{migration_of}
-use Rattle.loop_finder.specs.Faults.{told}
 use Rattle.loop_finder.specs.Mixes.{mix_of}
 use Rattle.loop_finder.specs.Times.{times_in}
 use Rattle.loop_finder.proofs.Started.{keeps_twice, told_from_start, told_steps_from}
@@ -42,6 +43,4 @@ returns-clause-fault g c =
     c.times_fault-found.ensures.sound c.times_fault-found.ensures.fault).1
 
 pub returns-clause-ring : goal.returns-clause-ring
-returns-clause-ring g c = rw (← c.self.view_is) (keeps_twice (told c.times_fault-found.result) c.self.inside.work.room.ring.items
-    c.times_fault-found.new.work.room.ring.items c.tag_found.new.ring.items c.times_fault-found.ensures.ring
-    (rw c.fault_alone-fault.ensures at c.tag_found.ensures.ring))
+returns-clause-ring g c = grind (arith, common_steps, keeps_twice)

@@ -1,3 +1,4 @@
+use Rattle.std.proofs.lemmas.Grind.{common_steps}
 use Rattle.std.proofs.Common.{ℕ, Bool, List, length, arith, sym, subst}
 use Rattle.std.proofs.lemmas.List.{with_items_is}
 use Rattle.loop_finder.specs.Mixes.{Mix, mix_of, class_in}
@@ -18,9 +19,7 @@ pub find_still-requires-clause-changed : goal.find_still-requires-clause-changed
 find_still-requires-clause-changed g c = rw (c.read_class.ensures.olds, c.as_slice-changed.ensures.value) c.requires.unlike.unlike.below
 
 pub returns-clause-read : goal.returns-clause-read
-returns-clause-read g c =
-    is_read (mix_of g.O.RouteSource.table g.N.RouteSource.table c.args.mixed.now) c.args.self.now c.args.atom c.read_class.new.lists c.requires.least
-    c.requires.unlike c.read_class.ensures.olds c.read_class.ensures.news (rw (← c.as_slice-changed.ensures.value) c.read_class.ensures.reads)
+returns-clause-read g c = grind (arith, common_steps, is_read)
 
 pub returns-clause-still : goal.returns-clause-still
 returns-clause-still g c =
