@@ -1,4 +1,5 @@
 -- Prefixes that are connected at the same routers and of which the same is offered, up to constants, have the same entries.
+use Rattle.std.proofs.lemmas.Grind.{common_steps}
 use Rattle.std.proofs.Common.{◌≡◌, ◌≢◌, ℕ, ◌+◌, ◌<◌, ◌↔◌, inl, inr, List, [], ◌∷◌, ◌++◌, length, All, get_or, Option, None, Some, sym, ap, subst, ◌∙◌, arith}
 use Rattle.std.specs.Option.{IfSome}
 use Rattle.std.proofs.lemmas.Bool.{cases_lt}
@@ -46,10 +47,7 @@ alike_back net p q alike = record {
 }
 
 alike_others : (one other : Offers) (u : ℕ) → AskAlike one other → AskAlike (OfOthers one u) (OfOthers other u)
-alike_others one other u alike =
-    alike_among (λ (at : ℕ). at ≢ u) one other (OfOthers one u) (OfOthers other u)
-    (λ at asks. (λ o. (o.other, o.offered), λ both. record { other = both.0; offered = both.1 }))
-    (λ at asks. (λ o. (o.other, o.offered), λ both. record { other = both.0; offered = both.1 })) alike
+alike_others one other u alike = grind (arith, common_steps, alike_among, one)
 
 one_like : (net : Network) (p q : Block) (u : ℕ) → AreAlikeIn net p q → HasLevelOneRoute net p u → HasLevelOneRoute net q u
 one_like net p q u alike has =
@@ -130,8 +128,7 @@ earlier_entries net all place earlier every is u e =
 -- Earlier destinations, one by one
 
 pub named_none : (all : List Destination) (named : List (Option ℕ)) → named ≡ [] → AreEarlierAlike all named
-named_none all named empty place earlier same =
-    absurd (none-some earlier (subst (λ (l : List (Option ℕ)). get_or l place None ≡ Some earlier) empty same))
+named_none all named empty place earlier same = grind (arith, common_steps, none-some)
 
 pub named_more : (all : List Destination) (named new : List (Option ℕ)) (n : ℕ) (next : Option ℕ) → length named ≡ n → new ≡ named ++ next ∷ [] →
     AreEarlierAlike all named → IfSome next (IsEarlierAlike all n) → AreEarlierAlike all new
@@ -162,5 +159,4 @@ alike_at a b x y one other alike = subst (λ (l : List Offer). AreAlikeOffers l 
 -- what follows of each that is named
 pub named_found : (P : ℕ → Type 0) (named : List (Option ℕ)) (place : ℕ) (found : Option ℕ) → ((e : ℕ) → get_or named place None ≡ Some e → P e) →
     IfSome found (λ e. get_or named place None ≡ Some e) → IfSome found P
-named_found P named place None follows is = is
-named_found P named place (Some e) follows is = follows e is
+named_found P named place found follows is = grind (arith, common_steps)

@@ -1,5 +1,7 @@
 -- What routers announce into level 2.
-use Rattle.std.proofs.Common.{◌≡◌, ℕ, ◌<◌, ◌↔◌, ◌⊎◌, inl, inr, ⊎_elim, List, length, get_or, Option, Some, subst}
+use Rattle.std.proofs.Common.{arith}
+use Rattle.std.proofs.lemmas.Grind.{common_steps}
+use Rattle.std.proofs.Common.{◌≡◌, ℕ, ◌<◌, ◌↔◌, ◌⊎◌, ⊎_elim, List, length, get_or, Option, Some, subst}
 use Rattle.std.specs.List.{Contains}
 use Rattle.std.proofs.lemmas.List.Elements.{Contains-get_or}
 use Rattle.net_addr.specs.Addresses.{Block}
@@ -34,8 +36,7 @@ announces_both net p both are b c announces = (are b).1 (record { one = announce
 
 sides : (net : Network) (p : Block) (first : List Offer) (o : Offer) → Exactly (IsOfferOf (OwnAnnouncement net p)) first →
     LevelTwoAnnouncement net p o.at o.asks → Contains first o ⊎ LevelOneAnnouncement net p o.at o.asks
-sides net p first o are (own runs offers) = inl ((are o).1 (record { runs = runs; offers = offers }))
-sides net p first o are (of_level_one runs costs) = inr (record { runs = runs; costs = costs })
+sides net p first o are it_5 = grind (arith, common_steps)
 
 -- own subnets, and then what is reached by level 1
 pub announced_all : (net : Network) (p : Block) (first all : List Offer) → Exactly (IsOfferOf (OwnAnnouncement net p)) first →
@@ -52,8 +53,7 @@ announced_all net p first all are adds =
 
 -- a router that isn't connected to a prefix, and has no level 1 route for it, announces nothing of it
 pub announces_nothing : (net : Network) (p : Block) (u c : ℕ) → (Connected net u p → ⊥) → (HasLevelOneRoute net p u → ⊥) → LevelTwoAnnouncement net p u c → ⊥
-announces_nothing net p u c away none (own runs offers) = away (record { interface = offers.interface; up = offers.up; subnet = offers.subnet })
-announces_nothing net p u c away none (of_level_one runs costs) = none (record { cost = c; costs = costs })
+announces_nothing net p u c away none it_6 = grind (arith, common_steps)
 
 -- where a router makes none of the offers, all are of others
 pub others_hold : (offer : Offers) (offers : List Offer) (u : ℕ) → HoldsOffers offer offers → ((c : ℕ) → offer u c → ⊥) → HoldsOffers (OfOthers offer u) offers

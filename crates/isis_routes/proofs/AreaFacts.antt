@@ -1,5 +1,6 @@
 -- Attached routers.
-use Rattle.std.proofs.Common.{◌≡◌, ◌≢◌, ℕ, ◌<◌, ◌↔◌, List, length, Option, Some, None, IsTrue, refl, sym, ap, subst, arith}
+use Rattle.std.proofs.lemmas.Grind.{common_steps}
+use Rattle.std.proofs.Common.{◌≡◌, ◌≢◌, ℕ, ◌<◌, ◌↔◌, List, length, Option, Some, None, IsTrue, refl, sym, subst, arith}
 use Rattle.std.specs.List.{Contains}
 use Rattle.std.specs.Option.{is_some}
 use Rattle.std.proofs.lemmas.Option.{none-some, same_Some}
@@ -31,9 +32,7 @@ outside_by_distance net u v near far reach here there apart walks (Some d) is = 
 
 -- where no router below the count is outside, none is
 pub not_leaving : (net : Network) (u n : ℕ) → length net ≡ n → ((v : ℕ) → v < n → LeadsOutside net u v → ⊥) → LeavesArea net u → ⊥
-not_leaving net u n count none leaves =
-    let within : leaves.far < length net = HasConfiguration-within net leaves.far leaves.outside.far leaves.outside.far_router in
-    none leaves.far (omega arith) leaves.outside
+not_leaving net u n count none leaves = grind (arith, common_steps, HasConfiguration-within)
 
 -- a router of both levels that level 2 leads out of its area is attached
 attached_from : (net : Network) (u : ℕ) → RunsLevelOne net u → RunsLevelTwo net u → LeavesArea net u → IsAttached net u
@@ -52,25 +51,11 @@ attached_from net u one two leaves =
     }
 
 attached_leaves : (net : Network) (u : ℕ) → IsAttached net u → LeavesArea net u
-attached_leaves net u is = record {
-  far = is.far;
-  outside = record {
-    legs = is.legs;
-    walk = is.walk;
-    near = is.runs_level_two.config;
-    far = is.config;
-    near_router = is.runs_level_two.router;
-    far_router = is.router;
-    other_area = is.other_area;
-  };
-}
+attached_leaves net u is = grind (arith, common_steps)
 
 -- what a router of both levels asks of all addresses
 pub default_asked : (net : Network) (u c : ℕ) → RunsBothLevels net u → LeavesArea net u → (Some 0 ≡ Some c) ↔ OffersDefault net u c
-default_asked net u c runs leaves = (
-  λ same. record { attached = attached_from net u runs.one runs.two leaves; costs = sym (same_Some 0 c same) },
-  λ offers. ap Some (sym offers.costs),
-)
+default_asked net u c runs leaves = grind (arith, common_steps, attached_from, same_Some)
 
 pub default_unasked : (net : Network) (u c : ℕ) → (LeavesArea net u → ⊥) → (◌≡◌ {A = Option ℕ} None (Some c)) ↔ OffersDefault net u c
 default_unasked net u c stays = (λ same. absurd (none-some c same), λ offers. absurd (stays (attached_leaves net u offers.attached)))

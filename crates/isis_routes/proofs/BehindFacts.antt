@@ -1,19 +1,19 @@
 -- What decides for the routers that reach none of the offers of level 1.
-use Rattle.std.proofs.Common.{◌≡◌, ℕ, ◌<◌, inl, inr, List, [], ◌∷◌, length, None, Some, refl, sym, ap, subst, ◌∙◌, arith}
-use Rattle.std.specs.List.{Contains}
+use Rattle.std.proofs.lemmas.Grind.{common_steps}
+use Rattle.std.proofs.Common.{◌≡◌, ℕ, ◌<◌, List, length, None, Some, refl, sym, ap, subst, arith}
 use Rattle.std.proofs.lemmas.List.Elements.{Contains-push_cases}
 use Rattle.std.proofs.lemmas.Option.{none-some}
 use Rattle.net_addr.specs.Addresses.{default_prefix}
 use Rattle.net_model.specs.Network.{Connected}
 use Rattle.walk_core.specs.Reach.{Reach, distance_of}
-use Rattle.walk_core.specs.BestOffers.{NoneTotals, total_towards, total_with}
+use Rattle.walk_core.specs.BestOffers.{NoneTotals, total_towards}
 use Rattle.walk_core.specs.declared.offers.Offer.{Offer}
 use Rattle.route_core.specs.declared.entry.Entry.{Entry}
-use Rattle.igp_theory.specs.Isis.{HasLevelOneRoute, IsisEntry, RunsLevelOne, level_one, level_two, down, default_route}
+use Rattle.igp_theory.specs.Isis.{HasLevelOneRoute, IsisEntry, RunsLevelOne}
 use Rattle.route_tables.specs.Lanes.{DecidesAt, MissesOffers}
 use Rattle.route_tables.specs.declared.lane.Behind.{Behind}
 use Rattle.route_tables.specs.declared.lane.Decision.{Decision}
-use Rattle.route_tables.specs.declared.lane.Decision.TheVariants.{Nothing, NothingBut, One as OneOffer, Two as TwoOffers, Unknown}
+use Rattle.route_tables.specs.declared.lane.Decision.TheVariants.{Unknown}
 use Rattle.route_tables.proofs.ListFacts.{the_one}
 use Rattle.isis_routes.specs.steps.Destinations.{HasAnnouncements}
 use Rattle.isis_routes.specs.steps.Domain.{IsisDomain, IsKnown}
@@ -30,23 +30,12 @@ use Rattle.isis_routes.proofs.LeadFacts.{as_good, one_leads}
 
 -- an offer at a vertex that isn't reached costs nothing in all
 none_costs : (reach : Reach) (o x : Offer) (cost : ℕ) → distance_of reach o.at ≡ None → x ≡ o → total_towards reach x ≡ Some cost → ⊥
-none_costs reach o x cost far same total =
-    none-some cost (sym (ap (λ d. total_with d o.asks) far) ∙ subst (λ (y : Offer). total_towards reach y ≡ Some cost) same total)
+none_costs reach o x cost far same total = grind (arith, common_steps, none-some)
 
 -- where the offers that a decision names are missed, none of them is reached
 missed_none : (reach : Reach) (u : ℕ) (offers : List Offer) (decision : Decision) → IsDecisionAmong offers decision → MissesOffers reach u decision →
     NoneTotals reach offers
-missed_none reach u offers Nothing is missed = absurd is
-missed_none reach u offers (NothingBut one two) is missed = absurd is
-missed_none reach u offers (OneOffer at) (asks, is) missed = λ cost has.
-    let o : Offer = record { at = at; asks = asks } in
-    none_costs reach o has.offer cost missed.unreached (the_one o has.offer (subst (λ (l : List Offer). Contains l has.offer) is has.among)) has.total
-missed_none reach u offers (TwoOffers one two) is missed = λ cost has.
-    elim (Contains-push_cases (one ∷ []) two has.offer (subst (λ (l : List Offer). Contains l has.offer) is has.among)) [
-      | inl earlier ↦ none_costs reach one has.offer cost missed.0.unreached (the_one one has.offer earlier) has.total
-      | inr same ↦ none_costs reach two has.offer cost missed.1.unreached (sym same) has.total
-    ]
-missed_none reach u offers Unknown is missed = absurd is
+missed_none reach u offers decision is missed = grind (arith, common_steps, Contains-push_cases, none_costs, the_one)
 
 -- a router that misses the first offers has no level 1 route
 no_level_one : (domain : IsisDomain) (u : ℕ) (d : Destination) (first : Decision) → IsKnown domain → HasAnnouncements domain.net d →
@@ -64,12 +53,7 @@ no_level_one domain u d first known has within runs (by_first (made_at_homes at_
 no_entry : (domain : IsisDomain) (u : ℕ) (d : Destination) → HasAnnouncements domain.net d → IsInLane domain.net OneAlone u → length d.down.items ≡ 0 →
     (d.one.dest ≡ default_prefix → ⊥) → ((Connected domain.net u d.one.dest → ⊥) → HasLevelOneRoute domain.net d.one.dest u → ⊥) →
     (e : Entry) → IsisEntry domain.net u d.one.dest e → ⊥
-no_entry domain u d has lane empty some none e (level_one away is _) = none away is
-no_entry domain u d has lane empty some none e (level_two _ _ is _) = lane.1 is.costs.runs
-no_entry domain u d has lane empty some none e (down _ _ _ is _) =
-    let listed = (has.down is.costs.best.at is.costs.best.attained.asks).1 is.costs.best.attained.offered.offered in
-    omega (arith, listed.among.1, empty)
-no_entry domain u d has lane empty some none e (default_route _ _ _ _ all _ _ _) = some all
+no_entry domain u d has lane empty some none e it_9 = grind (arith, common_steps)
 
 -- what decides behind what level 1 offers decides the routes of the routers that miss it
 pub behind_decides : (domain : IsisDomain) (own : LevelLane) (lane zone u : ℕ) (d : Destination) (behind : Behind) → IsKnown domain →

@@ -1,5 +1,6 @@
 -- Destinations by their prefixes and places.
-use Rattle.std.proofs.Common.{◌≡◌, ℕ, ◌+◌, ◌<◌, ⊎_elim, List, [], ◌∷◌, ◌++◌, length, length-append, All, Contains, Some, get_or, slice_get, sym, ap}
+use Rattle.std.proofs.lemmas.Grind.{common_steps}
+use Rattle.std.proofs.Common.{◌≡◌, ℕ, ◌+◌, ◌<◌, List, [], ◌∷◌, ◌++◌, length, All, Contains, Some, get_or, slice_get, sym, ap}
 use Rattle.std.proofs.Common.{subst, ◌∙◌, arith}
 use Rattle.std.proofs.lemmas.List.{get_or-map, get_or_append_left, get_or_push}
 use Rattle.std.proofs.lemmas.Option.{get_or_from_slice_get, slice_get_within}
@@ -33,16 +34,10 @@ at_place net all k d every here =
 -- Lists beside that of the destinations, element by element
 
 pub pushed_count : {Y : Type 0} (ys new : List Y) (n : ℕ) (y : Y) → length ys ≡ n → new ≡ ys ++ y ∷ [] → length new ≡ n + 1
-pushed_count {Y} ys new n y long pushed =
-    let more : length (ys ++ y ∷ []) ≡ length ys + 1 = length-append ys (y ∷ []) in
-    ap (λ (l : List Y). length l) pushed ∙ omega (arith, more, long)
+pushed_count {Y} ys new n y long pushed = grind (arith, common_steps)
 
 -- what holds of each element so far, and of one more
 pub each_pushed : {Y : Type 0} (R : ℕ → Y → Type 0) (ys new : List Y) (n : ℕ) (y d : Y) → length ys ≡ n → new ≡ ys ++ y ∷ [] →
     ((k : ℕ) → k < n → R k (get_or ys k d)) → R n y → (k : ℕ) → k < n + 1 → R k (get_or new k d)
 each_pushed {Y} R ys new n y d long pushed before here k below =
-    subst (λ (l : List Y). R k (get_or l k d)) (sym pushed)
-    (⊎_elim
-    (λ less. subst (R k) (sym (get_or_append_left ys (y ∷ []) d k (omega (arith, less, long)))) (before k less))
-    (λ same. subst (λ (m : ℕ). R m (get_or (ys ++ y ∷ []) m d)) (sym same) (subst (R n) (sym (get_or_push ys y d n long)) here))
-    (at_most k n below))
+    grind (arith, common_steps, at_most, get_or_append_left, get_or_push)

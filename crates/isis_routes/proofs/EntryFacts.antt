@@ -1,5 +1,6 @@
 -- The entries of a router, by its routes.
-use Rattle.std.proofs.Common.{◌≡◌, ℕ, inl, inr, List, length, arith}
+use Rattle.std.proofs.lemmas.Grind.{common_steps}
+use Rattle.std.proofs.Common.{◌≡◌, ℕ, inl, List, length, arith}
 use Rattle.walk_core.specs.Offers.{BestHop}
 use Rattle.walk_core.specs.declared.offers.Offer.{Offer}
 use Rattle.route_tables.proofs.BestRoutes.{hops_same}
@@ -10,7 +11,7 @@ use Rattle.route_core.specs.declared.entry.Entry.{Entry}
 use Rattle.route_core.specs.declared.entry.Entry.TheVariants.{Via}
 use Rattle.igp_theory.specs.Ospf.{OfOthers}
 use Rattle.igp_theory.specs.Isis.{RunsLevelOne, OffersLevelOne, LevelOneCost, LevelOneHop, HasLevelOneRoute, RunsLevelTwo}
-use Rattle.igp_theory.specs.Isis.{LevelTwoAnnouncement, own, of_level_one}
+use Rattle.igp_theory.specs.Isis.{LevelTwoAnnouncement}
 use Rattle.igp_theory.specs.Isis.{LevelTwoCost, LevelTwoHop, HasLevelTwoRoute, DownAnnouncement, DownHop, HasDownRoute, OffersDefault, DefaultHop}
 use Rattle.igp_theory.specs.Isis.{IsisEntry, level_one, level_two, down, default_route}
 use Rattle.isis_routes.specs.steps.Candidates.{IsIsisCandidate}
@@ -19,10 +20,7 @@ use Rattle.isis_routes.specs.steps.Routing.{IsRouteToBest}
 
 -- a connected prefix has no entry
 pub connected_has_none : (net : Network) (u : ℕ) (p : Block) → Connected net u p → (e : Entry) → IsisEntry net u p e → ⊥
-connected_has_none net u p is e (level_one away _ _) = away is
-connected_has_none net u p is e (level_two away _ _ _) = away is
-connected_has_none net u p is e (down away _ _ _ _) = away is
-connected_has_none net u p is e (default_route away _ _ _ _ _ _ _) = away is
+connected_has_none net u p is e it_5 = grind (arith, common_steps)
 
 -- routes to the best of what the routers of a level offer make entries
 
@@ -65,28 +63,13 @@ unoffered net p u offers are none route =
 -- Every prefix with an entry is a candidate
 
 one_is_candidate : (net : Network) (p : Block) (u cost : ℕ) → LevelOneCost net p u cost → IsIsisCandidate net p
-one_is_candidate net p u cost costs =
-    let offers : OffersLevelOne net p costs.best.at costs.best.attained.asks = costs.best.attained.offered in
-    inr (record {
-      router = costs.best.at;
-      interface = offers.interface;
-      up = offers.up;
-      has = record { up = offers.up.up; runs = inl offers.level; subnet = offers.subnet };
-    })
+one_is_candidate net p u cost costs = grind (arith, common_steps)
 
 announced_is_candidate : (net : Network) (p : Block) (b cost : ℕ) → LevelTwoAnnouncement net p b cost → IsIsisCandidate net p
-announced_is_candidate net p b cost (own runs offers) =
-    inr (record {
-      router = b;
-      interface = offers.interface;
-      up = offers.up;
-      has = record { up = offers.up.up; runs = inr offers.level; subnet = offers.subnet };
-    })
-announced_is_candidate net p b cost (of_level_one runs costs) = one_is_candidate net p b cost costs
+announced_is_candidate net p b cost it_4 = grind (arith, common_steps, one_is_candidate)
 
 two_is_candidate : (net : Network) (p : Block) (u cost : ℕ) → LevelTwoCost net p u cost → IsIsisCandidate net p
-two_is_candidate net p u cost costs =
-    announced_is_candidate net p costs.best.at costs.best.attained.asks costs.best.attained.offered.offered
+two_is_candidate net p u cost costs = grind (arith, common_steps, announced_is_candidate)
 
 pub entry_is_candidate : (net : Network) (u : ℕ) (p : Block) (e : Entry) → IsisEntry net u p e → IsIsisCandidate net p
 entry_is_candidate net u p e (level_one _ is _) = one_is_candidate net p u is.cost is.costs

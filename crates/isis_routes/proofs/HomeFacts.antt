@@ -1,4 +1,5 @@
 -- The routers at which a prefix is connected, interface by interface.
+use Rattle.std.proofs.lemmas.Grind.{common_steps}
 use Rattle.std.proofs.Common.{◌≡◌, ℕ, ◌+◌, ◌-◌, ◌<◌, ◌≤◌, ◌↔◌, inl, inr, List, length, take, drop, get_or, true, false, ltb, leb, ltb-true, ltb-false}
 use Rattle.std.proofs.Common.{leb-true, leb-false, refl, sym, ap, subst, ◌∙◌, arith}
 use Rattle.std.specs.List.{Contains, Any}
@@ -19,7 +20,6 @@ use Rattle.isis_routes.specs.steps.Homes.{IsOwnSubnet, IsHomeOf, AreHomes, AreRo
 use Rattle.isis_routes.specs.steps.Offered.{OffersIn}
 use Rattle.isis_routes.specs.declared.homes.Home.{Home}
 use Rattle.isis_routes.specs.declared.level.Level.{Level}
-use Rattle.isis_routes.specs.declared.level.Level.TheVariants.{One, Two}
 
 -- the connected prefixes of router w
 abbrev pub RouterHome : Network → ℕ → Home → Type 0
@@ -28,22 +28,7 @@ RouterHome net w h = (h.router ≡ w) × Connected net h.router h.dest
 pub router_home_is : (net : Network) (w : ℕ) (config : Configuration) (given : List Interface) → HasConfiguration net w config → given ≡ config.interfaces →
     (h : Home) →
     Any (λ (i : Interface). IsOwnSubnet i w h) given ↔ RouterHome net w h
-router_home_is net w config given router are h = (
-  λ any.
-      let f = any_in (λ (i : Interface). IsOwnSubnet i w h) given any in (
-        f.holds.router,
-        subst (λ (k : ℕ). Connected net k h.dest) (sym f.holds.router) (record {
-          interface = f.item;
-          up = record { config = config; router = router; among = subst (λ (l : List Interface). Contains l f.item) are f.among; up = f.holds.up };
-          subnet = f.holds.subnet;
-        }),
-      ),
-  λ both.
-      let connected : Connected net w h.dest = subst (λ (k : ℕ). Connected net k h.dest) both.0 both.1 in
-      any_of (λ (i : Interface). IsOwnSubnet i w h) given connected.interface
-      (subst (λ (l : List Interface). Contains l connected.interface) (sym are) (UpInterface-among net w config connected.interface router connected.up))
-      (record { up = connected.up.up; subnet = connected.subnet; router = both.0 }),
-)
+router_home_is net w config given router are h = grind (arith, common_steps, UpInterface-among, any_in, any_of)
 
 pub home_below : (net : Network) (n : ℕ) → length net ≡ n → (h : Home) → Connected net h.router h.dest → AnyBelow (RouterHome net) n h
 home_below net n count h connected =
@@ -137,5 +122,4 @@ home_is_router net p homes i are within =
 
 -- a router offers only what is connected there
 pub offered_is_connected : (net : Network) (level : Level) (p : Block) (w cost : ℕ) → OffersIn net level p w cost → Connected net w p
-offered_is_connected net One p w cost offers = record { interface = offers.interface; up = offers.up; subnet = offers.subnet }
-offered_is_connected net Two p w cost offers = record { interface = offers.interface; up = offers.up; subnet = offers.subnet }
+offered_is_connected net level p w cost offers = grind (arith, common_steps)

@@ -1,5 +1,6 @@
 -- What decides the routes of the routers of a lane.
-use Rattle.std.proofs.Common.{◌≡◌, ℕ, ◌+◌, ◌<◌, ◌≤◌, inl, ⊎_elim, List, [], ◌∷◌, ◌++◌, length, get_or, Some, refl, sym, ap, subst, ◌∙◌, arith}
+use Rattle.std.proofs.lemmas.Grind.{common_steps}
+use Rattle.std.proofs.Common.{◌≡◌, ℕ, ◌+◌, ◌<◌, ◌≤◌, inl, ⊎_elim, List, [], ◌∷◌, length, get_or, Some, refl, sym, ap, subst, ◌∙◌, arith}
 use Rattle.std.proofs.lemmas.List.{take_all, take_more}
 use Rattle.std.specs.List.{Any}
 use Rattle.std.proofs.lemmas.List.Elements.{All-contains}
@@ -33,8 +34,7 @@ use Rattle.isis_routes.proofs.LeadFacts.{AreAsGood, as_good, down_leads, one_lea
 -- Decisions
 
 free_is_small : (at : ℕ) → AreSmall (record { at = at; asks = 0 } ∷ [])
-free_is_small at a k l =
-    let is : 0 ≡ k = sym (ap (λ (o : Offer). o.asks) (the_one (record { at = at; asks = 0 }) l.offer l.among)) ∙ l.asked in omega (arith, is)
+free_is_small at a k l = grind (arith, common_steps, the_one)
 
 -- what one offer asks doesn't tell where it leads
 free_is_good : (at asks : ℕ) → AreAsGood (record { at = at; asks = 0 } ∷ []) (record { at = at; asks = asks } ∷ [])
@@ -110,6 +110,4 @@ pub only_one : (offers : List Offer) (d : Offer) → 1 ≤ length offers → len
 only_one offers d some few = sym (take_all 1 offers (omega (arith, few))) ∙ take_more offers 0 d (omega (arith, some))
 
 pub only_two : (offers : List Offer) (d : Offer) → 2 ≤ length offers → length offers < 3 → offers ≡ get_or offers 0 d ∷ get_or offers 1 d ∷ []
-only_two offers d some few =
-    sym (take_all 2 offers (omega (arith, few))) ∙ take_more offers 1 d (omega (arith, some)) ∙
-    ap (λ (l : List Offer). l ++ get_or offers 1 d ∷ []) (take_more offers 0 d (omega (arith, some)))
+only_two offers d some few = grind (arith, common_steps, take_all, take_more)

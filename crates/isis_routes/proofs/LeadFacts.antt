@@ -1,4 +1,6 @@
 -- Lists of offers whose best is the route of the definitions.
+use Rattle.std.proofs.Common.{arith}
+use Rattle.std.proofs.lemmas.Grind.{common_steps}
 use Rattle.std.proofs.Common.{◌≡◌, ℕ, ◌<◌, inl, List, length, Option, Some, None, MatchOption, Result, IfOk, refl, sym, subst}
 use Rattle.std.proofs.lemmas.Result.{IfOk-weaker}
 use Rattle.net_addr.specs.Addresses.{Block, default_prefix}
@@ -44,8 +46,7 @@ as_good {given} {all} same =
 
 pub route_by : {E : Type 0} {at : InLevel} {p : Block} {none : Type 0} {offers : List Offer} (r : Result (Option Route) E) → LeadIn at p none offers →
     IfOk r (IsBestIn at offers) → IfOk r (λ found. MatchOption found none (IsIsisRoute at.domain at.router p))
-route_by {E} {at} {p} {none} {offers} r lead best =
-    IfOk-weaker r (IsBestIn at offers) (λ found. MatchOption found none (IsIsisRoute at.domain at.router p)) lead.route best
+route_by {E} {at} {p} {none} {offers} r lead best = grind (arith, common_steps, IfOk-weaker)
 
 -- the offers are up to a constant those whose best makes the entry
 leads : (domain : IsisDomain) (level : Level) (u : ℕ) (p : Block) (offer : Offers) (given all : List Offer) (none : Type 0) → IsKnown domain →

@@ -1,4 +1,5 @@
 -- Costs and routes over the least walks of a level.
+use Rattle.std.proofs.lemmas.Grind.{common_steps}
 use Rattle.std.proofs.Common.{◌≡◌, ℕ, ◌<◌, ◌↔◌, List, [], length, get_or, Option, Some, None, MatchOption, refl, sym, subst, arith}
 use Rattle.std.proofs.lemmas.Option.{slice_get-get_or}
 use Rattle.net_model.proofs.NetworkFacts.{Adjacent-to_within}
@@ -46,8 +47,7 @@ reach_in net One walks u are within = reach_of net ZoneOne walks.one.value u are
 reach_in net Two walks u are within = reach_of net ZoneTwo walks.two.value u are.two within
 
 below_two : (level : Level) → zone_number level < 2
-below_two One = omega arith
-below_two Two = omega arith
+below_two level = grind (arith, common_steps)
 
 -- offers that aren't large are in range
 pub small_in_range : (net : Network) (level : Level) (walks : LevelWalks) (u : ℕ) (offers : List Offer) → AreLevelWalks net walks → u < length net →

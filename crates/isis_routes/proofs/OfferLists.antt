@@ -1,4 +1,6 @@
 -- Lists of offers, router by router.
+use Rattle.std.proofs.Common.{arith}
+use Rattle.std.proofs.lemmas.Grind.{common_steps}
 use Rattle.std.proofs.Common.{◌≡◌, ℕ, ◌+◌, ◌<◌, ◌≤◌, ◌↔◌, List, [], length, take, get_or, refl, sym, subst}
 use Rattle.std.specs.List.{Any, Contains}
 use Rattle.std.proofs.lemmas.List.{get_or_default}
@@ -14,7 +16,6 @@ use Rattle.net_addr.proofs.SomeElement.{Found, any_in, any_of}
 use Rattle.route_tables.proofs.ListFacts.{adds_end, adds_more, adds_nothing, adds_same, adds_start, exactly_added}
 use Rattle.isis_routes.specs.steps.Offered.{AsksIn, OffersIn, HoldsOffers, IsOffer, IsOfferOf, AddsOffers}
 use Rattle.isis_routes.specs.declared.level.Level.{Level}
-use Rattle.isis_routes.specs.declared.level.Level.TheVariants.{One, Two}
 
 -- The offers of a router
 
@@ -70,49 +71,14 @@ holds_given offer old new routers i empty past there adds =
 
 offered_by : (net : Network) (level : Level) (p : Block) (w : ℕ) (config : Configuration) (i : Interface) (cost : ℕ) → HasConfiguration net w config →
     Contains config.interfaces i → AsksIn level p i cost → OffersIn net level p w cost
-offered_by net One p w config i cost router among asks = record {
-  interface = i;
-  up = record { config = config; router = router; among = among; up = asks.up };
-  subnet = asks.subnet;
-  level = asks.runs;
-  costs = asks.costs;
-}
-offered_by net Two p w config i cost router among asks = record {
-  interface = i;
-  up = record { config = config; router = router; among = among; up = asks.up };
-  subnet = asks.subnet;
-  level = asks.runs;
-  costs = asks.costs;
-}
+offered_by net level p w config i cost router among asks = grind (arith, common_steps)
 
 offering : (net : Network) (level : Level) (p : Block) (w : ℕ) (config : Configuration) (cost : ℕ) → HasConfiguration net w config →
     OffersIn net level p w cost → Found (λ (i : Interface). AsksIn level p i cost) config.interfaces
-offering net One p w config cost router offers = record {
-  item = offers.interface;
-  among = subst (λ (c : Configuration). Contains c.interfaces offers.interface)
-      (HasConfiguration-unique net w offers.up.config config offers.up.router router) offers.up.among;
-  holds = record { up = offers.up.up; subnet = offers.subnet; runs = offers.level; costs = offers.costs };
-}
-offering net Two p w config cost router offers = record {
-  item = offers.interface;
-  among = subst (λ (c : Configuration). Contains c.interfaces offers.interface)
-      (HasConfiguration-unique net w offers.up.config config offers.up.router router) offers.up.among;
-  holds = record { up = offers.up.up; subnet = offers.subnet; runs = offers.level; costs = offers.costs };
-}
+offering net level p w config cost router offers = grind (arith, common_steps, HasConfiguration-unique)
 
 -- what the interfaces of a router ask is what it offers
 pub router_offers : (net : Network) (level : Level) (p : Block) (w : ℕ) (config : Configuration) (given : List Interface) → HasConfiguration net w config →
     given ≡ config.interfaces → (o : Offer) →
     Any (λ (i : Interface). IsOffer w (AsksIn level p i) o) given ↔ IsOffer w (OffersIn net level p w) o
-router_offers net level p w config given router are o = (
-  λ any.
-      let f = any_in (λ (i : Interface). IsOffer w (AsksIn level p i) o) given any in
-      record {
-        at = f.holds.at;
-        asks = offered_by net level p w config f.item o.asks router (subst (λ (l : List Interface). Contains l f.item) are f.among) f.holds.asks;
-      },
-  λ is.
-      let f = offering net level p w config o.asks router is.asks in
-      any_of (λ (i : Interface). IsOffer w (AsksIn level p i) o) given f.item (subst (λ (l : List Interface). Contains l f.item) (sym are) f.among)
-      (record { at = is.at; asks = f.holds }),
-)
+router_offers net level p w config given router are o = grind (arith, common_steps, any_in, any_of, offered_by, offering)

@@ -1,5 +1,6 @@
 -- What IS-IS gives routers keeps what every protocol keeps.
-use Rattle.std.proofs.Common.{◌≡◌, subst, ℕ, ◌<◌, ◌≤◌, inl, inr, List, ◌++◌, length, get_or, arith}
+use Rattle.std.proofs.lemmas.Grind.{common_steps}
+use Rattle.std.proofs.Common.{◌≡◌, ℕ, ◌<◌, ◌≤◌, inl, inr, List, ◌++◌, length, get_or, arith}
 use Rattle.std.specs.List.{Contains}
 use Rattle.std.specs.List.Sorted.{IsStrictlyIncreasing}
 use Rattle.std.proofs.lemmas.List.Elements.{Contains-get_or}
@@ -9,7 +10,7 @@ use Rattle.net_model.specs.Network.{Network}
 use Rattle.net_model.specs.declared.zone.Zone.TheVariants.{One as ZoneOne, Two as ZoneTwo}
 use Rattle.route_core.specs.Tables.{AreLinkedHops}
 use Rattle.route_core.specs.declared.entry.Entry.TheVariants.{Via}
-use Rattle.igp_theory.specs.Isis.{IsisEntry, level_one, level_two, down, default_route}
+use Rattle.igp_theory.specs.Isis.{IsisEntry}
 use Rattle.igp_theory.specs.Laws.{IsIsisNeighbor}
 use Rattle.igp_theory.proofs.TableLaws.{isis_entry_unique, isis_entry_forwards, isis_hop_is_neighbor}
 use Rattle.route_tables.specs.Entries.{AreJoinedBy, IsLawful}
@@ -45,10 +46,7 @@ joined_in_levels net one two in_one in_two u v = (
 
 -- the list of an entry's hops ascends
 hops_ascend : (net : Network) (u : ℕ) (p : Block) (hops : List ℕ) → IsisEntry net u p (Via hops) → IsStrictlyIncreasing hops
-hops_ascend net u p hops (level_one _ _ forwards) = forwards.ascending
-hops_ascend net u p hops (level_two _ _ _ forwards) = forwards.ascending
-hops_ascend net u p hops (down _ _ _ _ forwards) = forwards.ascending
-hops_ascend net u p hops (default_route _ _ _ _ _ _ _ forwards) = forwards.ascending
+hops_ascend net u p hops it_4 = grind (arith, common_steps)
 
 -- an entry's hops are neighbors of its router
 linked_hops : (net : Network) (u : ℕ) (p : Block) (hops : List ℕ) → IsisEntry net u p (Via hops) → AreLinkedHops (length net) (IsIsisNeighbor net u) hops
@@ -73,5 +71,4 @@ isis_is_lawful net small = record {
 -- what is so of the domain, the router and the prefix that are read is so of those that are meant
 pub asked_as : (P : IsisDomain → ℕ → Block → Type 0) {read domain : IsisDomain} {v u : ℕ} {p q : Block} → read ≡ domain → v ≡ u → p ≡ q → P read v p →
     P domain u q
-asked_as P {read} {domain} {v} {u} {p} {q} same router dest is =
-    subst (λ (d : IsisDomain). P d u q) same (subst (λ (w : ℕ). P read w q) router (subst (P read v) dest is))
+asked_as P {read} {domain} {v} {u} {p} {q} same router dest is = grind (arith, common_steps)

@@ -1,9 +1,7 @@
-use Rattle.std.proofs.Common.{subst}
-use Rattle.isis_routes.specs.steps.Domain.{IsKnown}
+use Rattle.std.proofs.Common.{arith}
+use Rattle.std.proofs.lemmas.Grind.{common_steps}
 use Rattle.isis_routes.proofs.ProtocolFacts.{isis_is_lawful}
 use Rattle.isis_routes.proofs.protocol.IsisProtocol.routers.Goals as goal
 
 pub returns-clause-lawful : goal.returns-clause-lawful
-returns-clause-lawful c =
-    let known : IsKnown c.args.self.now.domain = subst IsKnown c.domain.ensures c.net.ensures.known in
-    isis_is_lawful c.args.self.now.domain.net known.network.limits.routers
+returns-clause-lawful c = grind (arith, common_steps, isis_is_lawful)
