@@ -21,7 +21,6 @@ use Rattle.zone_graph.specs.Segments.{AreZoneSegments}
 use Rattle.igp_theory.specs.Ospf.{ListensTo, backbone, one_area}
 use Rattle.ospf_routes.specs.steps.AreaReach.{area_reach}
 use Rattle.ospf_routes.specs.steps.Areas.{RunsOther, HasArea, IsAreaAt, AreAreas, AreJoinedAreas, IsArea, IsListener, IsListenerAt, IsReach}
-use Rattle.ospf_routes.specs.steps.Members.{IsMember}
 use Rattle.ospf_routes.specs.AreaZones.{AreAreaZones, IsAreaOf, IsAreaZone}
 use Rattle.ospf_routes.specs.Lists.{Adds, Exactly}
 use Rattle.ospf_routes.specs.declared.areas.AreaWalks.{AreaWalks}
@@ -79,13 +78,6 @@ pub record HaveNumbers (net : Network) (m : ℕ) (numbers : List ℕ) : Type 0 w
   pub backbone : Contains numbers 0
   pub every : (u n : ℕ) → u < m → InArea net u n → Contains numbers n
   pub only : (n : ℕ) → Contains numbers n → IsAreaOf net n
-
-pub numbers_start : (net : Network) → HaveNumbers net 0 (0 ∷ [])
-numbers_start net = record {
-  backbone = Contains-push [] 0;
-  every = λ u n below. absurd (omega arith);
-  only = λ n has. inl (⊎_elim (λ none. absurd (omega (arith, none.1))) (λ same. sym same) (Contains-push_cases [] 0 n has));
-}
 
 pub numbers_more : (net : Network) (m : ℕ) (config : Configuration) (given : List Interface) (old new : List ℕ) → HasConfiguration net m config →
     given ≡ config.interfaces → HaveNumbers net m old →
@@ -198,10 +190,6 @@ area_reach_read areas u zone a within here below = grind (arith, common_steps, g
 pub reach_is : (net : Network) (areas : List AreaWalks) (n u zone : ℕ) (a : AreaWalks) (reach : Reach) → AreAreas net areas → IsAreaAt areas n zone →
     a ≡ get_or areas zone a → slice_get a.walks.value u ≡ Some reach → IsReach net n u reach
 reach_is net areas n u zone a reach are at here read = grind (arith, common_steps, area_is, number_at)
-
-pub member_at : (net : Network) (areas : List AreaWalks) (n u zone : ℕ) (a : AreaWalks) → AreAreas net areas → IsAreaAt areas n zone →
-    a ≡ get_or areas zone a → u < length net → IsMember a.members u ↔ InArea net u n
-member_at net areas n u zone a are at here below = grind (arith, common_steps, area_is, number_at)
 
 -- Other areas
 

@@ -29,7 +29,7 @@ use Rattle.ospf_routes.specs.steps.Asked.{HasNoEntry, IsDeciding, IsFoundRoute, 
 use Rattle.ospf_routes.specs.steps.AreaReach.{area_reach}
 use Rattle.route_tables.specs.BestRoutes.{AreBestHops, IsBestRoute}
 use Rattle.std.specs.List.{Any, Contains}
-use Rattle.std.proofs.lemmas.Option.{MatchOption-at_some, MatchOption-at_none}
+use Rattle.std.proofs.lemmas.Option.{MatchOption-at_some}
 use Rattle.ospf_routes.specs.declared.ranges.ActiveRange.{ActiveRange}
 use Rattle.ospf_routes.specs.steps.Candidates.{IsOspfCandidate, all, range}
 use Rattle.ospf_routes.specs.steps.Subnets.{joins_on}
@@ -80,9 +80,6 @@ asked_as P asked domain u p domains routers dests is =
 pub listened_place : (asked : Asked) (zone : ℕ) → IsQuestion asked → asked.listens ≡ Some zone →
     IsListenedPlace asked.domain.now.net asked.domain.now.areas asked.router zone
 listened_place asked zone is here = grind (arith, common_steps, MatchOption-at_some)
-
-pub listens_nowhere : (asked : Asked) → IsQuestion asked → asked.listens ≡ None → (n : ℕ) → ListensTo asked.domain.now.net asked.router n → ⊥
-listens_nowhere asked is none = grind (arith, common_steps, MatchOption-at_none)
 
 -- the prefix is connected at the router where it is at home, and has an active range where one is found
 pub home_is : (asked : Asked) → IsQuestion asked → Contains asked.destination.now.homes.items asked.router ↔

@@ -56,10 +56,6 @@ pub heard_within : (domain : OspfDomain) (dests : List Block) (k : ℕ) (heard :
     AreSummariesOf k heard
 heard_within domain dests k heard are place below zone within = grind (arith, common_steps, below_product)
 
-pub heard_none : (domain : OspfDomain) (dests : List Block) (count : ℕ) → count ≡ length domain.areas →
-    AreHeardBelow domain dests 0 (record { areas = count; lists = [] })
-heard_none domain dests count same = grind (arith, common_steps)
-
 abbrev pub lists_with : ℕ → List (List Offer) → HeardLists
 lists_with areas lists = record { areas = areas; lists = lists }
 

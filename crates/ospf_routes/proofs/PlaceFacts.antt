@@ -1,15 +1,12 @@
 -- Lists, place by place.
 use Rattle.std.proofs.lemmas.Grind.{common_steps}
-use Rattle.std.proofs.Common.{◌≡◌, ◌⊎◌, ℕ, ◌+◌, ◌<◌, List, [], ◌∷◌, ◌++◌, Option, None, Some, refl, arith, get_or, set}
+use Rattle.std.proofs.Common.{◌≡◌, ◌⊎◌, ℕ, ◌+◌, ◌<◌, List, [], ◌∷◌, ◌++◌, Option, None, Some, arith, get_or, set}
 use Rattle.std.proofs.Common.{length-append}
 use Rattle.std.proofs.lemmas.Bool.{cases_eq, cases_lt}
 use Rattle.std.proofs.lemmas.List.{get_or_default, get_or-set_same, get_or-set_other, set_past}
 use Rattle.std.proofs.lemmas.Option.{same_Some}
 use Rattle.route_tables.proofs.ListFacts.{each_more}
 use Rattle.ospf_routes.specs.steps.Places.{AreEach}
-
-pub places_none : {X : Type 0} (R : ℕ → X → Type 0) (none : X) → AreEach R none 0 []
-places_none R none = record { count = refl; each = λ k below. absurd (omega arith) }
 
 pub places_more : {X : Type 0} (R : ℕ → X → Type 0) (none : X) (n : ℕ) (all : List X) (next : X) → AreEach R none n all → R n next →
     AreEach R none (n + 1) (all ++ next ∷ [])

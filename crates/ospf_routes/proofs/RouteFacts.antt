@@ -109,9 +109,6 @@ area_lists_all net d given u lists is same so_far = record {
 abbrev pub AreSomeOf : List (List ℕ) → ℕ → List ℕ → Type 0
 AreSomeOf lists n hops = (h : ℕ) → Contains hops h ↔ ((h < n) × Any (λ (list : List ℕ). Contains list h) lists)
 
-pub some_of_none : (lists : List (List ℕ)) (n : ℕ) → AreSomeOf (take 0 lists) n []
-some_of_none lists n h = (λ has. absurd (omega (arith, has.1)), λ both. absurd (omega (arith, both.1.2)))
-
 -- the hops of one more list
 pub some_of_more : (lists : List (List ℕ)) (i : ℕ) (list given : List ℕ) (n : ℕ) (old new : List ℕ) → i < length lists → list ≡ get_or lists i list →
     given ≡ list → AreSomeOf (take i lists) n old →

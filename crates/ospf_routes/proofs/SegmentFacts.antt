@@ -1,5 +1,5 @@
 -- The segments of all areas join the routers that are adjacent in some area.
-use Rattle.std.proofs.Common.{ℕ, inl, inr, List, [], ◌∷◌, ◌++◌, subst, sym, arith}
+use Rattle.std.proofs.Common.{ℕ, inl, inr, List, [], ◌∷◌, ◌++◌, subst, sym}
 use Rattle.std.proofs.lemmas.List.Quantifiers.{Any-push}
 use Rattle.net_model.proofs.NetworkFacts.{Adjacent-in_area}
 use Rattle.net_model.specs.Network.{Network, Adjacent, InArea}
@@ -12,9 +12,6 @@ use Rattle.route_tables.proofs.JoinedLaws.{joined_both}
 use Rattle.net_addr.proofs.SomeElement.{any_cases, any_in, any_left, any_of}
 use Rattle.ospf_routes.specs.steps.Areas.{HasArea, IsAdjacentIn, JoinAreas}
 use Rattle.ospf_routes.specs.declared.areas.AreaWalks.{AreaWalks}
-
-pub joined_none : (net : Network) → JoinAreas net [] []
-joined_none net u v = (λ joined. absurd (omega (arith, joined.sends.over.among.1)), λ any. absurd (omega (arith, any.2)))
 
 -- one more area, with its segments
 pub joined_more : (net : Network) (areas : List AreaWalks) (a : AreaWalks) (segments own : List (List Port)) → JoinAreas net areas segments →

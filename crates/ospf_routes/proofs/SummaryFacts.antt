@@ -18,7 +18,7 @@ use Rattle.walk_core.specs.Reach.{Reach}
 use Rattle.walk_core.specs.BestOffers.{NoneTotals, IsBestTotal}
 use Rattle.walk_core.specs.declared.offers.Offer.{Offer}
 use Rattle.walk_core.proofs.WalkLaws.{SameArcs, SameOffers, best_cost_unique, best_cost_same}
-use Rattle.igp_theory.specs.Ospf.{IntraAreaCost, IsIntraArea, IsActiveRange, BackboneSummary, AreaSummary, BorderCost, RangeCost, HasStub, IsTotallyStubby}
+use Rattle.igp_theory.specs.Ospf.{IntraAreaCost, IsIntraArea, IsActiveRange, BackboneSummary, AreaSummary, BorderCost, RangeCost, IsTotallyStubby}
 use Rattle.igp_theory.specs.Ospf.{Summary, into_backbone, into_area, OfOthers, ListensTo, backbone, one_area}
 use Rattle.ospf_routes.specs.steps.Areas.{IsArea, IsReach}
 use Rattle.ospf_routes.specs.declared.areas.AreaWalks.{AreaWalks}
@@ -29,7 +29,7 @@ use Rattle.ospf_routes.specs.steps.Offered.{AreOffers, OutsideOf}
 use Rattle.ospf_routes.specs.steps.Ranges.{IsComponentOfSome, AreActiveRanges, AreRangesBelow, HoldRanges}
 use Rattle.ospf_routes.specs.steps.Summarized.{IsAreaSubnet, SummarizedSubnet, IsListedRange, IsRangeRoute}
 use Rattle.ospf_routes.specs.steps.Summarized.{SummarizedRange, SummarizedFrom, AreSummarized, OutsideSummary}
-use Rattle.ospf_routes.specs.steps.Summarized.{Announces, IsPassedOn, IsHeard, IsOutgoing, IsAlone, IsDefault, RouterDefault, HasDefault}
+use Rattle.ospf_routes.specs.steps.Summarized.{Announces, IsPassedOn, IsHeard, IsOutgoing, IsDefault, RouterDefault, HasDefault}
 use Rattle.ospf_routes.specs.declared.intra_area.AreaOffers.{AreaOffers}
 use Rattle.ospf_routes.specs.declared.intra_area.Destination.{Destination}
 use Rattle.ospf_routes.specs.declared.ranges.ActiveRange.{ActiveRange}
@@ -423,25 +423,6 @@ heard_in_area net n p routes none first second third apart are_outside empty one
         (record { all = all; default = record { at = refl; inside = inside; border = border; stub = s; has = has; costs = is } })
 
 -- Stub areas
-
-pub totally_stubby_is : (net : Network) (b n : ℕ) (config : Configuration) (given : List Stub) → HasConfiguration net b config → given ≡ config.stubs →
-    Any (IsAlone n) given ↔ IsTotallyStubby net b n
-totally_stubby_is net b n config given router are = (
-  λ any.
-      let f = any_in (IsAlone n) given any in
-      record {
-        stub = f.item;
-        has = record { config = config; router = router; among = subst (λ (l : List Stub). Contains l f.item) are f.among; area = f.holds.area };
-        alone = f.holds.alone;
-      },
-  λ is. any_of (IsAlone n) given is.stub (stub_among net b n config given is.stub router are is.has) (record { area = is.has.area; alone = is.alone }),
-)
-  where
-    stub_among : (net : Network) (b n : ℕ) (config : Configuration) (given : List Stub) (s : Stub) → HasConfiguration net b config → given ≡ config.stubs →
-        HasStub net b n s → Contains given s
-    stub_among net b n config given s router are has =
-        subst (λ (l : List Stub). Contains l s) (sym are)
-        (subst (λ (c : Configuration). Contains c.stubs s) (HasConfiguration-unique net b has.config config has.router router) has.among)
 
 pub router_default_is : (net : Network) (n b : ℕ) (config : Configuration) (given : List Stub) → InArea net b n → IsBorderRouter net b →
     HasConfiguration net b config → given ≡ config.stubs → (o : Offer) → Any (IsDefault n b o) given ↔ RouterDefault net n b o
