@@ -27,8 +27,8 @@ from make_network import areas, copy, filled, lan, ring
 
 FILLED = 10_000_000
 BUDGET = ["--budget", "100000"]
-# Some 16 MiB of tree, the most that `refute` reads.
-LONG_BUDGET = ["--budget", "245000"]
+# What makes the tree of this budget some 16 MiB long, the most that `refute` reads, behind each router's name.
+LONG_NAME = "-in-a-backbone"
 
 
 class Row(NamedTuple):
@@ -101,7 +101,10 @@ def tree_rows(program, bench, folder):
     trap, levels = files_of(bench / "trap27"), files_of(bench / "l1-200")
     yield both("plan trap27", ["plan", *trap], 3)
     yield both("plan trap27, budget of 100,000", ["plan", *BUDGET, *trap], 3)
-    for name, words, configs in (("trap27", [], trap), ("trap27, 100,000", BUDGET, trap), ("l1-200", [], levels)):
+    named = pathlib.Path(folder, "trap27-named.cfg")
+    named.write_text(re.sub(r"^(hostname .*)$", rf"\1{LONG_NAME}", pathlib.Path(trap[0]).read_text(), flags=re.M))
+    trees = [("trap27", [], trap), ("trap27, 100,000", BUDGET, trap), ("trap27, long", BUDGET, [str(named)])]
+    for name, words, configs in [*trees, ("l1-200", [], levels)]:
         tree = pathlib.Path(folder, f"{name}.tree")
         tree.write_bytes(run([program], ["plan", *words, *configs])[2])
         title = f"refute {name}, {tree.stat().st_size / 2**20:.1f} MiB"
@@ -113,7 +116,9 @@ def own_rows(bench, folder):
     for name in ("isp-200", "isp-ranges", "l1-200", "ring-200"):
         configs = files_of(bench / name)
         plan = ["plan", *configs]
-        order, journal = names_order(folder, f"{name}-own", configs), pathlib.Path(folder, f"{name}-journal.txt")
+        order, journal = bench / name / "order.txt", pathlib.Path(folder, f"{name}-journal.txt")
+        if not order.exists():
+            order = names_order(folder, f"{name}-own", configs)
         names = order.read_text().split("\n")[1:11]
         journal.write_text("journal 1\n" + "".join(f"{it} 1\n{it} 2\n" for it in names))
         old, new = pair_of(folder, name, configs)

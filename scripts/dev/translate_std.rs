@@ -285,6 +285,9 @@ pub mod indexmap {
         pub fn new(_: Global) -> Self {
             IndexSet(Default::default())
         }
+        pub fn with_capacity(_: Global, room: usize) -> Result<Self, AllocError> {
+            Ok(IndexSet(Places::with_capacity_and_hasher(room, Default::default())))
+        }
         pub fn insert_full(&mut self, k: K) -> Result<(usize, bool), AllocError> {
             let n = self.0.len();
             match self.0.entry(k) {
