@@ -1,4 +1,5 @@
 pub mod NumberFacts
+pub mod Places
 pub mod WordCuts
 pub mod TitleGroups
 pub mod HeadForms

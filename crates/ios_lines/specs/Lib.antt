@@ -1,4 +1,5 @@
 pub mod Words
+pub mod Blanks
 pub mod NumberLaws
 pub mod MaskedAddress
 pub mod InterfaceLines

@@ -1,8 +1,9 @@
-ghost use Rattle.std.specs.Prelude.{◌≡◌, ◌+◌, ◌≤◌, drop, length, IfSome, IfOk, bytes_eq};
-ghost use Rattle.std.specs.List.{position_or_len, prefix_len};
+ghost use Rattle.std.specs.Prelude.{◌≡◌, ◌+◌, ◌≤◌, false, drop, length, position, IfSome, IfOk, bytes_eq};
+ghost use Rattle.std.specs.List.{list_any, position_or_len, prefix_len};
 ghost use Rattle.net_addr.specs.Blanks.{is_blank, words_in};
 ghost use Rattle.ios_lines.specs.Words.{word_at, says, begins_with_two, begins_with_three, lacks, number_of, number_from};
-ghost use Rattle.ios_lines.specs.steps.Blanks.{without_blanks};
+ghost use Rattle.ios_lines.specs.Blanks.{without_blanks};
+ghost use Rattle.ios_lines.specs.steps.WordEnds.{is_low};
 ghost use Rattle.ios_lines.specs.Words.{address_of, mask_of, area_of, levels_of, is_printable, is_letter};
 
 use crate::OutOfMemory;
@@ -46,15 +47,6 @@ impl<'a> Words<'a> {
         ensures { result ≡ words_in line.entry.now }
     {
         let (first, behind_first) = cut_word(line);
-        Words::with_first(line, first, behind_first)
-    }
-
-    /// The words of a line whose first word is cut off already, with what stands behind that one.
-    pub fn with_first(line: &'a [u8], first: &'a [u8], behind_first: &'a [u8]) -> Words<'a>
-        requires first { first.now ≡ word_at (words_in line.now) 0 }
-        requires behind { words_in behind_first.now ≡ drop 1 (words_in line.now) }
-        ensures { result ≡ words_in line.entry.now }
-    {
         let (second, behind_second) = cut_word(behind_first);
         let (third, behind_third) = cut_word(behind_second);
         let (fourth, behind_fourth) = cut_word(behind_third);
@@ -130,18 +122,45 @@ fn blank_count(bytes: &[u8]) -> usize
 
 /// The bytes without the blanks that they begin with.
 #[tactic(auto, using(crate::proofs::WordCuts::blanks_cut))]
-fn behind_blanks(bytes: &[u8]) -> &[u8]
+pub fn behind_blanks(bytes: &[u8]) -> &[u8]
     ensures { result.now ≡ without_blanks bytes.now }
 {
     &bytes[blank_count(bytes)..]
 }
 
-/// How many bytes stand before the first blank: all of them where there is none.
-fn word_len(bytes: &[u8]) -> usize
+/// The place of the first byte that is a space or a control character below it.
+#[inline(always)]
+fn low_place(bytes: &[u8]) -> Option<usize>
+    ensures { result ≡ position is_low bytes.now }
+{
+    bytes.iter().position(|byte| *byte <= b' ')
+}
+
+/// How many bytes stand before the first blank, where other control characters may stand before it.
+fn len_to_blank(bytes: &[u8]) -> usize
     ensures value { result ≡ position_or_len is_blank bytes.now }
     ensures bound { result ≤ length bytes.now }
 {
     bytes.iter().take_while(|byte| !is_blank(**byte)).count()
+}
+
+/// How many bytes stand before the first blank: all of them where there is none.
+#[inline(always)]
+#[tactic(auto, using(crate::proofs::WordCuts::low_is_blank, crate::proofs::WordCuts::none_is_blank))]
+fn word_len(bytes: &[u8]) -> usize
+    ensures value { result ≡ position_or_len is_blank bytes.now }
+    ensures bound { result ≤ length bytes.now }
+{
+    match low_place(bytes) {
+        None => bytes.len(),
+        Some(place) => {
+            if bytes[place] == b' ' {
+                place
+            } else {
+                len_to_blank(bytes)
+            }
+        }
+    }
 }
 
 /// What stands behind the byte at a place; nothing where the bytes end there.
@@ -157,13 +176,23 @@ fn behind(bytes: &[u8], place: usize) -> &[u8]
 }
 
 /// The first word of some bytes, empty where they have none, and what stands behind it and the blank after it.
-pub fn cut_word(bytes: &[u8]) -> (&[u8], &[u8])
+#[inline(always)]
+fn cut_word(bytes: &[u8]) -> (&[u8], &[u8])
     ensures word { result.0.now ≡ word_at (words_in bytes.now) 0 }
     ensures behind { words_in result.1.now ≡ drop 1 (words_in bytes.now) }
 {
     let bytes = behind_blanks(bytes);
     let len = word_len(bytes);
     (&bytes[..len], behind(bytes, len))
+}
+
+/// Whether the first word of some bytes, which begin with no blank, is this text, which holds none.
+pub fn begins_with(bytes: &[u8], text: &[u8]) -> bool
+    requires bare { without_blanks bytes.now ≡ bytes.now }
+    requires one_word { list_any is_blank text.now ≡ false }
+    ensures { result ≡ says (words_in bytes.now) 0 text.now }
+{
+    bytes.starts_with(text) && (text.len() == bytes.len() || is_blank(bytes[text.len()]))
 }
 
 /// The first word of some bytes, empty where they have none.

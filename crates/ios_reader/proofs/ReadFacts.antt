@@ -1,16 +1,12 @@
 -- The answer to a text, from what was read of its parts.
 use Rattle.std.proofs.lemmas.Grind.{common_steps}
-use Rattle.std.proofs.Common.{sym, ◌≡◌, ℕ, ◌+◌, ◌-◌, ◌≤◌, Bool, true, false, List, [], ◌∷◌, ◌++◌, length, Option, Some, None, refl, ap, subst, ◌∙◌, cond}
+use Rattle.std.proofs.Common.{sym, ◌≡◌, ℕ, ◌+◌, ◌-◌, Bool, true, false, List, [], ◌∷◌, ◌++◌, length, Option, Some, None, refl, ap, subst, ◌∙◌, cond}
 use Rattle.std.proofs.Common.{arith, zero, suc, inr}
 use Rattle.std.specs.Prelude.{map, All, is_none, is_some}
-use Rattle.std.proofs.lemmas.List.{length-map}
-use Rattle.std.proofs.lemmas.List.Splits.{length-slice_split}
-use Rattle.std.proofs.lemmas.List.Sums.{count_by-le-length}
 use Rattle.std.proofs.lemmas.List.Elements.{All-nil, All-cons, All-weaker}
-use Rattle.net_addr.specs.Lines.{without_empty_last, lines_of, text_lines}
 use Rattle.net_model.specs.Configuration.{Configuration, IsConfiguration}
 use Rattle.ios_lines.specs.Words.{Word}
-use Rattle.ios_sections.specs.TextLines.{Part, text_line, lines_in, parts_of, lacks_end}
+use Rattle.ios_sections.specs.TextLines.{Part, lines_in, parts_of, lacks_end}
 use Rattle.ios_lines.specs.FaultOrder.{faults_if, is_before, lesser_fault, least_fault}
 use Rattle.ios_reader.specs.Faults.{section_faults, fault_further, faults_in}
 use Rattle.ios_sections.specs.Sections.{first_number, sections_in}
@@ -126,25 +122,3 @@ text_read text r h none = record { faultless = sym h.faults ∙ none; made = h.c
 -- a text with a faulty line is refused at the first one
 pub text_refused : (text : List ℕ) (r : Reading) (f : Fault) → IsTextReading text r → least_fault r.faults ≡ Some f → IsRefusedText text f.line f.kind
 text_refused text r f h some = least_is (faults_in (lines_in text)) f (sym (ap least_fault h.faults) ∙ some)
-
--- ---- how many lines a text has ----
-
-lines_length : (number start : ℕ) (pieces : List (List ℕ)) → length (lines_of number start pieces) ≡ length pieces
-lines_length number start [] = refl
-lines_length number start (piece ∷ more) = ap suc (lines_length (number + 1) (start + length piece + 1) more)
-
-last_choice : (t : Bool) (piece : List ℕ) → length (cond t [] (piece ∷ [])) ≤ 1
-last_choice t piece = grind (arith, common_steps)
-
-fewer : (pieces : List (List ℕ)) → length (without_empty_last pieces) ≤ length pieces
-fewer [] = omega arith
-fewer (piece ∷ []) = last_choice _ piece
-fewer (piece ∷ next ∷ more) = let h : length (without_empty_last (next ∷ more)) ≤ length (next ∷ more) = fewer (next ∷ more) in omega arith
-
--- a text has at most one line more than bytes
-pub line_count : (text : List ℕ) → length (text_lines text) ≤ length text + 1
-line_count text = grind (arith, common_steps, count_by-le-length, fewer, length-slice_split, lines_length)
-
--- the lines with their words are as many
-pub lines_in_length : (text : List ℕ) → length (lines_in text) ≡ length (text_lines text)
-lines_in_length text = length-map (text_lines text) (text_line text)

@@ -12,9 +12,8 @@ use crate::faulty_lines::faulty_lines;
 use crate::refusal::ReadRefusal;
 use ios_lines::fault::{Fault, least_fault, push_fault_if};
 use ios_lines::kind::ReadKind;
-use ios_sections::text::telling_lines;
+use ios_sections::text::told_text;
 use ios_sections::text_line::TextLine;
-use net_addr::lines;
 use net_model::{Config, Configs};
 use std::alloc::Global;
 use std::marker::Model;
@@ -117,14 +116,12 @@ fn read_text(alloc: Global, text: &[u8]) -> Result<Reading, OutOfMemory>
     requires { length text.now < 2 ^ 26 }
     ensures { IfOk result (IsTextReading text.now) }
 {
-    let lines = lines(alloc, text)?;
-    let told = match telling_lines(alloc, text, lines.as_slice()) {
+    let told = match told_text(alloc, text) {
         Ok(told) => told,
         Err(error) => return Err(error),
     };
-    let reading = read_parts(alloc, told.as_slice())?;
-    let last = lines.as_slice().len() as u32;
-    let read = with_end(reading, lacks_end(told.as_slice()), last + 1)?;
+    let reading = read_parts(alloc, told.lines.as_slice())?;
+    let read = with_end(reading, lacks_end(told.lines.as_slice()), told.count + 1)?;
     Ok(read)
 }
 

@@ -7,4 +7,5 @@ pub mod JoinedFacts
 pub mod FurtherFacts
 pub mod FirstLines
 pub mod LawFacts
+pub mod NumberedLines
 pub mod TellingFacts

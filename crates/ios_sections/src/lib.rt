@@ -10,7 +10,7 @@
 //! | `statements` | what the sections of a configuration say, all together |
 //! | `laws` | what the definitions mean, in other words |
 //!
-//! `text::counted_lines` and `text::telling_lines` go through a text once, and look at the first word of each line. The
+//! `text::counted_lines` and `text::told_text` go through a text once, and look at how the first word of each line begins. The
 //! second keeps no line that says nothing: nothing at indent 0 but `hostname`, `interface`, `router`, `ip` and `end`
 //! lines, and no other lines than those of interfaces and processes. `read_section::sections_from_first` and
 //! `statements::statements_of` take time of the lines that they are given, and one look-up of a name for each section

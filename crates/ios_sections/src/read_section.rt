@@ -93,7 +93,7 @@ fn isis_statements(
 }
 
 /// How many lines come before the next section.
-#[tactic(auto, using(crate::proofs::PlaceFacts::some_place, crate::proofs::PlaceFacts::no_place))]
+#[tactic(auto, using(ios_lines::proofs::Places::some_place, ios_lines::proofs::Places::no_place))]
 fn inside_count(lines: &[TextLine]) -> usize
     ensures count { result ≡ position_or_len opens_section lines.now }
     ensures within { result ≤ length lines.now }
@@ -190,7 +190,7 @@ fn first_place(lines: &[TextLine]) -> Option<usize>
 }
 
 /// How many lines come before that line.
-#[tactic(auto, using(crate::proofs::PlaceFacts::some_place, crate::proofs::PlaceFacts::no_place))]
+#[tactic(auto, using(ios_lines::proofs::Places::some_place, ios_lines::proofs::Places::no_place))]
 fn before_first(lines: &[TextLine]) -> usize
     ensures count { result ≡ position_or_len may_begin lines.now }
     ensures within { result ≤ length lines.now }

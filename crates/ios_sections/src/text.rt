@@ -1,12 +1,12 @@
-ghost use Rattle.std.specs.Prelude.{◌≡◌, ◌++◌, false, map, filter, All, IfOk, OnOk};
+ghost use Rattle.std.specs.Prelude.{◌≡◌, ◌+◌, ◌<◌, ◌≤◌, ◌^◌, ◌++◌, false, length, map, filter, All, IfOk, OnOk};
 ghost use Rattle.net_addr.specs.Spans.{LiesIn};
-ghost use Rattle.ios_sections.specs.TextLines.{text_line, counted_lines, outside_banner, banner_after, counts};
+ghost use Rattle.ios_sections.specs.TextLines.{text_line, lines_in, counted_lines, outside_banner, banner_after, counts};
 ghost use Rattle.ios_sections.specs.TellingLines.{telling_lines, line_tells, open_after};
 ghost use Rattle.ios_sections.specs.steps.ToldLines.{told_at, place_after};
 
 use crate::OutOfMemory;
 use crate::text_line::TextLine;
-use net_addr::Line;
+use net_addr::{Line, LineCursor};
 use std::alloc::Global;
 
 /// There is room for so many lines from the beginning: most texts have fewer that tell something.
@@ -117,23 +117,33 @@ fn add_telling<'a>(
     Ok(TextPlace { in_banner, below })
 }
 
-/// The lines of a text that count and tell something. Most lines are told by their first word.
+/// What a text tells.
+#[derive(Drop)]
+pub struct ToldText<'a> {
+    /// Its lines that count and tell something.
+    pub lines: Vec<TextLine<'a>>,
+    /// How many lines it has.
+    pub count: u32,
+}
+
+/// The lines of a text that count and tell something, taken in as the text is gone through. Most lines are told by their first word.
 #[tactic(auto, using(crate::proofs::TellingFacts::told_next))]
-pub fn telling_lines<'a>(
-    alloc: Global,
-    text: &'a [u8],
-    lines: &[Line],
-) -> Result<Vec<TextLine<'a>>, OutOfMemory>
-    requires { All (λ line. LiesIn text.now line.span) lines.now }
-    ensures { IfOk result (λ told. told.items ≡ telling_lines false (counted_lines (map (text_line text.entry.now) lines.entry.now))) }
+pub fn told_text<'a>(alloc: Global, text: &'a [u8]) -> Result<ToldText<'a>, OutOfMemory>
+    requires { length text.now < 2 ^ 26 }
+    ensures lines { IfOk result (λ told. told.lines.items ≡ telling_lines false (counted_lines (lines_in text.entry.now))) }
+    ensures count { IfOk result (λ told. told.count ≡ length (lines_in text.entry.now)) }
+    ensures few { IfOk result (λ told. told.count ≤ length text.entry.now + 1) }
 {
-    let mut told = Vec::with_capacity(alloc, lines.len().min(FIRST_LINES))?;
+    let mut lines = Vec::with_capacity(alloc, FIRST_LINES)?;
     let mut place = TextPlace {
         in_banner: false,
         below: false,
     };
-    for line in lines {
-        place = add_telling(&mut told, place, text_line(text, *line))?;
+    let mut count = 0;
+    let mut cursor = LineCursor::new(text);
+    while let Some(bytes) = cursor.next_line() {
+        count += 1;
+        place = add_telling(&mut lines, place, TextLine::numbered(count, bytes)?)?;
     }
-    Ok(told)
+    Ok(ToldText { lines, count })
 }

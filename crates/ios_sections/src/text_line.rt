@@ -1,36 +1,37 @@
-ghost use Rattle.std.specs.Prelude.{◌≡◌};
-ghost use Rattle.net_addr.specs.Blanks.{words_in};
-ghost use Rattle.ios_lines.specs.Words.{word_at, says};
+ghost use Rattle.std.specs.Prelude.{◌≡◌, false, IfOk};
+ghost use Rattle.std.specs.List.{list_any};
+ghost use Rattle.net_addr.specs.Blanks.{is_blank, words_in};
+ghost use Rattle.ios_lines.specs.Words.{says};
 ghost use Rattle.ios_sections.specs.TextLines.{carets, is_caret, opens_banner, closes_banner, counts, is_end, begins_configuration, opens_section};
 ghost use Rattle.ios_sections.specs.TellingLines.{may_tell, has_lines};
 ghost use Rattle.ios_sections.specs.Sections.{counted_from, may_begin};
-ghost use Rattle.ios_sections.specs.steps.ToldLines.{may_concern_interface};
+ghost use Rattle.ios_sections.specs.steps.ToldLines.{may_concern_interface, numbered_line};
 
-use ios_lines::words::{Words, cut_word};
+use crate::OutOfMemory;
+use ios_lines::words::{Words, begins_with, behind_blanks};
 use std::marker::Model;
 
-/// A line of a text. Its first word is at hand, since most lines are told by it; the others are cut off where they
-/// are asked for.
+/// A line of a text. It is at hand from its first word on, since most lines are told by how that begins; words are cut off
+/// where they are asked for.
 #[derive(Drop)]
 pub struct TextLine<'a> {
     number: u32,
     indent: u32,
     bytes: &'a [u8],
-    first: &'a [u8],
-    behind_first: &'a [u8],
+    from_word: &'a [u8],
 }
 
 impl<'a> Model for TextLine<'a> {
-    ghost use Rattle.std.specs.Prelude.{◌≡◌, drop};
+    ghost use Rattle.std.specs.Prelude.{◌≡◌};
     ghost use Rattle.net_addr.specs.Blanks.{words_in};
-    ghost use Rattle.ios_lines.specs.Words.{word_at};
+    ghost use Rattle.ios_lines.specs.Blanks.{without_blanks};
     ghost use Rattle.ios_sections.specs.TextLines.{TextLine};
 
     ghost Value = { TextLine };
 
     ghost view = { λ l. record { number = l.number; indent = l.indent; bytes = l.bytes.now; words = words_in l.bytes.now } };
 
-    ghost invariant = { λ l. (l.first.now ≡ word_at (words_in l.bytes.now) 0) × (words_in l.behind_first.now ≡ drop 1 (words_in l.bytes.now)) };
+    ghost invariant = { λ l. l.from_word.now ≡ without_blanks l.bytes.now };
 }
 
 impl<'a> TextLine<'a> {
@@ -38,14 +39,29 @@ impl<'a> TextLine<'a> {
     pub fn new(number: u32, indent: u32, bytes: &'a [u8]) -> TextLine<'a>
         ensures { result ≡ record { number = number; indent = indent; bytes = bytes.entry.now; words = words_in bytes.entry.now } }
     {
-        let (first, behind_first) = cut_word(bytes);
         TextLine {
             number,
             indent,
             bytes,
-            first,
-            behind_first,
+            from_word: behind_blanks(bytes),
         }
+    }
+
+    /// The line with this number and these bytes. Blanks of a number of more than 32 bits give `OutOfMemory`, since no line has so many.
+    #[tactic(auto, using(ios_lines::proofs::WordCuts::blanks_counted))]
+    pub(crate) fn numbered(number: u32, bytes: &'a [u8]) -> Result<TextLine<'a>, OutOfMemory>
+        ensures { IfOk result (λ line. line ≡ numbered_line number bytes.entry.now) }
+    {
+        let from_word = behind_blanks(bytes);
+        let Ok(indent) = u32::try_from(bytes.len() - from_word.len()) else {
+            return Err(OutOfMemory);
+        };
+        Ok(TextLine {
+            number,
+            indent,
+            bytes,
+            from_word,
+        })
     }
 
     /// The number of the line, from 1.
@@ -63,8 +79,7 @@ impl<'a> TextLine<'a> {
             number: self.number.saturating_sub(first),
             indent: self.indent,
             bytes: self.bytes,
-            first: self.first,
-            behind_first: self.behind_first,
+            from_word: self.from_word,
         }
     }
 
@@ -76,24 +91,20 @@ impl<'a> TextLine<'a> {
     }
 
     /// The words of the line.
+    #[tactic(auto, using(ios_lines::proofs::WordCuts::words_behind))]
     pub fn words(&self) -> Words<'a>
         ensures { result ≡ self.now.words }
     {
-        Words::with_first(self.bytes, self.first, self.behind_first)
+        Words::of(self.from_word)
     }
 
-    /// The first word of the line, empty where it has none.
-    fn first(&self) -> &[u8]
-        ensures { result.now ≡ word_at self.now.words 0 }
-    {
-        self.first
-    }
-
-    /// Whether the first word of the line is this text.
+    /// Whether the first word of the line is this text, which holds no blank.
+    #[tactic(auto, using(ios_lines::proofs::WordCuts::none_behind, ios_lines::proofs::WordCuts::words_behind))]
     fn begins_with(&self, text: &[u8]) -> bool
+        requires { list_any is_blank text.now ≡ false }
         ensures { result ≡ says self.now.words 0 text.now }
     {
-        self.first() == text
+        begins_with(self.from_word, text)
     }
 
     /// Whether the line opens a banner that doesn't end on it.
@@ -111,10 +122,11 @@ impl<'a> TextLine<'a> {
     }
 
     /// Whether the line has a word, and the first one doesn't begin with `!`.
+    #[tactic(auto, using(ios_lines::proofs::WordCuts::word_begins, ios_lines::proofs::WordCuts::no_word))]
     pub fn counts(&self) -> bool
         ensures { result ≡ counts self.now }
     {
-        match self.first().first() {
+        match self.from_word.first() {
             Some(byte) => *byte != b'!',
             None => false,
         }

@@ -1,5 +1,5 @@
 -- The place of the next line that opens a section; those of some lines that have a further property.
-pub use Rattle.ios_sections.proofs.PlaceFacts.{some_place, no_place}
+pub use Rattle.ios_lines.proofs.Places.{some_place, no_place}
 use Rattle.std.proofs.Common.{◌≡◌, Bool, true, false, ◌&&◌, ◌||◌, List, [], ◌∷◌, cond, filter, refl, ap}
 use Rattle.std.specs.List.{list_any}
 

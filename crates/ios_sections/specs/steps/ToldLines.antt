@@ -1,5 +1,6 @@
 -- The lines that count and tell something, taken in one after the other.
-use Rattle.std.specs.Prelude.{Bool, ◌||◌, List, codes, filter, fold}
+use Rattle.std.specs.Prelude.{ℕ, ◌+◌, Bool, ◌||◌, List, [], ◌∷◌, codes, filter, fold}
+use Rattle.net_addr.specs.Blanks.{indent_of, words_in}
 use Rattle.ios_lines.specs.Words.{says}
 use Rattle.ios_sections.specs.TextLines.{TextLine, banner_after, counts, outside_banner, outside_banners}
 use Rattle.ios_sections.specs.TellingLines.{open_after, telling_lines}
@@ -19,6 +20,15 @@ place_after place line = record {
 -- of the lines from a place on those that count and tell something
 abbrev pub told_from : TextPlace → List TextLine → List TextLine
 told_from place lines = telling_lines place.below (filter counts (outside_banners place.in_banner lines))
+
+-- the line of this number that has these bytes
+abbrev pub numbered_line : ℕ → List ℕ → TextLine
+numbered_line number bytes = record { number = number; indent = indent_of bytes; bytes = bytes; words = words_in bytes }
+
+-- the lines that have these bytes, numbered from this number on
+abbrev pub numbered_lines : ℕ → List (List ℕ) → List TextLine
+numbered_lines number [] = []
+numbered_lines number (bytes ∷ more) = numbered_line number bytes ∷ numbered_lines (number + 1) more
 
 -- a line of an interface that may say something of it, by its first word
 abbrev pub may_concern_interface : TextLine → Bool
