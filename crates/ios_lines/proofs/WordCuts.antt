@@ -1,7 +1,8 @@
 -- The words of some bytes, cut off one after the other.
 use Rattle.std.proofs.lemmas.Grind.{common_steps}
-use Rattle.std.proofs.Common.{◌≡◌, ℕ, suc, ◌+◌, ◌-◌, ◌<◌, ◌≤◌, ◌⊎◌, inl, inr, ⊎_elim, Bool, true, false, not, cond, ◌&&◌, ◌||◌, eqb, Some, None, List, [], ◌∷◌, ◌++◌}
-use Rattle.std.proofs.Common.{zero, get_or, length, take, drop, filter, refl, sym, ap, subst, ◌∙◌, arith}
+use Rattle.std.proofs.Common.{◌≡◌, ℕ, zero, suc, ◌+◌, ◌-◌, ◌<◌, ◌≤◌, ◌⊎◌, inl, inr, ⊎_elim, Bool, true, false, not, cond, ◌&&◌, ◌||◌}
+use Rattle.std.proofs.Common.{eqb, Some, None, List, [], ◌∷◌, ◌++◌, get_or}
+use Rattle.std.proofs.Common.{length, take, drop, filter, refl, sym, ap, subst, ◌∙◌, arith}
 use Rattle.std.specs.Prelude.{nat_lt, nat_eq, position, bytes_eq}
 use Rattle.std.specs.List.{list_any, slice_split, position_or_len, prefix_len, onto_first, starts_with}
 use Rattle.std.proofs.lemmas.Bool.{cases_lt, or_parts}
@@ -89,7 +90,8 @@ low_len (b ∷ bs) e = cases (is_low b) refl (low_len bs) e
     cases true low rest ends = grind (arith, common_steps)
     cases false high rest ends = grind (arith, common_steps, nat_tests)
 
-pub low_is_blank : (bytes : List ℕ) (n : ℕ) → position is_low bytes ≡ Some n → n < length bytes → get_or bytes n 0 ≡ 32 → n ≡ position_or_len is_blank bytes
+pub low_is_blank : (bytes : List ℕ) (n : ℕ) → position is_low bytes ≡ Some n → n < length bytes → get_or bytes n 0 ≡ 32 →
+    n ≡ position_or_len is_blank bytes
 low_is_blank bytes n e within space = grind (arith, common_steps, low_len, some_place)
 
 pub none_is_blank : (bytes : List ℕ) → position is_low bytes ≡ None → length bytes ≡ position_or_len is_blank bytes
@@ -180,8 +182,7 @@ pub by_parts : (bytes text : List ℕ) → without_blanks bytes ≡ bytes → li
     × (starts_with eqb bytes text ≡ true → ends text bytes ≡ bytes_eq (word_at (words_in bytes) 0) text)
 by_parts bytes text bare one = (
   λ none. sym (word_by_text bytes text bare one) ∙ ap (λ (s : Bool). s && ends text bytes) none,
-  λ starts.
-      sym (ap (λ (s : Bool). s && ends text bytes) starts) ∙ word_by_text bytes text bare one,
+  λ starts. sym (ap (λ (s : Bool). s && ends text bytes) starts) ∙ word_by_text bytes text bare one,
 )
 
 -- the words behind the first one

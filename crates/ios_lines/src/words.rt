@@ -187,6 +187,7 @@ fn cut_word(bytes: &[u8]) -> (&[u8], &[u8])
 }
 
 /// Whether the first word of some bytes, which begin with no blank, is this text, which holds none.
+#[inline(always)]
 pub fn begins_with(bytes: &[u8], text: &[u8]) -> bool
     requires bare { without_blanks bytes.now ≡ bytes.now }
     requires one_word { list_any is_blank text.now ≡ false }

@@ -6,12 +6,11 @@ use Rattle.std.proofs.lemmas.List.{length-map}
 use Rattle.std.proofs.lemmas.List.Splits.{length-slice_split}
 use Rattle.std.proofs.lemmas.List.Sums.{count_by-le-length}
 use Rattle.net_addr.specs.declared.line.Line.{Line}
-use Rattle.net_addr.specs.Blanks.{indent_of, words_in}
 use Rattle.net_addr.specs.Spans.{bytes_of}
 use Rattle.net_addr.specs.Lines.{without_empty_last, line_pieces, lines_of, line_texts}
 use Rattle.net_addr.proofs.PlacedPieces.{text_lines-texts}
-use Rattle.ios_sections.specs.TextLines.{TextLine, text_line, lines_in}
-use Rattle.ios_sections.specs.steps.ToldLines.{numbered_line, numbered_lines}
+use Rattle.ios_sections.specs.TextLines.{text_line, lines_in}
+use Rattle.ios_sections.specs.steps.ToldLines.{numbered_lines}
 
 abbrev texts_in : List ℕ → List Line → List (List ℕ)
 texts_in text lines = map (λ (line : Line). bytes_of text line.span) lines
@@ -21,10 +20,10 @@ lines_numbered : (text : List ℕ) (number start : ℕ) (pieces : List (List ℕ
     map (text_line text) (lines_of number start pieces) ≡ numbered_lines number (map strip_carriage_return pieces)
 lines_numbered text number start [] texts = refl
 lines_numbered text number start (piece ∷ more) texts =
-    let first : bytes_of text (record { start = start; stop = start + length (strip_carriage_return piece) }) ≡ strip_carriage_return piece = cc in
-    let others : texts_in text (lines_of (number + 1) (start + length piece + 1) more) ≡ map strip_carriage_return more = cc in
-    ap (λ (bytes : List ℕ). record { number = number; indent = indent_of (strip_carriage_return piece); bytes = bytes; words = words_in bytes } ∷ map (text_line text) (lines_of (number + 1) (start + length piece + 1) more)) first
-    ∙ ap (λ (ls : List TextLine). numbered_line number (strip_carriage_return piece) ∷ ls) (lines_numbered text (number + 1) (start + length piece + 1) more others)
+    let later : texts_in text (lines_of (number + 1) (start + length piece + 1) more) ≡ map strip_carriage_return more = cc in
+    let rest : map (text_line text) (lines_of (number + 1) (start + length piece + 1) more)
+    ≡ numbered_lines (number + 1) (map strip_carriage_return more) = lines_numbered text (number + 1) (start + length piece + 1) more later in
+    cc
 
 -- the lines of a text are numbered from 1
 pub text_numbered : (text : List ℕ) → lines_in text ≡ numbered_lines 1 (line_texts text)

@@ -7,7 +7,8 @@ use Rattle.ios_sections.proofs.text.told_text.Given as goal
 
 abbrev pub invariant-loop-bytes : goal.invariant-loop-bytes
 invariant-loop-bytes l = record {
-  told : l.lines.items ++ told_from l.place (numbered_lines (l.count + 1) l.cursor) ≡ telling_lines false (counted_lines (lines_in l.text));
+  told : l.lines.items ++ told_from l.place (numbered_lines (l.count + 1) l.cursor)
+      ≡ telling_lines false (counted_lines (lines_in l.text));
   counted : l.count + length l.cursor ≡ length (line_texts l.text);
 }
 
