@@ -10,10 +10,9 @@ use Rattle.igp_theory.specs.declared.phase.Phase.TheVariants.{Old, Middle, New}
 use Rattle.rib_mix.specs.Cells.{IsUsable, use_in}
 use Rattle.rib_mix.specs.Sites.{Site}
 use Rattle.rib_mix.specs.steps.Sites.{CountsAt}
-use Rattle.rib_mix.specs.steps.Uses.{cell_between, cell_over}
+use Rattle.rib_mix.specs.steps.Uses.{Has, cell_between, cell_over}
 use Rattle.rib_mix.specs.steps.WayUp.{IsBestUse, IsCellUpTo, UpTo}
 use Rattle.rib_mix.specs.declared.cell.Cell.{Cell}
-use Rattle.rib_mix.specs.declared.cell.Has.{Has}
 use Rattle.rib_mix.specs.declared.used.Used.{Used}
 use Rattle.rib_mix.specs.declared.used.Used.TheVariants as used
 use Rattle.rib_mix.proofs.ClassUses.{Within}

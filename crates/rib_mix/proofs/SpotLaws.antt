@@ -1,9 +1,9 @@
 -- Spots of prefixes in a list, as one more of the list is seen, and the numbers that a table has at them.
-use Rattle.std.proofs.Common.{◌≡◌, ◌≢◌, ℕ, ◌+◌, ◌<◌, ◌≤◌, List, length, get_or, set, Option, Some, None, Contains, IfNone, IfSome, slice_get}
+use Rattle.std.proofs.Common.{◌^◌, ◌≡◌, ◌≢◌, ℕ, ◌+◌, ◌<◌, ◌≤◌, List, length, get_or, set, Option, Some, None, Contains, IfNone, IfSome, slice_get}
 use Rattle.std.proofs.Common.{⊎_elim, arith, refl, sym, ap, subst, ◌∙◌, get_or-set_other, get_or-set_same}
 use Rattle.std.specs.Option.{option_map}
 use Rattle.std.proofs.lemmas.Bool.{cases_eq, cases_lt}
-use Rattle.std.proofs.lemmas.List.{length-set}
+use Rattle.std.proofs.lemmas.List.{get_or_default, get_or_past, length-set}
 use Rattle.std.proofs.lemmas.Option.{none-some, same_Some, slice_get_within, slice_get-get_or, slice_get-map, get_or_from_slice_get}
 use Rattle.net_addr.specs.Addresses.{Block, default_prefix}
 use Rattle.net_model.proofs.Members.{Contains-map}
@@ -16,12 +16,9 @@ use Rattle.prefix_atoms.proofs.ClassFacts.{one_place}
 use Rattle.prefix_atoms.proofs.NestedLaws.{ascending_apart}
 use Rattle.prefix_atoms.proofs.Pushed.{at_place}
 use Rattle.rib_mix.specs.steps.Sites.{prefixes_in}
-use Rattle.rib_mix.specs.steps.SortSpots.{HasSpots, spots_of}
-use Rattle.rib_mix.specs.steps.Spots.{AreSpots, AreTableSpots, IsPlaced, IsSpot, PlacedTable, number_at_spot, number_in, with_spot}
+use Rattle.rib_mix.specs.steps.SortKinds.{kind_at_spot}
+use Rattle.rib_mix.specs.steps.Spots.{AreSpots, IsPlaced, IsSpot, PlacedTable, number_at_spot, number_in, with_spot}
 use Rattle.rib_mix.specs.steps.WayUp.{AreOwnNumbers, IsOwnNumber}
-use Rattle.rib_mix.specs.declared.both_tables.BothTables.{BothTables}
-use Rattle.rib_mix.specs.declared.sorts.Sorts.{Sorts}
-use Rattle.rib_mix.specs.declared.spots.Spots.{Spots}
 
 -- the next one of the list is put where it stands among the prefixes
 pub spot_next : (prefixes list : List Block) (n : ℕ) (p : Block) (place : Option ℕ) (old new : List (Option ℕ)) → AreAscendingPrefixes prefixes
@@ -67,25 +64,26 @@ spot_next prefixes list n p place old new up at found missed is are = subst (Are
         each i q at_q = ⊎_elim (λ same. here i q (sym same) at_q) (λ apart. there i q apart at_q) (cases_eq i j)
 
 -- spots are places in the list
-pub spot_within : (list : List Block) (n : ℕ) (p : Block) (spot : Option ℕ) → IsSpot list n p spot → IfSome spot (λ k. k < length list)
+spot_within : (list : List Block) (n : ℕ) (p : Block) (spot : Option ℕ) → IsSpot list n p spot → IfSome spot (λ k. k < length list)
 spot_within list n p None none = tt
 spot_within list n p (Some k) stands = slice_get_within list k p stands
 
--- the spots of the first prefix of a sort are within both tables
-pub spots_within : (prefixes : List Block) (both : BothTables) (spots : Spots) (sorts : Sorts) (sort : ℕ) → IsTable (kept_in both.old)
-    → IsTable (kept_in both.new) → AreTableSpots prefixes both spots → get_or sorts.firsts.items sort 0 < length prefixes
-    → HasSpots both (spots_of spots sorts sort)
-spots_within prefixes both spots sorts sort old_table new_table are within =
-    let place : ℕ = get_or sorts.firsts.items sort 0 in
+-- the number of the kind of the prefix at a spot is that of the spot
+spot_number : (kept : KeptTable) (spot : Option ℕ) → IsTable kept → length kept.numbers < 2 ^ 32
+    → IfSome spot (λ k. k < length kept.prefixes) → get_or kept.numbers (kind_at_spot kept.kinds spot) None ≡ number_at_spot kept spot
+spot_number kept None table few within = get_or_past kept.numbers 4294967295 None (omega (arith, few))
+spot_number kept (Some k) table few within =
+    ap (λ (kind : ℕ). get_or kept.numbers kind None) (get_or_default kept.kinds k 4294967295 0 (omega (arith, within, table.kinds)))
+
+-- the number of the kind of the prefix at a place is that which the table has for it
+pub number_of_kind : (prefixes : List Block) (table : PlacedTable) (place : ℕ) → IsPlaced prefixes table → place < length prefixes
+    → length table.parts.numbers.now < 2 ^ 32
+    → get_or table.parts.numbers.now (kind_at_spot table.parts.kinds.now (get_or table.spots place None)) None ≡ number_in table place
+number_of_kind prefixes table place placed within few =
     let p = at_place prefixes place within in
-    record {
-      old_table = old_table;
-      new_table = new_table;
-      old = spot_within both.old.prefixes.now (length both.old.prefixes.now) p.0 (get_or spots.olds.items place None)
-          (are.olds.each place p.0 p.1);
-      new = spot_within both.new.prefixes.now (length both.new.prefixes.now) p.0 (get_or spots.news.items place None)
-          (are.news.each place p.0 p.1);
-    }
+    let spot : Option ℕ = get_or table.spots place None in
+    spot_number (kept_in table.parts) spot placed.kept few
+    (spot_within table.parts.prefixes.now (length table.parts.prefixes.now) p.0 spot (placed.spots.each place p.0 p.1))
 
 -- the numbers that a table has at its spots are those of its rows
 pub rows_number : (prefixes : List Block) (table : PlacedTable) → IsPlaced prefixes table

@@ -9,6 +9,6 @@ pub mod Features
 pub mod Likeness
 pub mod Earlier
 pub mod Unlike
-pub mod SortSpots
+pub mod SortKinds
 pub mod ConnectedSorts
 pub mod Columns

@@ -23,7 +23,8 @@ use crate::earlier::earlier_classes;
 use crate::features::Features;
 use crate::homes::Homes;
 use crate::next::Next;
-use crate::own::{OfRouter, Shared, put_cells, sort_spots};
+use crate::own::{Shared, of_router, put_cells};
+use crate::sort_kinds::{kinds_in_tables, lane_kinds};
 use crate::sorts::{Sorts, sort_at};
 use crate::spots::Spots;
 use crate::subnets::Subnets;
@@ -288,17 +289,16 @@ fn columns_of(
     ensures { IfOk result (λ columns. AreRows (record { net = net.now; tables = tables.now }) shared.now.atoms.now.samples
         (map (sort_at shared.now.sorts.now.of_places.items) shared.now.atoms.now.tops) columns) }
 {
-    let spots = sort_spots(alloc, shared)?;
     let firsts = shared.sorts.firsts.as_slice();
     let connected = connected_sorts(alloc, net.routers(), firsts, shared.homes)?;
     let mut columns = Columns::nothing(alloc, net.routers(), firsts.len())?;
+    let mut kinds = lane_kinds(alloc, shared, &[], &[])?;
     for router in 0..net.routers() {
-        let own = OfRouter {
-            connected: connected[router as usize].as_slice(),
-            tables: &tables[router as usize],
-            ospf: ospf_distance(net, router),
-        };
-        put_cells(&mut columns, router, spots.as_slice(), &own)?;
+        let both = &tables[router as usize];
+        kinds = kinds_in_tables(alloc, shared, both, kinds)?;
+        let flags = connected[router as usize].as_slice();
+        let own = of_router(flags, both, ospf_distance(net, router))?;
+        put_cells(&mut columns, router, kinds.of_sorts.as_slice(), &own);
     }
     Ok(columns)
 }

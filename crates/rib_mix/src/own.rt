@@ -1,20 +1,22 @@
-ghost use Rattle.std.specs.Prelude.{◌≡◌, ◌<◌, [], IfOk, IfSome, OnOk, length, slice_index_or};
-ghost use Rattle.route_core.specs.Rows.{IsTable, kept_in};
+ghost use Rattle.std.specs.Prelude.{◌≡◌, ◌<◌, ◌==◌, if◌then◌else◌, [], IfOk, IfSome, length, slice_index_or, None};
+ghost use Rattle.std.specs.Bool.{OnTrue};
+ghost use Rattle.route_core.specs.Rows.{kept_in};
+ghost use Rattle.rib_mix.specs.Cells.{cell_at};
 ghost use Rattle.rib_mix.specs.steps.Columns.{AreOtherRows};
-ghost use Rattle.rib_mix.specs.steps.Sorts.{IsSorting};
-ghost use Rattle.rib_mix.specs.steps.SortSpots.{AreSortSpots, AreSpotCells, HasSpots, HaveSortSpots, has_of};
-ghost use Rattle.rib_mix.specs.steps.Spots.{HaveSpots, number_at_spot};
+ghost use Rattle.rib_mix.specs.steps.SortKinds.{AreKindCells, HasFew, HaveCodes, HaveEarlierParents, IsOfRouter, has_of};
+ghost use Rattle.rib_mix.specs.steps.Uses.{cell_over};
 
 use crate::both_tables::BothTables;
-use crate::cell::{Has, cell_over};
+use crate::cell::{Cell, cell_between};
 use crate::columns::Columns;
 use crate::homes::Homes;
+use crate::sort_kinds::{NO_KIND, SortKinds};
 use crate::sorts::Sorts;
 use crate::spots::Spots;
+use crate::used::Use;
 use net_model::{ISIS_DISTANCE, MOST_DISTANCE};
 use prefix_atoms::Atoms;
 use route_core::{Number, OutOfMemory, TableParts};
-use std::alloc::Global;
 
 /// What serves all routers: the classes, where their prefixes stand among those of the tables, at which routers they are
 /// connected, and their sorts.
@@ -30,104 +32,122 @@ pub(crate) struct Shared<'a> {
     pub sorts: &'a Sorts,
 }
 
-/// Of a sort where its first prefix stands among those of the tables, and the sort of the parents.
-#[derive(Clone, Copy, Debug)]
-pub(crate) struct SortSpots {
-    /// Where the prefix stands among those of the old tables.
-    pub old: Number,
-    /// Where it stands among those of the new ones.
-    pub new: Number,
-    /// The sort of the parents.
-    pub parent: Option<u32>,
-}
-
-/// The spots of all sorts.
-pub(crate) fn sort_spots(alloc: Global, shared: &Shared<'_>) -> Result<Vec<SortSpots>, OutOfMemory>
-    requires spots { HaveSpots (length shared.now.atoms.now.prefixes) shared.now.spots.now }
-    requires sorts { IsSorting (length shared.now.atoms.now.prefixes) shared.now.sorts.now }
-    ensures { IfOk result (λ own. AreSortSpots shared.now.spots.now shared.now.sorts.now
-        (length shared.now.sorts.now.firsts.items) own.items) }
-{
-    let sorts = shared.sorts;
-    let spots = shared.spots;
-    let mut own = Vec::with_capacity(alloc, sorts.firsts.len())?;
-    for sort in 0..sorts.firsts.len() {
-        let first = sorts.firsts[sort] as usize;
-        own.push(SortSpots {
-            old: spots.olds[first],
-            new: spots.news[first],
-            parent: sorts.parents[sort],
-        })?;
-    }
-    Ok(own)
-}
-
 /// Of a router what tells what it uses.
 #[derive(Clone, Copy)]
 pub(crate) struct OfRouter<'a> {
     /// Of each sort whether its first prefix is connected.
     pub connected: &'a [bool],
-    /// Both tables.
-    pub tables: &'a BothTables<'a>,
-    /// The OSPF distance.
-    pub ospf: u8,
+    /// The numbers of the old table's kinds, and none where that table doesn't count.
+    pub olds: &'a [Number],
+    /// The numbers of the new table's kinds.
+    pub news: &'a [Number],
+    /// Whether entries of the old table come before those of the new one.
+    pub old_first: bool,
+}
+
+/// What tells what a router uses that has these tables and this OSPF distance.
+pub(crate) fn of_router<'a>(
+    connected: &'a [bool],
+    both: &BothTables<'a>,
+    ospf: u8,
+) -> Result<OfRouter<'a>, OutOfMemory>
+    ensures { IfOk result (IsOfRouter connected.now both.now ospf) }
+{
+    if has_few(both.old) && has_few(both.new) {
+        Ok(OfRouter {
+            connected,
+            olds: counted_numbers(both.old, ospf),
+            news: both.new.numbers,
+            old_first: ospf < ISIS_DISTANCE,
+        })
+    } else {
+        Err(OutOfMemory)
+    }
+}
+
+/// Whether all kinds and entries of a table have numbers.
+fn has_few(parts: TableParts<'_>) -> bool
+    ensures { OnTrue result (HasFew (kept_in parts.entry)) }
+{
+    parts.numbers.len() <= NO_KIND as usize && parts.entries.len() < Use::MOST_NUMBERS as usize
+}
+
+/// The numbers of the kinds of a router's old table, and none where that doesn't count.
+fn counted_numbers<'a>(parts: TableParts<'a>, ospf: u8) -> &'a [Number]
+    ensures { result.now ≡ (if ospf == MOST_DISTANCE then [] else parts.entry.numbers.now) }
+{
+    if ospf == MOST_DISTANCE {
+        &[]
+    } else {
+        parts.numbers
+    }
 }
 
 /// Puts what a router uses for each sort, by what it has for the first prefix and uses for the parents' sort, which has a
 /// lower number.
 #[inline(never)]
-pub(crate) fn put_cells(
-    columns: &mut Columns,
-    router: u32,
-    spots: &[SortSpots],
-    own: &OfRouter<'_>,
-) -> Result<(), OutOfMemory>
+pub(crate) fn put_cells(columns: &mut Columns, router: u32, kinds: &[SortKinds], own: &OfRouter<'_>)
     requires router { router < length columns.old }
-    requires sorts { length (slice_index_or columns.old router []) ≡ length spots.now }
-    requires spots { HaveSortSpots own.now.tables.now spots.now }
-    requires connected { length own.now.connected.now ≡ length spots.now }
-    ensures cells { OnOk result (AreSpotCells spots.now own.now.connected.now own.now.tables.now own.now.ospf
-        (length spots.now) (slice_index_or columns.new router [])) }
-    ensures others { OnOk result (AreOtherRows router columns.old columns.new) }
+    requires sorts { length (slice_index_or columns.old router []) ≡ length kinds.now }
+    requires parents { HaveEarlierParents kinds.now }
+    requires connected { length own.now.connected.now ≡ length kinds.now }
+    requires old_codes { HaveCodes own.now.olds.now }
+    requires new_codes { HaveCodes own.now.news.now }
+    ensures cells { AreKindCells kinds.now own.now (length kinds.now) (slice_index_or columns.new router []) }
+    ensures others { AreOtherRows router columns.old columns.new }
 {
-    let tables = *own.tables;
-    let old_first = own.ospf < ISIS_DISTANCE;
-    for (sort, spot) in spots.iter().enumerate() {
-        let has = has_of(own.connected[sort], &tables, own.ospf, spot);
-        let parent = columns.cell(router, spot.parent);
-        let cell = cell_over(has, old_first, parent)?;
+    for (sort, kind) in kinds.iter().enumerate() {
+        let connected = own.connected[sort];
+        let cell = own_cell(columns, router, connected, kind, own);
         columns.put(router, sort, cell);
     }
-    Ok(())
 }
 
-/// What a router has for the first prefix of a sort.
+/// What a router uses for a sort: what it has for the first prefix, and at an end where it has nothing what it uses for the
+/// parents. Of entries of both tables that of lower distance comes first.
 #[inline(always)]
-fn has_of(connected: bool, tables: &BothTables<'_>, ospf: u8, own: &SortSpots) -> Has
-    requires { HasSpots tables.now own.now }
-    ensures { result ≡ has_of connected tables.now ospf own.now }
+fn own_cell(
+    columns: &Columns,
+    router: u32,
+    connected: bool,
+    kinds: &SortKinds,
+    own: &OfRouter<'_>,
+) -> Cell
+    requires router { router < length columns.now }
+    requires parent { IfSome kinds.now.parent (λ s. s < length (slice_index_or columns.now router [])) }
+    requires old_codes { HaveCodes own.now.olds.now }
+    requires new_codes { HaveCodes own.now.news.now }
+    ensures { result ≡ cell_over (has_of connected own.now kinds.now) own.now.old_first
+        (cell_at (slice_index_or columns.now router []) kinds.now.parent) }
 {
-    let old = if ospf == MOST_DISTANCE {
-        None
-    } else {
-        number_at(tables.old, own.old)
-    };
-    Has {
-        connected,
-        old,
-        new: number_at(tables.new, own.new),
+    if connected {
+        return Cell::connected();
+    }
+    match number_at(own.olds, kinds.old) {
+        Some(old) => match number_at(own.news, kinds.new) {
+            Some(new) => cell_between(Use::old(old), Use::new(new), own.old_first),
+            None => Cell {
+                middle: Use::old(old),
+                other: columns.cell(router, kinds.parent).in_new(),
+            },
+        },
+        None => match number_at(own.news, kinds.new) {
+            Some(new) => Cell {
+                middle: Use::new(new),
+                other: columns.cell(router, kinds.parent).in_old(),
+            },
+            None => columns.cell(router, kinds.parent),
+        },
     }
 }
 
-/// The number of the entry for the prefix at a spot of a table, if there is one and the table has an entry for it.
+/// The number of the entry for the prefixes of a kind, if there is one.
 #[inline(always)]
-fn number_at(parts: TableParts<'_>, spot: Number) -> Option<u32>
-    requires table { IsTable (kept_in parts) }
-    requires spot { IfSome spot (λ k. k < length parts.prefixes.now) }
-    ensures { result ≡ number_at_spot (kept_in parts.entry) spot }
+fn number_at(numbers: &[Number], kind: u32) -> Option<u32>
+    ensures { result ≡ slice_index_or numbers.now kind None }
 {
-    match spot.get() {
-        Some(spot) => parts.number(spot as usize),
+    match numbers.get(kind as usize) {
+        Some(number) => number.get(),
         None => None,
     }
 }

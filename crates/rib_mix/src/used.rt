@@ -1,7 +1,6 @@
-ghost use Rattle.std.specs.Prelude.{◌≡◌, ◌↔◌, IfOk, IsTrue};
+ghost use Rattle.std.specs.Prelude.{◌≡◌, ◌↔◌, IsTrue};
 ghost use Rattle.rib_mix.specs.steps.Uses.{IsOfNew};
 
-use route_core::OutOfMemory;
 use std::marker::Model;
 
 /// What a router uses for an address.
@@ -40,12 +39,12 @@ impl Model for Use {
 }
 
 impl Use {
-    ghost use Rattle.std.specs.Prelude.{◌≡◌, ◌<◌, ◌+◌, ◌^◌, ◌↔◌, IfOk, IsTrue, Ok};
+    ghost use Rattle.std.specs.Prelude.{◌≡◌, ◌<◌, ◌+◌, ◌^◌, ◌↔◌, IsTrue};
     ghost use Rattle.rib_mix.specs.steps.Uses.{IsOfNew};
     ghost use Rattle.rib_mix.specs.declared.used.Used.TheVariants.{Connected, New, Nothing, Old};
 
     /// The number of entries up to which all have a code.
-    const MOST_NUMBERS: u32 = 0x7FFF_FFFE;
+    pub const MOST_NUMBERS: u32 = 0x7FFF_FFFE;
 
     /// No entry.
     #[inline(always)]
@@ -63,32 +62,26 @@ impl Use {
         Use { code: 2 }
     }
 
-    /// The entry of this number that the old table keeps. From 2^31 - 2 on it gives `OutOfMemory`, since no table has so many.
+    /// The entry of this number that the old table keeps.
     #[inline(always)]
-    pub fn old(number: u32) -> Result<Use, OutOfMemory>
-        ensures is { IfOk result (λ own. own ≡ Old number) }
-        ensures fits { number + 2 < 2 ^ 31 → result ≡ Ok (Old number) }
+    pub fn old(number: u32) -> Use
+        requires { number + 2 < 2 ^ 31 }
+        ensures { result ≡ Old number }
     {
-        if number >= Use::MOST_NUMBERS {
-            return Err(OutOfMemory);
-        }
-        Ok(Use {
+        Use {
             code: 2 * number + 4,
-        })
+        }
     }
 
     /// The same of the new table.
     #[inline(always)]
-    pub fn new(number: u32) -> Result<Use, OutOfMemory>
-        ensures is { IfOk result (λ own. own ≡ New number) }
-        ensures fits { number + 2 < 2 ^ 31 → result ≡ Ok (New number) }
+    pub fn new(number: u32) -> Use
+        requires { number + 2 < 2 ^ 31 }
+        ensures { result ≡ New number }
     {
-        if number >= Use::MOST_NUMBERS {
-            return Err(OutOfMemory);
-        }
-        Ok(Use {
+        Use {
             code: 2 * number + 1,
-        })
+        }
     }
 
     /// What is used.

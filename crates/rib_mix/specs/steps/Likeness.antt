@@ -3,7 +3,7 @@ use Rattle.std.specs.Prelude.{◌≡◌, ℕ, [], List, slice_get, slice_index_o
 use Rattle.route_core.specs.Rows.{kept_in}
 use Rattle.rib_mix.specs.steps.Spots.{number_at_spot}
 use Rattle.rib_mix.specs.declared.both_tables.BothTables.{BothTables}
-use Rattle.rib_mix.specs.declared.cell.Has.{Has}
+use Rattle.rib_mix.specs.steps.Uses.{Has}
 use Rattle.rib_mix.specs.declared.own.Shared.{Shared}
 use Rattle.rib_mix.specs.declared.spots.Spots.{Spots}
 

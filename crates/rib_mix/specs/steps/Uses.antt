@@ -2,13 +2,18 @@
 use Rattle.std.specs.Prelude.{ℕ, Bool, if◌then◌else◌, List, Option, Some, None, ◌≡◌, slice_get}
 use Rattle.rib_mix.specs.Cells.{new_use, old_use}
 use Rattle.rib_mix.specs.declared.cell.Cell.{Cell}
-use Rattle.rib_mix.specs.declared.cell.Has.{Has}
 use Rattle.rib_mix.specs.declared.used.Used.{Used}
 use Rattle.rib_mix.specs.declared.used.Used.TheVariants.{Connected, New, Nothing, Old}
 use Rattle.route_core.specs.declared.entry.Entry.{Entry}
 use Rattle.rib_mix.specs.Answers.{ShowsEntry}
 use Rattle.rib_mix.specs.declared.next.Next.{Next}
 use Rattle.rib_mix.specs.declared.next.Next.TheVariants as next
+
+-- what a router has for a prefix: whether it is connected, and the number of the entry of each table, where that table counts
+pub record Has : Type 0 where
+  pub connected : Bool
+  pub old : Option ℕ
+  pub new : Option ℕ
 
 -- the answer is what is used
 abbrev pub ShowsUse : List Entry → List Entry → Used → Next → Type 0
@@ -36,7 +41,11 @@ cell_of_two (Some n) None old_first up = record { middle = Old n; other = new_us
 cell_of_two None (Some n) old_first up = record { middle = New n; other = old_use up }
 cell_of_two (Some n) (Some m) old_first up = cell_between (Old n) (New m) old_first
 
+-- a connected prefix is used
+abbrev pub connected_cell : Cell
+connected_cell = record { middle = Connected; other = Connected }
+
 -- what is used of what a router has for a prefix: a connected prefix before all entries
 abbrev pub cell_over : Has → Bool → Cell → Cell
 cell_over has old_first up =
-    if has.connected then record { middle = Connected; other = Connected } else cell_of_two has.old has.new old_first up
+    if has.connected then connected_cell else cell_of_two has.old has.new old_first up

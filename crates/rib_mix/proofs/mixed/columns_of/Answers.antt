@@ -8,36 +8,42 @@ use Rattle.prefix_atoms.specs.Classes.{Classes}
 use Rattle.rib_mix.specs.Rows.{Ground, IsRow, site}
 use Rattle.rib_mix.specs.declared.both_tables.BothTables.{BothTables}
 use Rattle.rib_mix.specs.declared.cell.Cell.{Cell}
-use Rattle.rib_mix.specs.declared.own.SortSpots.{SortSpots}
 use Rattle.rib_mix.specs.declared.sorts.Sorts.{Sorts}
 use Rattle.rib_mix.specs.steps.Columns.{AreOtherRows, HaveLength}
 use Rattle.rib_mix.specs.steps.ConnectedSorts.{AreConnectedSorts}
 use Rattle.rib_mix.specs.steps.Sorts.{sort_at}
-use Rattle.rib_mix.specs.steps.SortSpots.{AreSpotCells, HaveSortSpots}
-use Rattle.rib_mix.proofs.RowLaws.{IsServing, row_of_cells, sort_spots_in}
+use Rattle.rib_mix.specs.declared.sort_kinds.LaneKinds.{LaneKinds}
+use Rattle.rib_mix.specs.declared.sort_kinds.SortKinds.{SortKinds}
+use Rattle.rib_mix.specs.declared.spots.Spots.{Spots}
+use Rattle.rib_mix.specs.steps.SortKinds.{AreKindCells, AreSortKinds, HaveEarlierParents, IsOfRouter}
+use Rattle.rib_mix.proofs.RowLaws.{IsServing, earlier_parents, own_codes, row_of_cells}
 use Rattle.rib_mix.proofs.mixed.columns_of.Goals as goal
 
-pub put_cells-requires-clause-spots : goal.put_cells-requires-clause-spots
-put_cells-requires-clause-spots c =
-    let router : ℕ = c.loop-router.router in
-    let both : BothTables = c.index-tables-router.result in
-    let g : Ground = record { net = c.args.net.now; tables = c.args.tables.now } in
-    let serving : IsServing g c.args.shared.now.atoms.now c.args.shared.now.spots.now c.args.shared.now.homes.now
-    c.args.shared.now.sorts.now = record {
-      tables_are = c.requires.tables;
-      occur = c.requires.occur;
-      classing = c.requires.classing;
-      spots_are = c.requires.spots;
-      homes_are = c.requires.homes;
-      sorts_are = c.requires.sorts;
-    } in
-    let here : slice_get c.args.tables.now router ≡ Some both =
-    slice_get_read c.args.tables.now (length c.args.tables.now) router both refl
+pub put_cells-requires-clause-parents : goal.put_cells-requires-clause-parents
+put_cells-requires-clause-parents c =
+    let kinds : LaneKinds = c.in_ok-kinds-2.kinds in
+    subst HaveEarlierParents (sym c.as_slice.ensures.value)
+    (earlier_parents c.args.shared.now.spots.now c.args.shared.now.sorts.now (length c.args.shared.now.atoms.now.parents)
+    kinds.olds.now kinds.news.now kinds.of_sorts.items c.requires.sorts.sorting c.in_ok-kinds-2.ensures.kinds)
+
+pub put_cells-requires-clause-connected : goal.put_cells-requires-clause-connected
+put_cells-requires-clause-connected c = grind (arith, common_steps)
+
+pub put_cells-requires-clause-old_codes : goal.put_cells-requires-clause-old_codes
+put_cells-requires-clause-old_codes c =
+    (own_codes (length c.args.net.now) c.loop-router.router c.ospf_distance.result c.args.tables.now c.index-tables-router.result
+    c.as_slice-flags.result.now c.in_ok-own.own c.requires.tables
+    (slice_get_read c.args.tables.now (length c.args.tables.now) c.loop-router.router c.index-tables-router.result refl
     (omega (arith, c.loop-router-test.true, c.requires.tables.count, c.routers-router-end.ensures.count))
-    c.index-tables-router.is in
-    subst (HaveSortSpots both) (sym c.as_slice-in-loop-router.ensures.value)
-    (sort_spots_in g c.args.shared.now.atoms.now c.args.shared.now.spots.now c.args.shared.now.homes.now
-    c.args.shared.now.sorts.now router both c.in_ok-spots.spots.items serving here c.in_ok-spots.ensures)
+    c.index-tables-router.is) c.in_ok-own.ensures).0
+
+pub put_cells-requires-clause-new_codes : goal.put_cells-requires-clause-new_codes
+put_cells-requires-clause-new_codes c =
+    (own_codes (length c.args.net.now) c.loop-router.router c.ospf_distance.result c.args.tables.now c.index-tables-router.result
+    c.as_slice-flags.result.now c.in_ok-own.own c.requires.tables
+    (slice_get_read c.args.tables.now (length c.args.tables.now) c.loop-router.router c.index-tables-router.result refl
+    (omega (arith, c.loop-router-test.true, c.requires.tables.count, c.routers-router-end.ensures.count))
+    c.index-tables-router.is) c.in_ok-own.ensures).1
 
 -- of so many cells is each row, where the new one is
 lengths_kept : (u sorts : ℕ) (old new : List (List Cell)) → AreOtherRows u old new → length (get_or new u []) ≡ sorts
@@ -51,13 +57,14 @@ loop-router-preserved c =
     let ospf : ℕ = c.ospf_distance.result in
     let g : Ground = record { net = c.args.net.now; tables = c.args.tables.now } in
     let classes : Classes = c.args.shared.now.atoms.now in
+    let spots : Spots = c.args.shared.now.spots.now in
     let sorts : Sorts = c.args.shared.now.sorts.now in
     let homes : List (List ℕ) = c.args.shared.now.homes.now in
-    let spots : List SortSpots = c.in_ok-spots.spots.items in
+    let kinds : List SortKinds = c.in_ok-kinds-2.kinds.of_sorts.items in
     let flags : List (List Bool) = c.in_ok-connected.connected.items in
     let row : List Cell = get_or c.put_cells.new.columns router [] in
     let inside : router < length c.args.net.now = omega (arith, c.loop-router-test.true, c.routers-router-end.ensures.count) in
-    let serving : IsServing g classes c.args.shared.now.spots.now homes sorts = record {
+    let serving : IsServing g classes spots homes sorts = record {
       tables_are = c.requires.tables;
       occur = c.requires.occur;
       classing = c.requires.classing;
@@ -72,21 +79,28 @@ loop-router-preserved c =
     subst (λ (n : ℕ). AreConnectedSorts n sorts.firsts.items homes (length sorts.firsts.items) flags) c.routers.ensures.count
     (subst (λ (firsts : List ℕ). AreConnectedSorts c.routers.result firsts homes (length firsts) flags)
     c.as_slice-firsts.ensures.value c.in_ok-connected.ensures) in
-    let own : c.as_slice.result.now ≡ get_or flags router [] =
-    c.as_slice.ensures ∙ c.index.ensures
+    let own : c.as_slice-flags.result.now ≡ get_or flags router [] =
+    c.as_slice-flags.ensures ∙ c.index.ensures
     ∙ get_or_default flags router c.index.result.now [] (omega (arith, inside, flagged.flags.count)) in
-    let made : AreSpotCells spots (get_or flags router []) both ospf (length spots) row =
-    subst (λ (flags : List Bool). AreSpotCells spots flags both ospf (length spots) row) own
-    (subst (λ (all : List SortSpots). AreSpotCells all c.as_slice.result.now both ospf (length all) row)
-    c.as_slice-in-loop-router.ensures.value c.in_ok-put_cells.ensures.cells) in
+    let own_is : IsOfRouter (get_or flags router []) both ospf c.in_ok-own.own =
+    subst (λ (flags : List Bool). IsOfRouter flags both ospf c.in_ok-own.own) own c.in_ok-own.ensures in
+    let kinds_are : AreSortKinds spots sorts both.old.kinds.now both.new.kinds.now (length sorts.firsts.items) kinds =
+    subst (λ (olds : List ℕ). AreSortKinds spots sorts olds both.new.kinds.now (length sorts.firsts.items) kinds)
+    c.in_ok-kinds-2.ensures.lanes.olds
+    (subst (λ (news : List ℕ). AreSortKinds spots sorts c.in_ok-kinds-2.kinds.olds.now news (length sorts.firsts.items) kinds)
+    c.in_ok-kinds-2.ensures.lanes.news c.in_ok-kinds-2.ensures.kinds) in
+    let made : AreKindCells kinds c.in_ok-own.own (length kinds) row =
+    subst (λ (all : List SortKinds). AreKindCells all c.in_ok-own.own (length all) row)
+    c.as_slice.ensures.value c.put_cells.ensures.cells in
     let is_row : IsRow (site g router both) classes.samples (map (sort_at sorts.of_places.items) classes.tops) row =
-    row_of_cells g classes c.args.shared.now.spots.now homes sorts router both ospf spots flags row serving here
-    c.ospf_distance.ensures.network c.ospf_distance.ensures.distance c.in_ok-spots.ensures flagged inside made in
-    let others : AreOtherRows router c.loop-router.columns c.put_cells.new.columns = c.in_ok-put_cells.ensures.others in
+    row_of_cells g classes spots homes sorts router both ospf kinds c.in_ok-own.own flags row serving here
+    c.ospf_distance.ensures.network c.ospf_distance.ensures.distance kinds_are flagged inside own_is made in
+    let others : AreOtherRows router c.loop-router.columns c.put_cells.new.columns = c.put_cells.ensures.others in
     record {
       count = others.count ∙ c.loop-router.invariant.count;
+      kinds = c.in_ok-kinds-2.ensures.kinds;
       lengths = lengths_kept router (length sorts.firsts.items) c.loop-router.columns c.put_cells.new.columns others
-          (made.count ∙ c.in_ok-spots.ensures.count) c.loop-router.invariant.lengths;
+          (made.count ∙ kinds_are.count) c.loop-router.invariant.lengths;
       each = below_more
           (λ u. (both : BothTables) → slice_get c.args.tables.now u ≡ Some both → IsRow (site g u both)
           classes.samples (map (sort_at sorts.of_places.items) classes.tops) (get_or c.put_cells.new.columns u []))
