@@ -1,4 +1,4 @@
-ghost use Rattle.std.specs.Prelude.{◌≡◌, ◌<◌, [], length, slice_index_or, None, Some, IfOk, IfSome};
+ghost use Rattle.std.specs.Prelude.{◌≡◌, ◌<◌, ◌+◌, ◌*◌, [], length, slice_index_or, None, Some, IfOk, IfSome, OnOk};
 ghost use Rattle.std.specs.Bool.{OnTrue};
 ghost use Rattle.rib_mix.specs.Cells.{cell_at};
 ghost use Rattle.rib_mix.specs.steps.Columns.{HaveLength, IsColumn, with_cell};
@@ -40,7 +40,8 @@ impl Columns {
         let Some(count) = sorts.checked_mul(routers) else {
             return Err(OutOfMemory);
         };
-        let all = vec![in alloc; Cell::nothing(); count]?;
+        let mut all = Vec::with_capacity(alloc, count)?;
+        add_columns(&mut all, &vec![in alloc; Cell::nothing(); routers]?, sorts)?;
         Ok(Columns {
             all,
             routers,
@@ -81,6 +82,16 @@ impl Columns {
         let start = sort as usize * self.routers;
         &self.all[start..start + self.routers]
     }
+}
+
+/// Adds a column of cells so many times.
+fn add_columns(all: &mut Vec<Cell>, column: &[Cell], times: usize) -> Result<(), OutOfMemory>
+    ensures { OnOk result (length all.new.items ≡ length all.old.items + times * length column.now) }
+{
+    for _ in 0..times {
+        all.extend_from_slice(column)?;
+    }
+    Ok(())
 }
 
 /// What a router uses for a class, by the sorts of the classes.

@@ -92,6 +92,7 @@ fn are_in_lane(lane: &[u32], kinds: &[u32]) -> bool
 }
 
 /// The kind of the prefix at a spot.
+#[inline(always)]
 fn kind_at_spot(kinds: &[u32], spot: Number) -> u32
     ensures { result ≡ kind_at_spot kinds.now spot }
 {
@@ -102,6 +103,7 @@ fn kind_at_spot(kinds: &[u32], spot: Number) -> u32
 }
 
 /// The kind at a place, and `NO_KIND` beyond.
+#[inline(always)]
 fn kind_or_none(kinds: &[u32], place: usize) -> u32
     ensures { result ≡ slice_index_or kinds.now place NO_KIND }
 {

@@ -1,4 +1,4 @@
-ghost use Rattle.std.specs.Prelude.{◌≡◌, ◌<◌, IfOk, IfSome, OnOk, length};
+ghost use Rattle.std.specs.Prelude.{◌≡◌, ◌<◌, Contains, IfNone, IfOk, IfSome, OnOk, Some, length, slice_get};
 ghost use Rattle.prefix_atoms.specs.Nested.{AreAscendingPrefixes};
 ghost use Rattle.rib_mix.specs.steps.Spots.{AreSharedSpots, AreSpots, HaveSpots, with_spot};
 
@@ -54,11 +54,34 @@ fn find_spots(
         return Err(OutOfMemory);
     };
     let mut spots = vec![in alloc; Number::none(); prefixes.len()]?;
+    let mut likely = 0;
     for spot in 0..count {
-        let place = place_of_prefix(prefixes, list[spot as usize]);
+        let place = place_near(prefixes, list[spot as usize], likely);
         put_spot(&mut spots, place, spot)?;
+        likely = place_behind(place);
     }
     Ok(spots)
+}
+
+/// Where a prefix stands among ascending ones, where it is likely at a place.
+#[inline(always)]
+fn place_near(prefixes: &[Prefix], prefix: Prefix, likely: usize) -> Option<usize>
+    ensures found { IfSome result (λ i. slice_get prefixes.now i ≡ Some prefix) }
+    ensures missed { AreAscendingPrefixes prefixes.now → IfNone result (¬ Contains prefixes.now prefix) }
+{
+    match prefixes.get(likely) {
+        Some(own) if *own == prefix => Some(likely),
+        _ => place_of_prefix(prefixes, prefix),
+    }
+}
+
+/// The place behind another one, and the first where there is none.
+#[inline(always)]
+fn place_behind(place: Option<usize>) -> usize {
+    match place {
+        Some(place) => place.wrapping_add(1),
+        None => 0,
+    }
 }
 
 /// Puts a spot at a place, if there is one.
