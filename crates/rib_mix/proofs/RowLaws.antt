@@ -1,5 +1,6 @@
 -- What a router has, and what it uses for each class.
-use Rattle.std.proofs.Common.{◌≡◌, ℕ, ◌<◌, List, Option, None, Some, IfSome, length, map, get_or, slice_get, arith, sym, subst, Bool, true, false, [], ◌==◌, if◌then◌else◌}
+use Rattle.std.proofs.Common.{◌≡◌, ℕ, ◌<◌, List, Option, None, Some, IfSome, length, map, get_or, slice_get, arith, sym, subst}
+use Rattle.std.proofs.Common.{Bool, true, false, [], ◌==◌, if◌then◌else◌}
 use Rattle.std.proofs.Common.{◌∙◌}
 use Rattle.std.proofs.lemmas.Option.{none-some, slice_get_within, slice_get-get_or}
 use Rattle.net_addr.specs.Addresses.{Block}
@@ -91,8 +92,8 @@ pub record IsServing (g : Ground) (classes : Classes) (spots : Spots) (homes : L
   pub sorts_are : AreSorts (AreLike (record { spots = spots; homes = homes }) g.tables) classes.parents (length classes.parents) sorts
 
 -- each sort has its parents' sort before it
-pub earlier_parents : (spots : Spots) (sorts : Sorts) (places : ℕ) (olds news : List ℕ) (kinds : List SortKinds) → IsSorting places sorts
-    → AreSortKinds spots sorts olds news (length sorts.firsts.items) kinds → HaveEarlierParents kinds
+pub earlier_parents : (spots : Spots) (sorts : Sorts) (places : ℕ) (olds news : List ℕ) (kinds : List SortKinds)
+    → IsSorting places sorts → AreSortKinds spots sorts olds news (length sorts.firsts.items) kinds → HaveEarlierParents kinds
 earlier_parents spots sorts places olds news kinds sorting are sort one at =
     subst (λ (k : SortKinds). IfSome k.parent (λ up. up < sort)) (sym (are.each sort one at))
     (sorting.parents sort (omega (arith, slice_get_within kinds sort one at, are.count)))
@@ -124,7 +125,8 @@ pub row_of_cells : (g : Ground) (classes : Classes) (spots : Spots) (homes : Lis
     → AreConnectedSorts (length g.net) sorts.firsts.items homes (length sorts.firsts.items) rows → u < length g.net
     → IsOfRouter (get_or rows u []) both ospf own → AreKindCells kinds own (length kinds) cells
     → IsRow (site g u both) classes.samples (map (sort_at sorts.of_places.items) classes.tops) cells
-row_of_cells g classes spots homes sorts u both ospf kinds own rows cells is at network distance kinds_are flagged router own_is made =
+row_of_cells g classes spots homes sorts u both ospf kinds own rows cells is at network distance kinds_are flagged router own_is
+  made =
     row_made (site g u both) classes sorts.of_places.items cells is.classing (is.sorts_are.count ∙ is.classing.nested.count)
     (λ i below. omega (arith, is.sorts_are.sorting.within i below, made.count, kinds_are.count))
     (own_cells classes g.net u spots has sorts.of_places.items cells is.classing network distance among

@@ -1,7 +1,8 @@
 -- Prefixes of one sort: what a router has for one it has for the other, and so the cells of sorts are those of prefixes.
 use Rattle.std.proofs.lemmas.Grind.{common_steps}
 use lib.Dec.{ltb}
-use Rattle.std.proofs.Common.{◌≡◌, ℕ, ◌+◌, ◌<◌, ◌≤◌, ◌++◌, ◌∷◌, ◌==◌, [], IfSome, ⊎_elim, if◌then◌else◌, Bool, true, false, List, Option}
+use Rattle.std.proofs.Common.{◌≡◌, ℕ, ◌+◌, ◌<◌, ◌≤◌, ◌++◌, ◌∷◌, ◌==◌, [], IfSome}
+use Rattle.std.proofs.Common.{⊎_elim, if◌then◌else◌, Bool, true, false, List, Option}
 use Rattle.std.proofs.Common.{Some, None, length, get_or, slice_get}
 use Rattle.std.proofs.Common.{ap, arith, refl, sym, subst, ◌∙◌}
 use Rattle.prefix_atoms.proofs.Pushed.{at_place, count_more}
@@ -76,8 +77,8 @@ counted true numbers kind = refl
 counted false numbers kind = refl
 
 -- the cells that are made by the kinds of the sorts are those of the sorts
-pub sort_cells : (prefixes : List Block) (spots : Spots) (sorts : Sorts) (homes : List (List ℕ)) (routers u : ℕ) (both : BothTables)
-    (ospf : ℕ) (kinds : List SortKinds) (own : OfRouter) (rows : List (List Bool)) (cells : List Cell)
+pub sort_cells : (prefixes : List Block) (spots : Spots) (sorts : Sorts) (homes : List (List ℕ)) (routers u : ℕ)
+    (both : BothTables) (ospf : ℕ) (kinds : List SortKinds) (own : OfRouter) (rows : List (List Bool)) (cells : List Cell)
     → ((sort : ℕ) → sort < length sorts.firsts.items → get_or sorts.firsts.items sort 0 < length prefixes)
     → IsPlaced prefixes (record { spots = spots.olds.items; parts = both.old })
     → IsPlaced prefixes (record { spots = spots.news.items; parts = both.new })
@@ -85,7 +86,8 @@ pub sort_cells : (prefixes : List Block) (spots : Spots) (sorts : Sorts) (homes 
     → AreConnectedSorts routers sorts.firsts.items homes (length sorts.firsts.items) rows → u < routers
     → IsOfRouter (get_or rows u []) both ospf own → AreKindCells kinds own (length kinds) cells
     → AreSortCells (own_of spots homes u both ospf) sorts (length sorts.firsts.items) cells
-sort_cells prefixes spots sorts homes routers u both ospf kinds own rows cells firsts olds news kinds_are flagged router is are = record {
+sort_cells prefixes spots sorts homes routers u both ospf kinds own rows cells firsts olds news kinds_are flagged router is are =
+  record {
   count = are.count ∙ kinds_are.count;
   each = λ sort below.
       let one = at_place kinds sort (omega (arith, below, kinds_are.count)) in
@@ -94,7 +96,8 @@ sort_cells prefixes spots sorts homes routers u both ospf kinds own rows cells f
       let flag : Bool = get_or own.connected.now sort false in
       let these : SortKinds = kinds_of spots sorts both.old.kinds.now both.new.kinds.now sort in
       are.each sort one.0 (omega (arith, below, kinds_are.count)) one.1
-      ∙ ap (λ (k : SortKinds). cell_over (has_of flag own k) own.old_first (cell_at cells k.parent)) (kinds_are.each sort one.0 one.1)
+      ∙ ap (λ (k : SortKinds). cell_over (has_of flag own k) own.old_first (cell_at cells k.parent))
+      (kinds_are.each sort one.0 one.1)
       ∙ ap (λ (b : Bool). cell_over (has_of flag own these) b up) is.first
       ∙ same_over (has_of flag own these) (has_at (own_of spots homes u both ospf) first) (ltb ospf 115) up (record {
         connected = ap (λ (flags : List Bool). get_or flags sort false) is.connected_are ∙ flagged_home sort below;
@@ -122,13 +125,15 @@ pub cells_more : (kinds : List SortKinds) (own : OfRouter) (n : ℕ) (one : Sort
     → new ≡ old ++ next ∷ [] → AreKindCells kinds own n old → AreKindCells kinds own (n + 1) new
 cells_more kinds own n one old new next have at made is are = record {
   count = count_more old new next n are.count is;
-  each = λ sort other below at_other. subst (λ (cells : List Cell). get_or cells sort no_cell ≡ made_of cells sort other) (sym is) (⊎_elim
+  each = λ sort other below at_other.
+      subst (λ (cells : List Cell). get_or cells sort no_cell ≡ made_of cells sort other) (sym is) (⊎_elim
       (λ (l : sort < n).
       get_or_append_left old (next ∷ []) no_cell sort (omega (arith, l, are.count)) ∙ are.each sort other l at_other
       ∙ sym (kept sort other (omega arith) at_other))
       (λ (l : n ≤ sort).
       let same : n ≡ sort = omega arith in
-      let is_one : one ≡ other = same_Some one other (sym at ∙ subst (λ (k : ℕ). slice_get kinds k ≡ Some other) (sym same) at_other) in
+      let is_one : one ≡ other =
+      same_Some one other (sym at ∙ subst (λ (k : ℕ). slice_get kinds k ≡ Some other) (sym same) at_other) in
       subst (λ (k : ℕ). get_or (old ++ next ∷ []) k no_cell ≡ made_of (old ++ next ∷ []) k other) same
       (subst (λ (s : SortKinds). get_or (old ++ next ∷ []) n no_cell ≡ made_of (old ++ next ∷ []) n s) is_one
       (get_or_push old next no_cell n are.count ∙ made ∙ sym (kept n one (omega arith) at))))
@@ -147,4 +152,5 @@ cells_more kinds own n one old new next have at made is are = record {
         → made_of (old ++ next ∷ []) sort other ≡ made_of old sort other
     kept sort other below at_other =
         ap (cell_over (has_of (get_or own.connected.now sort false) own other) own.old_first)
-        (same_cell other.parent (still_before (length old) sort other.parent (omega (arith, below, are.count)) (have sort other at_other)))
+        (same_cell other.parent
+        (still_before (length old) sort other.parent (omega (arith, below, are.count)) (have sort other at_other)))

@@ -1,5 +1,6 @@
 -- Spots of prefixes in a list, as one more of the list is seen, and the numbers that a table has at them.
-use Rattle.std.proofs.Common.{◌^◌, ◌≡◌, ◌≢◌, ℕ, ◌+◌, ◌<◌, ◌≤◌, List, length, get_or, set, Option, Some, None, Contains, IfNone, IfSome, slice_get}
+use Rattle.std.proofs.Common.{◌^◌, ◌≡◌, ◌≢◌, ℕ, ◌+◌, ◌<◌, ◌≤◌, List, length, get_or, set, Option}
+use Rattle.std.proofs.Common.{Some, None, Contains, IfNone, IfSome, slice_get}
 use Rattle.std.proofs.Common.{⊎_elim, arith, refl, sym, ap, subst, ◌∙◌, get_or-set_other, get_or-set_same}
 use Rattle.std.specs.Option.{option_map}
 use Rattle.std.proofs.lemmas.Bool.{cases_eq, cases_lt}
@@ -64,21 +65,25 @@ spot_next prefixes list n p place old new up at found missed is are = subst (Are
         each i q at_q = ⊎_elim (λ same. here i q (sym same) at_q) (λ apart. there i q apart at_q) (cases_eq i j)
 
 -- spots are places in the list
-spot_within : (list : List Block) (n : ℕ) (p : Block) (spot : Option ℕ) → IsSpot list n p spot → IfSome spot (λ k. k < length list)
+spot_within : (list : List Block) (n : ℕ) (p : Block) (spot : Option ℕ) → IsSpot list n p spot
+    → IfSome spot (λ k. k < length list)
 spot_within list n p None none = tt
 spot_within list n p (Some k) stands = slice_get_within list k p stands
 
 -- the number of the kind of the prefix at a spot is that of the spot
 spot_number : (kept : KeptTable) (spot : Option ℕ) → IsTable kept → length kept.numbers < 2 ^ 32
-    → IfSome spot (λ k. k < length kept.prefixes) → get_or kept.numbers (kind_at_spot kept.kinds spot) None ≡ number_at_spot kept spot
+    → IfSome spot (λ k. k < length kept.prefixes)
+    → get_or kept.numbers (kind_at_spot kept.kinds spot) None ≡ number_at_spot kept spot
 spot_number kept None table few within = get_or_past kept.numbers 4294967295 None (omega (arith, few))
 spot_number kept (Some k) table few within =
-    ap (λ (kind : ℕ). get_or kept.numbers kind None) (get_or_default kept.kinds k 4294967295 0 (omega (arith, within, table.kinds)))
+    ap (λ (kind : ℕ). get_or kept.numbers kind None)
+    (get_or_default kept.kinds k 4294967295 0 (omega (arith, within, table.kinds)))
 
 -- the number of the kind of the prefix at a place is that which the table has for it
 pub number_of_kind : (prefixes : List Block) (table : PlacedTable) (place : ℕ) → IsPlaced prefixes table → place < length prefixes
     → length table.parts.numbers.now < 2 ^ 32
-    → get_or table.parts.numbers.now (kind_at_spot table.parts.kinds.now (get_or table.spots place None)) None ≡ number_in table place
+    → get_or table.parts.numbers.now (kind_at_spot table.parts.kinds.now (get_or table.spots place None)) None
+    ≡ number_in table place
 number_of_kind prefixes table place placed within few =
     let p = at_place prefixes place within in
     let spot : Option ℕ = get_or table.spots place None in

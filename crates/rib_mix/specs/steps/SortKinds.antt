@@ -35,7 +35,8 @@ pub record AreSortKinds (spots : Spots) (sorts : Sorts) (olds news : List ℕ) (
 
 -- the same of all sorts in the lanes that are named
 abbrev pub AreLaneKinds : Spots → Sorts → LaneKinds → Type 0
-AreLaneKinds spots sorts lanes = AreSortKinds spots sorts lanes.olds.now lanes.news.now (length sorts.firsts.items) lanes.of_sorts.items
+AreLaneKinds spots sorts lanes =
+    AreSortKinds spots sorts lanes.olds.now lanes.news.now (length sorts.firsts.items) lanes.of_sorts.items
 
 -- these are the lanes of a router's tables
 pub record AreLanesOf (both : BothTables) (lanes : LaneKinds) : Type 0 where

@@ -9,6 +9,6 @@ loop-spot-preserved c =
     let at : slice_get c.args.list.now c.loop-spot.spot ≡ Some c.index-list-spot.result =
     slice_get_read c.args.list.now (length c.args.list.now) c.loop-spot.spot c.index-list-spot.result refl
     (omega (arith, c.loop-spot-test.true)) c.index-list-spot.is in
-    spot_next c.args.prefixes.now c.args.list.now c.loop-spot.spot c.index-list-spot.result c.place_near-place.result c.loop-spot.spots.items
-    c.put_spot.new.spots.items c.requires at c.place_near-place.ensures.found
+    spot_next c.args.prefixes.now c.args.list.now c.loop-spot.spot c.index-list-spot.result c.place_near-place.result
+    c.loop-spot.spots.items c.put_spot.new.spots.items c.requires at c.place_near-place.ensures.found
     (c.place_near-place.ensures.missed c.requires) c.in_ok-put_spot.ensures c.loop-spot.invariant
