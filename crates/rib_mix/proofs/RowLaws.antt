@@ -126,7 +126,7 @@ pub row_of_cells : (g : Ground) (classes : Classes) (spots : Spots) (homes : Lis
     → IsOfRouter (get_or rows u []) both ospf own → AreKindCells kinds own (length kinds) cells
     → IsRow (site g u both) classes.samples (map (sort_at sorts.of_places.items) classes.tops) cells
 row_of_cells g classes spots homes sorts u both ospf kinds own rows cells is at network distance kinds_are flagged router own_is
-  made =
+    made =
     row_made (site g u both) classes sorts.of_places.items cells is.classing (is.sorts_are.count ∙ is.classing.nested.count)
     (λ i below. omega (arith, is.sorts_are.sorting.within i below, made.count, kinds_are.count))
     (own_cells classes g.net u spots has sorts.of_places.items cells is.classing network distance among

@@ -87,28 +87,28 @@ pub sort_cells : (prefixes : List Block) (spots : Spots) (sorts : Sorts) (homes 
     → IsOfRouter (get_or rows u []) both ospf own → AreKindCells kinds own (length kinds) cells
     → AreSortCells (own_of spots homes u both ospf) sorts (length sorts.firsts.items) cells
 sort_cells prefixes spots sorts homes routers u both ospf kinds own rows cells firsts olds news kinds_are flagged router is are =
-  record {
-  count = are.count ∙ kinds_are.count;
-  each = λ sort below.
-      let one = at_place kinds sort (omega (arith, below, kinds_are.count)) in
-      let first : ℕ = get_or sorts.firsts.items sort 0 in
-      let up : Cell = cell_at cells (get_or sorts.parents.items sort None) in
-      let flag : Bool = get_or own.connected.now sort false in
-      let these : SortKinds = kinds_of spots sorts both.old.kinds.now both.new.kinds.now sort in
-      are.each sort one.0 (omega (arith, below, kinds_are.count)) one.1
-      ∙ ap (λ (k : SortKinds). cell_over (has_of flag own k) own.old_first (cell_at cells k.parent))
-      (kinds_are.each sort one.0 one.1)
-      ∙ ap (λ (b : Bool). cell_over (has_of flag own these) b up) is.first
-      ∙ same_over (has_of flag own these) (has_at (own_of spots homes u both ospf) first) (ltb ospf 115) up (record {
-        connected = ap (λ (flags : List Bool). get_or flags sort false) is.connected_are ∙ flagged_home sort below;
-        old = ap (λ (numbers : List (Option ℕ)). get_or numbers these.old None) is.olds_are
-            ∙ counted (ospf == 255) both.old.numbers.now these.old
-            ∙ ap (λ (o : Option ℕ). if ospf == 255 then None else o) (number_of_kind prefixes
-            (record { spots = spots.olds.items; parts = both.old }) first olds (firsts sort below) is.few_olds.kinds);
-        new = ap (λ (numbers : List (Option ℕ)). get_or numbers these.new None) is.news_are ∙ number_of_kind prefixes
-            (record { spots = spots.news.items; parts = both.new }) first news (firsts sort below) is.few_news.kinds;
-      });
-}
+    record {
+      count = are.count ∙ kinds_are.count;
+      each = λ sort below.
+          let one = at_place kinds sort (omega (arith, below, kinds_are.count)) in
+          let first : ℕ = get_or sorts.firsts.items sort 0 in
+          let up : Cell = cell_at cells (get_or sorts.parents.items sort None) in
+          let flag : Bool = get_or own.connected.now sort false in
+          let these : SortKinds = kinds_of spots sorts both.old.kinds.now both.new.kinds.now sort in
+          are.each sort one.0 (omega (arith, below, kinds_are.count)) one.1
+          ∙ ap (λ (k : SortKinds). cell_over (has_of flag own k) own.old_first (cell_at cells k.parent))
+          (kinds_are.each sort one.0 one.1)
+          ∙ ap (λ (b : Bool). cell_over (has_of flag own these) b up) is.first
+          ∙ same_over (has_of flag own these) (has_at (own_of spots homes u both ospf) first) (ltb ospf 115) up (record {
+            connected = ap (λ (flags : List Bool). get_or flags sort false) is.connected_are ∙ flagged_home sort below;
+            old = ap (λ (numbers : List (Option ℕ)). get_or numbers these.old None) is.olds_are
+                ∙ counted (ospf == 255) both.old.numbers.now these.old
+                ∙ ap (λ (o : Option ℕ). if ospf == 255 then None else o) (number_of_kind prefixes
+                (record { spots = spots.olds.items; parts = both.old }) first olds (firsts sort below) is.few_olds.kinds);
+            new = ap (λ (numbers : List (Option ℕ)). get_or numbers these.new None) is.news_are ∙ number_of_kind prefixes
+                (record { spots = spots.news.items; parts = both.new }) first news (firsts sort below) is.few_news.kinds;
+          });
+    }
   where
     flagged_home : (sort : ℕ) → sort < length sorts.firsts.items
         → get_or (get_or rows u []) sort false ≡ is_home homes u (get_or sorts.firsts.items sort 0)
