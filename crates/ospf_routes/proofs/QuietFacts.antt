@@ -11,7 +11,7 @@ use Rattle.ospf_routes.specs.steps.Heard.{IsLeaving, IsQuiet}
 use Rattle.ospf_routes.specs.steps.Offered.{AreOffers}
 use Rattle.ospf_routes.specs.steps.Summarized.{AreSummarized, HasDefault, IsHeard, IsOutgoing, IsPassedOn}
 use Rattle.ospf_routes.specs.declared.area_route.AreaRoute.{AreaRoute}
-use Rattle.ospf_routes.specs.declared.originating.Leaving.{Leaving}
+use Rattle.ospf_routes.specs.declared.area_boundary.Leaving.{Leaving}
 use Rattle.ospf_routes.proofs.SummaryFacts.{heard_in_area, no_backbone_cost}
 
 -- no router announces it into an area that it is in

@@ -1,6 +1,6 @@
 -- Components and active ranges.
 use Rattle.std.proofs.lemmas.Grind.{common_steps}
-use Rattle.std.proofs.Common.{◌≡◌, ℕ, ◌<◌, ◌≤◌, ◌↔◌, ◌⊎◌, inl, inr, ⊎_elim, List, [], ◌∷◌, ◌++◌, length, get_or, Option, Some, None, MatchOption, true}
+use Rattle.std.proofs.Common.{◌-◌, ◌/◌, ◌^◌, ◌≡◌, ℕ, ◌<◌, ◌≤◌, ◌↔◌, ◌⊎◌, inl, inr, ⊎_elim, List, [], ◌∷◌, ◌++◌, length, get_or, Option, Some, None, MatchOption, true}
 use Rattle.std.proofs.Common.{false, refl, sym, ap, subst, ◌∙◌, arith}
 use Rattle.std.specs.List.{Contains, Any, All}
 use Rattle.std.proofs.lemmas.Bool.{cases_eq, cases_lt, false≢true}
@@ -8,21 +8,23 @@ use Rattle.std.proofs.lemmas.Option.{none-some, same_Some}
 use Rattle.std.proofs.lemmas.List.Elements.{Contains-append_cases, Contains-append_left, Contains-append_right, Contains-push}
 use Rattle.std.proofs.lemmas.List.Elements.{Contains-push_cases, Contains-get_or, All-contains}
 use Rattle.std.specs.Option.{IsSome}
-use Rattle.net_addr.specs.Addresses.{Block, Covers, first_bits}
+use Rattle.net_addr.specs.Addresses.{Block, Covers, IsBlock, first_bits}
+use Rattle.std.proofs.lemmas.Nat.{shr-shr}
 use Rattle.net_model.proofs.Adjacency.{HasConfiguration-unique}
 use Rattle.net_model.proofs.Members.{Contains-map}
 use Rattle.net_model.proofs.NetworkFacts.{InArea-within}
 use Rattle.net_model.specs.Configuration.{Configuration}
-use Rattle.net_model.specs.Network.{Network, HasConfiguration}
+use Rattle.net_model.specs.Network.{Network, HasConfiguration, IsBorderRouter}
 use Rattle.net_model.specs.declared.area.Range.{Range}
 use Rattle.igp_theory.specs.Ospf.{IntraAreaCost, HasRange, IsComponent, IsActive, IsActiveRange, IsCompatible, RangeCost, stated, least, greatest}
 use Rattle.ospf_routes.specs.steps.Candidates.{IsOspfCandidate, subnet}
 use Rattle.ospf_routes.specs.steps.Destinations.{ospf_prefixes}
 use Rattle.ospf_routes.specs.Lists.{Exactly, Adds}
-use Rattle.ospf_routes.specs.steps.Ranges.{IsLonger, HasComponentCost, IsComponentOfSome, IsCoveredAt, IsPicked, IsActiveAt}
+use Rattle.ospf_routes.specs.steps.Ranges.{IsLonger, IsOuterRange, HasComponentCost, IsComponentOfSome, IsCoveredAt, IsPicked, IsActiveAt}
 use Rattle.ospf_routes.specs.steps.Ranges.{HasActive, AreActiveRanges, AreRangesAround, AreRangesBelow, HoldRanges}
 use Rattle.ospf_routes.specs.declared.intra_area.Destination.{Destination}
 use Rattle.ospf_routes.specs.declared.ranges.ActiveRange.{ActiveRange}
+use Rattle.ospf_routes.specs.declared.ranges.OuterRange.{OuterRange}
 use Rattle.net_addr.proofs.SomeElement.{any_of, any_in}
 use Rattle.route_tables.proofs.ListFacts.{exactly_same, the_one}
 
@@ -35,17 +37,47 @@ range_among net b config given r router are has =
     subst (λ (l : List Range). Contains l r) (sym are)
     (subst (λ (c : Configuration). Contains c.ranges r) (HasConfiguration-unique net b has.config config has.router router) has.among)
 
+-- a range of the router, with those that are found below it among all, which are sorted
+pub outer_is : (net : Network) (b : ℕ) (config : Configuration) (given sorted : List Range) (outer : OuterRange) → HasConfiguration net b config →
+    IsBorderRouter net b → given ≡ config.ranges → ((r : Range) → Contains sorted r ↔ Contains given r) → Contains given outer.range.now →
+    ((r : Range) → Contains outer.inner.now r → Contains sorted r) →
+    ((r : Range) → Contains sorted r → Covers outer.range.now.dest r.dest → Contains outer.inner.now r) → IsOuterRange net b outer
+outer_is net b config given sorted outer router border are kept own among every = record {
+  has = of outer.range.now own;
+  among = λ r has. of r ((kept r).0 (among r has));
+  every = λ r has covers. every r ((kept r).1 (range_among net b config given r router are has)) covers;
+}
+  where
+    of : (r : Range) → Contains given r → HasRange net b r
+    of r has = record { border = border; config = config; router = router; among = subst (λ (l : List Range). Contains l r) are has }
+
+first_bits_shorter : (short long a : ℕ) → short ≤ long → long ≤ 32 → first_bits short a ≡ first_bits long a / 2 ^ (long - short)
+first_bits_shorter short long a below fits = grind (arith, common_steps, shr-shr)
+
+-- of two blocks that cover a block, the shorter covers the longer
+inner_covers : (r s p : Block) → p.len ≤ 32 → Covers r p → Covers s p → r.len ≤ s.len → Covers r s
+inner_covers r s p fits over also longer =
+    let short : s.len ≤ 32 = omega (arith, also.longer) in
+    record {
+      longer = longer;
+      inside =
+          first_bits_shorter r.len s.len s.base longer short
+          ∙ ap (λ (m : ℕ). m / 2 ^ (s.len - r.len)) (sym also.inside)
+          ∙ sym (first_bits_shorter r.len s.len p.base longer short)
+          ∙ over.inside;
+    }
+
 -- what the range covers is a component, unless a longer range does
-pub component_at : (net : Network) (b : ℕ) (config : Configuration) (given : List Range) (r : Range) (p : Block) → HasRange net b r →
-    HasConfiguration net b config → given ≡ config.ranges → (Any (IsLonger r p) given → ⊥) →
-    (cost : ℕ) → IsCoveredAt net b r p cost ↔ IsComponent net b r p cost
-component_at net b config given r p has router are none cost = (
+pub component_at : (net : Network) (b : ℕ) (outer : OuterRange) (p : Block) → IsOuterRange net b outer → IsBlock p →
+    (Any (IsLonger outer.range.now p) outer.inner.now → ⊥) → (cost : ℕ) → IsCoveredAt net b outer.range.now p cost ↔ IsComponent net b outer.range.now p cost
+component_at net b outer p are block none cost = (
   λ is. record {
-    range = has;
+    range = are.has;
     covered = is.covered;
     reached = is.reached;
-    longest = λ other also area over. elim (cases_lt r.dest.len other.dest.len) [
-      | inl longer ↦ absurd (none (any_of (IsLonger r p) given other (range_among net b config given other router are also)
+    longest = λ other also area over. elim (cases_lt outer.range.now.dest.len other.dest.len) [
+      | inl longer ↦ absurd (none (any_of (IsLonger outer.range.now p) outer.inner.now other
+          (are.every other also (inner_covers outer.range.now.dest other.dest p block.short is.covered over (omega arith)))
           (record { area = area; covers = over; longer = longer })))
       | inr short ↦ omega arith
     ];
@@ -54,17 +86,11 @@ component_at net b config given r p has router are none cost = (
 )
 
 -- where a longer range covers it, it is none
-pub no_component : (net : Network) (b : ℕ) (config : Configuration) (given : List Range) (r : Range) (p : Block) →
-    HasConfiguration net b config → given ≡ config.ranges → Any (IsLonger r p) given → (cost : ℕ) → IsComponent net b r p cost → ⊥
-no_component net b config given r p router are any cost component =
-    let f = any_in (IsLonger r p) given any in
-    let has : HasRange net b f.item = record {
-      border = component.range.border;
-      config = config;
-      router = router;
-      among = subst (λ (l : List Range). Contains l f.item) are f.among;
-    } in
-    let short = component.longest f.item has f.holds.area f.holds.covers in
+pub no_component : (net : Network) (b : ℕ) (outer : OuterRange) (p : Block) → IsOuterRange net b outer →
+    Any (IsLonger outer.range.now p) outer.inner.now → (cost : ℕ) → IsComponent net b outer.range.now p cost → ⊥
+no_component net b outer p are any cost component =
+    let f = any_in (IsLonger outer.range.now p) outer.inner.now any in
+    let short = component.longest f.item (are.among f.item f.among) f.holds.area f.holds.covers in
     let longer = f.holds.longer in
     omega arith
 

@@ -14,6 +14,7 @@ use crate::ranges::{ActiveRange, ActiveRanges, RangePrefixes, is_component};
 use net_addr::Prefix;
 use route_tables::push_option;
 use std::alloc::Global;
+use walk_core::Offer;
 
 /// The border routers of a network, and the active ranges of all its routers.
 #[derive(Clone, Copy)]
@@ -26,6 +27,19 @@ pub(crate) struct Boundary<'a> {
     pub ranges: &'a [ActiveRanges],
     /// The prefixes of all active ranges.
     pub ranged: &'a RangePrefixes,
+}
+
+/// A prefix, what is summarized of it out of areas, and what of it is announced into the backbone.
+#[derive(Clone, Copy)]
+pub(crate) struct Leaving<'a> {
+    /// The prefix.
+    pub destination: &'a Destination,
+    /// What is summarized of it.
+    pub routes: &'a [AreaRoute],
+    /// What is announced of it into the backbone.
+    pub backbone: &'a [Offer],
+    /// Whether it may be an active range.
+    pub is_ranged: bool,
 }
 
 /// The subnets and ranges that border routers summarize of a prefix, each as a route of its own area.
@@ -102,10 +116,10 @@ fn subnet_summary(
     requires part { Contains destination.now.parts.items part.now }
     ensures { (r : Route) → (result ≡ Some r) ↔ ((r.at ≡ b) × IsAreaSubnet domain.now.net destination.now.dest part.now.area r) }
 {
-    let asks = part_cost(domain, part, b)?;
     if is_component(domain, actives, destination, b) {
         return None;
     }
+    let asks = part_cost(domain, part, b)?;
     Some(AreaRoute {
         area: part.area,
         at: b,

@@ -35,7 +35,7 @@ pub(crate) fn sort_by_base<T: HasPrefix>(all: &mut Vec<T>)
 }
 
 /// Of a list in the order of the addresses that its prefixes begin with those where this is at least `low` and at most `high`.
-/// It takes time of the logarithm of the list.
+/// It takes time of the logarithm of the list, and of what it finds.
 pub(crate) fn between<T: HasPrefix>(all: &[T], low: u32, high: u32) -> &[T]
     requires { IsNonDecreasingBy (λ (x : T). (T.prefix x).base) all.now }
     ensures among { (x : T) → Contains result.now x → Contains all.now x }
@@ -47,7 +47,7 @@ pub(crate) fn between<T: HasPrefix>(all: &[T], low: u32, high: u32) -> &[T]
 }
 
 /// Of such a list those that a prefix covers, and others that begin with one of its addresses. It takes time of the logarithm
-/// of the list.
+/// of the list, and of what it finds.
 pub(crate) fn under<T: HasPrefix>(all: &[T], over: Prefix) -> &[T]
     requires { IsNonDecreasingBy (λ (x : T). (T.prefix x).base) all.now }
     ensures among { (x : T) → Contains result.now x → Contains all.now x }
@@ -65,11 +65,16 @@ fn count_below<T: HasPrefix>(all: &[T], base: u32) -> usize
     all.partition_point(|x| x.prefix().base() < base)
 }
 
-/// How many of these, which are in order, begin at this address or below it.
+/// How many of these, which are in order, begin at this address or below it. It takes time of their number.
 fn count_up_to<T: HasPrefix>(all: &[T], base: u32) -> usize
     requires { IsNonDecreasingBy (λ (x : T). (T.prefix x).base) all.now }
     ensures within { result ≤ length all.now }
     ensures above { (k : ℕ) (d : T) → result ≤ k → k < length all.now → base < (T.prefix (slice_index_or all.now k d)).base }
 {
-    all.partition_point(|x| x.prefix().base() <= base)
+    for count in 0..all.len() {
+        if base < all[count].prefix().base() {
+            return count;
+        }
+    }
+    all.len()
 }

@@ -12,7 +12,7 @@ ghost use Rattle.ospf_routes.specs.steps.OfferLists.{IsPlaceIn};
 ghost use Rattle.ospf_routes.specs.steps.Summarized.{Announces, IsHeard, IsOutgoing};
 
 use crate::OutOfMemory;
-use crate::area_boundary::{Boundary, summarized};
+use crate::area_boundary::{Boundary, Leaving, summarized};
 use crate::area_route::{AreaRoute, offers_outside, outside_offer};
 use crate::areas::AreaWalks;
 use crate::backbone_routes::push_reached;
@@ -27,14 +27,6 @@ use net_addr::Prefix;
 use route_tables::{is_all_addresses, push_option};
 use std::alloc::Global;
 use walk_core::Offer;
-
-/// A prefix, what is summarized of it out of areas, and what of it is announced into the backbone.
-#[derive(Clone, Copy)]
-struct Leaving<'a> {
-    destination: &'a Destination,
-    routes: &'a [AreaRoute],
-    backbone: &'a [Offer],
-}
 
 /// What border routers announce of each prefix into each of their areas: the subnets and the ranges of other areas, and into
 /// areas other than the backbone what they reach over the backbone, and the defaults of stub areas.
@@ -93,6 +85,7 @@ fn keep_summaries(
         destination,
         routes: routes.as_slice(),
         backbone: backbone.as_slice(),
+        is_ranged: boundary.ranged.has(destination.dest),
     };
     keep_into_areas(summaries, offers, boundary, leaving)
 }
@@ -177,13 +170,7 @@ fn put_summaries(
     if is_backbone {
         return Ok(());
     }
-    push_reached(
-        offers,
-        boundary,
-        area,
-        leaving.destination,
-        leaving.backbone,
-    )?;
+    push_reached(offers, boundary, area, leaving)?;
     push_defaults(offers, boundary.domain, area, leaving.destination.dest)
 }
 

@@ -1,11 +1,14 @@
 ghost use Rattle.std.specs.Prelude.{◌≡◌, ◌<◌, ◌↔◌, ℕ, length, Some, All, Any, Contains, IfOk, IsTrue, OnOk, MatchOption};
 ghost use Rattle.net_model.specs.Network.{IsBorderRouter, Network};
-ghost use Rattle.igp_theory.specs.Ospf.{HasRange, IsActive, IsComponent};
+ghost use Rattle.igp_theory.specs.Ospf.{IsActive, IsComponent};
 ghost use Rattle.ospf_routes.specs.steps.Destinations.{AreOspfDestinations, IsDestinationIn};
 ghost use Rattle.ospf_routes.specs.Lists.{Adds, Exactly};
 ghost use Rattle.ospf_routes.specs.steps.Ranges.{AreActiveRanges, AreRangesAround, AreRangesBelow, HasComponentCost, IsActiveAt};
 ghost use Rattle.ospf_routes.specs.steps.Ranges.{IsComponentOfSome, IsCoveredAt, IsGreatestOf, IsLeastOf};
-ghost use Rattle.ospf_routes.specs.steps.Ranges.{HoldRanges, IsLonger, IsPicked};
+ghost use Rattle.ospf_routes.specs.steps.Ranges.{HoldRanges, IsLonger, IsOuterRange, IsPicked};
+ghost use Rattle.std.specs.List.Sorted.{IsNonDecreasingBy};
+ghost use Rattle.net_addr.specs.Addresses.{IsBlock};
+ghost use Rattle.net_model.specs.declared.area.Range.{Range as RangeValue};
 
 use crate::OutOfMemory;
 use crate::domain::Domain;
@@ -24,6 +27,23 @@ pub(crate) struct ActiveRange {
     pub range: Range,
     /// What it costs.
     pub cost: u64,
+}
+
+/// A range of a router, and some of its ranges, among which are all that it covers.
+#[derive(Clone, Copy)]
+struct OuterRange<'a> {
+    range: &'a Range,
+    inner: &'a [Range],
+}
+
+impl HasPrefix for Range {
+    ghost prefix = { λ x. x.dest };
+
+    fn prefix(&self) -> Prefix
+        ensures { result ≡ self.now.dest }
+    {
+        self.dest
+    }
 }
 
 impl HasPrefix for ActiveRange {
@@ -204,15 +224,30 @@ fn border_ranges(
     ensures { IfOk result (AreActiveRanges domain.now.net b) }
 {
     let ranges = domain.config(b).ranges.as_slice();
+    let sorted = sorted_ranges(alloc, ranges)?;
     let mut all = Vec::new(alloc);
     for range in ranges {
+        let outer = OuterRange {
+            range,
+            inner: under(sorted.as_slice(), range.dest),
+        };
         push_option(
             &mut all,
-            active_range(alloc, domain, destinations, b, range)?,
+            active_range(alloc, domain, destinations, b, outer)?,
         )?;
     }
     sort_by_base(&mut all);
     Ok(ActiveRanges { all })
+}
+
+/// Ranges in the order of the addresses that they begin with.
+fn sorted_ranges(alloc: Global, ranges: &[Range]) -> Result<Vec<Range>, OutOfMemory>
+    ensures kept { IfOk result (λ sorted. (r : RangeValue) → Contains sorted.items r ↔ Contains ranges.now r) }
+    ensures sorted { IfOk result (λ sorted. IsNonDecreasingBy (λ r. r.dest.base) sorted.items) }
+{
+    let mut sorted = Vec::from_slice(alloc, ranges)?;
+    sort_by_base(&mut sorted);
+    Ok(sorted)
 }
 
 /// The range with its cost, where it is active.
@@ -221,17 +256,18 @@ fn active_range(
     domain: &Domain<'_>,
     destinations: &[Destination],
     b: u32,
-    range: &Range,
+    outer: OuterRange<'_>,
 ) -> Result<Option<ActiveRange>, OutOfMemory>
     requires router { b < length domain.now.net }
-    requires has { HasRange domain.now.net b range.now }
+    requires outer { IsOuterRange domain.now.net b outer }
     requires destinations { AreOspfDestinations domain.now destinations.now }
-    ensures { IfOk result (λ found. MatchOption found (IsActive domain.now.net b range.now → ⊥) (IsActiveAt domain.now.net b range.now)) }
+    ensures { IfOk result (λ found. MatchOption found
+        (IsActive domain.now.net b outer.entry.range.now → ⊥) (IsActiveAt domain.now.net b outer.entry.range.now)) }
 {
-    let costs = component_costs(alloc, domain, destinations, b, range)?;
-    match picked(*range, domain.config(b).rfc1583, costs.as_slice()) {
+    let costs = component_costs(alloc, domain, destinations, b, outer)?;
+    match picked(*outer.range, domain.config(b).rfc1583, costs.as_slice()) {
         Some(cost) => Ok(Some(ActiveRange {
-            range: *range,
+            range: *outer.range,
             cost,
         })),
         None => Ok(None),
@@ -278,14 +314,15 @@ fn component_costs(
     domain: &Domain<'_>,
     destinations: &[Destination],
     b: u32,
-    range: &Range,
+    outer: OuterRange<'_>,
 ) -> Result<Vec<u64>, OutOfMemory>
     requires router { b < length domain.now.net }
-    requires has { HasRange domain.now.net b range.now }
+    requires outer { IsOuterRange domain.now.net b outer }
     requires destinations { AreOspfDestinations domain.now destinations.now }
-    ensures { IfOk result (λ costs. Exactly (HasComponentCost domain.now.net b range.now) costs.items) }
+    ensures { IfOk result (λ costs. Exactly (HasComponentCost domain.now.net b outer.entry.range.now) costs.items) }
 {
-    costs_among(alloc, domain, under(destinations, range.dest), b, range)
+    let near = under(destinations, outer.range.dest);
+    costs_among(alloc, domain, near, b, outer)
 }
 
 /// What those of some destinations cost that are components of the range.
@@ -294,16 +331,16 @@ fn costs_among(
     domain: &Domain<'_>,
     near: &[Destination],
     b: u32,
-    range: &Range,
+    outer: OuterRange<'_>,
 ) -> Result<Vec<u64>, OutOfMemory>
     requires router { b < length domain.now.net }
-    requires has { HasRange domain.now.net b range.now }
+    requires outer { IsOuterRange domain.now.net b outer }
     requires near { All (IsDestinationIn domain.now) near.now }
-    ensures { IfOk result (λ costs. Exactly (λ c. Any (λ d. IsComponent domain.now.net b range.now d.dest c) near.now) costs.items) }
+    ensures { IfOk result (λ costs. Exactly (λ c. Any (λ d. IsComponent domain.now.net b outer.entry.range.now d.dest c) near.now) costs.items) }
 {
     let mut costs = Vec::new(alloc);
     for destination in near {
-        let cost = component_cost(domain, destination, b, range);
+        let cost = component_cost(domain, destination, b, outer);
         push_option(&mut costs, cost)?;
     }
     Ok(costs)
@@ -314,16 +351,15 @@ fn component_cost(
     domain: &Domain<'_>,
     destination: &Destination,
     b: u32,
-    range: &Range,
+    outer: OuterRange<'_>,
 ) -> Option<u64>
     requires router { b < length domain.now.net }
-    requires has { HasRange domain.now.net b range.now }
+    requires outer { IsOuterRange domain.now.net b outer }
     requires destination { IsDestinationIn domain.now destination.now }
-    ensures { (cost : ℕ) → (result ≡ Some cost) ↔ IsComponent domain.now.net b range.now destination.now.dest cost }
+    ensures { (cost : ℕ) → (result ≡ Some cost) ↔ IsComponent domain.now.net b outer.entry.range.now destination.now.dest cost }
 {
-    let cost = covered_cost(domain, destination, b, *range)?;
-    let ranges = domain.config(b).ranges.as_slice();
-    if has_longer(ranges, *range, destination.dest) {
+    let cost = covered_cost(domain, destination, b, *outer.range)?;
+    if has_longer(outer, destination.dest) {
         return None;
     }
     Some(cost)
@@ -342,11 +378,16 @@ fn covered_cost(domain: &Domain<'_>, destination: &Destination, b: u32, range: R
     part_cost(domain, part, b)
 }
 
-/// Whether a longer one of these ranges, of the same area, covers the prefix.
-fn has_longer(ranges: &[Range], range: Range, dest: Prefix) -> bool
-    ensures { IsTrue result ↔ Any (IsLonger range dest) ranges.now }
+/// Whether a longer one of the ranges that a range covers, of the same area, covers the prefix.
+fn has_longer(outer: OuterRange<'_>, dest: Prefix) -> bool
+    ensures has { IsTrue result ↔ Any (IsLonger outer.entry.range.now dest) outer.entry.inner.now }
+    ensures block { IsBlock dest }
 {
-    ranges.iter().any(|other| is_longer(*other, range, dest))
+    outer.range.dest.len() < dest.len()
+        && outer
+            .inner
+            .iter()
+            .any(|other| is_longer(*other, *outer.range, dest))
 }
 
 /// Whether the other range is longer, of the same area, and covers the prefix.

@@ -1,9 +1,9 @@
 -- What is announced of each prefix into each area.
-use Rattle.std.specs.Prelude.{◌≡◌, ◌≢◌, ◌<◌, ◌*◌, ◌++◌, ℕ, List, [], length, slice_index_or}
+use Rattle.std.specs.Prelude.{◌≡◌, ◌≢◌, ◌<◌, ◌*◌, ◌++◌, ℕ, List, [], length, slice_index_or, IsTrue}
 use Rattle.net_addr.specs.Addresses.{Block, default_prefix}
 use Rattle.route_tables.specs.Prefixes.{prefix_at}
 use Rattle.walk_core.specs.declared.offers.Offer.{Offer}
-use Rattle.igp_theory.specs.Ospf.{BackboneSummary}
+use Rattle.igp_theory.specs.Ospf.{BackboneSummary, IsActiveRange}
 use Rattle.ospf_routes.specs.steps.Areas.{IsAreaAt}
 use Rattle.ospf_routes.specs.steps.Destinations.{IsDestinationIn, ospf_prefixes}
 use Rattle.ospf_routes.specs.steps.Domain.{OspfDomain}
@@ -11,7 +11,7 @@ use Rattle.ospf_routes.specs.steps.Offered.{AreOffers}
 use Rattle.ospf_routes.specs.steps.OfferLists.{HeardLists, heard_into}
 use Rattle.ospf_routes.specs.steps.Summarized.{AreSummarized, IsHeard}
 use Rattle.ospf_routes.specs.declared.intra_area.Destination.{Destination}
-use Rattle.ospf_routes.specs.declared.originating.Leaving.{Leaving}
+use Rattle.ospf_routes.specs.declared.area_boundary.Leaving.{Leaving}
 
 -- the offers are what is announced of p into the area at this place
 abbrev pub AreHeardAt : OspfDomain → Block → ℕ → List Offer → Type 0
@@ -43,11 +43,13 @@ pub record AreHeardBelow (domain : OspfDomain) (dests : List Block) (k : ℕ) (h
 abbrev pub AreSummaries : OspfDomain → List Destination → HeardLists → Type 0
 AreSummaries domain ds = AreHeardBelow domain (ospf_prefixes ds) (length ds)
 
--- the routes are what border routers summarize of the prefix, and the offers what of it is announced into the backbone
+-- the routes are what border routers summarize of the prefix, and the offers what of it is announced into the backbone; and it is
+-- told where it is an active range
 pub record IsLeaving (domain : OspfDomain) (leaving : Leaving) : Type 0 where
   pub destination : IsDestinationIn domain leaving.destination.now
   pub routes : AreSummarized domain.net leaving.destination.now.dest leaving.routes.now
   pub backbone : AreOffers (BackboneSummary domain.net leaving.destination.now.dest) leaving.backbone.now
+  pub ranged : (u : ℕ) → IsActiveRange domain.net leaving.destination.now.dest u → IsTrue leaving.is_ranged
 
 -- there are none of either, and the prefix isn't that of all addresses
 pub record IsQuiet (leaving : Leaving) : Type 0 where

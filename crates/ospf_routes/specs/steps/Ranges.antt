@@ -3,16 +3,23 @@ use Rattle.std.specs.Prelude.{◌≡◌, ◌<◌, ◌≤◌, ℕ, Bool, true, fa
 use Rattle.net_addr.specs.Addresses.{Block, Covers}
 use Rattle.net_model.specs.Network.{Network}
 use Rattle.net_model.specs.declared.area.Range.{Range}
-use Rattle.igp_theory.specs.Ospf.{IntraAreaCost, IsComponent, IsActive, IsActiveRange, RangeCost}
+use Rattle.igp_theory.specs.Ospf.{IntraAreaCost, HasRange, IsComponent, IsActive, IsActiveRange, RangeCost}
 use Rattle.ospf_routes.specs.steps.Places.{AreEach}
 use Rattle.ospf_routes.specs.Lists.{Exactly}
 use Rattle.ospf_routes.specs.declared.ranges.ActiveRange.{ActiveRange}
+use Rattle.ospf_routes.specs.declared.ranges.OuterRange.{OuterRange}
 
 -- the other range is longer, of the same area, and covers p
 pub record IsLonger (r : Range) (p : Block) (other : Range) : Type 0 where
   pub area : other.area ≡ r.area
   pub covers : Covers other.dest p
   pub longer : r.dest.len < other.dest.len
+
+-- it is a range of router b, and the inner ones are some of those, among them all that it covers
+pub record IsOuterRange (net : Network) (b : ℕ) (outer : OuterRange) : Type 0 where
+  pub has : HasRange net b outer.range.now
+  pub among : (r : Range) → Contains outer.inner.now r → HasRange net b r
+  pub every : (r : Range) → HasRange net b r → Covers outer.range.now.dest r.dest → Contains outer.inner.now r
 
 -- the range covers p, which has this intra-area cost at b in the range's area
 pub record IsCoveredAt (net : Network) (b : ℕ) (r : Range) (p : Block) (cost : ℕ) : Type 0 where

@@ -8,5 +8,5 @@ use Rattle.ospf_routes.proofs.backbone_routes.push_reached.Given as goal
 abbrev pub invariant-loop-b : goal.invariant-loop-b
 invariant-loop-b l =
     Adds l.initial.offers.items l.offers.items
-    (λ (o : Offer). Any (λ (b : ℕ). (o.at ≡ b) × IsPassedOn l.boundary.domain.now.net l.area.number l.destination.dest o)
+    (λ (o : Offer). Any (λ (b : ℕ). (o.at ≡ b) × IsPassedOn l.boundary.domain.now.net l.area.number l.leaving.destination.now.dest o)
     (take l.b-index l.b-items))

@@ -20,7 +20,7 @@ border_cost-requires-clause-ranges c =
 pub returns : goal.returns
 returns c o =
     let net = c.args.boundary.domain.now.net in
-    let p = c.args.destination.now.dest in
+    let p = c.args.leaving.destination.now.dest in
     let one : Offer = record { at = c.args.b; asks = c.in_ok-asks.asks } in (
       λ same. subst (λ (x : Offer). (x.at ≡ c.args.b) × IsPassedOn net c.args.area p x) (same_Some one o same) (
         refl,

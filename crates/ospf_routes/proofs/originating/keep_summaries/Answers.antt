@@ -13,4 +13,5 @@ keep_into_areas-requires-clause-leaving c =
       backbone = backbone_are net p c.in_ok-routes.routes.items c.as_slice.result.now c.in_ok-backbone.backbone.items
           c.as_slice-3.result.now c.in_ok-routes.ensures c.as_slice.ensures.value c.in_ok-backbone.ensures
           c.as_slice-3.ensures.value;
+      ranged = λ u is. c.has.ensures.1 (c.requires.ranged p u is);
     }

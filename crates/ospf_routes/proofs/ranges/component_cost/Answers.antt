@@ -1,7 +1,6 @@
-use Rattle.std.proofs.Common.{◌≡◌, ◌∙◌, ◌↔◌, ℕ, Option, Some, ap, refl, subst, sym}
+use Rattle.std.proofs.Common.{◌≡◌, ◌↔◌, ℕ, Option, Some, refl, subst, sym}
 use Rattle.std.proofs.lemmas.Bool.{false≢true}
 use Rattle.std.proofs.lemmas.Option.{none-some}
-use Rattle.net_model.specs.Configuration.{Configuration}
 use Rattle.igp_theory.specs.Ospf.{IsComponent}
 use Rattle.ospf_routes.proofs.RangeFacts.{component_at, no_component}
 use Rattle.ospf_routes.proofs.ranges.component_cost.Goals as goal
@@ -9,7 +8,7 @@ use Rattle.ospf_routes.proofs.ranges.component_cost.Goals as goal
 pub returns-in_err-cost : goal.returns-in_err-cost
 returns-in_err-cost c =
     subst (λ (found : Option ℕ). (cost : ℕ) → (found ≡ Some cost) ↔
-    IsComponent c.args.domain.now.net c.args.b c.args.range.now c.args.destination.now.dest cost)
+    IsComponent c.args.domain.now.net c.args.b c.args.outer.range.now c.args.destination.now.dest cost)
     (sym c.from_residual.ensures)
     (λ cost. (
       λ no. absurd (none-some cost no),
@@ -19,20 +18,15 @@ returns-in_err-cost c =
 pub returns-then-has_longer : goal.returns-then-has_longer
 returns-then-has_longer c cost = (
   λ no. absurd (none-some cost no),
-  λ is. absurd (no_component c.args.domain.now.net c.args.b c.config.result.now c.as_slice-ranges.result.now c.args.range.now
-      c.args.destination.now.dest c.config.ensures.router (c.as_slice-ranges.ensures ∙ ap (λ (d : Configuration). d.ranges) c.behind-domain.view_is)
-      (c.if-has_longer.ensures.0 refl) cost is),
+  λ is. absurd (no_component c.args.domain.now.net c.args.b c.args.outer c.args.destination.now.dest c.requires.outer
+      (c.if-has_longer.ensures.has.0 refl) cost is),
 )
 
 pub returns : goal.returns
 returns c cost =
-    let net = c.args.domain.now.net in
-    let p = c.args.destination.now.dest in
-    let r = c.args.range.now in
-    let same = component_at net c.args.b c.config.result.now c.as_slice-ranges.result.now r p c.requires.has c.config.ensures.router
-    (c.as_slice-ranges.ensures ∙ ap (λ (d : Configuration). d.ranges) c.behind-domain.view_is)
-    (λ any. false≢true (c.if-has_longer.ensures.1 any)) in
-    let own = c.in_ok-cost.ensures in (
-      λ is. (same cost).0 ((own cost).0 is),
-      λ is. (own cost).1 ((same cost).1 is),
+    let same = component_at c.args.domain.now.net c.args.b c.args.outer c.args.destination.now.dest c.requires.outer c.if-has_longer.ensures.block
+    (λ any. false≢true (c.if-has_longer.ensures.has.1 any)) cost in
+    let own = c.in_ok-cost.ensures cost in (
+      λ is. same.0 (own.0 is),
+      λ is. own.1 (same.1 is),
     )

@@ -13,7 +13,7 @@ component_cost-cost-requires-clause-destination c =
 
 pub loop-destination-preserved : goal.loop-destination-preserved
 loop-destination-preserved c =
-    adds_step (λ (n : ℕ) (d : Destination). IsComponent c.args.domain.now.net c.args.b c.args.range.now d.dest n)
+    adds_step (λ (n : ℕ) (d : Destination). IsComponent c.args.domain.now.net c.args.b c.args.outer.range.now d.dest n)
     c.new-costs.result.items c.loop-destination.costs.items c.push_option.new.all.items c.args.near.now c.loop-destination.destination-index
     c.destination-item.result c.component_cost-cost.result c.loop-destination-test.true c.destination-item.is c.loop-destination.invariant
     c.in_ok-push_option.ensures.ok c.component_cost-cost.ensures
@@ -21,8 +21,8 @@ loop-destination-preserved c =
 pub returns : goal.returns
 returns c =
     exactly_added c.new-costs.result.items c.loop-destination.costs.items
-    (λ (n : ℕ). Any (λ (d : Destination). IsComponent c.args.domain.now.net c.args.b c.args.range.now d.dest n) c.args.near.now)
+    (λ (n : ℕ). Any (λ (d : Destination). IsComponent c.args.domain.now.net c.args.b c.args.outer.range.now d.dest n) c.args.near.now)
     c.new-costs.ensures.items
-    (adds_end (λ (n : ℕ) (d : Destination). IsComponent c.args.domain.now.net c.args.b c.args.range.now d.dest n)
+    (adds_end (λ (n : ℕ) (d : Destination). IsComponent c.args.domain.now.net c.args.b c.args.outer.range.now d.dest n)
     c.new-costs.result.items c.loop-destination.costs.items c.args.near.now c.loop-destination.destination-index c.loop-destination-test.false
     c.loop-destination.invariant)

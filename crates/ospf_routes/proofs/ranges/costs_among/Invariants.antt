@@ -7,4 +7,4 @@ use Rattle.ospf_routes.proofs.ranges.costs_among.Given as goal
 
 abbrev pub invariant-loop-destination : goal.invariant-loop-destination
 invariant-loop-destination l = Adds l.initial.costs.items l.costs.items
-    (λ (c : ℕ). Any (λ (d : Destination). IsComponent l.domain.net l.b l.range d.dest c) (take l.destination-index l.near))
+    (λ (c : ℕ). Any (λ (d : Destination). IsComponent l.domain.net l.b l.outer.range.now d.dest c) (take l.destination-index l.near))
