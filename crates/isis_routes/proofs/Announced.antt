@@ -1,12 +1,12 @@
 -- What routers announce into level 2.
 use Rattle.std.proofs.Common.{arith}
 use Rattle.std.proofs.lemmas.Grind.{common_steps}
-use Rattle.std.proofs.Common.{◌≡◌, ℕ, ◌<◌, ◌↔◌, ◌⊎◌, ⊎_elim, List, length, get_or, Option, Some, subst}
+use Rattle.std.proofs.Common.{◌≡◌, ℕ, ◌<◌, ◌↔◌, ◌⊎◌, ⊎_elim, List, length, get_or, Option, Some, subst, refl}
 use Rattle.std.specs.List.{Contains}
 use Rattle.std.proofs.lemmas.List.Elements.{Contains-get_or}
 use Rattle.net_addr.specs.Addresses.{Block}
 use Rattle.net_model.proofs.NetworkFacts.{HasConfiguration-within}
-use Rattle.net_model.specs.Network.{Network, Connected}
+use Rattle.net_model.specs.Network.{Network, Adjacent, Connected}
 use Rattle.walk_core.specs.Offers.{Offers}
 use Rattle.walk_core.specs.declared.offers.Offer.{Offer}
 use Rattle.igp_theory.specs.Ospf.{OfOthers}
@@ -14,11 +14,18 @@ use Rattle.igp_theory.specs.Isis.{LevelOneCost, HasLevelOneRoute, LevelTwoAnnoun
 use Rattle.route_tables.specs.Lists.{Adds, Exactly}
 use Rattle.isis_routes.specs.steps.Offered.{AddsOffers, HoldsOffers, IsOfferOf, LevelOneAnnouncement, OwnAnnouncement}
 use Rattle.isis_routes.specs.steps.Routing.{RunsBothLevels}
+use Rattle.isis_routes.specs.steps.Destinations.{IsLevelOne}
+use Rattle.isis_routes.specs.steps.Near.{AreNear, HoldAnnouncers}
+use Rattle.isis_routes.specs.declared.level_one.LevelOne.{LevelOne}
+use Rattle.walk_core.specs.BestOffers.{ListsOffer}
+use Rattle.walk_core.specs.Walks.{LeastCost}
+use Rattle.net_model.specs.declared.zone.Zone.TheVariants.{One as ZoneOne}
 use Rattle.isis_routes.proofs.OfferLists.{holds_all, offers_same}
 
 -- a router of a list of those of both levels runs both
-pub listed_runs : (net : Network) (both : List ℕ) (i : ℕ) → Exactly (RunsBothLevels net) both → i < length both → RunsBothLevels net (get_or both i 0)
-listed_runs net both i are within = (are (get_or both i 0)).0 (Contains-get_or both i 0 within)
+pub listed_runs : (net : Network) (routers : List ℕ) (i : ℕ) → ((u : ℕ) → Contains routers u → RunsBothLevels net u) → i < length routers →
+    RunsBothLevels net (get_or routers i 0)
+listed_runs net routers i are within = are (get_or routers i 0) (Contains-get_or routers i 0 within)
 
 pub runs_within : (net : Network) (u : ℕ) → RunsBothLevels net u → u < length net
 runs_within net u runs = HasConfiguration-within net u runs.one.config runs.one.router
@@ -30,9 +37,30 @@ level_one_added net p b old new cost runs adds is =
     offers_same old new b (λ k. cost ≡ Some k) (LevelOneAnnouncement net p b) adds
     (λ c. (λ same. record { runs = runs.two; costs = (is c).0 same }, λ announces. (is c).1 announces.costs))
 
-pub announces_both : (net : Network) (p : Block) (both : List ℕ) → Exactly (RunsBothLevels net) both → (b c : ℕ) → LevelOneAnnouncement net p b c →
-    Contains both b
-announces_both net p both are b c announces = (are b).1 (record { one = announces.costs.runs; two = announces.runs })
+-- all routers of both levels hold the announcers
+pub all_announce : (net : Network) (p : Block) (both : List ℕ) → Exactly (RunsBothLevels net) both → HoldAnnouncers net p both
+all_announce net p both are = record {
+  both = λ u. (are u).0;
+  every = λ u cost announces. (are u).1 (record { one = announces.costs.runs; two = announces.runs });
+}
+
+-- and so do those that reach the router where all is offered
+pub near_announce : (net : Network) (one : LevelOne) (h : ℕ) (near : List ℕ) → IsLevelOne net one →
+    ((at asks : ℕ) → ListsOffer one.offers.items at asks → at ≡ h) → AreNear net h near → HoldAnnouncers net one.dest near
+near_announce net one h near is lone are = record {
+  both = λ u has. ((are u).0 has).both;
+  every = λ u cost announces.
+      let best = announces.costs.best.attained in
+      let here : announces.costs.best.at ≡ h = lone announces.costs.best.at best.asks ((is.offers announces.costs.best.at best.asks).1 best.offered) in
+      (are u).1 (record {
+        both = record { one = announces.costs.runs; two = announces.runs };
+        near = record {
+          this = refl;
+          distance = best.walk;
+          walk = subst (λ (v : ℕ). LeastCost (Adjacent net ZoneOne) u v best.walk) here best.reached;
+        };
+      });
+}
 
 sides : (net : Network) (p : Block) (first : List Offer) (o : Offer) → Exactly (IsOfferOf (OwnAnnouncement net p)) first →
     LevelTwoAnnouncement net p o.at o.asks → Contains first o ⊎ LevelOneAnnouncement net p o.at o.asks

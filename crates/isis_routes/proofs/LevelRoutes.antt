@@ -46,6 +46,12 @@ reach_in : (net : Network) (level : Level) (walks : LevelWalks) (u : ℕ) → Ar
 reach_in net One walks u are within = reach_of net ZoneOne walks.one.value u are.one within
 reach_in net Two walks u are within = reach_of net ZoneTwo walks.two.value u are.two within
 
+-- the least walks of level 1 from a router
+pub level_one_walks : (net : Network) (walks : LevelWalks) (u : ℕ) (reach : Reach) → AreLevelWalks net walks → u < length net →
+    reach ≡ level_reach walks u 0 → AreLeastWalks (Adjacent net ZoneOne) u reach
+level_one_walks net walks u reach are within is =
+    subst (AreLeastWalks (Adjacent net ZoneOne) u) (sym is) (reach_of net ZoneOne walks.one.value u are.one within).least
+
 below_two : (level : Level) → zone_number level < 2
 below_two level = grind (arith, common_steps)
 

@@ -4,6 +4,7 @@ pub mod Offered
 pub mod Attached
 pub mod Candidates
 pub mod Routing
+pub mod Near
 pub mod LevelReach
 pub mod Domain
 pub mod Routes

@@ -4,12 +4,13 @@ ghost use Rattle.route_tables.specs.Lists.{Adds, Exactly};
 ghost use Rattle.isis_routes.specs.steps.Destinations.{IsLevelOne};
 ghost use Rattle.isis_routes.specs.steps.Homes.{AreRoutersAt};
 ghost use Rattle.isis_routes.specs.steps.Offered.{AddsOffers, HoldsOffers, IsOfferOf, LevelOneAnnouncement, OwnAnnouncement};
-ghost use Rattle.isis_routes.specs.steps.Routing.{RunsBothLevels};
+ghost use Rattle.isis_routes.specs.steps.Near.{AreAllNear, HoldAnnouncers};
 
 use crate::OutOfMemory;
 use crate::domain::Domain;
 use crate::level::Level;
 use crate::level_one::LevelOne;
+use crate::near::{NearRouters, announcers};
 use crate::offers::{push_cost, push_router_offers};
 use crate::runs::runs_level_two;
 use net_addr::Prefix;
@@ -22,13 +23,15 @@ use walk_core::Offer;
 pub(crate) fn announcements(
     alloc: Global,
     domain: &Domain<'_>,
+    near: &[NearRouters],
     one: &LevelOne,
 ) -> Result<Vec<Offer>, OutOfMemory>
-    requires { IsLevelOne domain.now.net one.now }
+    requires near { AreAllNear domain.now.net (length domain.now.net) near.now }
+    requires one { IsLevelOne domain.now.net one.now }
     ensures { IfOk result (λ offers. HoldsOffers (LevelTwoAnnouncement domain.now.net one.now.dest) offers.items) }
 {
     let mut offers = own_subnets(alloc, domain.net(), one.dest, one.homes.as_slice())?;
-    push_level_one(&mut offers, domain, one, domain.both())?;
+    push_level_one(&mut offers, domain, one, announcers(domain, near, one))?;
     Ok(offers)
 }
 
@@ -65,18 +68,18 @@ fn push_own_subnets(
     push_router_offers(offers, net, Level::Two, dest, router)
 }
 
-/// Adds what the routers of both levels reach by level 1.
+/// Adds what these routers of both levels reach by level 1, of which the others reach nothing.
 fn push_level_one(
     offers: &mut Vec<Offer>,
     domain: &Domain<'_>,
     one: &LevelOne,
-    both: &[u32],
+    routers: &[u32],
 ) -> Result<(), OutOfMemory>
     requires one { IsLevelOne domain.now.net one.now }
-    requires both { Exactly (RunsBothLevels domain.now.net) both.now }
+    requires routers { HoldAnnouncers domain.now.net one.now.dest routers.now }
     ensures { OnOk result (Adds offers.old.items offers.new.items (IsOfferOf (LevelOneAnnouncement domain.now.net one.now.dest))) }
 {
-    for router in both {
+    for router in routers {
         push_cost(offers, *router, one.cost(domain, *router))?;
     }
     Ok(())

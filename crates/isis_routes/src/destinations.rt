@@ -1,7 +1,8 @@
-ghost use Rattle.std.specs.Prelude.{◌≡◌, All, IfOk};
+ghost use Rattle.std.specs.Prelude.{◌≡◌, All, IfOk, length};
 ghost use Rattle.std.specs.List.Sorted.{IsNonDecreasingBy};
 ghost use Rattle.isis_routes.specs.steps.Destinations.{HasAnnouncements, AreIsisDestinations, isis_prefixes};
 ghost use Rattle.isis_routes.specs.steps.Homes.{AreHomes, AreRoutersAt};
+ghost use Rattle.isis_routes.specs.steps.Near.{AreAllNear};
 
 use crate::OutOfMemory;
 use crate::announcements::announcements;
@@ -10,6 +11,7 @@ use crate::domain::Domain;
 use crate::homes::{Home, routers_at, sorted_homes};
 use crate::leaked::down_announcements;
 use crate::level_one::LevelOne;
+use crate::near::{NearRouters, all_near};
 use net_addr::Prefix;
 use std::alloc::Global;
 use walk_core::Offer;
@@ -30,15 +32,17 @@ impl Destination {
     fn build(
         alloc: Global,
         domain: &Domain<'_>,
+        near: &[NearRouters],
         dest: Prefix,
         homes: Vec<u32>,
     ) -> Result<Destination, OutOfMemory>
-        requires { AreRoutersAt domain.now.net dest homes.items }
+        requires near { AreAllNear domain.now.net (length domain.now.net) near.now }
+        requires homes { AreRoutersAt domain.now.net dest homes.items }
         ensures dest { IfOk result (λ d. d.one.dest ≡ dest) }
         ensures announced { IfOk result (λ d. HasAnnouncements domain.now.net d) }
     {
         let one = LevelOne::collect(alloc, domain.net(), dest, homes)?;
-        let two = announcements(alloc, domain, &one)?;
+        let two = announcements(alloc, domain, near, &one)?;
         let leaking = domain.leaking();
         let down = down_announcements(alloc, domain, &one, two.as_slice(), leaking)?;
         Ok(Destination { one, two, down })
@@ -55,16 +59,25 @@ pub(crate) fn destinations(
     let network = domain.net();
     let dests = candidates_of(alloc, network)?;
     let homes = sorted_homes(alloc, network)?;
-    each_destination(alloc, domain, homes.as_slice(), dests.as_slice())
+    let near = all_near(alloc, domain)?;
+    each_destination(
+        alloc,
+        domain,
+        near.as_slice(),
+        homes.as_slice(),
+        dests.as_slice(),
+    )
 }
 
 /// What both levels know of each of these prefixes, by the sorted homes of all.
 fn each_destination(
     alloc: Global,
     domain: &Domain<'_>,
+    near: &[NearRouters],
     homes: &[Home],
     dests: &[Prefix],
 ) -> Result<Vec<Destination>, OutOfMemory>
+    requires near { AreAllNear domain.now.net (length domain.now.net) near.now }
     requires homes { AreHomes domain.now.net homes.now }
     requires sorted { IsNonDecreasingBy (λ h. h.dest.base) homes.now }
     ensures dests { IfOk result (λ all. isis_prefixes all.items ≡ dests.now) }
@@ -73,7 +86,7 @@ fn each_destination(
     let mut all = Vec::new(alloc);
     for dest in dests {
         let routers = routers_at(alloc, homes, *dest)?;
-        all.push(Destination::build(alloc, domain, *dest, routers)?)?;
+        all.push(Destination::build(alloc, domain, near, *dest, routers)?)?;
     }
     Ok(all)
 }

@@ -1,5 +1,6 @@
-ghost use Rattle.std.specs.Prelude.{◌≡◌, ◌<◌, ◌↔◌, ℕ, length, Some, Contains, IfOk, IsTrue};
+ghost use Rattle.std.specs.Prelude.{◌≡◌, ◌<◌, ◌↔◌, ℕ, length, Some, Contains, IfOk, IfSome, IsTrue};
 ghost use Rattle.igp_theory.specs.Isis.{LevelOneCost};
+ghost use Rattle.walk_core.specs.BestOffers.{ListsOffer};
 ghost use Rattle.isis_routes.specs.steps.Destinations.{IsLevelOne};
 ghost use Rattle.isis_routes.specs.steps.Homes.{AreRoutersAt};
 
@@ -59,6 +60,17 @@ impl LevelOne {
         match self.homes.as_slice() {
             [router] => Some(*router),
             _ => None,
+        }
+    }
+
+    /// The router that makes the only offer, where there is one alone.
+    pub fn lone_offer(&self) -> Option<u32>
+        ensures { IfSome result (λ router. (at asks : ℕ) → ListsOffer self.now.offers.items at asks → at ≡ router) }
+    {
+        if self.offers.len() == 1 {
+            Some(self.offers[0].at)
+        } else {
+            None
         }
     }
 

@@ -10,7 +10,7 @@
 //!    leak (`runs.rt`), and the attached routers (`attached.rt`; RFC 1195, section 3.2).
 //! 2. `candidates.rt`, `homes.rt`: the prefixes, and the routers at which each is connected.
 //! 3. `level_one.rt`, `offers.rt`: what level 1 offers of each prefix.
-//! 4. `announcements.rt`: what is announced into level 2 (RFC 1195, section 3.2).
+//! 4. `announcements.rt`: what is announced into level 2 (RFC 1195, section 3.2); `near.rt`: by whom.
 //! 5. `leaked.rt`: what is announced into level 1, marked down (RFC 5302).
 //! 6. `alike.rt`: prefixes with the same routes.
 //! 7. `lanes.rt`: the lanes of routers, by the levels that they run, and what decides the routes of all routers of a lane, also
@@ -38,6 +38,7 @@ mod destinations;
 mod homes;
 mod leaked;
 mod level_one;
+mod near;
 mod offers;
 
 // The routes of each router.

@@ -9,7 +9,7 @@ use Rattle.isis_routes.proofs.announcements.announcements.Goals as goal
 pub own_subnets-requires : goal.own_subnets-requires
 own_subnets-requires c =
     subst (λ (net : Network). AreRoutersAt net c.args.one.now.dest c.as_slice.result.now) (sym c.net.ensures.is)
-    (subst (AreRoutersAt c.args.domain.now.net c.args.one.now.dest) (sym c.as_slice.ensures.value) c.requires.homes)
+    (subst (AreRoutersAt c.args.domain.now.net c.args.one.now.dest) (sym c.as_slice.ensures.value) c.requires.one.homes)
 
 pub returns : goal.returns
 returns c =

@@ -6,4 +6,4 @@ use Rattle.isis_routes.proofs.announcements.push_level_one.Given as goal
 
 abbrev pub invariant-loop-router : goal.invariant-loop-router
 invariant-loop-router l =
-    Adds l.initial.offers.items l.offers.items (GivenBy (LevelOneAnnouncement l.domain.net l.one.dest) (take l.router-index l.both))
+    Adds l.initial.offers.items l.offers.items (GivenBy (LevelOneAnnouncement l.domain.net l.one.dest) (take l.router-index l.routers))

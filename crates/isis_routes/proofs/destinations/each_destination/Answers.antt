@@ -7,8 +7,8 @@ use Rattle.isis_routes.specs.declared.destinations.Destination.{Destination}
 use Rattle.route_tables.proofs.DestinationLists.{one_more_prefix}
 use Rattle.isis_routes.proofs.destinations.each_destination.Goals as goal
 
-pub build-requires : goal.build-requires
-build-requires c =
+pub build-requires-clause-homes : goal.build-requires-clause-homes
+build-requires-clause-homes c =
     routers_are c.args.domain.now.net c.dest-item.result c.args.homes.now c.args.homes.now c.in_ok-routers.routers.items c.requires.homes refl
     c.in_ok-routers.ensures
 

@@ -5,7 +5,7 @@ use Rattle.isis_routes.proofs.CostBounds.{announced_small}
 use Rattle.isis_routes.proofs.destinations.Destination.build.Goals as goal
 
 pub collect-requires : goal.collect-requires
-collect-requires c = subst (λ (net : Network). AreRoutersAt net c.args.dest c.args.homes.items) (sym c.net.ensures.is) c.requires
+collect-requires c = subst (λ (net : Network). AreRoutersAt net c.args.dest c.args.homes.items) (sym c.net.ensures.is) c.requires.homes
 
 pub down_announcements-requires-clause-small : goal.down_announcements-requires-clause-small
 down_announcements-requires-clause-small c =
