@@ -9,7 +9,8 @@ use Rattle.ospf_routes.proofs.backbone_routes.border_cost.Goals as goal
 
 pub best_cost-requires : goal.best_cost-requires
 best_cost-requires c =
-    in_range c.in_ok-walks.walks.now (BackboneSummary c.args.domain.now.net c.args.leaving.destination.now.dest) c.args.leaving.backbone.now c.args.leaving.backbone.now
+    let given = c.args.leaving.backbone.now in
+    in_range c.in_ok-walks.walks.now (BackboneSummary c.args.domain.now.net c.args.leaving.destination.now.dest) given given
     c.in_ok-walks.ensures.some.near c.requires.leaving.backbone refl
     (λ at asks s. let small : asks < 2 ^ 41 = backbone_is_small c.args.domain.now.net c.args.domain.now.areas c.args.leaving.destination.now.dest at asks
     c.reach.ensures.known s in omega arith)
@@ -20,7 +21,8 @@ returns-in_err-cost c =
     let p = c.args.leaving.destination.now.dest in
     subst (λ (found : Option ℕ). (cost : ℕ) → (found ≡ Some cost) ↔ BorderCost net p c.args.u cost) (sym c.from_residual-in_err-cost.ensures)
     (no_border_cost net p c.args.u (λ cost costs. none-some cost
-    ((border_cost_is net p c.args.u c.in_ok-walks.walks.now c.args.leaving.backbone.now c.requires.border c.in_ok-walks.ensures.some c.requires.leaving.backbone None
+    ((border_cost_is net p c.args.u c.in_ok-walks.walks.now c.args.leaving.backbone.now c.requires.border c.in_ok-walks.ensures.some
+    c.requires.leaving.backbone None
     c.in_err-cost.ensures cost).0 costs).0))
 
 pub returns-then-is_range_among : goal.returns-then-is_range_among
@@ -33,8 +35,8 @@ pub returns : goal.returns
 returns c = λ cost.
     let net = c.args.domain.now.net in
     let p = c.args.leaving.destination.now.dest in
-    let is = border_cost_is net p c.args.u c.in_ok-walks.walks.now c.args.leaving.backbone.now c.requires.border c.in_ok-walks.ensures.some c.requires.leaving.backbone
-    (Some c.in_ok-cost.cost) c.in_ok-cost.ensures cost in (
+    let is = border_cost_is net p c.args.u c.in_ok-walks.walks.now c.args.leaving.backbone.now c.requires.border c.in_ok-walks.ensures.some
+    c.requires.leaving.backbone (Some c.in_ok-cost.cost) c.in_ok-cost.ensures cost in (
       λ same. is.1 (
         same,
         λ intra. false≢true (c.if-has_intra.ensures.1 intra),
