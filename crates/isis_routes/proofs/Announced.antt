@@ -1,7 +1,7 @@
 -- What routers announce into level 2.
 use Rattle.std.proofs.Common.{arith}
 use Rattle.std.proofs.lemmas.Grind.{common_steps}
-use Rattle.std.proofs.Common.{◌≡◌, ℕ, ◌<◌, ◌↔◌, ◌⊎◌, ⊎_elim, List, length, get_or, Option, Some, subst, refl}
+use Rattle.std.proofs.Common.{◌≡◌, ℕ, ◌<◌, ◌↔◌, ◌⊎◌, ⊎_elim, List, [], length, get_or, Option, Some, subst, refl}
 use Rattle.std.specs.List.{Contains}
 use Rattle.std.proofs.lemmas.List.Elements.{Contains-get_or}
 use Rattle.net_addr.specs.Addresses.{Block}
@@ -44,7 +44,17 @@ all_announce net p both are = record {
   every = λ u cost announces. (are u).1 (record { one = announces.costs.runs; two = announces.runs });
 }
 
--- and so do those that reach the router where all is offered
+-- where nothing is offered none announces it
+pub none_announce : (net : Network) (one : LevelOne) → IsLevelOne net one → length one.offers.items ≡ 0 → HoldAnnouncers net one.dest []
+none_announce net one is none = record {
+  both = λ u has. absurd (omega (arith, has.1));
+  every = λ u cost announces.
+      let best = announces.costs.best.attained in
+      let listed = (is.offers announces.costs.best.at best.asks).1 best.offered in
+      absurd (omega (arith, none, listed.among.1));
+}
+
+-- else those do that reach the router where all is offered
 pub near_announce : (net : Network) (one : LevelOne) (h : ℕ) (near : List ℕ) → IsLevelOne net one →
     ((at asks : ℕ) → ListsOffer one.offers.items at asks → at ≡ h) → AreNear net h near → HoldAnnouncers net one.dest near
 near_announce net one h near is lone are = record {

@@ -63,6 +63,13 @@ impl LevelOne {
         }
     }
 
+    /// Whether level 1 offers nothing of it.
+    pub fn has_no_offers(&self) -> bool
+        ensures { IsTrue result ↔ (length self.now.offers.items ≡ 0) }
+    {
+        self.offers.is_empty()
+    }
+
     /// The router that makes the only offer, where there is one alone.
     pub fn lone_offer(&self) -> Option<u32>
         ensures { IfSome result (λ router. (at asks : ℕ) → ListsOffer self.now.offers.items at asks → at ≡ router) }

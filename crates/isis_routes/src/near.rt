@@ -77,6 +77,9 @@ pub(crate) fn announcers<'a>(
     requires one { IsLevelOne domain.now.net one.now }
     ensures { HoldAnnouncers domain.now.net one.now.dest result.now }
 {
+    if one.has_no_offers() {
+        return &[];
+    }
     let Some(at) = one.lone_offer() else {
         return domain.both();
     };

@@ -1,8 +1,11 @@
-use Rattle.std.proofs.Common.{◌≡◌, ◌∙◌, ◌<◌, ℕ, List, [], ap, arith, get_or, length, subst, sym}
+use Rattle.std.proofs.Common.{◌≡◌, ◌∙◌, ◌<◌, ℕ, List, [], ap, arith, get_or, length, refl, subst, sym}
 use Rattle.std.proofs.lemmas.List.{get_or_default}
 use Rattle.isis_routes.specs.steps.Near.{AreNear}
-use Rattle.isis_routes.proofs.Announced.{all_announce, near_announce}
+use Rattle.isis_routes.proofs.Announced.{all_announce, near_announce, none_announce}
 use Rattle.isis_routes.proofs.near.announcers.Goals as goal
+
+pub returns-then-has_no_offers : goal.returns-then-has_no_offers
+returns-then-has_no_offers c = none_announce c.args.domain.now.net c.args.one.now c.requires.one (c.if-has_no_offers.ensures.0 refl)
 
 pub returns-in_default : goal.returns-in_default
 returns-in_default c = all_announce c.args.domain.now.net c.args.one.now.dest c.both.result.now c.both.ensures
