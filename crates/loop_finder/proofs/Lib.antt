@@ -15,6 +15,7 @@ mod PartLaws
 mod AlikeLaws
 mod PartLists
 mod PartRows
+mod RowLaws
 mod ClassVerdicts
 mod StateVerdicts
 mod ToldOfStates

@@ -1,6 +1,6 @@
 -- The places at which a change of a router is looked at, and what it leaves sound.
 use Rattle.std.proofs.lemmas.Grind.{common_steps}
-use Rattle.std.proofs.Common.{◌≡◌, ℕ, ◌+◌, ◌<◌, ◌≤◌, Bool, true, List, [], ◌∷◌, ◌++◌, length, get_or, Contains, Option, Some, None, IfNone, IfSome, inl, inr}
+use Rattle.std.proofs.Common.{◌≡◌, ℕ, ◌+◌, ◌<◌, ◌≤◌, true, List, [], ◌∷◌, ◌++◌, length, get_or, Contains, Option, Some, None, IfNone, IfSome, inl, inr}
 use Rattle.std.proofs.Common.{arith, sym, ◌∙◌, ap, subst}
 use Rattle.std.specs.List.{AllPairs}
 use Rattle.std.proofs.lemmas.List.{get_or_default}
@@ -8,7 +8,7 @@ use Rattle.std.proofs.lemmas.List.Quantifiers.{all_pairs_push}
 use Rattle.igp_theory.specs.Phases.{State, state_in}
 use Rattle.igp_theory.specs.declared.phase.Phase.{Phase}
 use Rattle.order_core.specs.declared.turn.Turn.{Turn}
-use Rattle.loop_finder.specs.Parts.{PhaseHops, ClassPart, hops_of, no_hops, IsPart, AreParts, part_hops}
+use Rattle.loop_finder.specs.Parts.{ClassPart, IsPart, AreParts, part_hops}
 use Rattle.loop_finder.specs.steps.Parts.{AddsUnless, AreAllBut, PartStep}
 use Rattle.loop_finder.specs.Returns.{NeverReturnsTo}
 use Rattle.loop_finder.specs.Mixes.{sample_of, Mix}
@@ -26,14 +26,6 @@ use Rattle.loop_finder.proofs.StateVerdicts.{sound_from_classes}
 use Rattle.loop_finder.proofs.ToldOfStates.{faulty_at}
 
 -- Places
-
--- a router with a bare row is idle
-pub idle_from : (atom : ℕ) (moves : Bool) (rows : List PhaseHops) (u : ℕ) (row : PhaseHops) → moves ≡ true → u < length rows → row ≡ get_or rows u row
-    → ((phase : Phase) (h : ℕ) → ¬ Contains (hops_of row phase) h) → IsIdle (record { atom = atom; moves = moves; rows = rows }) u
-idle_from atom moves rows u row move within at bare = record {
-  moves = move;
-  bare = λ phase h among. bare phase h (subst (λ (x : PhaseHops). Contains (hops_of x phase) h) (sym (at ∙ get_or_default rows u row no_hops within)) among);
-}
 
 -- the next place
 pub AreFirstPlaces-more : (parts : List ClassPart) (u n : ℕ) (part : ClassPart) (old new : List ℕ) → n < length parts → part ≡ get_or parts n part

@@ -17,6 +17,8 @@ use crate::class_fault::ClassTarget;
 use crate::class_hops::next_hops;
 use crate::ends::Ends;
 use crate::live::is_marked;
+use crate::row::Row;
+use crate::rows::Rows;
 use rib_mix::{Mixed, OutOfMemory, Phase};
 use route_core::RouteSource;
 use std::alloc::Global;
@@ -26,87 +28,6 @@ use std::rc::Rc;
 /// What digests are multiplied by: an odd number whose bits look like chance (2 to the power of 64 by the golden ratio).
 const DIGEST_FACTOR: u64 = 0x9e37_79b9_7f4a_7c15;
 
-/// The hops of a router by which a walk may return to it, in each phase: those of its entry where one of them is marked, else
-/// none.
-#[derive(Drop)]
-pub(crate) struct Row<'m> {
-    old: &'m [u32],
-    middle: &'m [u32],
-    new: &'m [u32],
-}
-
-impl<'m> Model for Row<'m> {
-    ghost use Rattle.loop_finder.specs.Parts.{PhaseHops};
-
-    ghost Value = { PhaseHops };
-
-    ghost view = { λ x. record { old = x.old.now; middle = x.middle.now; new = x.new.now } };
-}
-
-impl<'m> Row<'m> {
-    /// No hops.
-    fn empty() -> Row<'m>
-        ensures { result ≡ no_hops }
-    {
-        let none: &'m [u32] = &[];
-        Row {
-            old: none,
-            middle: none,
-            new: none,
-        }
-    }
-
-    /// The hops in a phase.
-    fn hops_in(&self, phase: Phase) -> &[u32]
-        ensures { result.now ≡ hops_of self.now phase }
-    {
-        match phase {
-            Phase::Old => self.old,
-            Phase::Middle => self.middle,
-            Phase::New => self.new,
-        }
-    }
-
-    /// The same hops.
-    fn copied(&self) -> Row<'m>
-        ensures { result ≡ self.now }
-    {
-        Row {
-            old: self.old,
-            middle: self.middle,
-            new: self.new,
-        }
-    }
-
-    /// Whether there is no hop in any phase.
-    fn is_bare(&self) -> bool
-        ensures { OnTrue result ((phase : Phase) (h : ℕ) → ¬ Contains (hops_of self.now phase) h) }
-    {
-        self.old.is_empty() && self.middle.is_empty() && self.new.is_empty()
-    }
-
-    /// Whether there is a hop in one of the networks.
-    fn has_hop(&self) -> bool
-        ensures { OnTrue result (HasRowHop self.now) }
-    {
-        if !self.old.is_empty() {
-            return true;
-        }
-        !self.new.is_empty()
-    }
-
-    /// Whether it has the marked ones of another's hops.
-    fn has_all(&self, other: &Row<'_>, marks: &[bool]) -> bool
-        ensures old { OnTrue result (HasMarked marks.now self.now.old other.now.old) }
-        ensures middle { OnTrue result (HasMarked marks.now self.now.middle other.now.middle) }
-        ensures new { OnTrue result (HasMarked marks.now self.now.new other.now.new) }
-    {
-        has_marked(self.old, other.old, marks)
-            && has_marked(self.middle, other.middle, marks)
-            && has_marked(self.new, other.new, marks)
-    }
-}
-
 /// The part of a class's steps that loops can take: for each router and phase the hops by which a walk over the
 /// steps of both networks may return to the router. A piece that is a whole part shares its rows.
 #[derive(Drop)]
@@ -115,7 +36,7 @@ pub(crate) struct Part<'m> {
     moves: bool,
     /// A number that parts share in which the same routers are marked, so that most others are told apart at once.
     digest: u64,
-    rows: Rc<Vec<Row<'m>>>,
+    rows: Rc<Rows<'m>>,
     /// The routers that have hops.
     steppers: Rc<Vec<u32>>,
 }
@@ -126,9 +47,9 @@ impl<'m> Model for Part<'m> {
 
     ghost Value = { ClassPart };
 
-    ghost view = { λ x. record { atom = x.atom; moves = x.moves; rows = x.rows.value.items } };
+    ghost view = { λ x. record { atom = x.atom; moves = x.moves; rows = x.rows.value } };
 
-    ghost invariant = { λ x. AreSteppers x.rows.value.items x.steppers.value.items };
+    ghost invariant = { λ x. AreSteppers x.rows.value x.steppers.value.items };
 }
 
 impl<'m> Part<'m> {
@@ -150,7 +71,7 @@ impl<'m> Part<'m> {
         ensures class { IfOk result (λ part. part.atom ≡ class.now.atom) }
     {
         let rows = rows_of(alloc, mixed, class, marks)?;
-        let steppers = steppers_of(alloc, rows.as_slice(), mixed.net().routers())?;
+        let steppers = steppers_of(alloc, &rows, mixed.net().routers())?;
         Ok(Part {
             atom: class.atom,
             moves,
@@ -186,7 +107,7 @@ impl<'m> Part<'m> {
         requires { router < length self.now.rows }
         ensures { result.now ≡ part_hops self.now router phase }
     {
-        self.rows[router as usize].hops_in(phase)
+        self.rows.at(router as usize).hops_in(phase)
     }
 
     /// Its steps from those of its routers, so many, that are in a layer, as a part of which all routers move.
@@ -200,11 +121,12 @@ impl<'m> Part<'m> {
         requires { length self.now.rows ≡ routers }
         ensures { IfOk result (λ piece. AreRowsIn layers.now layer self.now.rows (length self.now.rows) piece.rows) }
     {
-        if self.count_in(layers, layer) == self.steppers.len() {
+        let count = self.count_in(layers, layer);
+        if count == self.steppers.len() {
             return self.whole();
         }
-        let rows = rows_in(alloc, self.rows.as_slice(), layers, layer)?;
-        let steppers = steppers_of(alloc, rows.as_slice(), routers)?;
+        let rows = rows_in(alloc, &self.rows, layers, layer, count)?;
+        let steppers = steppers_of(alloc, &rows, routers)?;
         Ok(Part {
             atom: self.atom,
             moves: true,
@@ -232,7 +154,7 @@ impl<'m> Part<'m> {
         if router as usize >= self.rows.len() {
             return Ends::new(&[], &[]);
         }
-        let row = &self.rows[router as usize];
+        let row = self.rows.at(router as usize);
         Ends::new(row.old, row.new)
     }
 
@@ -281,7 +203,7 @@ impl<'m> Part<'m> {
         if router as usize >= self.rows.len() {
             return &[];
         }
-        self.rows[router as usize].hops_in(phase)
+        self.rows.at(router as usize).hops_in(phase)
     }
 
     /// Whether every router moves, and a router has no hops.
@@ -289,7 +211,7 @@ impl<'m> Part<'m> {
         requires { router < length self.now.rows }
         ensures { OnTrue result (IsIdle self.now router) }
     {
-        self.moves && self.rows[router as usize].is_bare()
+        self.moves && self.rows.is_bare_at(router as usize)
     }
 
     /// Whether it has all hops of a class between marked routers, of which this is the digest. Mostly these routers do the same
@@ -310,7 +232,7 @@ impl<'m> Part<'m> {
         if self.digest != digest {
             return false;
         }
-        let rows = self.rows.as_slice();
+        let rows: &Rows<'_> = &self.rows;
         if act_alike(mixed, (self.atom, atom), marks, rows) {
             return true;
         }
@@ -321,15 +243,16 @@ impl<'m> Part<'m> {
 /// The rows of the routers of a layer; the others have none.
 fn rows_in<'m>(
     alloc: Global,
-    rows: &[Row<'m>],
+    rows: &Rows<'m>,
     layers: &[u32],
     layer: u32,
-) -> Result<Vec<Row<'m>>, OutOfMemory>
-    ensures { IfOk result (λ own. AreRowsIn layers.now layer rows.now (length rows.now) own.items) }
+    count: usize,
+) -> Result<Rows<'m>, OutOfMemory>
+    ensures { IfOk result (λ own. AreRowsIn layers.now layer rows.now (length rows.now) own) }
 {
-    let mut own = Vec::with_capacity(alloc, rows.len())?;
+    let mut own = Rows::with_room(alloc, rows.len(), count)?;
     for router in 0..rows.len() {
-        let row = row_in(&rows[router], layer_at(layers, router), layer);
+        let row = row_in(rows.at(router), layer_at(layers, router), layer);
         own.push(row)?;
     }
     Ok(own)
@@ -389,7 +312,7 @@ fn act_alike<O: RouteSource, N: RouteSource>(
     mixed: &Mixed<'_, O, N>,
     classes: (u32, u32),
     marks: &[bool],
-    rows: &[Row<'_>],
+    rows: &Rows<'_>,
 ) -> bool
     requires own { classes.0 < length mixed.now.classes.samples }
     requires other { classes.1 < length mixed.now.classes.samples }
@@ -397,7 +320,7 @@ fn act_alike<O: RouteSource, N: RouteSource>(
     ensures { OnTrue result (ServeAlike (mix_of O.table N.table mixed.now) marks.now rows.now classes.0 classes.1) }
 {
     for router in 0..mixed.net().routers() {
-        if !acts_alike(mixed, classes, router, marks, &rows[router as usize]) {
+        if !acts_alike(mixed, classes, router, marks, rows.at(router as usize)) {
             return false;
         }
     }
@@ -432,7 +355,7 @@ fn have_hops<O: RouteSource, N: RouteSource>(
     mixed: &Mixed<'_, O, N>,
     atom: u32,
     marks: &[bool],
-    rows: &[Row<'_>],
+    rows: &Rows<'_>,
 ) -> bool
     requires rows { length rows.now ≡ length mixed.now.net }
     requires atom { atom < length mixed.now.classes.samples }
@@ -440,7 +363,7 @@ fn have_hops<O: RouteSource, N: RouteSource>(
     ensures { OnTrue result (HaveHops (class_in (mix_of O.table N.table mixed.now) atom) marks.now rows.now) }
 {
     for router in 0..mixed.net().routers() {
-        if !has_hops(mixed, atom, router, marks, &rows[router as usize]) {
+        if !has_hops(mixed, atom, router, marks, rows.at(router as usize)) {
             return false;
         }
     }
@@ -486,28 +409,6 @@ fn has_marked_hops<O: RouteSource, N: RouteSource>(
     row.has_all(&own, marks)
 }
 
-/// Whether the marked ones of some routers are among others.
-fn has_marked(others: &[u32], routers: &[u32], marks: &[bool]) -> bool
-    ensures { OnTrue result (HasMarked marks.now others.now routers.now) }
-{
-    for router in routers {
-        if !is_among(others, marks, *router) {
-            return false;
-        }
-    }
-    true
-}
-
-/// Whether a router is among others, where it's marked.
-fn is_among(others: &[u32], marks: &[bool], router: u32) -> bool
-    ensures { OnTrue result (IsMarked marks.now router → Contains others.now router) }
-{
-    if !is_marked(marks, router) {
-        return true;
-    }
-    others.contains(&router)
-}
-
 /// A number made of the marked routers.
 pub(crate) fn digest_of(marks: &[bool]) -> u64 {
     let mut digest = 0u64;
@@ -520,7 +421,7 @@ pub(crate) fn digest_of(marks: &[bool]) -> u64 {
 }
 
 /// The routers, so many, that have hops by their rows.
-fn steppers_of(alloc: Global, rows: &[Row<'_>], routers: u32) -> Result<Vec<u32>, OutOfMemory>
+fn steppers_of(alloc: Global, rows: &Rows<'_>, routers: u32) -> Result<Vec<u32>, OutOfMemory>
     requires { length rows.now ≡ routers }
     ensures { IfOk result (λ steppers. AreSteppers rows.now steppers.items) }
 {
@@ -532,11 +433,11 @@ fn steppers_of(alloc: Global, rows: &[Row<'_>], routers: u32) -> Result<Vec<u32>
 }
 
 /// Adds a router that has hops by its row.
-fn add_stepper(rows: &[Row<'_>], router: u32, steppers: &mut Vec<u32>) -> Result<(), OutOfMemory>
+fn add_stepper(rows: &Rows<'_>, router: u32, steppers: &mut Vec<u32>) -> Result<(), OutOfMemory>
     requires { router < length rows.now }
     ensures { OnOk result (AddsUnless (IsBareIn rows.now router) router steppers.old.items steppers.new.items) }
 {
-    if rows[router as usize].is_bare() {
+    if rows.is_bare_at(router as usize) {
         return Ok(());
     }
     steppers.push(router)?;
@@ -549,13 +450,13 @@ fn rows_of<'m, O: RouteSource, N: RouteSource>(
     mixed: &'m Mixed<'_, O, N>,
     class: &ClassTarget,
     marks: &[bool],
-) -> Result<Vec<Row<'m>>, OutOfMemory>
+) -> Result<Rows<'m>, OutOfMemory>
     requires atom { class.now.atom < length mixed.now.classes.samples }
     requires target { IsTargetIn mixed.now.net (sample_of mixed.now.classes class.now.atom) class.now.target }
     requires marks { length marks.now ≡ length mixed.now.net }
-    ensures { IfOk result (λ rows. AreRowsOf (class_in (mix_of O.table N.table mixed.now) class.now.atom) marks.now rows.items) }
+    ensures { IfOk result (λ rows. AreRowsOf (class_in (mix_of O.table N.table mixed.now) class.now.atom) marks.now rows) }
 {
-    let mut rows = Vec::with_capacity(alloc, marks.len())?;
+    let mut rows = Rows::with_room(alloc, marks.len(), count_marked(marks))?;
     for router in 0..mixed.net().routers() {
         let row = row_of(mixed, class, router, marks);
         rows.push(row)?;
@@ -598,4 +499,15 @@ fn kept<'m>(routers: &'m [u32], marks: &[bool]) -> &'m [u32]
         }
     }
     &[]
+}
+
+/// How many routers are marked.
+fn count_marked(marks: &[bool]) -> usize {
+    let mut count = 0usize;
+    for mark in marks {
+        if *mark {
+            count = count.saturating_add(1);
+        }
+    }
+    count
 }

@@ -1,5 +1,5 @@
 -- How the rows of a part are made.
-use Rattle.std.specs.Prelude.{◌≡◌, ℕ, ◌<◌, ◌⊎◌, Bool, List, length, slice_index_or, Contains}
+use Rattle.std.specs.Prelude.{◌≡◌, ℕ, ◌<◌, ◌⊎◌, Bool, List, All, length, map, slice_index_or, Contains}
 use Rattle.igp_theory.specs.declared.phase.Phase.{Phase}
 use Rattle.order_core.specs.Marks.{IsMarked}
 use Rattle.loop_finder.specs.Parts.{PhaseHops, ClassPart, StepsOf, hops_of, no_hops}
@@ -62,3 +62,13 @@ pub record HasEarlierHops (m : Mix) (marks : List Bool) (parts : List ClassPart)
   pub earlier : ClassPart
   pub among : Contains parts earlier
   pub serves : Serves m marks earlier atom
+
+-- the rows at some places
+abbrev pub placed_rows : List PhaseHops → List ℕ → List PhaseHops
+placed_rows own places = map (λ k. slice_index_or own k no_hops) places
+
+-- the first row has no hops, and there is one at each of some places
+pub record ArePlaced (own : List PhaseHops) (places : List ℕ) : Type 0 where
+  pub some : 0 < length own
+  pub bare : slice_index_or own 0 no_hops ≡ no_hops
+  pub each : All (λ k. k < length own) places

@@ -9,7 +9,7 @@ pub loop-router-preserved : goal.loop-router-preserved
 loop-router-preserved g c =
     AreFirstRows-more (class_in (mix_of g.O.RouteSource.table g.N.RouteSource.table c.args.mixed.now) c.args.class.now.atom)
     c.args.marks.now c.loop-router.router
-    c.loop-router.rows.items c.push.new.self.items c.row_of-row.result c.in_ok-push.ensures.items c.loop-router.invariant c.row_of-row.ensures
+    c.loop-router.rows c.push.new.self c.row_of-row.result c.in_ok-push.ensures c.loop-router.invariant c.row_of-row.ensures
 
 pub returns : goal.returns
 returns g c =
@@ -17,4 +17,4 @@ returns g c =
     let all : c.loop-router.router ≡ length c.args.marks.now =
     omega (arith, c.requires.marks, c.loop-router-test.false, c.loop-router.auto.router-end, c.routers-router-end.ensures.count, net) in
     subst (λ (n : ℕ). AreFirstRows (class_in (mix_of g.O.RouteSource.table g.N.RouteSource.table c.args.mixed.now) c.args.class.now.atom) c.args.marks.now n
-    c.loop-router.rows.items) all c.loop-router.invariant
+    c.loop-router.rows) all c.loop-router.invariant
