@@ -1,15 +1,15 @@
 -- Marks that are taken one after another.
 use Rattle.std.proofs.lemmas.Grind.{common_steps}
-use Rattle.std.proofs.Common.{◌≡◌, ℕ, ◌+◌, ◌<◌, ◌≤◌, Bool, true, false, List, [], ◌∷◌, length, set, arith, subst, sym, refl, ◌∙◌, below_more}
+use Rattle.std.proofs.Common.{◌≡◌, ℕ, ◌+◌, ◌<◌, ◌≤◌, Bool, true, false, List, [], ◌∷◌, length, set, arith, subst, sym, ◌∙◌}
 use Rattle.std.proofs.Common.{inl, inr}
-use Rattle.std.proofs.lemmas.List.{get_or-set_other, get_or-set_same, get_or_past, length-set}
+use Rattle.std.proofs.lemmas.List.{get_or-set_other, get_or-set_same, length-set}
 use Rattle.std.proofs.lemmas.List.Sums.{sum_by-set, count_by-le-length}
-use Rattle.std.proofs.lemmas.Bool.{false≢true, cases_lt}
+use Rattle.std.proofs.lemmas.Bool.{false≢true}
 use Rattle.std.proofs.lemmas.Bool.Decides.{eqb_tells}
 use Rattle.std.specs.Bool.{OnFalse, OnTrue}
 use Rattle.igp_theory.specs.States.{Follows}
 use Rattle.order_core.specs.Marks.{IsMarked, marked_count}
-use Rattle.loop_finder.specs.steps.Live.{HasMarkedHop, AreBounded}
+use Rattle.loop_finder.specs.steps.Live.{AreBounded}
 
 -- a router without a mark, once another's is taken: it is that one, or had none
 unmarked_before : (marks : List Bool) (u r : ℕ) → (¬ IsMarked (set marks u false) r) → ¬ (r ≡ u) → ¬ IsMarked marks r
@@ -23,6 +23,10 @@ marked_count-set marks u within marked = grind (arith, common_steps, sum_by-set)
 pub bounded_first : (step : ℕ → ℕ → Type 0) (marks : List Bool) → ((u h : ℕ) → step u h → IsMarked marks u) → AreBounded step marks
 bounded_first step marks all u [] last bare follows = omega (arith, count_by-le-length (λ (b : Bool). b) marks)
 bounded_first step marks all u (h ∷ hops) last bare follows = absurd (bare (all u h follows.0))
+
+-- a mark that is there once another is taken was there
+pub marked_before : (marks : List Bool) (u r : ℕ) → u < length marks → IsMarked (set marks u false) r → IsMarked marks r
+marked_before marks u r within marked = grind (arith, common_steps, eqb_tells, get_or-set_other, get_or-set_same, false≢true)
 
 -- a mark stays where another router is marked too
 pub still_marked : (marks : List Bool) (r u : ℕ) → r < length marks → IsMarked marks u → IsMarked (set marks r true) u
@@ -49,42 +53,6 @@ bounded_more step marks u within marked stuck bounded r hops last bare follows =
     at_u (h ∷ rest) follows =
         let few : length rest + marked_count marks ≤ length marks = bounded h rest last (stuck h follows.0) follows.1 in
         omega (arith, few, fewer, many)
-
--- what a pass over the routers keeps, as far as it has come
-pub record IsPeel (step : ℕ → ℕ → Type 0) (start marks : List Bool) (peeled : Bool) (i : ℕ) : Type 0 where
-  pub bounded : AreBounded step marks
-  pub closed : peeled ≡ false → (u : ℕ) → u < i → IsMarked marks u → HasMarkedHop step marks u
-  pub no_more : marked_count marks ≤ marked_count start
-  pub fewer : peeled ≡ true → marked_count marks < marked_count start
-
-pub IsPeel-same : (step : ℕ → ℕ → Type 0) (start marks : List Bool) (peeled : Bool) (i : ℕ) → IsPeel step start marks peeled i →
-    (IsMarked marks i → HasMarkedHop step marks i) → IsPeel step start marks peeled (i + 1)
-IsPeel-same step start marks peeled i peel leads = record {
-  bounded = peel.bounded;
-  closed = λ e. below_more (λ u. IsMarked marks u → HasMarkedHop step marks u) i (peel.closed e) leads;
-  no_more = peel.no_more;
-  fewer = peel.fewer;
-}
-
-pub IsPeel-taken : (step : ℕ → ℕ → Type 0) (start marks : List Bool) (peeled : Bool) (i : ℕ) → IsPeel step start marks peeled i →
-    i < length marks → IsMarked marks i → ((h : ℕ) → step i h → ¬ IsMarked marks h) → IsPeel step start (set marks i false) true (i + 1)
-IsPeel-taken step start marks peeled i peel within marked stuck =
-    let less : marked_count (set marks i false) + 1 ≡ marked_count marks = marked_count-set marks i within marked in
-    record {
-      bounded = bounded_more step marks i within marked stuck peel.bounded;
-      closed = λ e. absurd (false≢true (sym e));
-      no_more = omega (arith, less, peel.no_more);
-      fewer = λ e. omega (arith, less, peel.no_more);
-    }
-
--- after a pass that took nothing every marked router steps to a marked one
-pub IsPeel-closed : (step : ℕ → ℕ → Type 0) (start marks : List Bool) (peeled : Bool) (n : ℕ) → IsPeel step start marks peeled n → length marks ≤ n
-    → OnFalse peeled ((u : ℕ) → IsMarked marks u → HasMarkedHop step marks u)
-IsPeel-closed step start marks true n peel whole = tt
-IsPeel-closed step start marks false n peel whole = λ u marked. elim (cases_lt u n) [
-  | inl below ↦ peel.closed refl u below marked
-  | inr past ↦ absurd (false≢true (sym (get_or_past marks u false (omega (arith, past, whole))) ∙ marked))
-]
 
 -- marks were taken, of routers that step to no marked one
 pub record IsStripped (step : ℕ → ℕ → Type 0) (start marks : List Bool) : Type 0 where

@@ -18,6 +18,13 @@ each_at R f d (x ∷ []) (suc k) goes within = absurd (omega (arith, within))
 each_at R f d (x ∷ y ∷ rest) zero goes within = goes.0
 each_at R f d (x ∷ y ∷ rest) (suc k) goes within = each_at R f d (y ∷ rest) k goes.1 (omega (arith, within))
 
+-- where each element goes to the one after it, and the last one to `f`
+pub each_from_at : {A : Type 0} (R : A → A → Type 0) (f d : A) (xs : List A) → ((k : ℕ) → k < length xs → R (get_or xs k d) (get_or xs (suc k) f))
+    → EachToNext R f xs
+each_from_at R f d [] at = tt
+each_from_at R f d (x ∷ []) at = at zero (omega arith)
+each_from_at R f d (x ∷ y ∷ rest) at = (at zero (omega arith), each_from_at R f d (y ∷ rest) (λ k within. at (suc k) (omega (arith, within))))
+
 -- what holds of whatever goes to something holds of each element
 pub all_from_each : {A : Type 0} (R : A → A → Type 0) (P : A → Type 0) (f : A) (xs : List A) → ((u h : A) → R u h → P u) → EachToNext R f xs → All P xs
 all_from_each R P f [] over goes = All-nil P

@@ -1,25 +1,11 @@
 ghost use Rattle.std.specs.Prelude.{◌≡◌, ◌∷◌, [], ◌<◌, ◌≤◌, ◌^◌, ◌↔◌, ℕ, All, Contains, false, length, slice_set, IsTrue};
 ghost use Rattle.std.specs.Bool.{OnFalse, OnTrue};
-ghost use Rattle.order_core.specs.Marks.{IsMarked, marked_count};
+ghost use Rattle.order_core.specs.Marks.{IsMarked};
 ghost use Rattle.net_model.specs.Links.{lower_of};
-ghost use Rattle.loop_finder.specs.steps.Live.{AreBounded, ArePeeled, FirstMarked, HasMarkedHop, LowestMarked};
+ghost use Rattle.loop_finder.specs.steps.Live.{AreBounded, HasMarkedHop, LowestMarked};
 ghost use Rattle.loop_finder.specs.steps.Walks.{LowestMarkedHop, ReturnsNever};
 
 use crate::graph::StepGraph;
-
-/// Marks the routers from which steps lead on for ever: all routers at first, less those that step to no
-/// marked one, until none is left to be taken.
-pub(crate) fn mark_live<G: StepGraph>(graph: &G, live: &mut [bool])
-    requires { length live.old ≡ G.size graph.now }
-    ensures peeled { ArePeeled (G.step graph.now) live.new }
-    ensures few { length live.new < 2 ^ 32 }
-{
-    let routers = graph.size();
-    mark_all(live);
-    while peel(graph, routers, live) {
-        peel_down(graph, routers, live);
-    }
-}
 
 /// Whether no list of steps returns to a router, where it's known which routers step on. Only these are marked at first, and
 /// looked at.
@@ -72,38 +58,6 @@ pub(crate) fn none_marked(marks: &[bool]) -> bool
         some |= *mark;
     }
     !some
-}
-
-/// Goes once over the routers and takes the mark from each that steps to no marked one; whether any had it.
-fn peel<G: StepGraph>(graph: &G, routers: u32, live: &mut [bool]) -> bool
-    requires routers { routers ≡ G.size graph.now }
-    requires size { length live.old ≡ G.size graph.now }
-    requires bounded { AreBounded (G.step graph.now) live.old }
-    ensures bounded { AreBounded (G.step graph.now) live.new }
-    ensures closed { OnFalse result ((u : ℕ) → IsMarked live.new u → HasMarkedHop (G.step graph.now) live.new u) }
-    ensures fewer { OnTrue result (marked_count live.new < marked_count live.old) }
-{
-    let mut peeled = false;
-    for u in 0..routers {
-        if peel_one(graph, live, u) {
-            peeled = true;
-        }
-    }
-    peeled
-}
-
-/// Goes once over the routers downwards and takes the mark from each that steps to no marked one. Where steps lead to
-/// higher numbers, one such pass takes the marks that passes upwards take one by one.
-fn peel_down<G: StepGraph>(graph: &G, routers: u32, live: &mut [bool])
-    requires routers { routers ≡ G.size graph.now }
-    requires size { length live.old ≡ G.size graph.now }
-    requires bounded { AreBounded (G.step graph.now) live.old }
-    ensures bounded { AreBounded (G.step graph.now) live.new }
-    ensures no_more { marked_count live.new ≤ marked_count live.old }
-{
-    for place in 0..routers {
-        let _ = peel_one(graph, live, routers - 1 - place);
-    }
 }
 
 /// Takes the mark from each of some routers that steps to no marked one, until none is left to be taken.
@@ -216,17 +170,4 @@ pub(crate) fn is_marked(marks: &[bool], router: u32) -> bool
     ensures { IsTrue result ↔ IsMarked marks.now router }
 {
     marks.get(router as usize).copied().unwrap_or(false)
-}
-
-/// The lowest-numbered marked router of all.
-pub(crate) fn first_marked(marks: &[bool]) -> Option<u32>
-    requires { length marks.now < 2 ^ 32 }
-    ensures { FirstMarked marks.now result }
-{
-    for (router, mark) in marks.iter().enumerate() {
-        if *mark {
-            return Some(router as u32);
-        }
-    }
-    None
 }

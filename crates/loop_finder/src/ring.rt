@@ -1,14 +1,14 @@
-ghost use Rattle.std.specs.Prelude.{◌≡◌, ◌+◌, ◌<◌, ◌≤◌, [], ◌∷◌, ◌++◌, length, drop, slice_index, All, vec_len};
+ghost use Rattle.std.specs.Prelude.{◌≡◌, ◌+◌, ◌<◌, ◌≤◌, ℕ, [], ◌∷◌, ◌++◌, length, drop, slice_index, All, vec_len};
 ghost use Rattle.std.specs.Bool.{OnFalse, OnTrue};
 ghost use Rattle.std.specs.Vec.{vec_capacity};
 ghost use Rattle.igp_theory.specs.Loops.{IsFoundRing};
 ghost use Rattle.order_core.specs.Marks.{IsMarked};
 ghost use Rattle.order_core.specs.Rings.{IsTurned};
-ghost use Rattle.loop_finder.specs.steps.Live.{ArePeeled};
-ghost use Rattle.loop_finder.specs.steps.Walks.{PathBegins, IsMarkedHop, IsWalk, PlaceOf, ReturnsNever};
+ghost use Rattle.loop_finder.specs.steps.Live.{AreBounded};
+ghost use Rattle.loop_finder.specs.steps.Walks.{PlaceOf, ReturnsNever, WalkEnd};
 
 use crate::graph::StepGraph;
-use crate::live::{first_marked, lowest_marked_hop, mark_live};
+use crate::live::{lowest_marked_hop, mark_all};
 
 /// Finds the ring of steps that is told where there is one, and leaves it in `path`; whether there is one.
 pub(crate) fn find_ring<G: StepGraph>(graph: &G, live: &mut [bool], path: &mut Vec<u32>) -> bool
@@ -18,39 +18,53 @@ pub(crate) fn find_ring<G: StepGraph>(graph: &G, live: &mut [bool], path: &mut V
     ensures found { OnTrue result (IsFoundRing (G.step graph.now) (G.size graph.now) path.new.items) }
     ensures capacity { vec_capacity path.old ≤ vec_capacity path.new }
 {
-    mark_live(graph, live);
-    match first_marked(live) {
-        Some(start) => {
-            let place = walk(graph, live, start, path);
+    mark_all(live);
+    for start in 0..graph.size() {
+        if let Some(place) = walk(graph, live, start, path) {
             turn(path, place);
-            true
+            return true;
         }
-        None => false,
     }
+    false
 }
 
-/// Walks from a marked router, each time to the lowest-numbered marked hop, until a router repeats; the place
-/// of that router's first visit.
-fn walk<G: StepGraph>(graph: &G, live: &[bool], start: u32, path: &mut Vec<u32>) -> usize
-    requires size { length live.now ≡ G.size graph.now }
-    requires peeled { ArePeeled (G.step graph.now) live.now }
-    requires start { IsMarked live.now start }
-    requires room { length live.now ≤ vec_capacity path.old }
-    ensures begins { PathBegins start path.new.items }
-    ensures walk { IsWalk (G.step graph.now) live.now path.new.items result }
+/// Walks from a router if it's marked, each time to the lowest-numbered marked hop, until a router repeats; the place of that
+/// router's first visit. A router without a marked hop loses its mark, and the walk goes back to the router before it.
+fn walk<G: StepGraph>(
+    graph: &G,
+    live: &mut [bool],
+    start: u32,
+    path: &mut Vec<u32>,
+) -> Option<usize>
+    requires size { length live.old ≡ G.size graph.now }
+    requires start { start < G.size graph.now }
+    requires bounded { AreBounded (G.step graph.now) live.old }
+    requires room { length live.old ≤ vec_capacity path.old }
+    ensures bounded { AreBounded (G.step graph.now) live.new }
+    ensures fewer { (r : ℕ) → IsMarked live.new r → IsMarked live.old r }
+    ensures end { WalkEnd (G.step graph.now) live.new start path.new.items result }
     ensures capacity { vec_capacity path.old ≤ vec_capacity path.new }
 {
     path.clear();
-    visit(path, start);
-    let mut last = start;
-    loop {
-        let next = lowest_hop(graph, live, last);
-        if let Some(place) = place_of(path.as_slice(), next) {
-            return place;
-        }
-        visit(path, next);
-        last = next;
+    if live[start as usize] {
+        visit(path, start);
     }
+    while !path.is_empty() {
+        let last = path[path.len() - 1];
+        match lowest_marked_hop(graph, live, last) {
+            Some(next) => {
+                if let Some(place) = place_of(path.as_slice(), next) {
+                    return Some(place);
+                }
+                visit(path, next);
+            }
+            None => {
+                live[last as usize] = false;
+                path.pop();
+            }
+        }
+    }
+    None
 }
 
 /// Adds a router for which there is room.
@@ -60,19 +74,6 @@ pub(crate) fn visit(path: &mut Vec<u32>, router: u32)
     ensures capacity { vec_capacity path.old ≤ vec_capacity path.new }
 {
     path.push_reserved(router);
-}
-
-/// The lowest-numbered marked hop of a marked router.
-fn lowest_hop<G: StepGraph>(graph: &G, live: &[bool], router: u32) -> u32
-    requires size { length live.now ≡ G.size graph.now }
-    requires peeled { ArePeeled (G.step graph.now) live.now }
-    requires router { IsMarked live.now router }
-    ensures { IsMarkedHop (G.step graph.now) live.now router result }
-{
-    match lowest_marked_hop(graph, live, router) {
-        Some(hop) => hop,
-        None => unreachable!(),
-    }
 }
 
 /// The first place of a router in a list.

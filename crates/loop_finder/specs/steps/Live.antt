@@ -14,11 +14,6 @@ abbrev pub AreBounded : (ℕ → ℕ → Type 0) → List Bool → Type 0
 AreBounded step marks =
     (u : ℕ) (hops : List ℕ) (last : ℕ) → ¬ IsMarked marks u → Follows step u hops last → length hops + marked_count marks ≤ length marks
 
--- every marked router steps to a marked one, and from the others few steps lead on
-pub record ArePeeled (step : ℕ → ℕ → Type 0) (marks : List Bool) : Type 0 where
-  pub bounded : AreBounded step marks
-  pub closed : (u : ℕ) → IsMarked marks u → HasMarkedHop step marks u
-
 -- the lowest-numbered marked router among some
 pub record IsLowestMarked (routers : List ℕ) (marks : List Bool) (h : ℕ) : Type 0 where
   pub among : Contains routers h
@@ -29,8 +24,3 @@ pub record IsLowestMarked (routers : List ℕ) (marks : List Bool) (h : ℕ) : T
 abbrev pub LowestMarked : List ℕ → List Bool → Option ℕ → Type 0
 LowestMarked routers marks None = (q : ℕ) → Contains routers q → ¬ IsMarked marks q
 LowestMarked routers marks (Some h) = IsLowestMarked routers marks h
-
--- the lowest-numbered marked router of all, none where none is marked
-abbrev pub FirstMarked : List Bool → Option ℕ → Type 0
-FirstMarked marks None = (q : ℕ) → ¬ IsMarked marks q
-FirstMarked marks (Some h) = IsMarked marks h × ((q : ℕ) → IsMarked marks q → h ≤ q)

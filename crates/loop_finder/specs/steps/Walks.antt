@@ -1,6 +1,5 @@
 -- Walks along marked routers, and the rings that they end in.
-use Rattle.std.specs.Prelude.{◌≡◌, ◌≢◌, ℕ, ◌≤◌, ◌<◌, Bool, List, ◌∷◌, length, slice_index, Option, Some, None, AllPairs}
-use Rattle.igp_theory.specs.Loops.{EachToNext}
+use Rattle.std.specs.Prelude.{◌≡◌, ◌≢◌, ℕ, suc, ◌≤◌, ◌<◌, Bool, List, ◌∷◌, length, slice_index, slice_index_or, Option, Some, None, All, AllPairs}
 use Rattle.igp_theory.specs.States.{Follows}
 use Rattle.order_core.specs.Marks.{IsMarked}
 
@@ -19,16 +18,24 @@ abbrev pub LowestMarkedHop : (ℕ → ℕ → Type 0) → List Bool → ℕ → 
 LowestMarkedHop step marks u None = (h : ℕ) → step u h → ¬ IsMarked marks h
 LowestMarkedHop step marks u (Some h) = IsMarkedHop step marks u h
 
--- a path begins at a router
-abbrev pub PathBegins : ℕ → List ℕ → Type 0
-PathBegins start path = (visited : List ℕ) × (path ≡ start ∷ visited)
+-- u steps to h, and to no lower-numbered marked router
+pub record IsLeastHop (step : ℕ → ℕ → Type 0) (marks : List Bool) (u h : ℕ) : Type 0 where
+  pub steps : step u h
+  pub lowest : (v : ℕ) → step u v → IsMarked marks v → h ≤ v
 
--- a walk, each time to the lowest-numbered marked hop, over distinct routers; the hop of the last one is the router at
--- this place
-pub record IsWalk (step : ℕ → ℕ → Type 0) (marks : List Bool) (path : List ℕ) (place : ℕ) : Type 0 where
+-- a walk from a router, over distinct marked ones, each time to a hop below which no hop is marked; the hop of the last one is
+-- the router at this place
+pub record IsWalk (step : ℕ → ℕ → Type 0) (marks : List Bool) (start : ℕ) (path : List ℕ) (place : ℕ) : Type 0 where
   pub within : place < length path
+  pub begins : slice_index path 0 ≡ start
   pub distinct : AllPairs (λ u v. u ≢ v) path
-  pub goes : EachToNext (IsMarkedHop step marks) (slice_index path place) path
+  pub marked : All (IsMarked marks) path
+  pub goes : (k : ℕ) → k < length path → IsLeastHop step marks (slice_index path k) (slice_index_or path (suc k) (slice_index path place))
+
+-- what a walk from a router ends with: such a place, or that router has no mark
+abbrev pub WalkEnd : (ℕ → ℕ → Type 0) → List Bool → ℕ → List ℕ → Option ℕ → Type 0
+WalkEnd step marks start path None = ¬ IsMarked marks start
+WalkEnd step marks start path (Some place) = IsWalk step marks start path place
 
 -- a place of the router in the list, none where it isn't there
 abbrev pub PlaceOf : List ℕ → ℕ → Option ℕ → Type 0

@@ -1,41 +1,67 @@
-use Rattle.std.proofs.Common.{◌≡◌, ◌≢◌, ℕ, ◌+◌, ◌<◌, List, length, get_or, subst, sym, ap, ◌∙◌, arith}
-use Rattle.std.proofs.lemmas.List.{length_push}
-use Rattle.loop_finder.proofs.WalkSteps.{IsOnWay, IsOnWay-more, walk_from_way, on_way_short}
+use Rattle.std.proofs.Common.{◌≡◌, ◌+◌, ◌-◌, ◌<◌, false, length, set, vec_len, ap, ◌∙◌, arith}
+use Rattle.std.proofs.lemmas.Grind.{common_steps}
+use Rattle.std.proofs.lemmas.List.{length_push, length-set, length-take}
+use Rattle.order_core.specs.Marks.{marked_count}
+use Rattle.loop_finder.proofs.LiveLaws.{marked_below}
+use Rattle.loop_finder.proofs.Peeling.{marked_count-set}
+use Rattle.loop_finder.proofs.WalkSteps.{IsLast, last_read, last_marked, on_way_short, IsOnWay-more, IsOnWay-back, IsOnWay-end}
 use Rattle.loop_finder.proofs.ring.walk.Goals as goal
 
-pub returns-in-Some-clause-walk : goal.returns-in-Some-clause-walk
-returns-in-Some-clause-walk g c =
-    let at : (c.in-Some.place < length c.loop-place.path.items) × (get_or c.loop-place.path.items c.in-Some.place 0 ≡ c.lowest_hop-next.result) =
-    subst (λ (xs : List ℕ). (c.in-Some.place < length xs) × (get_or xs c.in-Some.place 0 ≡ c.lowest_hop-next.result))
-    c.as_slice.ensures.value c.in-Some.ensures in
-    walk_from_way (g.G.StepGraph.step c.args.graph.now) c.args.live.now c.args.start c.loop-place.path.items c.loop-place.last
-    c.lowest_hop-next.result c.in-Some.place c.loop-place.invariant.way c.lowest_hop-next.ensures at.0 at.1
+pub returns-in-Some-place_of-clause-end : goal.returns-in-Some-place_of-clause-end
+returns-in-Some-place_of-clause-end g c =
+    let last : IsLast c.loop-path.path.items c.index-last.result.now = grind (arith, common_steps, last_read) in
+    IsOnWay-end _ c.args.live.now c.loop-path.live c.args.start c.loop-path.path.items c.as_slice.result.now c.index-last.result.now c.in-Some.next
+    c.in-Some-place_of.place c.loop-path.invariant.way last c.in-Some.ensures c.as_slice.ensures.value c.in-Some-place_of.ensures
 
-pub visit-requires-in-loop-place : goal.visit-requires-in-loop-place
-visit-requires-in-loop-place g c =
-    let short : length c.loop-place.path.items < length c.args.live.now =
-    on_way_short c.args.live.now c.loop-place.path.items c.as_slice.result.now c.lowest_hop-next.result c.loop-place.invariant.way.distinct
-    c.loop-place.invariant.way.marked c.lowest_hop-next.ensures.marked c.as_slice.ensures.value c.in_default.ensures in
-    omega (arith, short, c.loop-place.path.ok.0, c.loop-place.invariant.room)
+pub visit-requires-in-Some : goal.visit-requires-in-Some
+visit-requires-in-Some g c =
+    let short : length c.loop-path.path.items < length c.loop-path.live =
+    on_way_short _ c.args.live.now c.loop-path.live c.args.start c.loop-path.path.items c.as_slice.result.now c.in-Some.next c.loop-path.invariant.way
+    c.in-Some.ensures.marked c.as_slice.ensures.value c.in_default.ensures in
+    omega (arith, short, c.loop-path.path.ok.0, c.loop-path.invariant.room)
 
-pub loop-place-smaller : goal.loop-place-smaller
-loop-place-smaller g c =
-    let short : length c.loop-place.path.items < length c.args.live.now =
-    on_way_short c.args.live.now c.loop-place.path.items c.as_slice.result.now c.lowest_hop-next.result c.loop-place.invariant.way.distinct
-    c.loop-place.invariant.way.marked c.lowest_hop-next.ensures.marked c.as_slice.ensures.value c.in_default.ensures in
-    let more : length c.visit-in-loop-place.new.path.items ≡ length c.loop-place.path.items + 1 =
-    ap length c.visit-in-loop-place.ensures.items ∙ length_push c.loop-place.path.items c.lowest_hop-next.result in
-    omega (arith, short, more, c.loop-place.path.ok.0, c.visit-in-loop-place.new.path.ok.0)
+pub loop-path-smaller-in-Some : goal.loop-path-smaller-in-Some
+loop-path-smaller-in-Some g c =
+    let short : length c.loop-path.path.items < length c.loop-path.live =
+    on_way_short _ c.args.live.now c.loop-path.live c.args.start c.loop-path.path.items c.as_slice.result.now c.in-Some.next c.loop-path.invariant.way
+    c.in-Some.ensures.marked c.as_slice.ensures.value c.in_default.ensures in
+    let more : length c.visit-in-Some.new.path.items ≡ length c.loop-path.path.items + 1 =
+    ap length c.visit-in-Some.ensures.items ∙ length_push c.loop-path.path.items c.in-Some.next in
+    omega (arith, short, more, c.loop-path.path.ok.0, c.visit-in-Some.new.path.ok.0)
 
-pub loop-place-preserved : goal.loop-place-preserved
-loop-place-preserved g c =
-    let fresh : (k : ℕ) → k < length c.loop-place.path.items → get_or c.loop-place.path.items k 0 ≢ c.lowest_hop-next.result =
-    subst (λ (xs : List ℕ). (k : ℕ) → k < length xs → get_or xs k 0 ≢ c.lowest_hop-next.result) c.as_slice.ensures.value c.in_default.ensures in
+pub loop-path-preserved-in-Some : goal.loop-path-preserved-in-Some
+loop-path-preserved-in-Some g c =
+    let last : IsLast c.loop-path.path.items c.index-last.result.now = grind (arith, common_steps, last_read) in
     record {
-      way = subst (λ (xs : List ℕ). IsOnWay (g.G.StepGraph.step c.args.graph.now) c.args.live.now c.args.start xs c.lowest_hop-next.result)
-          (sym c.visit-in-loop-place.ensures.items)
-          (IsOnWay-more (g.G.StepGraph.step c.args.graph.now) c.args.live.now c.args.start c.loop-place.path.items c.loop-place.last c.lowest_hop-next.result
-          c.loop-place.invariant.way c.lowest_hop-next.ensures fresh);
-      room = omega (arith, c.loop-place.invariant.room, c.visit-in-loop-place.ensures.capacity);
-      capacity = omega (arith, c.loop-place.invariant.capacity, c.visit-in-loop-place.ensures.capacity);
+      way = rw c.visit-in-Some.ensures.items (IsOnWay-more _ c.args.live.now c.loop-path.live c.args.start c.loop-path.path.items c.as_slice.result.now
+          c.index-last.result.now c.in-Some.next c.loop-path.invariant.way last c.in-Some.ensures c.as_slice.ensures.value c.in_default.ensures);
+      room = omega (arith, c.loop-path.invariant.room, c.visit-in-Some.ensures.capacity);
+      capacity = omega (arith, c.loop-path.invariant.capacity, c.visit-in-Some.ensures.capacity);
+    }
+
+pub loop-path-smaller : goal.loop-path-smaller
+loop-path-smaller g c =
+    let last : IsLast c.loop-path.path.items c.index-last.result.now = grind (arith, common_steps, last_read) in
+    let marked = last_marked _ c.args.live.now c.loop-path.live c.args.start c.loop-path.path.items c.index-last.result.now c.loop-path.invariant.way last in
+    let fewer : marked_count (set c.loop-path.live c.index-last.result.now false) + 1 ≡ marked_count c.loop-path.live =
+    marked_count-set c.loop-path.live c.index-last.result.now (marked_below c.loop-path.live c.index-last.result.now marked) marked in
+    omega (
+      arith,
+      fewer,
+      last.some,
+      length-set c.loop-path.live c.index-last.result.now false,
+      ap length c.pop.ensures.rest,
+      length-take (vec_len c.loop-path.path - 1) c.loop-path.path.items,
+      c.loop-path.path.ok.0,
+      c.pop.new.self.ok.0,
+    )
+
+pub loop-path-preserved : goal.loop-path-preserved
+loop-path-preserved g c =
+    let last : IsLast c.loop-path.path.items c.index-last.result.now = grind (arith, common_steps, last_read) in
+    record {
+      way = rw (c.pop.ensures.rest, c.loop-path.path.ok.0) (IsOnWay-back _ c.args.live.now c.loop-path.live c.args.start c.loop-path.path.items
+          c.index-last.result.now c.loop-path.invariant.way last c.in-None.ensures);
+      room = omega (arith, c.loop-path.invariant.room, c.pop.ensures.capacity, length-set c.loop-path.live c.index-last.result.now false);
+      capacity = omega (arith, c.loop-path.invariant.capacity, c.pop.ensures.capacity);
     }
