@@ -79,11 +79,11 @@ pub stays_where_kept : (m : Mix) (part : ClassPart) (change : PhaseChange) → I
 stays_where_kept m part change is moves kept before leads sound = grind (arith, common_steps, part_keeps_sound)
 
 -- and where no fault of the class is told
-pub stays_where_told : (m : Mix) (change : PhaseChange) (atom a : ℕ) (result : Option Fault) (turns : List Turn) → a ≡ atom
-    → IsClassVerdict (two_states m change.phases change.phases) a result turns → IfNone result (StaysSoundAt m change atom)
-stays_where_told m change atom a None turns is told = λ before leads sound. subst (λ (x : ℕ). SoundAt m (state_in change.phases) (sample_of m.classes x)) is
-    (clear_told m change.phases change.phases a turns told (state_in change.phases) (between_itself (length m.net) change.phases))
-stays_where_told m change atom a (Some fault) turns is told = tt
+pub stays_where_told : (m : Mix) (change : PhaseChange) (atom : ℕ) (result : Option Fault) (turns : List Turn)
+    → IsClassVerdict (two_states m change.phases change.phases) atom result turns → IfNone result (StaysSoundAt m change atom)
+stays_where_told m change atom None turns told = λ before leads sound. clear_told m change.phases change.phases atom turns told (state_in change.phases)
+    (between_itself (length m.net) change.phases)
+stays_where_told m change atom (Some fault) turns told = tt
 
 -- what is known once the parts at the first i places are looked at
 abbrev pub StayFirst : Mix → List ClassPart → List ℕ → PhaseChange → ℕ → Type 0

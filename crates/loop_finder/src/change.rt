@@ -87,7 +87,7 @@ fn part_fault<O: RouteSource, N: RouteSource>(
     if passes_part_never(part, &span, router, mixed.net().routers(), room) {
         return None;
     }
-    class_fault(mixed, &span, part.atom(), room)
+    class_fault(mixed, &span, part, room)
 }
 
 /// Whether all routers move in a part, and a router has the same hops in two phases.

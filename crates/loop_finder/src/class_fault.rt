@@ -2,16 +2,19 @@ ghost use Rattle.std.specs.Prelude.{◌≡◌, ◌<◌, ◌≤◌, ◌↔◌, �
 ghost use Rattle.std.specs.Bool.{OnFalse, OnTrue};
 ghost use Rattle.std.specs.Vec.{vec_capacity};
 ghost use Rattle.net_model.specs.Network.{Connected};
-ghost use Rattle.prefix_atoms.specs.Classes.{HasTarget, IsInClass};
+ghost use Rattle.prefix_atoms.specs.Classes.{HasTarget};
 ghost use Rattle.order_core.specs.Marks.{IsMarked};
 ghost use Rattle.loop_finder.specs.Faults.{KeepsRing};
 ghost use Rattle.loop_finder.specs.Rooms.{HasRoom};
 ghost use Rattle.loop_finder.specs.Mixes.{mix_of, sample_of};
+ghost use Rattle.loop_finder.specs.Parts.{IsPart};
 ghost use Rattle.loop_finder.specs.steps.ClassSteps.{AreForwarders, state_over};
 ghost use Rattle.loop_finder.specs.steps.Verdicts.{IsClassVerdict, Verdict, two_states};
 
+use crate::class_hops::class_target;
 use crate::class_steps::ClassSteps;
 use crate::fault::Fault;
+use crate::part::Part;
 use crate::ring::find_ring;
 use crate::room::Room;
 use crate::span::Span;
@@ -21,24 +24,25 @@ use order_core::Turn;
 use rib_mix::Mixed;
 use route_core::RouteSource;
 
-/// The fault of the steps of two states for a class, at the class's least address.
+/// The fault of the steps of two states for the class of a part, at the class's least address.
 pub(crate) fn class_fault<O: RouteSource, N: RouteSource>(
     mixed: &Mixed<'_, O, N>,
     span: &Span<'_>,
-    atom: u32,
+    part: &Part<'_>,
     room: &mut Room,
 ) -> Option<Fault>
-    requires atom { atom < length mixed.now.classes.samples }
+    requires part { IsPart (mix_of O.table N.table mixed.now) part.now }
     requires span { length span.now.first.now ≡ length mixed.now.net }
     requires room { HasRoom (length mixed.now.net) room.old }
     ensures room { HasRoom (length mixed.now.net) room.new }
-    ensures told { IsClassVerdict (two_states (mix_of O.table N.table mixed.now) span.now.first.now span.now.last.now) atom result room.new.ring.items }
+    ensures told { IsClassVerdict (two_states (mix_of O.table N.table mixed.now) span.now.first.now span.now.last.now) part.now.atom result room.new.ring.items }
     ensures ring { KeepsRing result room.old.ring.items room.new.ring.items }
 {
+    let atom = part.atom();
     if !mark_class(mixed, atom, &mut room.forwards) {
         return None;
     }
-    let steps = ClassSteps::new(mixed, span, room.forwards.as_slice(), atom);
+    let steps = ClassSteps::new(mixed, span, room.forwards.as_slice(), part);
     steps_fault(
         &steps,
         mixed.atoms().sample(atom),
@@ -46,27 +50,6 @@ pub(crate) fn class_fault<O: RouteSource, N: RouteSource>(
         &mut room.path,
         &mut room.ring,
     )
-}
-
-/// A class with the target of its addresses.
-#[derive(Drop)]
-pub(crate) struct ClassTarget {
-    /// The class.
-    pub atom: u32,
-    /// The target.
-    pub target: Prefix,
-}
-
-/// The target of a class, none where its addresses have none.
-pub(crate) fn class_target<O: RouteSource, N: RouteSource>(
-    mixed: &Mixed<'_, O, N>,
-    atom: u32,
-) -> Option<Prefix>
-    requires atom { atom < length mixed.now.classes.samples }
-    ensures target { HasTarget mixed.now.net (sample_of mixed.now.classes atom) result }
-    ensures least { IsInClass mixed.now.classes atom (sample_of mixed.now.classes atom) }
-{
-    mixed.atoms().target(atom)
 }
 
 /// Marks the routers that have to pass packets for a class on; false where its addresses have no target.

@@ -1,11 +1,12 @@
 ghost use Rattle.std.specs.Prelude.{◌≡◌, ◌<◌, ◌↔◌, ℕ, Contains, length};
 ghost use Rattle.loop_finder.specs.steps.Making.{IsHopsOf};
-ghost use Rattle.prefix_atoms.specs.Classes.{IsInClass};
+ghost use Rattle.prefix_atoms.specs.Classes.{HasTarget, IsInClass};
 ghost use Rattle.rib_mix.specs.Answers.{NextLeadsTo};
 ghost use Rattle.loop_finder.specs.Parts.{StepsOf};
 ghost use Rattle.loop_finder.specs.Mixes.{mix_of, sample_of, class_in};
 ghost use Rattle.loop_finder.specs.steps.ClassSteps.{AreForwarders};
 
+use net_addr::Prefix;
 use rib_mix::{Mixed, Next, Phase};
 use route_core::RouteSource;
 
@@ -43,6 +44,27 @@ pub(crate) fn next_hops<'m, O: RouteSource, N: RouteSource>(
     ensures hops { IsHopsOf (class_in (mix_of O.table N.table mixed.now) atom) router phase result.now }
 {
     hops_of(mixed.hops(router, atom, phase))
+}
+
+/// A class with the target of its addresses.
+#[derive(Drop)]
+pub(crate) struct ClassTarget {
+    /// The class.
+    pub atom: u32,
+    /// The target.
+    pub target: Prefix,
+}
+
+/// The target of a class, none where its addresses have none.
+pub(crate) fn class_target<O: RouteSource, N: RouteSource>(
+    mixed: &Mixed<'_, O, N>,
+    atom: u32,
+) -> Option<Prefix>
+    requires atom { atom < length mixed.now.classes.samples }
+    ensures target { HasTarget mixed.now.net (sample_of mixed.now.classes atom) result }
+    ensures least { IsInClass mixed.now.classes atom (sample_of mixed.now.classes atom) }
+{
+    mixed.atoms().target(atom)
 }
 
 /// The hops of an answer.

@@ -2,11 +2,13 @@ ghost use Rattle.std.specs.Prelude.{◌≡◌, ◌<◌, ◌↔◌, ℕ, Contains
 ghost use Rattle.std.specs.Bool.{OnFalse, OnTrue};
 ghost use Rattle.igp_theory.specs.Forwarding.{MustForward};
 ghost use Rattle.igp_theory.specs.Phases.{state_in};
-ghost use Rattle.loop_finder.specs.Mixes.{sample_of};
+ghost use Rattle.loop_finder.specs.Mixes.{mix_of, sample_of};
+ghost use Rattle.loop_finder.specs.Parts.{IsPart};
 ghost use Rattle.loop_finder.specs.steps.ClassSteps.{AreForwarders, FirstStuck, IsStuck, IsStuckIn, Moves, MovesIn, StepsBy, state_over};
 
 use crate::class_hops::class_hops;
 use crate::graph::StepGraph;
+use crate::part::Part;
 use crate::span::Span;
 use rib_mix::{Mixed, Phase};
 use route_core::RouteSource;
@@ -20,6 +22,8 @@ pub(crate) struct ClassSteps<'s, 'm, O: RouteSource, N: RouteSource> {
     last: &'s [Phase],
     forwards: &'s [bool],
     atom: u32,
+    /// Whether every router that has to pass packets on is known to have a step in both networks.
+    moves: bool,
 }
 
 impl<'s, 'm, O: RouteSource, N: RouteSource> Model for ClassSteps<'s, 'm, O, N> {
@@ -34,32 +38,32 @@ impl<'s, 'm, O: RouteSource, N: RouteSource> Model for ClassSteps<'s, 'm, O, N> 
       mixture = mix_of O.table N.table x.mixed.now;
       first = x.first.now;
       last = x.last.now;
-      forwards =
-          x.forwards.now;
+      forwards = x.forwards.now;
       atom = x.atom;
-    }) };
+    }) x.moves };
 }
 
 impl<'s, 'm, O: RouteSource, N: RouteSource> ClassSteps<'s, 'm, O, N> {
-    /// The steps of two states for a class, where it's known which routers have to pass its packets on.
+    /// The steps of two states for the class of a part, where it's known which routers have to pass its packets on.
     pub fn new(
         mixed: &'s Mixed<'m, O, N>,
         span: &'s Span<'s>,
         forwards: &'s [bool],
-        atom: u32,
+        part: &Part<'_>,
     ) -> ClassSteps<'s, 'm, O, N>
-        requires atom { atom < length mixed.now.classes.samples }
+        requires part { IsPart (mix_of O.table N.table mixed.now) part.now }
         requires span { length span.now.first.now ≡ length mixed.now.net }
         requires many { length forwards.now ≡ length mixed.now.net }
-        requires forwards { AreForwarders mixed.now.net (sample_of mixed.now.classes atom) forwards.now }
-        ensures { result ≡ record { mixture = mixed.now; first = span.now.first.now; last = span.now.last.now; forwards = forwards.now; atom = atom } }
+        requires forwards { AreForwarders mixed.now.net (sample_of mixed.now.classes part.now.atom) forwards.now }
+        ensures { result ≡ record { mixture = mixed.now; first = span.now.first.now; last = span.now.last.now; forwards = forwards.now; atom = part.now.atom } }
     {
         ClassSteps {
             mixed,
             first: span.first,
             last: span.last,
             forwards,
-            atom,
+            atom: part.atom(),
+            moves: part.moves(),
         }
     }
 
@@ -90,6 +94,9 @@ impl<'s, 'm, O: RouteSource, N: RouteSource> ClassSteps<'s, 'm, O, N> {
     pub fn first_stuck(&self) -> Option<u32>
         ensures { FirstStuck (state_over O.table N.table self.now) result }
     {
+        if self.moves {
+            return None;
+        }
         for router in 0..self.mixed.net().routers() {
             if self.is_stuck(router) {
                 return Some(router);
@@ -158,9 +165,13 @@ impl<'s, 'm, O: RouteSource, N: RouteSource> StepGraph for ClassSteps<'s, 'm, O,
     }
 
     fn hops(&self, router: u32) -> (&[u32], &[u32]) {
-        let first = self.hops_in(router, self.first_phase(router));
-        let last = self.hops_in(router, self.last_phase(router));
-        (first, last)
+        let first = self.first_phase(router);
+        let last = self.last_phase(router);
+        let hops = self.hops_in(router, first);
+        if first == last {
+            return (hops, &[]);
+        }
+        (hops, self.hops_in(router, last))
     }
 }
 

@@ -85,7 +85,7 @@ fn fault_at<O: RouteSource, N: RouteSource>(
     if is_clear_at(subject, place, span, stir, room) {
         return None;
     }
-    class_fault(subject.mixed, span, subject.parts[place].atom(), room)
+    class_fault(subject.mixed, span, &subject.parts[place], room)
 }
 
 /// Whether every router moves in the part at a place, and no walk over its steps in two states returns. Of a wave of which this

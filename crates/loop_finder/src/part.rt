@@ -13,8 +13,7 @@ ghost use Rattle.loop_finder.specs.Mixes.{mix_of, sample_of, class_in};
 ghost use Rattle.loop_finder.specs.Watches.{IsIdle};
 
 use crate::chains::number_of;
-use crate::class_fault::ClassTarget;
-use crate::class_hops::next_hops;
+use crate::class_hops::{ClassTarget, next_hops};
 use crate::ends::Ends;
 use crate::live::is_marked;
 use crate::row::Row;

@@ -8,7 +8,7 @@ ghost use Rattle.loop_finder.specs.steps.PartRows.{HasEarlierHops};
 ghost use Rattle.loop_finder.specs.Parts.{AllMove, AreParts, IsCovered};
 ghost use Rattle.loop_finder.specs.Mixes.{mix_of, sample_of, class_in};
 
-use crate::class_fault::{ClassTarget, class_target};
+use crate::class_hops::{ClassTarget, class_target};
 use crate::live::none_marked;
 use crate::making::{Making, Makings};
 use crate::part::{Part, digest_of};

@@ -1,5 +1,6 @@
 -- The steps of two states, for the addresses of one class: both are the state looked at, or the ends of a wave.
 use Rattle.std.specs.Prelude.{◌≡◌, ℕ, ◌<◌, ◌↔◌, ◌⊎◌, Bool, List, length, Option, Some, None}
+use Rattle.std.specs.Bool.{OnTrue}
 use Rattle.net_model.specs.Network.{Network}
 use Rattle.igp_theory.specs.Forwarding.{MustForward, Steps}
 use Rattle.igp_theory.specs.Loops.{IsTag}
@@ -8,7 +9,8 @@ use Rattle.order_core.specs.Marks.{IsMarked}
 use Rattle.order_core.specs.declared.turn.Turn.{Turn}
 use Rattle.rib_mix.specs.Mixture.{Mixture}
 use Rattle.igp_theory.specs.Phases.{state_in}
-use Rattle.loop_finder.specs.Mixes.{Listing, Mix, mix_of, migration_in, sample_of}
+use Rattle.loop_finder.specs.Mixes.{Listing, Mix, class_in, mix_of, migration_in, sample_of}
+use Rattle.loop_finder.specs.Parts.{AllMove}
 
 -- two states and a class: what is mixed, the phase of each router in the first state and in the last, whether
 -- each router has to pass packets on, and the class
@@ -34,13 +36,14 @@ state_over old new s = record { mixture = mix_of old new s.mixture; first = s.fi
 abbrev pub AreForwarders : Network → ℕ → List Bool → Type 0
 AreForwarders net a forwards = (u : ℕ) → IsMarked forwards u ↔ MustForward net a u
 
--- what two states and a class keep
-pub record IsClassState (c : ClassState) : Type 0 where
+-- what two states and a class keep, of which all routers may be known to move in both networks
+pub record IsClassState (c : ClassState) (moves : Bool) : Type 0 where
   pub inside : c.atom < length c.mixture.classes.samples
   pub first_phases : length c.first ≡ length c.mixture.net
   pub last_phases : length c.last ≡ length c.mixture.net
   pub many : length c.forwards ≡ length c.mixture.net
   pub forwarders : AreForwarders c.mixture.net (sample_of c.mixture.classes c.atom) c.forwards
+  pub moving : OnTrue moves (AllMove (class_in c.mixture c.atom))
 
 -- a router steps to another in a phase, for the addresses of the class
 abbrev pub StepsBy : ClassState → ℕ → Phase → ℕ → Type 0

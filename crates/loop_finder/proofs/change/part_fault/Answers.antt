@@ -11,5 +11,5 @@ returns-then-passes_part_never-clause-sound g c = stays_where_never (mix_of g.O.
     c.requires.part c.if-passes_part_never.ensures.moves c.if-passes_part_never.ensures.never
 
 pub returns-clause-sound : goal.returns-clause-sound
-returns-clause-sound g c = stays_where_told (mix_of g.O.RouteSource.table g.N.RouteSource.table c.args.mixed.now) _ c.args.part.now.atom c.atom.result
-    c.class_fault.result c.class_fault.new.room.ring.items c.atom.ensures c.class_fault.ensures.told
+returns-clause-sound g c = stays_where_told (mix_of g.O.RouteSource.table g.N.RouteSource.table c.args.mixed.now) _ c.args.part.now.atom
+    c.class_fault.result c.class_fault.new.room.ring.items c.class_fault.ensures.told

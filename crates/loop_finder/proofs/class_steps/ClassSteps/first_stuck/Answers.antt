@@ -1,8 +1,10 @@
-use Rattle.std.proofs.Common.{ℕ, ◌<◌, length, ap, arith, below_more}
+use Rattle.std.proofs.Common.{ℕ, ◌<◌, length, ap, subst, arith, below_more}
+use Rattle.std.proofs.lemmas.Bool.{OnTrue_at}
 use Rattle.net_model.specs.Network.{Network}
 use Rattle.igp_theory.specs.Forwarding.{MustForward}
-use Rattle.loop_finder.specs.Mixes.{sample_of}
+use Rattle.loop_finder.specs.Mixes.{mix_of, sample_of}
 use Rattle.loop_finder.specs.steps.ClassSteps.{Moves, SourceState, state_over}
+use Rattle.loop_finder.proofs.ClassFacts.{all_moves}
 use Rattle.loop_finder.proofs.class_steps.ClassSteps.first_stuck.Goals as goal
 
 pub loop-router-preserved : goal.loop-router-preserved
@@ -19,3 +21,14 @@ returns g c u =
     let router : u < length c.args.self.now.mixture.net = must.router in
     omega (arith, router, c.loop-router-test.false, c.routers-router-end.ensures.count, net, own) in
     (λ must. (c.loop-router.invariant u (below must)).0 must, λ must. (c.loop-router.invariant u (below must)).1 must)
+
+pub returns-then-self : goal.returns-then-self
+returns-then-self g c u =
+    subst (λ (x : SourceState g.row.O.Denot g.row.N.Denot). Moves (state_over g.O.RouteSource.table g.N.RouteSource.table x) u) c.self.view_is
+    (all_moves (record {
+      mixture = mix_of g.O.RouteSource.table g.N.RouteSource.table c.self.inside.mixed.now;
+      first = c.self.inside.first.now;
+      last = c.self.inside.last.now;
+      forwards = c.self.inside.forwards.now;
+      atom = c.self.inside.atom;
+    }) (OnTrue_at c.if-self.true c.self.invariant.moving) u)
