@@ -249,6 +249,9 @@ fn next_wave(steppers: &[u32], times: &[ChangeWaves], from: u32) -> u32
     for router in steppers {
         let waves = times[*router as usize];
         next = earlier_of(waves.second, from, earlier_of(waves.first, from, next));
+        if next == from {
+            return from;
+        }
     }
     next
 }
