@@ -76,6 +76,7 @@ impl<'s, 'm> StepGraph for WaveSteps<'s, 'm> {
         self.routers
     }
 
+    #[inline(always)]
     fn hops(&self, router: u32) -> (&[u32], &[u32]) {
         let waves = self.times[router as usize];
         let begins = self.part.hops_in(router, waves.begins(self.wave));
