@@ -94,6 +94,8 @@ pub(crate) struct Calm {
     pub times: Vec<ChangeWaves>,
     /// For each piece a wave of it before which it is calm.
     pub before: Vec<u32>,
+    /// For each piece whether it was looked at, and nothing has changed in that wave and those before since then.
+    looked: Vec<bool>,
 }
 
 impl Calm {
@@ -109,6 +111,7 @@ impl Calm {
         Ok(Calm {
             times: vec![in alloc; once; routers as usize]?,
             before: vec![in alloc; 1; pieces.all.len()]?,
+            looked: vec![in alloc; false; pieces.all.len()]?,
         })
     }
 
@@ -133,7 +136,29 @@ impl Calm {
         ensures ring { room.new.ring.items ≡ room.old.ring.items }
     {
         self.take_times(pieces, times);
-        look(pieces, routers, times, &mut self.before, room);
+        self.look(pieces, routers, times, room);
+    }
+
+    /// Looks at each piece where something may have changed since it was looked at, from the first wave on in which it isn't known to
+    /// be calm.
+    fn look(&mut self, pieces: &Pieces<'_>, routers: u32, times: &[ChangeWaves], room: &mut Room)
+        requires rows { All (λ piece. length piece.rows ≡ routers) pieces.now.all.items }
+        requires times { length times.now ≡ routers }
+        requires calm { AreCalm pieces.now.all.items (times_in times.now) self.old.before.items }
+        requires room { HasRoom routers room.old }
+        ensures times { self.new.times.items ≡ self.old.times.items }
+        ensures calm { AreCalm pieces.now.all.items (times_in times.now) self.new.before.items }
+        ensures room { HasRoom routers room.new }
+        ensures ring { room.new.ring.items ≡ room.old.ring.items }
+    {
+        for place in 0..pieces.all.len() {
+            if has_mark(self.looked.as_slice(), place) {
+                continue;
+            }
+            let known = self.before[place];
+            self.before[place] = calm_from(&pieces.all[place], routers, times, known, room);
+        }
+        self.looked.fill(true);
     }
 
     /// Takes the waves of another timetable.
@@ -162,11 +187,15 @@ impl Calm {
         if known == waves {
             return;
         }
-        lower(
-            places.as_slice(),
-            least_moved(known, waves),
-            &mut self.before,
+        let most = least_moved(known, waves);
+        let places = places.as_slice();
+        unmark(
+            places,
+            most,
+            self.before.as_slice(),
+            self.looked.as_mut_slice(),
         );
+        lower(places, most, &mut self.before);
         self.times[router] = waves;
     }
 }
@@ -181,24 +210,17 @@ fn lower(places: &[usize], most: u32, before: &mut Vec<u32>)
     }
 }
 
-/// Looks at each piece from the first wave on in which it isn't known to be calm.
-fn look(
-    pieces: &Pieces<'_>,
-    routers: u32,
-    times: &[ChangeWaves],
-    before: &mut Vec<u32>,
-    room: &mut Room,
-)
-    requires rows { All (λ piece. length piece.rows ≡ routers) pieces.now.all.items }
-    requires times { length times.now ≡ routers }
-    requires calm { AreCalm pieces.now.all.items (times_in times.now) before.old.items }
-    requires room { HasRoom routers room.old }
-    ensures calm { AreCalm pieces.now.all.items (times_in times.now) before.new.items }
-    ensures room { HasRoom routers room.new }
-    ensures ring { room.new.ring.items ≡ room.old.ring.items }
-{
-    for place in 0..pieces.all.len() {
-        before[place] = calm_from(&pieces.all[place], routers, times, before[place], room);
+/// Whether a place is marked.
+fn has_mark(marks: &[bool], place: usize) -> bool {
+    marks.get(place).copied().unwrap_or(false)
+}
+
+/// Takes the marks from those of some places at which there is no lower number than this.
+fn unmark(places: &[usize], most: u32, before: &[u32], marks: &mut [bool]) {
+    for place in places {
+        if let (Some(wave), Some(mark)) = (before.get(*place), marks.get_mut(*place)) {
+            *mark &= *wave < most;
+        }
     }
 }
 

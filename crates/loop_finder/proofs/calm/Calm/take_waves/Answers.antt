@@ -14,7 +14,7 @@ returns-then-eq-clause-times c = sym (ap (λ (waves : ChangeWaves). set c.args.s
 pub returns-clause-calm : goal.returns-clause-calm
 returns-clause-calm c parts placed calm =
     AreCalm-with_waves parts c.args.self.now.times.items c.args.self.now.before.items c.lower.new.before.items c.args.places.now c.args.router
-    c.least_moved.result c.args.waves c.requires.router
-    (subst (λ (was : ChangeWaves). AreMovedFrom c.least_moved.result was c.args.waves) (c.index.ensures
+    c.least_moved-most.result c.args.waves c.requires.router
+    (subst (λ (was : ChangeWaves). AreMovedFrom c.least_moved-most.result was c.args.waves) (c.index.ensures
     ∙ get_or_default c.args.self.now.times.items c.args.router c.index.result.now (record { first = 1; second = 1 }) c.requires.router)
-    c.least_moved.ensures) placed (rw c.as_slice.ensures at c.lower.ensures) calm
+    c.least_moved-most.ensures) placed (rw c.as_slice-places.ensures at c.lower.ensures) calm
