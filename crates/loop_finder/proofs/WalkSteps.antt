@@ -2,7 +2,7 @@
 use Rattle.std.proofs.Common.{◌≡◌, ◌≢◌, ℕ, suc, ◌+◌, ◌-◌, ◌<◌, ◌≤◌, Bool, false, List, Some, None, [], ◌∷◌, ◌++◌, length, get_or, set, take, drop, arith, refl, sym, ap, ◌∙◌, subst, inl, inr}
 use Rattle.std.specs.List.{All, AllPairs}
 use Rattle.std.proofs.lemmas.List.{take-append-drop, drop_more, length_push, length-set, get_or-set_same, get_or-set_other, get_or-take, length-take, get_or_append_left, get_or_push, get_or_past, get_or_default, take_at, length-drop, length-append}
-use Rattle.std.proofs.lemmas.List.Elements.{All-append, All-drop, All-nil, All-take, All-push, All-weaker}
+use Rattle.std.proofs.lemmas.List.Elements.{All-append, All-drop, All-take, All-push, All-weaker}
 use Rattle.std.proofs.lemmas.Bool.{cases_lt, false≢true}
 use Rattle.std.proofs.lemmas.List.Quantifiers.{all_pairs_push}
 use Rattle.igp_theory.specs.Loops.{IsLive, IsLowestLiveHop, IsFoundRing}
@@ -55,34 +55,6 @@ least_at : (step : ℕ → ℕ → Type 0) (marks : List Bool) (path : List ℕ)
     IsMarkedHop step marks last next → IsLeastHop step marks (get_or path k 0) next
 least_at step marks path last next k at e hop = subst (λ (j : ℕ). IsLeastHop step marks (get_or path j 0) next) e
     (subst (λ (u : ℕ). IsLeastHop step marks u next) (sym at.at) (record { steps = hop.steps; lowest = hop.lowest }))
-
--- at the start
-pub IsOnWay-first : (step : ℕ → ℕ → Type 0) (marks : List Bool) (start : ℕ) → AreBounded step marks → IsMarked marks start →
-    IsOnWay step marks marks start (start ∷ [])
-IsOnWay-first step marks start bounded marked = record {
-  bounded = bounded;
-  many = refl;
-  fewer = λ r m. m;
-  begins = λ some. refl;
-  in_vain = λ none. absurd (omega (arith, none));
-  distinct = λ i j d below within. absurd (omega (arith, below, within));
-  marked = All-push (IsMarked marks) [] start (All-nil (IsMarked marks)) marked;
-  goes = λ k within. absurd (omega (arith, within));
-}
-
--- in vain at once
-pub IsOnWay-none : (step : ℕ → ℕ → Type 0) (marks : List Bool) (start : ℕ) → AreBounded step marks → ¬ IsMarked marks start →
-    IsOnWay step marks marks start []
-IsOnWay-none step marks start bounded bare = record {
-  bounded = bounded;
-  many = refl;
-  fewer = λ r m. m;
-  begins = λ some. absurd (omega (arith, some));
-  in_vain = λ none. bare;
-  distinct = λ i j d below within. absurd (omega (arith, within));
-  marked = All-nil (IsMarked marks);
-  goes = λ k within. absurd (omega (arith, within));
-}
 
 -- a hop more, to a router where the walk hasn't been
 pub IsOnWay-more : (step : ℕ → ℕ → Type 0) (all marks : List Bool) (start : ℕ) (path shown : List ℕ) (last next : ℕ) → IsOnWay step all marks start path →

@@ -35,7 +35,8 @@ pub(crate) fn class_fault<O: RouteSource, N: RouteSource>(
     requires span { length span.now.first.now ≡ length mixed.now.net }
     requires room { HasRoom (length mixed.now.net) room.old }
     ensures room { HasRoom (length mixed.now.net) room.new }
-    ensures told { IsClassVerdict (two_states (mix_of O.table N.table mixed.now) span.now.first.now span.now.last.now) part.now.atom result room.new.ring.items }
+    ensures told { IsClassVerdict (two_states (mix_of O.table N.table mixed.now) span.now.first.now span.now.last.now) part.now.atom result
+        room.new.ring.items }
     ensures ring { KeepsRing result room.old.ring.items room.new.ring.items }
 {
     let atom = part.atom();
