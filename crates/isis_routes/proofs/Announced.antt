@@ -15,7 +15,7 @@ use Rattle.route_tables.specs.Lists.{Adds, Exactly}
 use Rattle.isis_routes.specs.steps.Offered.{AddsOffers, HoldsOffers, IsOfferOf, LevelOneAnnouncement, OwnAnnouncement}
 use Rattle.isis_routes.specs.steps.Routing.{RunsBothLevels}
 use Rattle.isis_routes.specs.steps.Destinations.{IsLevelOne}
-use Rattle.isis_routes.specs.steps.Near.{AreNear, HoldAnnouncers}
+use Rattle.isis_routes.specs.steps.Near.{AreNearOfBoth, HoldAnnouncers}
 use Rattle.isis_routes.specs.declared.level_one.LevelOne.{LevelOne}
 use Rattle.walk_core.specs.BestOffers.{ListsOffer}
 use Rattle.walk_core.specs.Walks.{LeastCost}
@@ -56,7 +56,7 @@ none_announce net one is none = record {
 
 -- else those do that reach the router where all is offered
 pub near_announce : (net : Network) (one : LevelOne) (h : ℕ) (near : List ℕ) → IsLevelOne net one →
-    ((at asks : ℕ) → ListsOffer one.offers.items at asks → at ≡ h) → AreNear net h near → HoldAnnouncers net one.dest near
+    ((at asks : ℕ) → ListsOffer one.offers.items at asks → at ≡ h) → AreNearOfBoth net h near → HoldAnnouncers net one.dest near
 near_announce net one h near is lone are = record {
   both = λ u has. ((are u).0 has).both;
   every = λ u cost announces.

@@ -1,6 +1,6 @@
 ghost use Rattle.std.specs.Prelude.{◌≡◌, ◌<◌, ◌↔◌, ℕ, length, Some, IfOk};
 ghost use Rattle.isis_routes.specs.steps.Destinations.{IsLevelOne};
-ghost use Rattle.isis_routes.specs.steps.Near.{AreAllNear, AreNear, HoldAnnouncers, IsNear};
+ghost use Rattle.isis_routes.specs.steps.Near.{AreAllNear, AreNearOfBoth, HoldAnnouncers, IsNear};
 
 use crate::OutOfMemory;
 use crate::domain::Domain;
@@ -27,7 +27,7 @@ impl Model for NearRouters {
 impl NearRouters {
     /// Those that reach the router `to`.
     fn of_router(alloc: Global, domain: &Domain<'_>, to: u32) -> Result<NearRouters, OutOfMemory>
-        ensures { IfOk result (AreNear domain.now.net to) }
+        ensures { IfOk result (AreNearOfBoth domain.now.net to) }
     {
         let mut routers = Vec::new(alloc);
         for router in domain.both() {

@@ -15,7 +15,7 @@ use Rattle.rib_mix.specs.steps.Homes.{AreNetHomes}
 use Rattle.rib_mix.specs.steps.Likeness.{AreLike, AreLikeAt, PlacedPrefixes}
 use Rattle.rib_mix.specs.steps.WayUp.{AreOwnCells, IsOwnAmong, Own}
 use Rattle.rib_mix.specs.steps.Sorts.{AreSorts, IsSorting, sort_at}
-use Rattle.rib_mix.specs.steps.SortKinds.{AreKindCells, AreSortKinds, HasFew, HaveCodes, HaveEarlierParents, IsOfRouter}
+use Rattle.rib_mix.specs.steps.SortKinds.{AreKindCells, AreSortKinds, HasFew, HaveCodes, HaveEarlierParents, TellsOfRouter}
 use Rattle.std.proofs.Math.ListN.{get_or-map}
 use Rattle.rib_mix.proofs.SortSteps.{sort_inside}
 use Rattle.rib_mix.proofs.HomeLaws.{connected_at}
@@ -109,7 +109,7 @@ counted_codes false numbers have kind number is = have kind number is
 
 -- and so has each number of a router's tables
 pub own_codes : (routers u ospf : ℕ) (tables : List BothTables) (both : BothTables) (connected : List Bool) (own : OfRouter)
-    → AreTablesInParts routers tables → slice_get tables u ≡ Some both → IsOfRouter connected both ospf own
+    → AreTablesInParts routers tables → slice_get tables u ≡ Some both → TellsOfRouter connected both ospf own
     → HaveCodes own.olds.now × HaveCodes own.news.now
 own_codes routers u ospf tables both connected own parts at is = (
   subst HaveCodes (sym is.olds_are) (counted_codes (ospf == 255) both.old.numbers.now
@@ -123,7 +123,7 @@ pub row_of_cells : (g : Ground) (classes : Classes) (spots : Spots) (homes : Lis
     → IsServing g classes spots homes sorts → slice_get g.tables u ≡ Some both → IsNetwork g.net → HasOspfDistance g.net u ospf
     → AreSortKinds spots sorts both.old.kinds.now both.new.kinds.now (length sorts.firsts.items) kinds
     → AreConnectedSorts (length g.net) sorts.firsts.items homes (length sorts.firsts.items) rows → u < length g.net
-    → IsOfRouter (get_or rows u []) both ospf own → AreKindCells kinds own (length kinds) cells
+    → TellsOfRouter (get_or rows u []) both ospf own → AreKindCells kinds own (length kinds) cells
     → IsRow (site g u both) classes.samples (map (sort_at sorts.of_places.items) classes.tops) cells
 row_of_cells g classes spots homes sorts u both ospf kinds own rows cells is at network distance kinds_are flagged router own_is
     made =

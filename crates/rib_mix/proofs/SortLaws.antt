@@ -14,7 +14,7 @@ use Rattle.rib_mix.specs.steps.Likeness.{AreLikeAt, HaveSame, PlacedPrefixes}
 use Rattle.rib_mix.specs.steps.ConnectedSorts.{AreConnectedSorts}
 use Rattle.rib_mix.specs.steps.Homes.{is_home}
 use Rattle.rib_mix.specs.steps.Sorts.{AreSorts, sort_at}
-use Rattle.rib_mix.specs.steps.SortKinds.{AreKindCells, AreSortKinds, HaveEarlierParents, IsOfRouter, has_of, kinds_of}
+use Rattle.rib_mix.specs.steps.SortKinds.{AreKindCells, AreSortKinds, HaveEarlierParents, TellsOfRouter, has_of, kinds_of}
 use Rattle.rib_mix.specs.steps.Spots.{IsPlaced}
 use Rattle.rib_mix.proofs.SortSteps.{still_before}
 use Rattle.rib_mix.specs.Cells.{cell_at, no_cell}
@@ -84,7 +84,7 @@ pub sort_cells : (prefixes : List Block) (spots : Spots) (sorts : Sorts) (homes 
     → IsPlaced prefixes (record { spots = spots.news.items; parts = both.new })
     → AreSortKinds spots sorts both.old.kinds.now both.new.kinds.now (length sorts.firsts.items) kinds
     → AreConnectedSorts routers sorts.firsts.items homes (length sorts.firsts.items) rows → u < routers
-    → IsOfRouter (get_or rows u []) both ospf own → AreKindCells kinds own (length kinds) cells
+    → TellsOfRouter (get_or rows u []) both ospf own → AreKindCells kinds own (length kinds) cells
     → AreSortCells (own_of spots homes u both ospf) sorts (length sorts.firsts.items) cells
 sort_cells prefixes spots sorts homes routers u both ospf kinds own rows cells firsts olds news kinds_are flagged router is are =
     record {

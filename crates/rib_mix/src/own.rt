@@ -3,7 +3,7 @@ ghost use Rattle.std.specs.Bool.{OnTrue};
 ghost use Rattle.route_core.specs.Rows.{kept_in};
 ghost use Rattle.rib_mix.specs.Cells.{cell_at};
 ghost use Rattle.rib_mix.specs.steps.Columns.{AreOtherRows};
-ghost use Rattle.rib_mix.specs.steps.SortKinds.{AreKindCells, HasFew, HaveCodes, HaveEarlierParents, IsOfRouter, has_of};
+ghost use Rattle.rib_mix.specs.steps.SortKinds.{AreKindCells, HasFew, HaveCodes, HaveEarlierParents, TellsOfRouter, has_of};
 ghost use Rattle.rib_mix.specs.steps.Uses.{cell_over};
 
 use crate::both_tables::BothTables;
@@ -51,7 +51,7 @@ pub(crate) fn of_router<'a>(
     both: &BothTables<'a>,
     ospf: u8,
 ) -> Result<OfRouter<'a>, OutOfMemory>
-    ensures { IfOk result (IsOfRouter connected.now both.now ospf) }
+    ensures { IfOk result (TellsOfRouter connected.now both.now ospf) }
 {
     if has_few(both.old) && has_few(both.new) {
         Ok(OfRouter {

@@ -1,7 +1,7 @@
 ghost use Rattle.std.specs.Prelude.{◌≡◌, IfOk, length, slice_index_or};
 ghost use Rattle.std.specs.Bool.{OnTrue};
 ghost use Rattle.rib_mix.specs.steps.Sorts.{IsSorting};
-ghost use Rattle.rib_mix.specs.steps.SortKinds.{AreLaneKinds, AreLanesOf, kind_at_spot};
+ghost use Rattle.rib_mix.specs.steps.SortKinds.{AreKindsInLanes, AreLanesOf, kind_at_spot};
 ghost use Rattle.rib_mix.specs.steps.Spots.{HaveSpots};
 
 use crate::both_tables::BothTables;
@@ -45,7 +45,7 @@ pub(crate) fn lane_kinds<'a>(
     requires sorts { IsSorting (length shared.now.atoms.now.prefixes) shared.now.sorts.now }
     ensures olds { IfOk result (λ lanes. lanes.olds.now ≡ olds.now) }
     ensures news { IfOk result (λ lanes. lanes.news.now ≡ news.now) }
-    ensures kinds { IfOk result (AreLaneKinds shared.now.spots.now shared.now.sorts.now) }
+    ensures kinds { IfOk result (AreKindsInLanes shared.now.spots.now shared.now.sorts.now) }
 {
     let sorts = shared.sorts;
     let spots = shared.spots;
@@ -74,9 +74,9 @@ pub(crate) fn kinds_in_tables<'a>(
 ) -> Result<LaneKinds<'a>, OutOfMemory>
     requires spots { HaveSpots (length shared.now.atoms.now.prefixes) shared.now.spots.now }
     requires sorts { IsSorting (length shared.now.atoms.now.prefixes) shared.now.sorts.now }
-    requires known { AreLaneKinds shared.now.spots.now shared.now.sorts.now known }
+    requires known { AreKindsInLanes shared.now.spots.now shared.now.sorts.now known }
     ensures lanes { IfOk result (AreLanesOf both.now) }
-    ensures kinds { IfOk result (AreLaneKinds shared.now.spots.now shared.now.sorts.now) }
+    ensures kinds { IfOk result (AreKindsInLanes shared.now.spots.now shared.now.sorts.now) }
 {
     if are_in_lane(known.olds, both.old.kinds) && are_in_lane(known.news, both.new.kinds) {
         return Ok(known);

@@ -26,9 +26,9 @@ abbrev pub numbered_line : ℕ → List ℕ → TextLine
 numbered_line number bytes = record { number = number; indent = indent_of bytes; bytes = bytes; words = words_in bytes }
 
 -- the lines that have these bytes, numbered from this number on
-abbrev pub numbered_lines : ℕ → List (List ℕ) → List TextLine
-numbered_lines number [] = []
-numbered_lines number (bytes ∷ more) = numbered_line number bytes ∷ numbered_lines (number + 1) more
+abbrev pub lines_from_number : ℕ → List (List ℕ) → List TextLine
+lines_from_number number [] = []
+lines_from_number number (bytes ∷ more) = numbered_line number bytes ∷ lines_from_number (number + 1) more
 
 -- a line of an interface that may say something of it, by its first word
 abbrev pub may_concern_interface : TextLine → Bool

@@ -20,13 +20,13 @@ pub record IsNearOfBoth (net : Network) (h u : ℕ) : Type 0 where
   pub near : IsNear net h u u
 
 -- these are the routers of both levels that reach h
-abbrev pub AreNear : Network → ℕ → List ℕ → Type 0
-AreNear net h = Exactly (IsNearOfBoth net h)
+abbrev pub AreNearOfBoth : Network → ℕ → List ℕ → Type 0
+AreNearOfBoth net h = Exactly (IsNearOfBoth net h)
 
 -- for each of the first n routers there are those
 pub record AreAllNear (net : Network) (n : ℕ) (all : List (List ℕ)) : Type 0 where
   pub count : length all ≡ n
-  pub each : (h : ℕ) → h < n → AreNear net h (slice_index_or all h [])
+  pub each : (h : ℕ) → h < n → AreNearOfBoth net h (slice_index_or all h [])
 
 -- the routers run both levels, and among them are all that announce p by level 1
 pub record HoldAnnouncers (net : Network) (p : Block) (routers : List ℕ) : Type 0 where

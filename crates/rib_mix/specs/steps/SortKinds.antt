@@ -34,8 +34,8 @@ pub record AreSortKinds (spots : Spots) (sorts : Sorts) (olds news : List ℕ) (
   pub each : (sort : ℕ) (one : SortKinds) → slice_get own sort ≡ Some one → one ≡ kinds_of spots sorts olds news sort
 
 -- the same of all sorts in the lanes that are named
-abbrev pub AreLaneKinds : Spots → Sorts → LaneKinds → Type 0
-AreLaneKinds spots sorts lanes =
+abbrev pub AreKindsInLanes : Spots → Sorts → LaneKinds → Type 0
+AreKindsInLanes spots sorts lanes =
     AreSortKinds spots sorts lanes.olds.now lanes.news.now (length sorts.firsts.items) lanes.of_sorts.items
 
 -- these are the lanes of a router's tables
@@ -53,7 +53,7 @@ pub record HasFew (kept : KeptTable) : Type 0 where
   pub entries : length kept.entries + 2 < 2 ^ 31
 
 -- what tells what a router uses that has these tables and this OSPF distance
-pub record IsOfRouter (connected : List Bool) (both : BothTables) (ospf : ℕ) (own : OfRouter) : Type 0 where
+pub record TellsOfRouter (connected : List Bool) (both : BothTables) (ospf : ℕ) (own : OfRouter) : Type 0 where
   pub connected_are : own.connected.now ≡ connected
   pub olds_are : own.olds.now ≡ (if ospf == MOST_DISTANCE then [] else both.old.numbers.now)
   pub news_are : own.news.now ≡ both.new.numbers.now

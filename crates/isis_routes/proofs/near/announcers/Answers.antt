@@ -1,6 +1,6 @@
 use Rattle.std.proofs.Common.{◌≡◌, ◌∙◌, ◌<◌, ℕ, List, [], ap, arith, get_or, length, refl, subst, sym}
 use Rattle.std.proofs.lemmas.List.{get_or_default}
-use Rattle.isis_routes.specs.steps.Near.{AreNear}
+use Rattle.isis_routes.specs.steps.Near.{AreNearOfBoth}
 use Rattle.isis_routes.proofs.Announced.{all_announce, near_announce, none_announce}
 use Rattle.isis_routes.proofs.near.announcers.Goals as goal
 
@@ -20,7 +20,7 @@ returns-then-at-routers c =
     let same : c.as_slice.result.now ≡ get_or near at [] = c.as_slice.ensures ∙ (c.index-near-at.is
     ∙ get_or_default near at c.index-near-at.result [] (omega (arith, c.requires.near.count))) in
     near_announce net c.args.one.now at c.as_slice.result.now c.requires.one c.in-Some.ensures
-    (subst (AreNear net at) (sym same) (c.requires.near.each at within))
+    (subst (AreNearOfBoth net at) (sym same) (c.requires.near.each at within))
 
 pub returns-else-at-routers : goal.returns-else-at-routers
 returns-else-at-routers c = all_announce c.args.domain.now.net c.args.one.now.dest c.both-else-at-routers.result.now c.both-else-at-routers.ensures

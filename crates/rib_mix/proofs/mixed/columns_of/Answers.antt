@@ -15,7 +15,7 @@ use Rattle.rib_mix.specs.steps.Sorts.{sort_at}
 use Rattle.rib_mix.specs.declared.sort_kinds.LaneKinds.{LaneKinds}
 use Rattle.rib_mix.specs.declared.sort_kinds.SortKinds.{SortKinds}
 use Rattle.rib_mix.specs.declared.spots.Spots.{Spots}
-use Rattle.rib_mix.specs.steps.SortKinds.{AreKindCells, AreSortKinds, HaveEarlierParents, IsOfRouter}
+use Rattle.rib_mix.specs.steps.SortKinds.{AreKindCells, AreSortKinds, HaveEarlierParents, TellsOfRouter}
 use Rattle.rib_mix.proofs.RowLaws.{IsServing, earlier_parents, own_codes, row_of_cells}
 use Rattle.rib_mix.proofs.mixed.columns_of.Goals as goal
 
@@ -82,8 +82,8 @@ loop-router-preserved c =
     let own : c.as_slice-flags.result.now ≡ get_or flags router [] =
     c.as_slice-flags.ensures ∙ c.index.ensures
     ∙ get_or_default flags router c.index.result.now [] (omega (arith, inside, flagged.flags.count)) in
-    let own_is : IsOfRouter (get_or flags router []) both ospf c.in_ok-own.own =
-    subst (λ (flags : List Bool). IsOfRouter flags both ospf c.in_ok-own.own) own c.in_ok-own.ensures in
+    let own_is : TellsOfRouter (get_or flags router []) both ospf c.in_ok-own.own =
+    subst (λ (flags : List Bool). TellsOfRouter flags both ospf c.in_ok-own.own) own c.in_ok-own.ensures in
     let kinds_are : AreSortKinds spots sorts both.old.kinds.now both.new.kinds.now (length sorts.firsts.items) kinds =
     subst (λ (olds : List ℕ). AreSortKinds spots sorts olds both.new.kinds.now (length sorts.firsts.items) kinds)
     c.in_ok-kinds-2.ensures.lanes.olds
