@@ -11,5 +11,6 @@ pub placed_more : (own : List PhaseHops) (places : List ℕ) (row : PhaseHops) �
     → placed_rows (own ++ row ∷ []) (places ++ length own ∷ []) ≡ placed_rows own places ++ row ∷ []
 placed_more own [] row below = ap (λ (r : PhaseHops). r ∷ []) (get_or-append_seam own row [] no_hops)
 placed_more own (k ∷ places) row below =
-    ap (λ (r : PhaseHops). r ∷ placed_rows (own ++ row ∷ []) (places ++ length own ∷ [])) (get_or-append own (row ∷ []) no_hops k (All-head (λ k. k < length own) k places below))
+    ap (λ (r : PhaseHops). r ∷ placed_rows (own ++ row ∷ []) (places ++ length own ∷ []))
+    (get_or-append own (row ∷ []) no_hops k (All-head (λ k. k < length own) k places below))
     ∙ ap (λ (rows : List PhaseHops). get_or own k no_hops ∷ rows) (placed_more own places row (All-tail (λ k. k < length own) k places below))

@@ -6,7 +6,8 @@ use Rattle.loop_finder.proofs.class_steps.ClassStepsStepGraph.hops.Goals as goal
 
 pub returns-then-eq : goal.returns-then-eq
 returns-then-eq g c = steps_of_one (state_over g.O.RouteSource.table g.N.RouteSource.table c.args.self.now) c.args.router c.first_phase-first.result
-    c.last_phase-last.result c.hops_in-hops.result.now c.first_phase-first.ensures c.last_phase-last.ensures (grind (arith, common_steps)) c.hops_in-hops.ensures
+    c.last_phase-last.result c.hops_in-hops.result.now c.first_phase-first.ensures c.last_phase-last.ensures
+    (grind (arith, common_steps)) c.hops_in-hops.ensures
 
 pub returns : goal.returns
 returns g c = steps_of_both (state_over g.O.RouteSource.table g.N.RouteSource.table c.args.self.now) c.args.router c.first_phase-first.result
