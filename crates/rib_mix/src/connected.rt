@@ -21,11 +21,11 @@ impl Model for ConnectedSorts {
 }
 
 impl ConnectedSorts {
-    /// None of so many.
-    fn none(alloc: Global, sorts: usize) -> Result<ConnectedSorts, OutOfMemory>
-        ensures { IfOk result (λ own. own ≡ replicate sorts false) }
+    /// These flags.
+    fn of_flags(alloc: Global, flags: &[bool]) -> Result<ConnectedSorts, OutOfMemory>
+        ensures { IfOk result (λ own. own ≡ flags.now) }
     {
-        let flags = vec![in alloc; false; sorts]?;
+        let flags = Vec::from_slice(alloc, flags)?;
         Ok(ConnectedSorts { flags })
     }
 
@@ -71,9 +71,10 @@ fn none_connected(
 ) -> Result<Vec<ConnectedSorts>, OutOfMemory>
     ensures { IfOk result (λ rows. rows.items ≡ replicate routers (replicate sorts false)) }
 {
+    let none = vec![in alloc; false; sorts]?;
     let mut rows = Vec::with_capacity(alloc, routers as usize)?;
     for _ in 0..routers {
-        let row = ConnectedSorts::none(alloc, sorts)?;
+        let row = ConnectedSorts::of_flags(alloc, none.as_slice())?;
         rows.push(row)?;
     }
     Ok(rows)
