@@ -8,7 +8,7 @@ use Rattle.net_model.specs.declared.zone.Zone.{Zone}
 use Rattle.net_model.specs.declared.zone.Zone.TheVariants.{One as ZoneOne, Two as ZoneTwo}
 use Rattle.walk_core.specs.Walks.{Arcs}
 use Rattle.walk_core.specs.Offers.{BestCost}
-use Rattle.walk_core.specs.Reach.{Reach, AreLeastWalks, AreNearOfBoth}
+use Rattle.walk_core.specs.Reach.{Reach, AreLeastWalks, AreNear}
 use Rattle.walk_core.specs.BestOffers.{ListsOffer, AreInRange, NoneTotals, IsBestTotal}
 use Rattle.walk_core.specs.declared.offers.Offer.{Offer}
 use Rattle.walk_core.proofs.OfferLaws.{best_total_is_best_cost, none_totals_no_best}
@@ -33,7 +33,7 @@ no_walks = record { distances = []; hops = [] }
 -- what is known of the least walks of a level from a router
 pub record IsReachIn (net : Network) (zone : Zone) (u : ℕ) (reach : Reach) : Type 0 where
   pub least : AreLeastWalks (Adjacent net zone) u reach
-  pub near : AreNearOfBoth 200 reach
+  pub near : AreNear 200 reach
 
 pub reach_of : (net : Network) (part : Zone) (walks : List Reach) (u : ℕ) → AreZoneWalks net part walks → u < length net →
     IsReachIn net part u (get_or walks u no_walks)
