@@ -20,5 +20,12 @@ returns-in-Some-clause-found g c = found_from_walk _ c.walk.new.live _ c.loop-st
 pub returns-clause-none : goal.returns-clause-none
 returns-clause-none g c = returns_never _ c.loop-start.live c.loop-start.invariant.bounded
     (λ q there. c.loop-start.invariant.dead q
-    (omega (arith, marked_below c.loop-start.live q there, c.loop-start.auto.live, c.mark_all.auto.marks,
-    c.requires.size, c.size-start-end.ensures.count, c.loop-start-test.false)) there)
+    (omega (
+      arith,
+      marked_below c.loop-start.live q there,
+      c.loop-start.auto.live,
+      c.mark_all.auto.marks,
+      c.requires.size,
+      c.size-start-end.ensures.count,
+      c.loop-start-test.false,
+    )) there)
