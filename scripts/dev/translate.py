@@ -10,6 +10,8 @@ Then
     cd FOLDER && cargo build --release
     target/release/translated check TIMES CONFIG..   tables, mixture and finder of one network, so many times
     target/release/translated links TIMES CONFIG..   of a network without each of so many of its links, spread over all
+    target/release/translated plan BRANCHES CONFIG.. the plan of a network with this budget, and its text
+    target/release/translated read 1 CONFIG..        the network alone
     valgrind --tool=callgrind --toggle-collect='translated::judge' target/release/translated check 1 CONFIG..
 
 It tells what a change of bodies would bring before it is proved. The proved program, built by LLVM, takes some 5 of 100 less.
@@ -22,7 +24,8 @@ import sys
 
 NAMES = (
     "net_addr net_model order_core walk_core route_core zone_graph route_tables ospf_routes isis_routes prefix_atoms rib_mix "
-    "loop_finder ios_lines ios_sections ios_reader network_survey failed_links printed_lines igp_theory"
+    "loop_finder ios_lines ios_sections ios_reader network_survey failed_links printed_lines igp_theory link_trail "
+    "precedence_set order_search step_scripts change_orders plan_theory refutation_check wave_oracle"
 ).split()
 CLAUSE = re.compile(r"\s*(requires|ensures|decreases)\b(\s+[a-z_0-9]+)?\s*\{")
 DERIVE = re.compile(r"(\s*)#\[derive\((.*)\)\]")
@@ -70,7 +73,7 @@ def without_ghosts(text):
     while place < len(lines):
         line, said = lines[place], lines[place].strip()
         derived = DERIVE.match(line)
-        if said.startswith("ghost "):
+        if said.startswith(("ghost ", "pub ghost ")):
             place = behind_ghost(lines, place)
         elif CLAUSE.match(line):
             place = behind_braces(lines, place)

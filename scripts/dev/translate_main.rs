@@ -15,9 +15,10 @@ fn main() {
     let net = network(&words[2..]);
     match words[0].as_str() {
         "read" => (),
+        "plan" => plan(&net, times as u32),
         "check" => (0..times).for_each(|_| judge(&net, &KnownWalks::none(Global))),
         "links" => judge_links(&net, times),
-        other => panic!("{other}: check, links or read"),
+        other => panic!("{other}: check, links, plan or read"),
     }
 }
 
@@ -60,4 +61,20 @@ fn judge(net: &Net, known: &KnownWalks) {
     let order: std::vec::Vec<u32> = (0..net.routers()).collect();
     let fault = finder.order_fault(&order).map(|found| found.0);
     println!("{old_end} {new_end} {fault:?}");
+}
+
+/// Plans a network with a budget of branches.
+#[inline(never)]
+fn plan(net: &Net, budget: u32) {
+    let known = KnownWalks::none(Global);
+    let old = ospf_routes::OspfRoutes::build_over(Global, net, &known).ok().unwrap();
+    let new = isis_routes::IsisRoutes::build_over(Global, net, &known).ok().unwrap();
+    let mixed = rib_mix::Mixed::build(Global, net, &old, &new).ok().unwrap();
+    match wave_oracle::plan_waves(Global, &mixed, budget).ok().unwrap() {
+        plan_theory::Planned::Searched { found } => {
+            let text = wave_oracle::planned_text(Global, plan_theory::Items::Routers, net, &found).ok().unwrap();
+            println!("{} bytes", text.as_slice().len());
+        }
+        _ => println!("an end is unsound"),
+    }
 }
