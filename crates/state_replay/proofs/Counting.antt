@@ -184,6 +184,8 @@ places_below n changes below k d within =
 pub few_changes : (n : ℕ) (ranks : List ℕ) (changes : List Change) → BeginRun n ranks changes → length changes ≤ 2 * n
 few_changes n ranks changes begin =
     let front : AreInFront n ranks changes = front_of_run n ranks changes begin in
-    let few = length-le_from_distinct (map place_of changes) (2 * n) (distinct_places (router_times all_old ranks) changes front.in_turn) (places_below n changes front.below) in
+    let few =
+    length-le_from_distinct (map place_of changes) (2 * n) (distinct_places (router_times all_old ranks) changes front.in_turn)
+    (places_below n changes front.below) in
     let long = length-map changes place_of in
     omega (arith, few, long)
