@@ -1,4 +1,4 @@
--- Addresses as words: the reader of addresses, as a function of the word.
+-- Addresses as words, against the function of the word.
 use Rattle.std.proofs.Common.{sym, ◌≡◌, ℕ, suc, ◌+◌, ◌*◌, ◌^◌, ◌<◌, ◌≤◌, Bool, true, false, [], ◌∷◌, ◌++◌, length, take, drop, Option, Some, None, refl, ap}
 use Rattle.std.proofs.Common.{subst, ◌∙◌, cond, arith, get_or, length-drop, length-append, drop-cons, add-one, append_assoc}
 use Rattle.std.specs.List.{before_first, after_first, position_or_len}
@@ -9,7 +9,6 @@ use Rattle.std.proofs.lemmas.Grind.{common_steps}
 use Rattle.std.proofs.Math.Seq.{take-append_seam, drop-append_seam}
 use Rattle.net_addr.specs.Numerals.{decimal_value}
 use Rattle.net_addr.specs.AddressWords.{IsOctet, IsAddressWord}
-use Rattle.net_addr.specs.Readers.{Reads}
 use Rattle.ios_lines.specs.Words.{Word, is_dot, octet_of, joined_octets, address_of}
 use Rattle.ios_lines.proofs.NumberFacts.{number-some, number_back, le_test, test_le}
 
@@ -134,8 +133,3 @@ address_back word a e =
 
 pub none_of : (o : Option ℕ) → ((n : ℕ) → o ≡ Some n → ⊥) → o ≡ None
 none_of o h = grind (arith, common_steps)
-
--- the reader of addresses is the function of the word
-pub address_read : (word : Word) (r : Option ℕ) → Reads r (IsAddressWord word) → r ≡ address_of word
-address_read word None none = sym (none_of (address_of word) (λ n e. none n (address_back word n e)))
-address_read word (Some a) stands = sym (address-some word a stands)

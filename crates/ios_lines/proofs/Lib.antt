@@ -9,3 +9,4 @@ pub mod Picked
 pub mod GoodLines
 pub mod LineLookups
 pub mod FaultFacts
+pub mod OctetFacts

@@ -1,11 +1,11 @@
--- Masks as words: the reader of masks, as a function of the word.
+-- Masks as words, against the function of the word.
 use Rattle.std.proofs.Common.{sym, ◌≡◌, ◌≢◌, ℕ, zero, suc, ◌+◌, ◌-◌, ◌^◌, ◌<◌, ◌≤◌, Bool, true, false, Option, Some, None, refl, ap, ◌∙◌, nat_eq, cond, arith}
 use Rattle.std.specs.List.{range_with_len}
 use Rattle.std.specs.Prelude.{find, IfSome}
 use Rattle.std.proofs.Math.Pow.{pow-lt, pow_mono}
+use Rattle.std.proofs.lemmas.Bool.{false≢true}
 use Rattle.std.proofs.lemmas.Bool.Decides.{nat_tests}
 use Rattle.net_addr.specs.AddressWords.{IsMask, IsMaskWord}
-use Rattle.net_addr.specs.Readers.{Reads}
 use Rattle.net_addr.proofs.MaskFacts.{IsMask-sum, IsMask-from_sum}
 use Rattle.ios_lines.specs.Words.{Word, address_of, mask_with, mask_length, mask_of}
 use Rattle.ios_lines.proofs.AddressFacts.{address-some, address_back, none_of}
@@ -65,6 +65,27 @@ mask_back a len e =
     let most : 2 ^ (32 - len) ≤ 2 ^ 32 = pow_mono {i = 32 - len} {j = 32} (omega arith) in
     IsMask-from_sum a len found.low (omega (arith, found.high)) (omega arith)
 
+-- a length whose mask is the address
+pub mask_found : (a len : ℕ) → 1 ≤ len → len ≤ 32 → nat_eq (mask_with len) a ≡ true → mask_length (Some a) ≡ Some len
+mask_found a len some most same =
+    let is : mask_with len ≡ a = true_eq (mask_with len) a same in
+    let within : 2 ^ (32 - len) ≤ 2 ^ 32 = pow_mono {i = 32 - len} {j = 32} (omega arith) in
+    mask-some a len (IsMask-from_sum a len some most (omega arith))
+
+-- an address that is no mask of any length
+pub mask_missed : (a : ℕ) → ((zeros : ℕ) → zeros < 32 → nat_eq (mask_with (32 - zeros)) a ≡ false) → mask_length (Some a) ≡ None
+mask_missed a missed = none_of (mask_length (Some a)) (λ len e.
+    let found = found_in_run (λ (k : ℕ). nat_eq (mask_with k) a) 32 1 len e in
+    let len_is : 32 - (32 - len) ≡ len = omega (arith, found.high) in
+    let no : nat_eq (mask_with len) a ≡ false = ap (λ (k : ℕ). nat_eq (mask_with k) a) (sym len_is) ∙ missed (32 - len) (omega (arith, found.low)) in
+    false≢true (sym no ∙ found.passes))
+
+-- a mask by its sum with the size of its block
+pub mask_by_sum : (a len : ℕ) → len ≤ 32 → nat_eq (a + 2 ^ (32 - len)) (2 ^ 32) ≡ nat_eq (mask_with len) a
+mask_by_sum a len most =
+    let within : 2 ^ (32 - len) ≤ 2 ^ 32 = pow_mono {i = 32 - len} {j = 32} (omega arith) in
+    grind (arith, nat_tests)
+
 word_back : (word : Word) (o : Option ℕ) (len : ℕ) → address_of word ≡ o → mask_length o ≡ Some len → IsMaskWord word len
 word_back word None len written e = absurd cc
 word_back word (Some a) len written e = record { address = a; written = address_back word a written; mask = mask_back a len e }
@@ -76,11 +97,6 @@ mask_back_word word len e = word_back word (address_of word) len refl e
 pub mask_word-some : (word : Word) (len : ℕ) → IsMaskWord word len → mask_of word ≡ Some len
 unfolding mask_of
 mask_word-some word len stands = ap mask_length (address-some word stands.address stands.written) ∙ mask-some stands.address len stands.mask
-
--- the reader of masks is the function of the word
-pub mask_read : (word : Word) (r : Option ℕ) → Reads r (IsMaskWord word) → r ≡ mask_of word
-mask_read word None none = sym (none_of (mask_of word) (λ len e. none len (mask_back_word word len e)))
-mask_read word (Some len) stands = sym (mask_word-some word len stands)
 
 -- a mask has at most 32 ones
 pub mask_within : (word : Word) → IfSome (mask_of word) (λ len. len ≤ 32)

@@ -2,7 +2,8 @@
 //!
 //! | File | What it holds |
 //! |---|---|
-//! | `words` | the words of a line, and what a word stands for: a number, an address, the length of a mask, an area, a level |
+//! | `words` | the words of a line, and what a word stands for: a number, an area, a level |
+//! | `octets` | the address for which a word stands, octet by octet, and the length of a mask |
 //! | `bounds` | the greatest values of some numbers, and the values that hold where no line says one |
 //! | `address` | the address of an interface, with the length of its mask |
 //! | `head` | what a line at indent 0 says: the router's name, an interface, a process |
@@ -22,6 +23,7 @@
 mod bounds;
 pub mod fault;
 pub mod kind;
+mod octets;
 pub mod words;
 
 // What a line says, by where it stands.

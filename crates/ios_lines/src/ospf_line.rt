@@ -6,7 +6,8 @@ ghost use Rattle.ios_lines.specs.OspfLines.{ospf_passive, is_unsupported_ospf, p
 use crate::OutOfMemory;
 use crate::bounds::MOST_REFERENCE;
 use crate::kind::ReadKind;
-use crate::words::{Words, address_of, area_of, is_text, mask_of, name_of, number_from};
+use crate::octets::{address_of, mask_of};
+use crate::words::{Words, area_of, is_text, name_of, number_from};
 use net_addr::{Name, Prefix};
 use net_model::{ISIS_DISTANCE, MOST_COST, MOST_DISTANCE, Range};
 use std::alloc::Global;

@@ -4,11 +4,12 @@ ghost use Rattle.net_addr.specs.Blanks.{is_blank, words_in};
 ghost use Rattle.ios_lines.specs.Words.{word_at, says, begins_with_two, begins_with_three, lacks, number_of, number_from};
 ghost use Rattle.ios_lines.specs.Blanks.{without_blanks};
 ghost use Rattle.ios_lines.specs.steps.WordEnds.{is_low};
-ghost use Rattle.ios_lines.specs.Words.{address_of, mask_of, area_of, levels_of, is_printable, is_letter};
+ghost use Rattle.ios_lines.specs.Words.{area_of, levels_of, is_printable, is_letter};
 
 use crate::OutOfMemory;
 use crate::kind::ReadKind;
-use net_addr::{Name, read_addr, read_mask, read_number};
+use crate::octets::address_of;
+use net_addr::{Name, read_number};
 use net_model::Levels;
 use std::alloc::Global;
 use std::marker::Model;
@@ -49,6 +50,17 @@ impl<'a> Words<'a> {
         let (first, behind_first) = cut_word(line);
         let (second, behind_second) = cut_word(behind_first);
         let (third, behind_third) = cut_word(behind_second);
+        if behind_third.is_empty() {
+            return Words {
+                line,
+                first,
+                second,
+                third,
+                fourth: behind_third,
+                fifth: behind_third,
+                behind_fifth: behind_third,
+            };
+        }
         let (fourth, behind_fourth) = cut_word(behind_third);
         let (fifth, behind_fifth) = cut_word(behind_fourth);
         Words {
@@ -249,23 +261,6 @@ pub(crate) fn number_from(
         Some(number) if least <= number => Ok(number),
         _ => Err(kind),
     }
-}
-
-/// The address for which a word stands.
-#[tactic(auto, using(crate::proofs::AddressFacts::address_read))]
-pub(crate) fn address_of(word: &[u8]) -> Option<u32>
-    ensures value { result ≡ address_of word.now }
-{
-    read_addr(word)
-}
-
-/// The length of the mask for which a word stands.
-#[tactic(auto, using(crate::proofs::MaskWordFacts::mask_read))]
-pub(crate) fn mask_of(word: &[u8]) -> Option<u8>
-    ensures value { result ≡ mask_of word.now }
-    ensures most { IfSome result (λ len. len ≤ 32) }
-{
-    read_mask(word)
 }
 
 /// The number of an area, written as a number or as an address.
