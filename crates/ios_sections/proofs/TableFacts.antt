@@ -1,10 +1,13 @@
 -- The table of interfaces by name: where one more section goes.
 use Rattle.std.proofs.lemmas.Grind.{common_steps}
 use Rattle.std.proofs.Common.{◌≡◌, ℕ, suc, ◌+◌, ◌<◌, Bool, true, false, not, ◌||◌, List, [], ◌∷◌, ◌++◌, refl, ap, cond, map, bytes_eq, length}
-use Rattle.std.proofs.Common.{get_or, set, arith}
+use Rattle.std.proofs.Common.{get_or, set, arith, nat_lt, Option, Some, None, sym, ◌∙◌}
+use Rattle.std.specs.Prelude.{position}
+use Rattle.std.proofs.lemmas.Bool.Decides.{nat_tests}
+use Rattle.ios_lines.proofs.Places.{no_place}
 use Rattle.std.specs.List.{list_any, position_or_len}
 use Rattle.std.proofs.lemmas.Bool.{false≢true}
-use Rattle.std.proofs.lemmas.List.{map-append}
+use Rattle.std.proofs.lemmas.List.{map-append, length-map}
 use Rattle.ios_lines.specs.Words.{Word}
 use Rattle.ios_sections.specs.Gathering.{with_interface}
 use Rattle.ios_sections.specs.declared.section.InterfaceSection.{InterfaceSection}
@@ -70,3 +73,48 @@ place_within (m ∷ ms) n h = place_cases (bytes_eq n m) (list_any (bytes_eq n) 
 pub names_after : (xs ys : List InterfaceSection) (s : InterfaceSection) (ns ms : List Word) → ys ≡ with_interface xs s → ns ≡ names_of xs → ms
     ≡ cond (list_any (bytes_eq s.name) ns) ns (ns ++ s.name ∷ []) → ms ≡ names_of ys
 names_after xs ys s ns ms table before after = grind (arith, common_steps, names-table)
+
+-- what stands at a place short of all passes a test, and past them nothing does
+pub any_place : (p : Word → Bool) (ns : List Word) → list_any p ns ≡ nat_lt (position_or_len p ns) (length ns)
+any_place p [] = refl
+any_place p (n ∷ ns) = cases (p n) (any_place p ns)
+  where
+    cases : (t : Bool) → list_any p ns ≡ nat_lt (position_or_len p ns) (length ns) →
+        (t || list_any p ns) ≡ nat_lt (cond (not t) (1 + position_or_len p ns) 0) (suc (length ns))
+    cases true later = grind (arith, nat_tests)
+    cases false later = grind (arith, nat_tests)
+
+names_count : (xs : List InterfaceSection) → length (names_of xs) ≡ length xs
+names_count xs = grind (arith, common_steps, length-map)
+
+chosen : (t : Bool) (place n : ℕ) → cond t (Some place) None ≡ Some n → (t ≡ true) × (n ≡ place)
+chosen t place n e = grind (arith, common_steps)
+
+refused : (t : Bool) (place : ℕ) → cond t (Some place) None ≡ None → t ≡ false
+refused t place e = grind (arith, common_steps)
+
+-- the place of the first interface of a name, where one has it
+pub named : (xs : List InterfaceSection) (name : Word) (n : ℕ) → position (λ (s : InterfaceSection). bytes_eq name s.name) xs ≡ Some n →
+    (n ≡ position_or_len (bytes_eq name) (names_of xs)) × (list_any (bytes_eq name) (names_of xs) ≡ true)
+named xs name n e =
+    let there = chosen _ (position_or_len (λ (s : InterfaceSection). bytes_eq name s.name) xs) n e in
+    let place = place-map (λ (s : InterfaceSection). s.name) (bytes_eq name) xs in (
+      there.1 ∙ place,
+      any_place (bytes_eq name) (names_of xs)
+          ∙ ap (λ (k : ℕ). nat_lt k (length (names_of xs))) (sym place)
+          ∙ ap (nat_lt (position_or_len (λ (s : InterfaceSection). bytes_eq name s.name) xs)) (names_count xs)
+          ∙ there.0,
+    )
+
+-- no interface has the name
+pub not_named : (xs : List InterfaceSection) (name : Word) → position (λ (s : InterfaceSection). bytes_eq name s.name) xs ≡ None →
+    (length xs ≡ position_or_len (bytes_eq name) (names_of xs)) × (list_any (bytes_eq name) (names_of xs) ≡ false)
+not_named xs name e =
+    let beyond = refused _ (position_or_len (λ (s : InterfaceSection). bytes_eq name s.name) xs) e in
+    let place = place-map (λ (s : InterfaceSection). s.name) (bytes_eq name) xs in (
+      no_place (λ (s : InterfaceSection). bytes_eq name s.name) xs e ∙ place,
+      any_place (bytes_eq name) (names_of xs)
+          ∙ ap (λ (k : ℕ). nat_lt k (length (names_of xs))) (sym place)
+          ∙ ap (nat_lt (position_or_len (λ (s : InterfaceSection). bytes_eq name s.name) xs)) (names_count xs)
+          ∙ beyond,
+    )

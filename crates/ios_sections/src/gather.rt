@@ -1,4 +1,4 @@
-ghost use Rattle.std.specs.Prelude.{◌≡◌, true, false, map, bytes_eq, IfOk, OnOk};
+ghost use Rattle.std.specs.Prelude.{◌≡◌, [], ◌∷◌, ◌++◌, true, false, not, map, position, bytes_eq, IfOk, OnOk, if◌then◌else◌};
 ghost use Rattle.std.specs.List.{list_any, position_or_len};
 ghost use Rattle.ios_sections.specs.Gathering.{with_interface, with_section, gathering_of};
 
@@ -6,6 +6,7 @@ use crate::OutOfMemory;
 use crate::name_index::{NameIndex, NamePlace};
 use crate::section::{FIRST_SECTIONS, InterfaceSection, IsisSection, OspfSection, Section};
 use ios_lines::fault::Fault;
+use ios_lines::words::is_text;
 use net_addr::Name;
 use std::alloc::Global;
 use std::marker::Model;
@@ -60,18 +61,71 @@ fn append_at(
     lines.append(section.lines)
 }
 
+/// The place of the first interface of a name.
+fn first_named(interfaces: &[InterfaceSection], name: &[u8]) -> Option<usize>
+    ensures { result ≡ position (λ s. bytes_eq name.now s.name) interfaces.now }
+{
+    interfaces
+        .iter()
+        .position(|section| is_text(name, section.name.as_slice()))
+}
+
+/// Where a name stands among those of some interfaces, or behind them, where none has it.
+fn place_among(interfaces: &[InterfaceSection], name: &[u8]) -> NamePlace
+    ensures place { result.place ≡ position_or_len (bytes_eq name.now) (map (λ s. s.name) interfaces.now) }
+    ensures added { result.added ≡ not (list_any (bytes_eq name.now) (map (λ s. s.name) interfaces.now)) }
+{
+    match first_named(interfaces, name) {
+        Some(place) => NamePlace {
+            place,
+            added: false,
+        },
+        None => NamePlace {
+            place: interfaces.len(),
+            added: true,
+        },
+    }
+}
+
+/// Where a name stands among those of the interfaces so far. Few are gone through one by one; of more the names are indexed.
+fn place_of(
+    alloc: Global,
+    names: &mut NameIndex,
+    few: bool,
+    interfaces: &[InterfaceSection],
+    name: &[u8],
+) -> Result<NamePlace, OutOfMemory>
+    requires { few ≡ false → names.old ≡ map (λ s. s.name) interfaces.now }
+    ensures place { IfOk result (λ r. r.place ≡ position_or_len (bytes_eq name.now) (map (λ s. s.name) interfaces.now)) }
+    ensures added { IfOk result (λ r. r.added ≡ not (list_any (bytes_eq name.now) (map (λ s. s.name) interfaces.now))) }
+    ensures names { few ≡ false → OnOk result (names.new ≡ (if list_any (bytes_eq name.now) names.old then names.old else names.old ++ name.now ∷ [])) }
+{
+    if few {
+        Ok(place_among(interfaces, name))
+    } else {
+        names.add(alloc, name)
+    }
+}
+
 /// One more section of an interface: its lines go after those of its name.
 fn with_interface(
     alloc: Global,
     names: &mut NameIndex,
+    few: bool,
     interfaces: &mut Vec<InterfaceSection>,
     section: InterfaceSection,
 ) -> Result<(), OutOfMemory>
-    requires { names.old ≡ map (λ s. s.name) interfaces.old.items }
-    ensures index { OnOk result (names.new ≡ map (λ s. s.name) interfaces.new.items) }
+    requires { few ≡ false → names.old ≡ map (λ s. s.name) interfaces.old.items }
+    ensures index { OnOk result (few ≡ false → names.new ≡ map (λ s. s.name) interfaces.new.items) }
     ensures sections { OnOk result (interfaces.new.items ≡ with_interface interfaces.old.items section) }
 {
-    let NamePlace { place, added } = names.add(alloc, section.name.as_slice())?;
+    let NamePlace { place, added } = place_of(
+        alloc,
+        names,
+        few,
+        interfaces.as_slice(),
+        section.name.as_slice(),
+    )?;
     if added {
         push_new(interfaces, section)
     } else {
@@ -83,12 +137,13 @@ fn with_interface(
 fn with_section(
     alloc: Global,
     names: &mut NameIndex,
+    few: bool,
     gathering: Gathering,
     section: Section,
 ) -> Result<Gathering, OutOfMemory>
-    requires { names.old ≡ map (λ s. s.name) gathering.interfaces }
+    requires { few ≡ false → names.old ≡ map (λ s. s.name) gathering.interfaces }
     ensures value { IfOk result (λ g. g ≡ with_section gathering section) }
-    ensures index { IfOk result (λ g. names.new ≡ map (λ s. s.name) g.interfaces) }
+    ensures index { IfOk result (λ g. few ≡ false → names.new ≡ map (λ s. s.name) g.interfaces) }
 {
     let mut gathering = gathering;
     match section {
@@ -96,6 +151,7 @@ fn with_section(
         Section::Interface(section) => with_interface(
             alloc,
             names,
+            few,
             &mut gathering.interfaces,
             section,
         )?,
@@ -113,7 +169,8 @@ pub(crate) fn gather(alloc: Global, sections: Vec<Section>) -> Result<Gathering,
     ensures { IfOk result (λ g. g ≡ gathering_of sections.items) }
 {
     let room = sections.len().min(FIRST_SECTIONS);
-    let mut names = NameIndex::with_room(alloc, room)?;
+    let few = sections.len() <= FIRST_SECTIONS;
+    let mut names = NameIndex::with_room(alloc, if few { 0 } else { room })?;
     let mut gathering = Gathering {
         name: None,
         interfaces: Vec::with_capacity(alloc, room)?,
@@ -122,7 +179,7 @@ pub(crate) fn gather(alloc: Global, sections: Vec<Section>) -> Result<Gathering,
         faults: Vec::new(alloc),
     };
     for section in sections {
-        gathering = with_section(alloc, &mut names, gathering, section)?;
+        gathering = with_section(alloc, &mut names, few, gathering, section)?;
     }
     Ok(gathering)
 }
