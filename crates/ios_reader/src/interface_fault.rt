@@ -134,9 +134,9 @@ fn push_loopback_fault(
 fn lacks_cost(router: &Router, name: &[u8], facts: &InterfaceFacts) -> bool
     ensures { result ≡ (is_up facts.now && is_some (interface_area router.now facts.now) && is_none (ospf_cost router.now name.now facts.now)) }
 {
-    is_up(facts)
+    ospf_cost(router, name, facts).is_none()
+        && is_up(facts)
         && interface_area(router, facts).is_some()
-        && ospf_cost(router, name, facts).is_none()
 }
 
 /// Takes in the fault of an up interface with an area, and without anything that gives its cost.

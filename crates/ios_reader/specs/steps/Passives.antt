@@ -1,8 +1,7 @@
 -- Which interfaces the lines of the two processes make passive, by name.
 use Rattle.std.specs.Prelude.{◌≡◌, Bool, List, [], ◌∷◌, Option, Some, None, bytes_eq, if◌then◌else◌}
 use Rattle.ios_lines.specs.Words.{Word}
-use Rattle.ios_lines.specs.Lookups.{last_of}
-use Rattle.ios_reader.specs.Routers.{Router, ospf_passive_said, isis_passive_said}
+use Rattle.ios_reader.specs.Routers.{Router}
 use Rattle.ios_lines.specs.declared.ospf_line.OspfStatement.{OspfStatement}
 use Rattle.ios_lines.specs.declared.isis_line.IsisStatement.{IsisStatement}
 
@@ -16,12 +15,12 @@ abbrev pub with_said : List (Word × Bool) → Word → Bool → List (Word × B
 with_said [] name passive = (name, passive) ∷ []
 with_said (e ∷ es) name passive = if bytes_eq name e.0 then (e.0, passive) ∷ es else e ∷ with_said es name passive
 
--- what tables say of each name: for OSPF and for IS-IS
+-- the lines by which interfaces are passive: of the OSPF process and of the IS-IS process
 pub record Passives : Type 0 where
-  pub ospf : List (Word × Bool)
-  pub isis : List (Word × Bool)
+  pub ospf : List OspfStatement
+  pub isis : List IsisStatement
 
--- the tables say of each name what the last line of the process says that names it
+-- they are those of the router
 pub record ArePassivesOf (router : Router) (passives : Passives) : Type 0 where
-  pub ospf : (name : Word) → said_of passives.ospf name ≡ last_of (λ (s : OspfStatement). ospf_passive_said name s.says) router.ospf
-  pub isis : (name : Word) → said_of passives.isis name ≡ last_of (λ (s : IsisStatement). isis_passive_said name s.says) router.isis
+  pub ospf : passives.ospf ≡ router.ospf
+  pub isis : passives.isis ≡ router.isis

@@ -1,0 +1,8 @@
+use Rattle.std.proofs.Common.{◌≡◌, take}
+use Rattle.ios_lines.specs.Lookups.{last_of}
+use Rattle.ios_reader.specs.Routers.{isis_passive_said}
+use Rattle.ios_lines.specs.declared.isis_line.IsisStatement.{IsisStatement}
+use Rattle.ios_reader.proofs.passive.last_isis.Given as goal
+
+abbrev pub invariant-loop-statement : goal.invariant-loop-statement
+invariant-loop-statement l = l.last ≡ last_of (λ (s : IsisStatement). isis_passive_said l.name s.says) (take l.statement-index l.lines)
