@@ -1,7 +1,8 @@
 -- What the interfaces of each area offer of a prefix, and its intra-area costs.
-use Rattle.std.proofs.Common.{◌≡◌, ℕ, ◌↔◌, ⊎_elim, get_or, List, [], ◌∷◌, Option, Some, MatchOption, refl, sym, ap, subst, ◌∙◌}
+use Rattle.std.proofs.Common.{◌≡◌, ℕ, ◌↔◌, ⊎_elim, get_or, List, [], ◌∷◌, ◌++◌, Option, Some, MatchOption, refl, sym, ap, subst, ◌∙◌}
 use Rattle.std.proofs.Common.{arith, ◌+◌, ◌<◌, ◌^◌, length, take}
 use Rattle.std.specs.List.{Contains, Any, All}
+use Rattle.std.proofs.lemmas.List.{get_or_default}
 use Rattle.std.proofs.lemmas.List.Elements.{All-weaker, All-contains, Contains-get_or, Contains-push_cases}
 use Rattle.net_addr.specs.Addresses.{Block}
 use Rattle.net_model.proofs.NetworkFacts.{Adjacent-in_area}
@@ -17,7 +18,7 @@ use Rattle.igp_theory.specs.Ospf.{OffersSubnet, IntraAreaCost, IsIntraArea}
 use Rattle.ospf_routes.specs.steps.Areas.{AreAreas, HasArea, IsAreaAt, IsReach}
 use Rattle.ospf_routes.specs.declared.areas.AreaWalks.{AreaWalks}
 use Rattle.ospf_routes.specs.steps.Domain.{OspfDomain}
-use Rattle.ospf_routes.specs.steps.Destinations.{AddsPart, HasAreaPart, IsDestination, IsDestinationIn, IsSomePart, IsPartAt, IsPartFor, IsPartIn, IsPartOf}
+use Rattle.ospf_routes.specs.steps.Destinations.{AddsArea, AddsPart, HasAreaPart, IsDestination, IsDestinationIn, IsSomePart, IsPartAt, IsPartFor, IsPartIn, IsPartOf}
 use Rattle.ospf_routes.specs.Lists.{Exactly}
 use Rattle.ospf_routes.specs.steps.Offered.{AreOffers, InsideOf}
 use Rattle.ospf_routes.specs.declared.intra_area.AreaOffers.{AreaOffers}
@@ -77,33 +78,50 @@ destination_is domain routes given d are homes exact same parts every = record {
         every n o (are.every w n (record { interface = offers.interface; up = offers.up; area = offers.area }))
         (any_of (λ (x : AreaRoute). InsideOf n x o) given r among (record { area = refl; at = refl; asks = refl }))
 
--- the parts of the areas before place k
+-- the parts of the areas of the routes before place k
 pub record PartsSoFar (routes : List AreaRoute) (areas : List AreaWalks) (k : ℕ) (parts : List AreaOffers) : Type 0 where
   pub each : All (IsPartIn areas routes) parts
-  pub every : (n : ℕ) (o : Offer) → HasArea (take k areas) n → Any (λ (r : AreaRoute). InsideOf n r o) routes → HasAreaPart parts n
+  pub every : (r : AreaRoute) → Contains (take k routes) r → HasArea areas r.area → HasAreaPart parts r.area
 
-pub parts_more : (routes : List AreaRoute) (areas : List AreaWalks) (k : ℕ) (a : AreaWalks) (old new : List AreaOffers) →
-    PartsSoFar routes areas k old → k < length areas → a ≡ get_or areas k a →
-    AddsPart (IsPartAt routes a.number k) (Any (λ (r : AreaRoute). r.area ≡ a.number) routes) old new → PartsSoFar routes areas (k + 1) new
-parts_more routes areas k a old new before within here adds = record {
-  each = λ j d below. ⊎_elim
-      (λ among. All-contains (IsPartIn areas routes) old (get_or new j d) before.each among)
+pub parts_more : (routes : List AreaRoute) (areas : List AreaWalks) (k : ℕ) (d : AreaRoute) (old new : List AreaOffers) →
+    PartsSoFar routes areas k old → k < length routes → AddsArea areas routes (get_or routes k d).area old new → PartsSoFar routes areas (k + 1) new
+parts_more routes areas k d old new before within adds =
+    let r : AreaRoute = get_or routes k d in
+    let one : take k routes ++ r ∷ [] ≡ take (k + 1) routes = one_more routes k r within (get_or_default routes k d r within) in
+    record {
+      each = adds.each before.each;
+      every = λ other among has. ⊎_elim
+          (λ earlier. adds.kept other.area (before.every other earlier has))
+          (λ same.
+          let number : r.area ≡ other.area = ap (λ (x : AreaRoute). x.area) same in
+          subst (λ (n : ℕ). HasAreaPart new n) number (adds.added (subst (λ (n : ℕ). HasArea areas n) (sym number) has)))
+          (Contains-push_cases (take k routes) r other (subst (λ (l : List AreaRoute). Contains l other) (sym one) among));
+    }
+
+-- all areas with routes have parts, once all routes have been looked at
+pub parts_of_all : (routes : List AreaRoute) (areas : List AreaWalks) (k : ℕ) (parts : List AreaOffers) → PartsSoFar routes areas k parts →
+    take k routes ≡ routes → (n : ℕ) (o : Offer) → HasArea areas n → Any (λ (r : AreaRoute). InsideOf n r o) routes → HasAreaPart parts n
+parts_of_all routes areas k parts so_far all n o has any =
+    let found = any_in (λ (r : AreaRoute). InsideOf n r o) routes any in
+    subst (λ (m : ℕ). HasAreaPart parts m) found.holds.area
+    (so_far.every found.item (subst (λ (l : List AreaRoute). Contains l found.item) (sym all) found.among)
+    (subst (λ (m : ℕ). HasArea areas m) (sym found.holds.area) has))
+
+-- the part of an area at its place
+pub part_added : (areas : List AreaWalks) (routes : List AreaRoute) (n zone : ℕ) (old new : List AreaOffers) → IsAreaAt areas n zone →
+    AddsPart (IsPartAt routes n zone) old new → AddsArea areas routes n old new
+part_added areas routes n zone old new placed adds = record {
+  each = λ all j d below. ⊎_elim
+      (λ among. All-contains (IsPartIn areas routes) old (get_or new j d) all among)
       (λ at. record {
         offers = at.offers;
-        at = subst (IsAreaAt areas (get_or new j d).area) (sym at.zone_is) (record { within = within; area = a; here = here; number = sym at.area });
+        at = subst (IsAreaAt areas (get_or new j d).area) (sym at.zone_is) (subst (λ (m : ℕ). IsAreaAt areas m zone) (sym at.area) placed);
       })
       (adds.each (get_or new j d) (Contains-get_or new j d below));
-  every = λ n o has given. ⊎_elim
-      (λ among.
-      let earlier = before.every n o (record { area = has.area; among = among; number = has.number }) given in
-      record { part = earlier.part; among = adds.kept earlier.part earlier.among; area = earlier.area })
-      (λ same.
-      let number : a.number ≡ n = ap (λ (x : AreaWalks). x.number) same ∙ has.number in
-      let found = any_in (λ (r : AreaRoute). InsideOf n r o) routes given in
-      let part = any_in (IsPartAt routes a.number k) new
-      (adds.added (any_of (λ (r : AreaRoute). r.area ≡ a.number) routes found.item found.among (found.holds.area ∙ sym number))) in
-      record { part = part.item; among = part.among; area = part.holds.area ∙ number })
-      (Contains-push_cases (take k areas) a has.area (subst (λ (l : List AreaWalks). Contains l has.area) (sym (one_more areas k a within here)) has.among));
+  kept = λ m has. record { part = has.part; among = adds.kept has.part has.among; area = has.area };
+  added = λ _.
+      let part = any_in (IsPartAt routes n zone) new adds.added in
+      record { part = part.item; among = part.among; area = part.holds.area };
 }
 
 -- Intra-area costs

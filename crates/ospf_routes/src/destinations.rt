@@ -1,5 +1,6 @@
 ghost use Rattle.std.specs.Prelude.{◌≡◌, All, IfOk};
 ghost use Rattle.ospf_routes.specs.Lists.{Exactly};
+ghost use Rattle.ospf_routes.specs.steps.Areas.{AreAreas};
 ghost use Rattle.ospf_routes.specs.steps.Destinations.{AreOspfDestinations, IsDestinationIn, ospf_prefixes};
 ghost use Rattle.ospf_routes.specs.steps.Subnets.{IsUpSubnet};
 
@@ -31,13 +32,15 @@ fn each_destination(
     subnets: &Subnets,
     dests: &[Prefix],
 ) -> Result<Vec<Destination>, OutOfMemory>
+    requires areas { AreAreas domain.now.net domain.now.areas }
     requires subnets { Exactly (IsUpSubnet domain.now.net) subnets.now }
     ensures dests { IfOk result (λ all. ospf_prefixes all.items ≡ dests.now) }
     ensures each { IfOk result (λ all. All (IsDestinationIn domain.now) all.items) }
 {
     let mut all = Vec::new(alloc);
+    let mut routes = Vec::new(alloc);
     for dest in dests {
-        all.push(Destination::build(alloc, domain, subnets, *dest)?)?;
+        all.push(Destination::build(alloc, domain, subnets, *dest, &mut routes)?)?;
     }
     Ok(all)
 }

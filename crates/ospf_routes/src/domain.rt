@@ -80,6 +80,14 @@ impl<'a> Domain<'a> {
         is_border(self.net(), router)
     }
 
+    /// The place of the area of this number.
+    pub fn place_of(&self, number: u32) -> Option<usize>
+        ensures none { IfNone result (HasArea self.now.areas number → ⊥) }
+        ensures some { IfSome result (IsAreaAt self.now.areas number) }
+    {
+        place_of(self.areas(), number)
+    }
+
     /// How many areas there are.
     pub fn zones(&self) -> usize
         ensures count { result ≡ length self.now.areas }

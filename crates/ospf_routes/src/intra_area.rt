@@ -4,7 +4,7 @@ ghost use Rattle.net_model.specs.Network.{InArea};
 ghost use Rattle.igp_theory.specs.Ospf.{IntraAreaCost, IsIntraArea};
 ghost use Rattle.ospf_routes.specs.steps.AreaReach.{area_reach};
 ghost use Rattle.ospf_routes.specs.steps.Areas.{AreAreas, HasArea, IsReach};
-ghost use Rattle.ospf_routes.specs.steps.Destinations.{AddsPart, HasAreaPart, IsDestinationIn, IsSomePart, IsPartAt, IsPartFor, IsPartIn};
+ghost use Rattle.ospf_routes.specs.steps.Destinations.{AddsArea, AddsPart, HasAreaPart, IsDestinationIn, IsSomePart, IsPartAt, IsPartFor, IsPartIn};
 ghost use Rattle.ospf_routes.specs.steps.Offered.{InsideOf};
 ghost use Rattle.ospf_routes.specs.steps.Subnets.{IsUpSubnet};
 ghost use Rattle.ospf_routes.specs.Lists.{Exactly};
@@ -15,7 +15,7 @@ use crate::OutOfMemory;
 use crate::area_route::{AreaRoute, offers_inside};
 use crate::domain::Domain;
 use crate::ordered::HasPrefix;
-use crate::subnets::{Subnets, homes_among, routes_among};
+use crate::subnets::{Subnets, homes_among, put_routes};
 use net_addr::Prefix;
 use std::alloc::Global;
 use walk_core::{LeastWalks, Offer};
@@ -59,14 +59,16 @@ impl Destination {
         domain: &Domain<'_>,
         subnets: &Subnets,
         dest: Prefix,
+        routes: &mut Vec<AreaRoute>,
     ) -> Result<Destination, OutOfMemory>
+        requires areas { AreAreas domain.now.net domain.now.areas }
         requires subnets { Exactly (IsUpSubnet domain.now.net) subnets.now }
         ensures dest { IfOk result (λ d. d.dest ≡ dest) }
         ensures is { IfOk result (IsDestinationIn domain.now) }
     {
         let near = subnets.around(dest);
         let homes = homes_among(alloc, near, dest)?;
-        let routes = routes_among(alloc, near, dest)?;
+        put_routes(routes, near, dest)?;
         let parts = area_parts(alloc, domain, routes.as_slice())?;
         Ok(Destination { dest, homes, parts })
     }
@@ -79,25 +81,43 @@ impl Destination {
     }
 }
 
-/// The routes of each area that has some, as offers.
+/// The routes of each area that has some, as offers. Mostly all are of one area.
 fn area_parts(
     alloc: Global,
     domain: &Domain<'_>,
     routes: &[AreaRoute],
 ) -> Result<Vec<AreaOffers>, OutOfMemory>
-    ensures known { AreAreas domain.now.net domain.now.areas }
     ensures each { IfOk result (λ parts. All (IsPartIn domain.now.areas routes.now) parts.items) }
     ensures every { IfOk result (λ parts. (n : ℕ) (o : OfferValue) → HasArea domain.now.areas n →
         Any (λ r. InsideOf n r o) routes.now → HasAreaPart parts.items n) }
 {
-    let mut parts = Vec::new(alloc);
-    for zone in 0..domain.zones() {
-        push_part(alloc, &mut parts, routes, domain.area(zone).number, zone)?;
+    let mut parts = Vec::with_capacity(alloc, if routes.is_empty() { 0 } else { 1 })?;
+    for route in routes {
+        add_part(alloc, &mut parts, domain, routes, route.area)?;
     }
     Ok(parts)
 }
 
-/// Adds the offers of an area, unless there are none.
+/// Adds the offers of an area, unless they are there.
+fn add_part(
+    alloc: Global,
+    parts: &mut Vec<AreaOffers>,
+    domain: &Domain<'_>,
+    routes: &[AreaRoute],
+    area: u32,
+) -> Result<(), OutOfMemory>
+    ensures { OnOk result (AddsArea domain.now.areas routes.now area parts.old.items parts.new.items) }
+{
+    match part_of(parts.as_slice(), area) {
+        Some(_) => Ok(()),
+        None => match domain.place_of(area) {
+            Some(zone) => push_part(alloc, parts, routes, area, zone),
+            None => Ok(()),
+        },
+    }
+}
+
+/// Adds the offers of an area.
 fn push_part(
     alloc: Global,
     parts: &mut Vec<AreaOffers>,
@@ -105,20 +125,10 @@ fn push_part(
     area: u32,
     zone: usize,
 ) -> Result<(), OutOfMemory>
-    ensures { OnOk result (AddsPart (IsPartAt routes.now area zone) (Any (λ r. r.area ≡ area) routes.now) parts.old.items parts.new.items) }
+    ensures { OnOk result (AddsPart (IsPartAt routes.now area zone) parts.old.items parts.new.items) }
 {
-    if !has_route(routes, area) {
-        return Ok(());
-    }
     let offers = offers_inside(alloc, routes, area)?;
     Ok(parts.push(AreaOffers { area, zone, offers })?)
-}
-
-/// Whether one of the routes is of the area.
-fn has_route(routes: &[AreaRoute], area: u32) -> bool
-    ensures { IsTrue result ↔ Any (λ r. r.area ≡ area) routes.now }
-{
-    routes.iter().any(|route| route.area == area)
 }
 
 /// The offers of an area.

@@ -150,18 +150,18 @@ fn home_at(subnet: Subnet, dest: Prefix) -> Option<u32>
 }
 
 /// The routes to those of these subnets that are of the prefix and run OSPF.
-pub(crate) fn routes_among(
-    alloc: Global,
+pub(crate) fn put_routes(
+    routes: &mut Vec<AreaRoute>,
     subnets: &[Subnet],
     dest: Prefix,
-) -> Result<Vec<AreaRoute>, OutOfMemory>
-    ensures { IfOk result (λ routes. Exactly (λ r. Any (IsSubnetRoute dest r) subnets.now) routes.items) }
+) -> Result<(), OutOfMemory>
+    ensures { OnOk result (Exactly (λ r. Any (IsSubnetRoute dest r) subnets.now) routes.new.items) }
 {
-    let mut routes = Vec::with_capacity(alloc, subnets.len())?;
+    routes.clear();
     for subnet in subnets {
-        push_option(&mut routes, route_to(*subnet, dest))?;
+        push_option(routes, route_to(*subnet, dest))?;
     }
-    Ok(routes)
+    Ok(())
 }
 
 /// The route to the subnet, where that is of the prefix and runs OSPF.

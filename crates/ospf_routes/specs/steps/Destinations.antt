@@ -6,7 +6,7 @@ use Rattle.net_model.specs.Network.{Network, Connected}
 use Rattle.walk_core.specs.declared.offers.Offer.{Offer}
 use Rattle.igp_theory.specs.Ospf.{OffersSubnet}
 use Rattle.route_tables.specs.Prefixes.{AreDistinctPrefixes}
-use Rattle.ospf_routes.specs.steps.Areas.{IsAreaAt}
+use Rattle.ospf_routes.specs.steps.Areas.{HasArea, IsAreaAt}
 use Rattle.ospf_routes.specs.steps.Candidates.{IsOspfCandidate}
 use Rattle.ospf_routes.specs.steps.Domain.{OspfDomain}
 use Rattle.ospf_routes.specs.Lists.{Exactly}
@@ -37,11 +37,17 @@ pub record IsPartAt (routes : List AreaRoute) (n zone : ℕ) (part : AreaOffers)
   pub zone_is : part.zone ≡ zone
   pub offers : IsPartOf routes part
 
--- to the parts there come such alone of which this holds, and one where there is some
-pub record AddsPart (Is : AreaOffers → Type 0) (some : Type 0) (old new : List AreaOffers) : Type 0 where
+-- to the parts there comes one of which this holds, and none else
+pub record AddsPart (Is : AreaOffers → Type 0) (old new : List AreaOffers) : Type 0 where
   pub each : (part : AreaOffers) → Contains new part → Contains old part ⊎ Is part
   pub kept : (part : AreaOffers) → Contains old part → Contains new part
-  pub added : some → Any Is new
+  pub added : Any Is new
+
+-- parts of areas stay such and have no area less, and area n, where it is one, has a part
+pub record AddsArea (areas : List AreaWalks) (routes : List AreaRoute) (n : ℕ) (old new : List AreaOffers) : Type 0 where
+  pub each : All (IsPartIn areas routes) old → All (IsPartIn areas routes) new
+  pub kept : (m : ℕ) → HasAreaPart old m → HasAreaPart new m
+  pub added : HasArea areas n → HasAreaPart new n
 
 -- the homes are the routers that the prefix is connected at; each part has what its area offers of the prefix, and each
 -- area that offers something is a part

@@ -1,5 +1,5 @@
 use Rattle.ospf_routes.proofs.IntraFacts.{PartsSoFar}
 use Rattle.ospf_routes.proofs.intra_area.area_parts.Given as goal
 
-abbrev pub invariant-loop-zone : goal.invariant-loop-zone
-invariant-loop-zone l = PartsSoFar l.routes l.domain.areas l.zone l.parts.items
+abbrev pub invariant-loop-route : goal.invariant-loop-route
+invariant-loop-route l = PartsSoFar l.routes l.domain.areas l.route-index l.parts.items
