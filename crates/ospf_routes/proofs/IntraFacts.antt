@@ -1,5 +1,5 @@
 -- What the interfaces of each area offer of a prefix, and its intra-area costs.
-use Rattle.std.proofs.Common.{◌≡◌, ℕ, ◌↔◌, ⊎_elim, get_or, List, [], ◌∷◌, ◌++◌, Option, Some, MatchOption, refl, sym, ap, subst, ◌∙◌}
+use Rattle.std.proofs.Common.{◌≡◌, ℕ, ◌↔◌, ⊎_elim, get_or, List, [], ◌∷◌, ◌++◌, Option, Some, MatchOption, refl, sym, ap, subst}
 use Rattle.std.proofs.Common.{arith, ◌+◌, ◌<◌, ◌^◌, length, take}
 use Rattle.std.specs.List.{Contains, Any, All}
 use Rattle.std.proofs.lemmas.List.{get_or_default}

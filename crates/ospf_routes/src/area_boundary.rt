@@ -1,4 +1,4 @@
-ghost use Rattle.std.specs.Prelude.{◌≡◌, ◌<◌, ◌↔◌, length, Some, All, Any, Contains, IfOk, OnOk};
+ghost use Rattle.std.specs.Prelude.{◌≡◌, ◌<◌, ◌↔◌, length, Some, All, Any, Contains, OnOk};
 ghost use Rattle.ospf_routes.specs.steps.Destinations.{IsDestinationIn};
 ghost use Rattle.net_model.specs.Network.{IsBorderRouter};
 ghost use Rattle.ospf_routes.specs.Lists.{Adds, Exactly};
@@ -13,7 +13,6 @@ use crate::intra_area::{AreaOffers, Destination, part_cost};
 use crate::ranges::{ActiveRange, ActiveRanges, RangePrefixes, is_component};
 use net_addr::Prefix;
 use route_tables::push_option;
-use std::alloc::Global;
 use walk_core::Offer;
 
 /// The border routers of a network, and the active ranges of all its routers.
@@ -42,22 +41,22 @@ pub(crate) struct Leaving<'a> {
     pub is_ranged: bool,
 }
 
-/// The subnets and ranges that border routers summarize of a prefix, each as a route of its own area.
-pub(crate) fn summarized(
-    alloc: Global,
+/// Puts the subnets and ranges that border routers summarize of a prefix in place of other routes, each as a route of its own
+/// area.
+pub(crate) fn put_summarized(
+    routes: &mut Vec<AreaRoute>,
     boundary: Boundary<'_>,
     destination: &Destination,
-) -> Result<Vec<AreaRoute>, OutOfMemory>
+) -> Result<(), OutOfMemory>
     requires borders { Exactly (IsBorderRouter boundary.domain.now.net) boundary.borders.now }
     requires ranges { AreRangesBelow boundary.domain.now.net (length boundary.domain.now.net) boundary.ranges.now }
     requires ranged { HoldRanges boundary.domain.now.net boundary.ranged.now }
     requires destination { IsDestinationIn boundary.domain.now destination.now }
-    ensures { IfOk result (λ routes. AreSummarized boundary.entry.domain.now.net destination.now.dest routes.items) }
+    ensures { OnOk result (AreSummarized boundary.entry.domain.now.net destination.now.dest routes.new.items) }
 {
-    let mut routes = Vec::new(alloc);
-    push_subnets(&mut routes, boundary.domain, boundary.ranges, destination)?;
-    push_ranged(&mut routes, boundary, destination.dest)?;
-    Ok(routes)
+    routes.clear();
+    push_subnets(routes, boundary.domain, boundary.ranges, destination)?;
+    push_ranged(routes, boundary, destination.dest)
 }
 
 /// Adds the prefix for each area where a border router has an intra-area cost for it, unless it is a component of a range.

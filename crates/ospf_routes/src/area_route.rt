@@ -1,4 +1,4 @@
-ghost use Rattle.std.specs.Prelude.{◌≡◌, ◌<◌, Any, IfOk};
+ghost use Rattle.std.specs.Prelude.{◌≡◌, ◌<◌, Any, IfOk, OnOk};
 ghost use Rattle.ospf_routes.specs.Lists.{Exactly};
 ghost use Rattle.ospf_routes.specs.steps.Offered.{InsideOf, OutsideOf, IsInsideOffer, IsOutsideOffer};
 
@@ -33,19 +33,19 @@ pub(crate) fn offers_inside(
     Ok(offers)
 }
 
-/// The routes of other areas, as offers.
-pub(crate) fn offers_outside(
-    alloc: Global,
+/// Puts the routes of other areas in place of other offers.
+pub(crate) fn put_outside(
+    offers: &mut Vec<Offer>,
     routes: &[AreaRoute],
     area: u32,
-) -> Result<Vec<Offer>, OutOfMemory>
-    ensures { IfOk result (λ offers. Exactly (λ o. Any (λ r. OutsideOf area r o) routes.now) offers.items) }
+) -> Result<(), OutOfMemory>
+    ensures { OnOk result (Exactly (λ o. Any (λ r. OutsideOf area r o) routes.now) offers.new.items) }
 {
-    let mut offers = Vec::with_capacity(alloc, routes.len())?;
+    offers.clear();
     for route in routes {
-        push_option(&mut offers, outside_offer(*route, area))?;
+        push_option(offers, outside_offer(*route, area))?;
     }
-    Ok(offers)
+    Ok(())
 }
 
 /// The offer of a route of the area.

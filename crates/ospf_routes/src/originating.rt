@@ -12,8 +12,8 @@ ghost use Rattle.ospf_routes.specs.steps.OfferLists.{IsPlaceIn};
 ghost use Rattle.ospf_routes.specs.steps.Summarized.{Announces, IsHeard, IsOutgoing};
 
 use crate::OutOfMemory;
-use crate::area_boundary::{Boundary, Leaving, summarized};
-use crate::area_route::{AreaRoute, offers_outside, outside_offer};
+use crate::area_boundary::{Boundary, Leaving, put_summarized};
+use crate::area_route::{AreaRoute, outside_offer, put_outside};
 use crate::areas::AreaWalks;
 use crate::backbone_routes::push_reached;
 use crate::domain::Domain;
@@ -27,6 +27,28 @@ use net_addr::Prefix;
 use route_tables::{is_all_addresses, push_option};
 use std::alloc::Global;
 use walk_core::Offer;
+
+/// What of a prefix is at hand while its announcements are made, in room that is taken again for the next one.
+#[derive(Debug, Drop)]
+struct Room {
+    /// What is summarized of it.
+    routes: Vec<AreaRoute>,
+    /// What goes into the backbone.
+    backbone: Vec<Offer>,
+    /// What is announced of it into an area.
+    offers: Vec<Offer>,
+}
+
+impl Room {
+    /// Nothing yet.
+    fn none(alloc: Global) -> Room {
+        Room {
+            routes: Vec::new(alloc),
+            backbone: Vec::new(alloc),
+            offers: Vec::new(alloc),
+        }
+    }
+}
 
 /// What border routers announce of each prefix into each of their areas: the subnets and the ranges of other areas, and into
 /// areas other than the backbone what they reach over the backbone, and the defaults of stub areas.
@@ -44,7 +66,7 @@ pub(crate) fn all_summaries(
 {
     let borders = domain.borders(alloc)?;
     let mut summaries = Summaries::none(alloc, domain.zones());
-    let mut offers = Vec::new(alloc);
+    let mut room = Room::none(alloc);
     let mut latest = Latest::none(alloc, domain.routers() as usize)?;
     let boundary = Boundary {
         domain,
@@ -57,18 +79,17 @@ pub(crate) fn all_summaries(
             Some(earlier) => keep_again(&mut summaries, boundary.domain, earlier)?,
             None => {
                 let destination = &destinations[place];
-                keep_summaries(alloc, &mut summaries, &mut offers, boundary, destination)?;
+                keep_summaries(&mut summaries, &mut room, boundary, destination)?;
             }
         }
     }
     Ok(summaries)
 }
 
-/// Keeps what is announced of a prefix into each area, area by area. Each is made in one vector of offers.
+/// Keeps what is announced of a prefix into each area, area by area. Each is made in the same room.
 fn keep_summaries(
-    alloc: Global,
     summaries: &mut Summaries,
-    offers: &mut Vec<Offer>,
+    room: &mut Room,
     boundary: Boundary<'_>,
     destination: &Destination,
 ) -> Result<(), OutOfMemory>
@@ -79,15 +100,15 @@ fn keep_summaries(
     ensures { OnOk result (AddsRow (IsSummaryRow boundary.entry.domain.now destination.now.dest
         (length boundary.entry.domain.now.areas)) summaries.old summaries.new) }
 {
-    let routes = summarized(alloc, boundary, destination)?;
-    let backbone = offers_outside(alloc, routes.as_slice(), 0)?;
+    put_summarized(&mut room.routes, boundary, destination)?;
+    put_outside(&mut room.backbone, room.routes.as_slice(), 0)?;
     let leaving = Leaving {
         destination,
-        routes: routes.as_slice(),
-        backbone: backbone.as_slice(),
+        routes: room.routes.as_slice(),
+        backbone: room.backbone.as_slice(),
         is_ranged: boundary.ranged.has(destination.dest),
     };
-    keep_into_areas(summaries, offers, boundary, leaving)
+    keep_into_areas(summaries, &mut room.offers, boundary, leaving)
 }
 
 /// Keeps what is announced of a prefix into each area, by what is summarized of it and what goes into the backbone.

@@ -149,7 +149,7 @@ fn home_at(subnet: Subnet, dest: Prefix) -> Option<u32>
     }
 }
 
-/// The routes to those of these subnets that are of the prefix and run OSPF.
+/// Puts the routes to those of these subnets that are of the prefix and run OSPF in place of other routes.
 pub(crate) fn put_routes(
     routes: &mut Vec<AreaRoute>,
     subnets: &[Subnet],

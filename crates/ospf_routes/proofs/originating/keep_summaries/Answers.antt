@@ -9,9 +9,9 @@ keep_into_areas-requires-clause-leaving c =
     let p = c.args.destination.now.dest in
     record {
       destination = c.requires.destination;
-      routes = subst (AreSummarized net p) (sym c.as_slice-2.ensures.value) c.in_ok-routes.ensures;
-      backbone = backbone_are net p c.in_ok-routes.routes.items c.as_slice.result.now c.in_ok-backbone.backbone.items
-          c.as_slice-3.result.now c.in_ok-routes.ensures c.as_slice.ensures.value c.in_ok-backbone.ensures
+      routes = subst (AreSummarized net p) (sym c.as_slice-2.ensures.value) c.in_ok-put_summarized.ensures;
+      backbone = backbone_are net p c.put_summarized.new.routes.items c.as_slice.result.now c.put_outside.new.offers.items
+          c.as_slice-3.result.now c.in_ok-put_summarized.ensures c.as_slice.ensures.value c.in_ok-put_outside.ensures
           c.as_slice-3.ensures.value;
       ranged = λ u is. c.has.ensures.1 (c.requires.ranged p u is);
     }

@@ -4,7 +4,7 @@ use Rattle.walk_core.specs.declared.offers.Offer.{Offer}
 use Rattle.ospf_routes.specs.Lists.{Adds}
 use Rattle.ospf_routes.specs.steps.Offered.{OutsideOf}
 use Rattle.ospf_routes.specs.declared.area_route.AreaRoute.{AreaRoute}
-use Rattle.ospf_routes.proofs.area_route.offers_outside.Given as goal
+use Rattle.ospf_routes.proofs.area_route.put_outside.Given as goal
 
 abbrev pub invariant-loop-route : goal.invariant-loop-route
 invariant-loop-route l = Adds l.initial.offers.items l.offers.items
