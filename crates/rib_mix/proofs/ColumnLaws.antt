@@ -1,27 +1,22 @@
 -- Cells that stand sort by sort.
 use Rattle.std.proofs.lemmas.Grind.{common_steps}
-use Rattle.std.proofs.Common.{◌≡◌, ℕ, ◌<◌, ◌≤◌, ◌+◌, ◌*◌, ◌∙◌, inl, inr, [], ◌∷◌, ◌++◌, List, length, drop, get_or, set, take, ap}
-use Rattle.std.proofs.Common.{arith, refl, subst, sym, Option, None, Some, IfSome, length-drop, length-set, ⊎_elim}
+use Rattle.std.proofs.Common.{◌≡◌, ℕ, ◌<◌, ◌≤◌, ◌+◌, ◌*◌, ◌^◌, ◌∙◌, [], ◌∷◌, ◌++◌, List}
+use Rattle.std.proofs.Common.{ap, drop, get_or, length, replicate, take}
+use Rattle.std.proofs.Common.{arith, subst, sym, Option, None, Some, IfSome, length-append, length-drop, ⊎_elim}
 use Rattle.std.proofs.Math.Nat.{mul-le-mul_left}
-use Rattle.std.proofs.lemmas.Bool.{cases_eq, cases_lt}
-use Rattle.std.proofs.lemmas.List.{get_or-drop, get_or-set_other, get_or-set_same, get_or-take, length-take-le, take_more_set}
+use Rattle.std.proofs.lemmas.Bool.{cases_lt}
+use Rattle.std.proofs.lemmas.List.{get_or-append-add, get_or-drop, get_or-replicate, get_or-take, get_or_append_left, get_or_push}
+use Rattle.std.proofs.lemmas.List.{length-replicate, length-take-le}
 use Rattle.std.proofs.lemmas.List.FromFn.{fill_by_all, get_or-map-range_with_len, length-map-range_with_len}
-use Rattle.rib_mix.specs.Cells.{cell_at, no_cell}
+use Rattle.rib_mix.specs.Cells.{no_cell}
 use Rattle.rib_mix.specs.declared.cell.Cell.{Cell}
-use Rattle.rib_mix.specs.steps.Columns.{AreColumns, AreOtherRows, IsColumn, column_row, column_rows, with_cell}
+use Rattle.rib_mix.specs.steps.Columns.{AreCellsAt, AreColumns, GainColumn, IsColumn, column_row, column_rows}
 use Rattle.rib_mix.specs.steps.Unlike.{HaveCells}
 
 -- the cells of a sort come before those of the next ones
 pub place_before : (routers u s t : ℕ) → u < routers → s < t → s * routers + u < t * routers
 place_before routers u s t router sort =
     let next : routers * (s + 1) ≤ routers * t = mul-le-mul_left routers (omega (arith, sort)) in omega (arith, next, router)
-
--- so the place of a cell is that of no other
-place_sort : (routers u v s t : ℕ) → u < routers → v < routers → s * routers + u ≡ t * routers + v → s ≡ t
-place_sort routers u v s t one other same = grind (arith, common_steps, cases_lt, place_before)
-
-place_router : (routers u v s t : ℕ) → s ≡ t → s * routers + u ≡ t * routers + v → u ≡ v
-place_router routers u v s t same place = omega (arith, place, ap (λ (n : ℕ). n * routers) same)
 
 -- each router has a row
 pub rows_count : (routers sorts : ℕ) (all : List Cell) → length (column_rows routers sorts all) ≡ routers
@@ -60,46 +55,67 @@ placed_some routers sorts u s all rows sort are is in_rows in_row same =
     placed routers sorts u s all rows are is in_rows
     (subst (λ (o : Option ℕ). IfSome o (λ t. t < length (get_or rows u []))) same in_row)
 
--- a cell that is put at its place is put into its router's row
-pub cell_put : (routers sorts : ℕ) (all : List Cell) (u s : ℕ) (cell : Cell) → IsPlaced routers sorts u s all
-    → column_rows routers sorts (set all (s * routers + u) cell) ≡ with_cell u s cell (column_rows routers sorts all)
-cell_put routers sorts all u s cell is =
-    sym (fill_by_all (column_row routers sorts new) (with_cell u s cell rows) routers []
-    (length-set rows u (set (get_or rows u []) s cell) ∙ rows_count routers sorts all) each)
+-- columns to which one is added
+pub column_gained : (routers sorts more : ℕ) (all new column : List Cell) (old : List (List Cell)) → AreColumns routers sorts all
+    → column_rows routers sorts all ≡ old → length column ≡ length old → new ≡ all ++ column → more ≡ sorts + 1
+    → GainColumn column old (column_rows routers more new)
+column_gained routers sorts more all new column old are is long new_is more_is = record {
+  count = rows_count routers more new ∙ sym (rows_count routers sorts all) ∙ ap length is;
+  each = λ u in_old.
+      let router : u < routers = omega (arith, in_old, ap length is, rows_count routers sorts all) in
+      row_read routers more new u router
+      ∙ sym (fill_by_all (λ (t : ℕ). get_or new (t * routers + u) no_cell)
+      (get_or old u [] ++ get_or column u no_cell ∷ []) more no_cell
+      (length-append (get_or old u []) (get_or column u no_cell ∷ []) ∙ ap (λ (n : ℕ). n + 1) (own_count u router) ∙ sym more_is)
+      (each u router));
+}
   where
-    rows : List (List Cell)
-    rows = column_rows routers sorts all
+    own_count : (u : ℕ) → u < routers → length (get_or old u []) ≡ sorts
+    own_count u router =
+        ap (λ (rows : List (List Cell)). length (get_or rows u [])) (sym is) ∙ row_length routers sorts all u router
 
-    new : List Cell
-    new = set all (s * routers + u) cell
+    earlier : (u t : ℕ) → u < routers → t < sorts
+        → get_or (get_or old u [] ++ get_or column u no_cell ∷ []) t no_cell ≡ get_or new (t * routers + u) no_cell
+    earlier u t router sort =
+        get_or_append_left (get_or old u []) (get_or column u no_cell ∷ []) no_cell t (omega (arith, sort, own_count u router))
+        ∙ ap (λ (rows : List (List Cell)). get_or (get_or rows u []) t no_cell) (sym is)
+        ∙ cell_at_place routers sorts all u t router sort
+        ∙ sym (get_or_append_left all column no_cell (t * routers + u)
+        (omega (arith, place_before routers u t sorts router sort, are.long)))
+        ∙ ap (λ (cells : List Cell). get_or cells (t * routers + u) no_cell) (sym new_is)
 
-    kept : (v t : ℕ) → v < routers → t < sorts → (t ≡ s → v ≡ u → ⊥)
-        → get_or (get_or rows v []) t no_cell ≡ get_or new (t * routers + v) no_cell
-    kept v t router sort apart =
-        cell_at_place routers sorts all v t router sort
-        ∙ sym (get_or-set_other all (s * routers + u) (t * routers + v) cell no_cell (λ same.
-        let sorts_same : t ≡ s = place_sort routers v u t s router is.router same in
-        apart sorts_same (place_router routers v u t s sorts_same same)))
+    latest : (u : ℕ) → u < routers
+        → get_or (get_or old u [] ++ get_or column u no_cell ∷ []) sorts no_cell ≡ get_or new (sorts * routers + u) no_cell
+    latest u router =
+        get_or_push (get_or old u []) (get_or column u no_cell) no_cell sorts (own_count u router)
+        ∙ sym (get_or-append-add all column u no_cell)
+        ∙ ap (λ (n : ℕ). get_or (all ++ column) (n + u) no_cell) are.long
+        ∙ ap (λ (cells : List Cell). get_or cells (sorts * routers + u) no_cell) (sym new_is)
 
-    own : (t : ℕ) → t < sorts → get_or (set (get_or rows u []) s cell) t no_cell ≡ get_or new (t * routers + u) no_cell
-    own t sort = elim (cases_eq t s) [
-      | inl same ↦ subst (λ (n : ℕ). get_or (set (get_or rows u []) s cell) n no_cell ≡ get_or new (n * routers + u) no_cell)
-          (sym same)
-          (get_or-set_same (get_or rows u []) s cell no_cell (omega (arith, is.sort, row_length routers sorts all u is.router))
-          ∙ sym (get_or-set_same all (s * routers + u) cell no_cell is.below))
-      | inr apart ↦ get_or-set_other (get_or rows u []) s t cell no_cell apart ∙ kept u t is.router sort (λ same _. apart same)
-    ]
+    each : (u : ℕ) → u < routers → (t : ℕ) → t < more
+        → get_or (get_or old u [] ++ get_or column u no_cell ∷ []) t no_cell ≡ get_or new (t * routers + u) no_cell
+    each u router t below = ⊎_elim (λ (sort : t < sorts). earlier u t router sort)
+        (λ (last : sorts ≤ t).
+        subst (λ (n : ℕ). get_or (get_or old u [] ++ get_or column u no_cell ∷ []) n no_cell
+        ≡ get_or new (n * routers + u) no_cell)
+        (omega (arith, last, below, more_is)) (latest u router))
+        (cases_lt t sorts)
 
-    each : (v : ℕ) → v < routers → get_or (with_cell u s cell rows) v [] ≡ column_row routers sorts new v
-    each v router = elim (cases_eq v u) [
-      | inl same ↦ subst (λ (n : ℕ). get_or (with_cell u s cell rows) n [] ≡ column_row routers sorts new n) (sym same)
-          (get_or-set_same rows u (set (get_or rows u []) s cell) [] (omega (arith, is.router, rows_count routers sorts all))
-          ∙ fill_by_all (λ (t : ℕ). get_or new (t * routers + u) no_cell) (set (get_or rows u []) s cell) sorts no_cell
-          (length-set (get_or rows u []) s cell ∙ row_length routers sorts all u is.router) own)
-      | inr apart ↦ get_or-set_other rows u v (set (get_or rows u []) s cell) [] apart
-          ∙ fill_by_all (λ (t : ℕ). get_or new (t * routers + v) no_cell) (get_or rows v []) sorts no_cell
-          (row_length routers sorts all v router) (λ t sort. kept v t router sort (λ _ same. apart same))
-    ]
+-- so are there as many as their routers have sorts
+pub more_columns : (routers sorts more : ℕ) (all new column : List Cell) (old : List (List Cell)) → AreColumns routers sorts all
+    → column_rows routers sorts all ≡ old → length column ≡ length old → new ≡ all ++ column → more ≡ sorts + 1
+    → length new < 2 ^ 64 → AreColumns routers more new
+more_columns routers sorts more all new column old are is long new_is more_is fits =
+    let count : length new ≡ more * routers =
+    ap length new_is ∙ length-append all column ∙ omega (
+      arith,
+      are.long,
+      long,
+      ap length is,
+      rows_count routers sorts all,
+      ap (λ (n : ℕ). n * routers) more_is,
+    ) in
+    record { long = count; fits = omega (arith, count, fits) }
 
 -- the cells of a sort that all rows have are among all
 pub column_within : (routers sorts s : ℕ) (all : List Cell) (rows : List (List Cell)) → AreColumns routers sorts all
@@ -132,37 +148,11 @@ column_shown routers sorts s count all shown rows are is has same many = record 
       ∙ ap (λ (rs : List (List Cell)). get_or (get_or rs u []) s no_cell) is;
 }
 
--- the next cell of router u is put
-pub record IsNextPut (u n : ℕ) (cell : Cell) (old new : List (List Cell)) : Type 0 where
-  pub row : length (get_or new u []) ≡ length (get_or old u [])
-  pub taken : take (n + 1) (get_or new u []) ≡ take n (get_or old u []) ++ cell ∷ []
-  pub others : AreOtherRows u old new
-
-pub next_put : (u n : ℕ) (cell : Cell) (old new : List (List Cell)) → u < length old → n < length (get_or old u [])
-    → new ≡ with_cell u n cell old → IsNextPut u n cell old new
-next_put u n cell old new router sort is = record {
-  row = ap length own ∙ length-set row n cell;
-  taken = ap (take (n + 1)) own ∙ take_more_set row n cell sort;
-  others = record {
-    count = ap length is ∙ length-set old u (set row n cell);
-    others = λ v apart. ap (λ (rows : List (List Cell)). get_or rows v []) is
-        ∙ get_or-set_other old u v (set row n cell) [] apart;
-  };
+-- nothing is used by routers where there is no sort
+pub nothing_at : (rows : List (List Cell)) (column : List Cell) → column ≡ replicate (length rows) no_cell
+    → AreCellsAt rows None column
+nothing_at rows column is = record {
+  count = ap length is ∙ length-replicate (length rows) no_cell;
+  each = λ u below. ap (λ (cells : List Cell). get_or cells u no_cell) is
+      ∙ get_or-replicate (length rows) u no_cell no_cell below;
 }
-  where
-    row : List Cell
-    row = get_or old u []
-
-    own : get_or new u [] ≡ set row n cell
-    own = ap (λ (rows : List (List Cell)). get_or rows u []) is ∙ get_or-set_same old u (set row n cell) [] router
-
--- rows that are the same twice
-pub others_along : (u : ℕ) (first old new : List (List Cell)) → AreOtherRows u first old → AreOtherRows u old new
-    → AreOtherRows u first new
-others_along u first old new one more = grind (arith, common_steps)
-
--- an earlier cell is among those that were put
-pub earlier_cell : (cells : List Cell) (n : ℕ) (sort : Option ℕ) → IfSome sort (λ s. s < n)
-    → cell_at cells sort ≡ cell_at (take n cells) sort
-earlier_cell cells n None below = refl
-earlier_cell cells n (Some s) below = sym (get_or-take n cells s no_cell below)

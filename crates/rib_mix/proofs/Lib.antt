@@ -17,5 +17,5 @@ mod FeatureLaws
 mod EarlierLaws
 mod AnswerLaws
 mod UnlikeLaws
-mod ConnectedLaws
 mod ColumnLaws
+mod OwnLaws

@@ -1,21 +1,17 @@
 -- What a router has, and what it uses for each class.
 use Rattle.std.proofs.Common.{◌≡◌, ℕ, ◌<◌, List, Option, None, Some, IfSome, length, map, get_or, slice_get, arith, sym, subst}
-use Rattle.std.proofs.Common.{Bool, true, false, [], ◌==◌, if◌then◌else◌}
 use Rattle.std.proofs.Common.{◌∙◌}
-use Rattle.std.proofs.lemmas.Option.{none-some, slice_get_within, slice_get-get_or}
+use Rattle.std.proofs.lemmas.Option.{slice_get_within, slice_get-get_or}
 use Rattle.net_addr.specs.Addresses.{Block}
-use Rattle.net_model.specs.Refusals.{IsNetwork}
-use Rattle.route_core.specs.Rows.{IsTable, KeptTable, kept_in}
 use Rattle.prefix_atoms.proofs.Pushed.{at_place}
 use Rattle.prefix_atoms.specs.Classes.{Classes, IsClassing}
 use Rattle.prefix_atoms.specs.Nested.{IsTop}
 use Rattle.rib_mix.specs.steps.Spots.{AreSharedSpots, AreSpots, AreTableSpots, IsPlaced}
-use Rattle.rib_mix.specs.steps.ConnectedSorts.{AreConnectedSorts}
 use Rattle.rib_mix.specs.steps.Homes.{AreNetHomes}
 use Rattle.rib_mix.specs.steps.Likeness.{AreLike, AreLikeAt, PlacedPrefixes}
 use Rattle.rib_mix.specs.steps.WayUp.{AreOwnCells, IsOwnAmong, Own}
-use Rattle.rib_mix.specs.steps.Sorts.{AreSorts, IsSorting, sort_at}
-use Rattle.rib_mix.specs.steps.SortKinds.{AreKindCells, AreSortKinds, HasFew, HaveCodes, HaveEarlierParents, TellsOfRouter}
+use Rattle.rib_mix.specs.steps.OwnCells.{AreKindCells, IsOwnAt}
+use Rattle.rib_mix.specs.steps.Sorts.{AreSorts, sort_at}
 use Rattle.std.proofs.Math.ListN.{get_or-map}
 use Rattle.rib_mix.proofs.SortSteps.{sort_inside}
 use Rattle.rib_mix.proofs.HomeLaws.{connected_at}
@@ -24,11 +20,10 @@ use Rattle.rib_mix.proofs.UpLaws.{all_cells, own_cells, top_within}
 use Rattle.rib_mix.specs.Cells.{IsCell, cell_at}
 use Rattle.rib_mix.specs.Rows.{Ground, IsRow, site}
 use Rattle.rib_mix.specs.Sites.{Site}
-use Rattle.rib_mix.specs.steps.Sites.{AreTablesInParts, HasOspfDistance, AllOccur}
+use Rattle.rib_mix.specs.steps.Sites.{AreTablesInParts, AllOccur}
 use Rattle.rib_mix.specs.declared.both_tables.BothTables.{BothTables}
 use Rattle.rib_mix.specs.declared.cell.Cell.{Cell}
 use Rattle.rib_mix.specs.declared.own.OfRouter.{OfRouter}
-use Rattle.rib_mix.specs.declared.sort_kinds.SortKinds.{SortKinds}
 use Rattle.rib_mix.specs.declared.sorts.Sorts.{Sorts}
 use Rattle.rib_mix.specs.declared.spots.Spots.{Spots}
 
@@ -91,53 +86,24 @@ pub record IsServing (g : Ground) (classes : Classes) (spots : Spots) (homes : L
   pub homes_are : AreNetHomes g.net classes.prefixes homes
   pub sorts_are : AreSorts (AreLike (record { spots = spots; homes = homes }) g.tables) classes.parents (length classes.parents) sorts
 
--- each sort has its parents' sort before it
-pub earlier_parents : (spots : Spots) (sorts : Sorts) (places : ℕ) (olds news : List ℕ) (kinds : List SortKinds)
-    → IsSorting places sorts → AreSortKinds spots sorts olds news (length sorts.firsts.items) kinds → HaveEarlierParents kinds
-earlier_parents spots sorts places olds news kinds sorting are sort one at =
-    subst (λ (k : SortKinds). IfSome k.parent (λ up. up < sort)) (sym (are.each sort one at))
-    (sorting.parents sort (omega (arith, slice_get_within kinds sort one at, are.count)))
-
--- each number of a table that has few entries has a code
-have_codes : (kept : KeptTable) → IsTable kept → HasFew kept → HaveCodes kept.numbers
-have_codes kept table few kind number is = omega (arith, table.numbers_below kind number is, few.entries)
-
--- so has each of those that count
-counted_codes : (none : Bool) (numbers : List (Option ℕ)) → HaveCodes numbers → HaveCodes (if none then [] else numbers)
-counted_codes true numbers have kind number is = absurd (none-some number is)
-counted_codes false numbers have kind number is = have kind number is
-
--- and so has each number of a router's tables
-pub own_codes : (routers u ospf : ℕ) (tables : List BothTables) (both : BothTables) (connected : List Bool) (own : OfRouter)
-    → AreTablesInParts routers tables → slice_get tables u ≡ Some both → TellsOfRouter connected both ospf own
-    → HaveCodes own.olds.now × HaveCodes own.news.now
-own_codes routers u ospf tables both connected own parts at is = (
-  subst HaveCodes (sym is.olds_are) (counted_codes (ospf == 255) both.old.numbers.now
-      (have_codes (kept_in both.old) (parts.olds u both at).table is.few_olds)),
-  subst HaveCodes (sym is.news_are) (have_codes (kept_in both.new) (parts.news u both at).table is.few_news),
-)
-
 -- the cells of a router that are made by them are its row
 pub row_of_cells : (g : Ground) (classes : Classes) (spots : Spots) (homes : List (List ℕ)) (sorts : Sorts) (u : ℕ)
-    (both : BothTables) (ospf : ℕ) (kinds : List SortKinds) (own : OfRouter) (rows : List (List Bool)) (cells : List Cell)
-    → IsServing g classes spots homes sorts → slice_get g.tables u ≡ Some both → IsNetwork g.net → HasOspfDistance g.net u ospf
-    → AreSortKinds spots sorts both.old.kinds.now both.new.kinds.now (length sorts.firsts.items) kinds
-    → AreConnectedSorts (length g.net) sorts.firsts.items homes (length sorts.firsts.items) rows → u < length g.net
-    → TellsOfRouter (get_or rows u []) both ospf own → AreKindCells kinds own (length kinds) cells
+    (both : BothTables) (own : OfRouter) (cells : List Cell)
+    → IsServing g classes spots homes sorts → slice_get g.tables u ≡ Some both → IsOwnAt g.net u both own
+    → AreKindCells (record { spots = spots; homes = homes }) u own sorts (length sorts.firsts.items) cells
     → IsRow (site g u both) classes.samples (map (sort_at sorts.of_places.items) classes.tops) cells
-row_of_cells g classes spots homes sorts u both ospf kinds own rows cells is at network distance kinds_are flagged router own_is
-    made =
+row_of_cells g classes spots homes sorts u both own cells is at own_is made =
     row_made (site g u both) classes sorts.of_places.items cells is.classing (is.sorts_are.count ∙ is.classing.nested.count)
-    (λ i below. omega (arith, is.sorts_are.sorting.within i below, made.count, kinds_are.count))
-    (own_cells classes g.net u spots has sorts.of_places.items cells is.classing network distance among
+    (λ i below. omega (arith, is.sorts_are.sorting.within i below, made.count))
+    (own_cells classes g.net u spots has sorts.of_places.items cells is.classing own_is.network own_is.distance among
     (connected_at g.net u classes.prefixes homes is.homes_are) olds news
     (all_cells classes has sorts.of_places.items cells is.classing
-    (λ i below. sort_cell all u both ospf classes.parents sorts cells
+    (λ i below. sort_cell all u both own_is.ospf classes.parents sorts cells
     (sorts_along (AreLike all g.tables) (AreLikeAt all both) classes.parents (length classes.parents) sorts
     (λ i j like. like u both at) is.sorts_are)
-    (sort_cells classes.prefixes spots sorts homes (length g.net) u both ospf kinds own rows cells
+    (sort_cells classes.prefixes all sorts u both own_is.ospf own cells
     (λ sort within. omega (arith, is.sorts_are.sorting.firsts sort within, is.classing.nested.count)) olds news
-    kinds_are flagged router own_is made) i
+    own_is.tells made) i
     (omega (arith, below, is.classing.nested.count)))
     (length classes.prefixes) (omega arith)))
   where
@@ -145,7 +111,7 @@ row_of_cells g classes spots homes sorts u both ospf kinds own rows cells is at 
     all = record { spots = spots; homes = homes }
 
     has : Own
-    has = own_of spots homes u both ospf
+    has = own_of spots homes u both own_is.ospf
 
     among : IsOwnAmong classes.prefixes g.net u both spots
     among = own_among classes.prefixes g u both spots is.tables_are is.occur at is.spots_are

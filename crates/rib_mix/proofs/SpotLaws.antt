@@ -17,7 +17,7 @@ use Rattle.prefix_atoms.proofs.ClassFacts.{one_place}
 use Rattle.prefix_atoms.proofs.NestedLaws.{ascending_apart}
 use Rattle.prefix_atoms.proofs.Pushed.{at_place}
 use Rattle.rib_mix.specs.steps.Sites.{prefixes_in}
-use Rattle.rib_mix.specs.steps.SortKinds.{kind_at_spot}
+use Rattle.rib_mix.specs.steps.OwnCells.{kind_at_spot}
 use Rattle.rib_mix.specs.steps.Spots.{AreSpots, IsPlaced, IsSpot, PlacedTable, number_at_spot, number_in, with_spot}
 use Rattle.rib_mix.specs.steps.WayUp.{AreOwnNumbers, IsOwnNumber}
 

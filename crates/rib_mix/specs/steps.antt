@@ -9,6 +9,5 @@ pub mod Features
 pub mod Likeness
 pub mod Earlier
 pub mod Unlike
-pub mod SortKinds
-pub mod ConnectedSorts
+pub mod OwnCells
 pub mod Columns

@@ -1,7 +1,7 @@
-ghost use Rattle.std.specs.Prelude.{◌≡◌, ◌<◌, ◌+◌, ◌*◌, [], length, slice_index_or, None, Some, IfOk, IfSome, OnOk};
+ghost use Rattle.std.specs.Prelude.{◌≡◌, ◌<◌, [], length, replicate, slice_index_or, None, Some, IfOk, IfSome, OnOk};
 ghost use Rattle.std.specs.Bool.{OnTrue};
-ghost use Rattle.rib_mix.specs.Cells.{cell_at};
-ghost use Rattle.rib_mix.specs.steps.Columns.{HaveLength, IsColumn, with_cell};
+ghost use Rattle.rib_mix.specs.Cells.{cell_at, no_cell};
+ghost use Rattle.rib_mix.specs.steps.Columns.{AreCellsAt, GainColumn, HaveLength, IsColumn};
 ghost use Rattle.rib_mix.specs.steps.Unlike.{HaveCells};
 
 use crate::cell::Cell;
@@ -31,33 +31,34 @@ impl Model for Columns {
 }
 
 impl Columns {
-    /// So many routers that use nothing for any of so many sorts.
-    pub fn nothing(alloc: Global, routers: u32, sorts: usize) -> Result<Columns, OutOfMemory>
+    /// So many routers that use nothing yet, with room for so many sorts.
+    pub fn none(alloc: Global, routers: u32, sorts: usize) -> Result<Columns, OutOfMemory>
         ensures count { IfOk result (λ columns. length columns ≡ routers) }
-        ensures lengths { IfOk result (HaveLength sorts) }
+        ensures lengths { IfOk result (HaveLength 0) }
     {
         let routers = routers as usize;
         let Some(count) = sorts.checked_mul(routers) else {
             return Err(OutOfMemory);
         };
-        let mut all = Vec::with_capacity(alloc, count)?;
-        add_columns(&mut all, &vec![in alloc; Cell::nothing(); routers]?, sorts)?;
+        let all = Vec::with_capacity(alloc, count)?;
         Ok(Columns {
             all,
             routers,
-            sorts,
+            sorts: 0,
         })
     }
 
-    /// Puts what a router uses for a sort.
-    #[inline(always)]
-    pub fn put(&mut self, router: u32, sort: usize, cell: Cell)
-        requires router { router < length self.old }
-        requires sort { sort < length (slice_index_or self.old router []) }
-        ensures { self.new ≡ with_cell router sort cell self.old }
+    /// Adds what the routers use for the next sort.
+    pub fn add(&mut self, column: &[Cell]) -> Result<(), OutOfMemory>
+        requires { length column.now ≡ length self.old }
+        ensures { OnOk result (GainColumn column.now self.old self.new) }
     {
-        let place = sort * self.routers + router as usize;
-        self.all[place] = cell;
+        let Some(sorts) = self.sorts.checked_add(1) else {
+            return Err(OutOfMemory);
+        };
+        self.all.extend_from_slice(column)?;
+        self.sorts = sorts;
+        Ok(())
     }
 
     /// What a router uses for a sort, and nothing where there is none.
@@ -82,16 +83,18 @@ impl Columns {
         let start = sort as usize * self.routers;
         &self.all[start..start + self.routers]
     }
-}
 
-/// Adds a column of cells so many times.
-fn add_columns(all: &mut Vec<Cell>, column: &[Cell], times: usize) -> Result<(), OutOfMemory>
-    ensures { OnOk result (length all.new.items ≡ length all.old.items + times * length column.now) }
-{
-    for _ in 0..times {
-        all.extend_from_slice(column)?;
+    /// What the routers use for a sort, and nothing where there is none.
+    pub fn at<'c>(&'c self, sort: Option<u32>, nothing: &'c [Cell]) -> &'c [Cell]
+        requires sort { IfSome sort (HaveCells self.now) }
+        requires nothing { nothing.now ≡ replicate (length self.now) no_cell }
+        ensures { AreCellsAt self.now sort result.now }
+    {
+        match sort {
+            Some(sort) => self.of_sort(sort),
+            None => nothing,
+        }
     }
-    Ok(())
 }
 
 /// What a router uses for a class, by the sorts of the classes.

@@ -11,9 +11,8 @@
 //! | `sorts` | the sorts of prefixes: every router treats those of one sort alike |
 //! | `features`, `lanes`, `homes` | what tells prefixes apart: the kinds that tables have of them, and where they are connected |
 //! | `proposals` | with which earlier prefix each is compared |
-//! | `sort_kinds` | of each sort the kinds that a router's tables have of its first prefix |
-//! | `own` | what a router uses for each sort: what it has for its prefixes, and otherwise what it uses for their parents |
-//! | `connected` | at which routers the first prefix of each sort is connected |
+//! | `kinds` | the kinds that a router's tables have of a prefix |
+//! | `own` | what each router uses for a sort: what it has for its prefixes, and otherwise what it uses for their parents |
 //! | `cell`, `used` | what a router uses in each phase (in Middle what it does in Old or in New), and in one of them |
 //! | `columns` | what each router uses for each sort, and by that for a class |
 //! | `unlike` | the routers of which it isn't known that they treat two classes alike |
@@ -34,7 +33,7 @@ mod next;
 mod both_tables;
 mod cell;
 mod columns;
-mod connected;
+mod kinds;
 mod own;
 mod spots;
 mod subnets;
@@ -46,7 +45,6 @@ mod features;
 mod homes;
 mod lanes;
 mod proposals;
-mod sort_kinds;
 mod sorts;
 mod unlike;
 

@@ -1,7 +1,6 @@
 ghost use Rattle.std.specs.Prelude.{◌≡◌, ◌<◌, ◌↔◌, IfOk, IfSome, IsTrue, OnOk, length, map, slice_index};
 ghost use Rattle.std.specs.Bool.{OnTrue};
 ghost use Rattle.net_model.specs.Network.{Connected};
-ghost use Rattle.net_model.specs.Refusals.{IsNetwork};
 ghost use Rattle.igp_theory.specs.Migrations.{migration};
 ghost use Rattle.prefix_atoms.specs.Classes.{AreClasses, IsClassing, IsInClass, SourceEntry};
 ghost use Rattle.rib_mix.specs.Answers.{AddsAllBut, AreAlike, IsAlikeAt, IsAlikeToKnown, IsNextAtAnEnd, IsNextOf, ShowsEntry};
@@ -12,21 +11,21 @@ ghost use Rattle.rib_mix.specs.Rows.{AreAllSubnets, AreRows};
 ghost use Rattle.rib_mix.specs.steps.Homes.{AreNetHomes, ArePrefixHomes};
 ghost use Rattle.rib_mix.specs.steps.Sorts.{AreSorts, sort_at};
 ghost use Rattle.rib_mix.specs.steps.Likeness.{AreLike, own_placed};
+ghost use Rattle.rib_mix.specs.steps.OwnCells.{AreByLanes, AreColumnCells, HaveAllCodes, IsPlaceOfAll};
 ghost use Rattle.rib_mix.specs.steps.Spots.{AreSharedSpots, HaveSpots};
 ghost use Rattle.rib_mix.specs.Laws.{HaveAnswers};
-ghost use Rattle.rib_mix.specs.steps.Sites.{AreTablesInParts, HasOspfDistance, AllOccur};
+ghost use Rattle.rib_mix.specs.steps.Sites.{AreTablesInParts, AllOccur};
 
 use crate::both_tables::{BothTables, tables_of};
+use crate::cell::Cell;
 use crate::columns::{Columns, cell_of, is_same};
-use crate::connected::connected_sorts;
 use crate::earlier::earlier_classes;
 use crate::features::Features;
 use crate::homes::Homes;
 use crate::next::Next;
-use crate::own::{Shared, of_router, put_cells};
-use crate::sort_kinds::{kinds_in_tables, lane_kinds};
+use crate::own::{OfRouter, Shared, all_own, connect, fill_column};
 use crate::sorts::{Sorts, sort_at};
-use crate::spots::Spots;
+use crate::spots::{BothSpots, Spots};
 use crate::subnets::Subnets;
 use crate::unlike::{add_routers, add_unlike_cells, both_sorts};
 use crate::used::Used;
@@ -271,7 +270,8 @@ fn class_sorts(alloc: Global, shared: &Shared<'_>) -> Result<Vec<Option<u32>>, O
     Ok(classes)
 }
 
-/// What each router of a network uses for each sort of prefixes.
+/// What each router of a network uses for each sort of prefixes: what it has for the first one, and otherwise what it uses for
+/// the parents' sort, which has a lower number.
 fn columns_of(
     alloc: Global,
     net: &Net,
@@ -289,27 +289,44 @@ fn columns_of(
     ensures { IfOk result (λ columns. AreRows (record { net = net.now; tables = tables.now }) shared.now.atoms.now.samples
         (map (sort_at shared.now.sorts.now.of_places.items) shared.now.atoms.now.tops) columns) }
 {
-    let firsts = shared.sorts.firsts.as_slice();
-    let connected = connected_sorts(alloc, net.routers(), firsts, shared.homes)?;
-    let mut columns = Columns::nothing(alloc, net.routers(), firsts.len())?;
-    let mut kinds = lane_kinds(alloc, shared, &[], &[])?;
-    for router in 0..net.routers() {
-        let both = &tables[router as usize];
-        kinds = kinds_in_tables(alloc, shared, both, kinds)?;
-        let flags = connected[router as usize].as_slice();
-        let own = of_router(flags, both, ospf_distance(net, router))?;
-        put_cells(&mut columns, router, kinds.of_sorts.as_slice(), &own);
+    let all = all_own(alloc, net, tables)?;
+    let count = shared.sorts.firsts.len();
+    let mut columns = Columns::none(alloc, net.routers(), count)?;
+    let nothing = vec![in alloc; Cell::nothing(); tables.len()]?;
+    let mut column = vec![in alloc; Cell::nothing(); tables.len()]?;
+    for sort in 0..count {
+        let up = columns.at(shared.sorts.parents[sort], nothing.as_slice());
+        fill_sort(&mut column, up, all.as_slice(), shared, sort);
+        columns.add(column.as_slice())?;
     }
     Ok(columns)
 }
 
-/// The OSPF distance of a router.
-fn ospf_distance(net: &Net, router: u32) -> u8
-    requires { router < length net.now }
-    ensures distance { HasOspfDistance net.now router result }
-    ensures network { IsNetwork net.now }
+/// Puts what each router uses for a sort, over what it uses for that of the parents.
+fn fill_sort(
+    column: &mut [Cell],
+    up: &[Cell],
+    all: &[OfRouter<'_>],
+    shared: &Shared<'_>,
+    sort: usize,
+)
+    requires many { length column.old ≡ length all.now }
+    requires up { length up.now ≡ length all.now }
+    requires lanes { AreByLanes all.now }
+    requires codes { HaveAllCodes all.now }
+    requires sort { sort < length shared.now.sorts.now.firsts.items }
+    requires places { IsPlaceOfAll shared.now (slice_index shared.now.sorts.now.firsts.items sort) }
+    ensures count { length column.new ≡ length column.old }
+    ensures cells { AreColumnCells (own_placed shared.now) all.now (slice_index shared.now.sorts.now.firsts.items sort)
+        up.now column.new }
 {
-    net.config(router).distances.ospf
+    let first = shared.sorts.firsts[sort] as usize;
+    let spots = BothSpots {
+        old: shared.spots.olds[first],
+        new: shared.spots.news[first],
+    };
+    fill_column(column, up, all, &spots);
+    connect(column, shared.homes[first].as_slice());
 }
 
 /// What a router does that uses this.

@@ -1,22 +1,23 @@
-ghost use Rattle.std.specs.Prelude.{◌≡◌, ◌<◌, ◌==◌, if◌then◌else◌, [], IfOk, IfSome, length, slice_index_or, None};
+ghost use Rattle.std.specs.Prelude.{◌≡◌, ◌<◌, ◌==◌, if◌then◌else◌, [], IfOk, None, length, slice_index_or, slice_set};
 ghost use Rattle.std.specs.Bool.{OnTrue};
+ghost use Rattle.net_model.specs.Refusals.{IsNetwork};
 ghost use Rattle.route_core.specs.Rows.{kept_in};
-ghost use Rattle.rib_mix.specs.Cells.{cell_at};
-ghost use Rattle.rib_mix.specs.steps.Columns.{AreOtherRows};
-ghost use Rattle.rib_mix.specs.steps.SortKinds.{AreKindCells, HasFew, HaveCodes, HaveEarlierParents, TellsOfRouter, has_of};
-ghost use Rattle.rib_mix.specs.steps.Uses.{cell_over};
+ghost use Rattle.rib_mix.specs.steps.OwnCells.{AreAllOwn, AreByLanes, AreEntryCells, Connects, GoesOn, HasCodes, HasFew};
+ghost use Rattle.rib_mix.specs.steps.OwnCells.{HaveAllCodes, TellsOfRouter, kinds_of};
+ghost use Rattle.rib_mix.specs.steps.Sites.{HasOspfDistance};
+ghost use Rattle.rib_mix.specs.steps.Uses.{cell_of_two, connected_cell};
 
 use crate::both_tables::BothTables;
 use crate::cell::{Cell, cell_between};
-use crate::columns::Columns;
 use crate::homes::Homes;
-use crate::sort_kinds::{NO_KIND, SortKinds};
+use crate::kinds::{Kinds, NO_KIND, kind_at_spot};
 use crate::sorts::Sorts;
-use crate::spots::Spots;
+use crate::spots::{BothSpots, Spots};
 use crate::used::Use;
-use net_model::{ISIS_DISTANCE, MOST_DISTANCE};
+use net_model::{ISIS_DISTANCE, MOST_DISTANCE, Net};
 use prefix_atoms::Atoms;
 use route_core::{Number, OutOfMemory, TableParts};
+use std::alloc::Global;
 
 /// What serves all routers: the classes, where their prefixes stand among those of the tables, at which routers they are
 /// connected, and their sorts.
@@ -33,10 +34,14 @@ pub(crate) struct Shared<'a> {
 }
 
 /// Of a router what tells what it uses.
-#[derive(Clone, Copy)]
+#[derive(Clone, Copy, Debug)]
 pub(crate) struct OfRouter<'a> {
-    /// Of each sort whether its first prefix is connected.
-    pub connected: &'a [bool],
+    /// The kind that the old table has of each prefix.
+    pub old_kinds: &'a [u32],
+    /// The kind that the new table has of each prefix.
+    pub new_kinds: &'a [u32],
+    /// Whether these may be others than those of the router before.
+    pub begins: bool,
     /// The numbers of the old table's kinds, and none where that table doesn't count.
     pub olds: &'a [Number],
     /// The numbers of the new table's kinds.
@@ -45,17 +50,64 @@ pub(crate) struct OfRouter<'a> {
     pub old_first: bool,
 }
 
+/// What tells what each router of a network uses that has these tables.
+pub(crate) fn all_own<'a>(
+    alloc: Global,
+    net: &Net,
+    tables: &[BothTables<'a>],
+) -> Result<Vec<OfRouter<'a>>, OutOfMemory>
+    requires { length tables.now ≡ length net.now }
+    ensures { IfOk result (λ all. AreAllOwn net.now tables.now all.items) }
+{
+    let mut all = Vec::with_capacity(alloc, tables.len())?;
+    for router in 0..net.routers() {
+        let both = &tables[router as usize];
+        let begins = !goes_on(all.as_slice(), both);
+        let own = of_router(both, ospf_distance(net, router), begins)?;
+        all.push(own)?;
+    }
+    Ok(all)
+}
+
+/// The OSPF distance of a router.
+fn ospf_distance(net: &Net, router: u32) -> u8
+    requires { router < length net.now }
+    ensures distance { HasOspfDistance net.now router result }
+    ensures network { IsNetwork net.now }
+{
+    net.config(router).distances.ospf
+}
+
+/// Whether tables have the same kinds as those of the last of some routers.
+fn goes_on(all: &[OfRouter<'_>], both: &BothTables<'_>) -> bool
+    ensures { OnTrue result (GoesOn all.now (length all.now) both.now.old.kinds.now both.now.new.kinds.now) }
+{
+    match all.len().checked_sub(1) {
+        Some(last) => {
+            let before = &all[last];
+            are_same(before.old_kinds, both.old.kinds) && are_same(before.new_kinds, both.new.kinds)
+        }
+        None => false,
+    }
+}
+
+/// Whether two lists of kinds are the same.
+fn are_same(one: &[u32], other: &[u32]) -> bool
+    ensures { OnTrue result (one.now ≡ other.now) }
+{
+    one == other
+}
+
 /// What tells what a router uses that has these tables and this OSPF distance.
-pub(crate) fn of_router<'a>(
-    connected: &'a [bool],
-    both: &BothTables<'a>,
-    ospf: u8,
-) -> Result<OfRouter<'a>, OutOfMemory>
-    ensures { IfOk result (TellsOfRouter connected.now both.now ospf) }
+fn of_router<'a>(both: &BothTables<'a>, ospf: u8, begins: bool) -> Result<OfRouter<'a>, OutOfMemory>
+    ensures tells { IfOk result (TellsOfRouter both.now ospf) }
+    ensures begins { IfOk result (λ own. own.begins ≡ begins) }
 {
     if has_few(both.old) && has_few(both.new) {
         Ok(OfRouter {
-            connected,
+            old_kinds: both.old.kinds,
+            new_kinds: both.new.kinds,
+            begins,
             olds: counted_numbers(both.old, ospf),
             news: both.new.numbers,
             old_first: ospf < ISIS_DISTANCE,
@@ -83,60 +135,64 @@ fn counted_numbers<'a>(parts: TableParts<'a>, ospf: u8) -> &'a [Number]
     }
 }
 
-/// Puts what a router uses for each sort, by what it has for the first prefix and uses for the parents' sort, which has a
-/// lower number.
+/// Puts what each router uses for the prefix at these spots where that isn't connected, over what it uses for the parent. The
+/// kinds are looked up once for each run of routers that have the same.
 #[inline(never)]
-pub(crate) fn put_cells(columns: &mut Columns, router: u32, kinds: &[SortKinds], own: &OfRouter<'_>)
-    requires router { router < length columns.old }
-    requires sorts { length (slice_index_or columns.old router []) ≡ length kinds.now }
-    requires parents { HaveEarlierParents kinds.now }
-    requires connected { length own.now.connected.now ≡ length kinds.now }
-    requires old_codes { HaveCodes own.now.olds.now }
-    requires new_codes { HaveCodes own.now.news.now }
-    ensures cells { AreKindCells kinds.now own.now (length kinds.now) (slice_index_or columns.new router []) }
-    ensures others { AreOtherRows router columns.old columns.new }
+pub(crate) fn fill_column(column: &mut [Cell], up: &[Cell], all: &[OfRouter<'_>], spots: &BothSpots)
+    requires many { length column.old ≡ length all.now }
+    requires up { length up.now ≡ length all.now }
+    requires lanes { AreByLanes all.now }
+    requires codes { HaveAllCodes all.now }
+    ensures count { length column.new ≡ length column.old }
+    ensures cells { AreEntryCells all.now spots.now up.now (length all.now) column.new }
 {
-    for (sort, kind) in kinds.iter().enumerate() {
-        let connected = own.connected[sort];
-        let cell = own_cell(columns, router, connected, kind, own);
-        columns.put(router, sort, cell);
+    let mut kinds = Kinds {
+        old: NO_KIND,
+        new: NO_KIND,
+    };
+    for (router, own) in all.iter().enumerate() {
+        kinds = own_kinds(own, spots, kinds);
+        column[router] = own_cell(own, kinds, up[router]);
     }
 }
 
-/// What a router uses for a sort: what it has for the first prefix, and at an end where it has nothing what it uses for the
-/// parents. Of entries of both tables that of lower distance comes first.
+/// The kinds that a router's tables have of the prefix at these spots: those of the router before, where it has the same of all.
 #[inline(always)]
-fn own_cell(
-    columns: &Columns,
-    router: u32,
-    connected: bool,
-    kinds: &SortKinds,
-    own: &OfRouter<'_>,
-) -> Cell
-    requires router { router < length columns.now }
-    requires parent { IfSome kinds.now.parent (λ s. s < length (slice_index_or columns.now router [])) }
-    requires old_codes { HaveCodes own.now.olds.now }
-    requires new_codes { HaveCodes own.now.news.now }
-    ensures { result ≡ cell_over (has_of connected own.now kinds.now) own.now.old_first
-        (cell_at (slice_index_or columns.now router []) kinds.now.parent) }
+fn own_kinds(own: &OfRouter<'_>, spots: &BothSpots, before: Kinds) -> Kinds
+    ensures { result ≡ (if own.now.begins then kinds_of own.now spots.now else before) }
 {
-    if connected {
-        return Cell::connected();
+    if own.begins {
+        Kinds {
+            old: kind_at_spot(own.old_kinds, spots.old),
+            new: kind_at_spot(own.new_kinds, spots.new),
+        }
+    } else {
+        before
     }
+}
+
+/// What a router uses for a prefix of these kinds, and at an end where it has nothing what it uses for the parent. Of entries of
+/// both tables that of lower distance comes first.
+#[inline(always)]
+fn own_cell(own: &OfRouter<'_>, kinds: Kinds, up: Cell) -> Cell
+    requires { HasCodes own.now }
+    ensures { result ≡ cell_of_two (slice_index_or own.now.olds.now kinds.old None)
+        (slice_index_or own.now.news.now kinds.new None) own.now.old_first up }
+{
     match number_at(own.olds, kinds.old) {
         Some(old) => match number_at(own.news, kinds.new) {
             Some(new) => cell_between(Use::old(old), Use::new(new), own.old_first),
             None => Cell {
                 middle: Use::old(old),
-                other: columns.cell(router, kinds.parent).in_new(),
+                other: up.in_new(),
             },
         },
         None => match number_at(own.news, kinds.new) {
             Some(new) => Cell {
                 middle: Use::new(new),
-                other: columns.cell(router, kinds.parent).in_old(),
+                other: up.in_old(),
             },
-            None => columns.cell(router, kinds.parent),
+            None => up,
         },
     }
 }
@@ -149,5 +205,23 @@ fn number_at(numbers: &[Number], kind: u32) -> Option<u32>
     match numbers.get(kind as usize) {
         Some(number) => number.get(),
         None => None,
+    }
+}
+
+/// Puts that a connected prefix is used at some routers.
+pub(crate) fn connect(column: &mut [Cell], homes: &[u32])
+    ensures { Connects homes.now column.old column.new }
+{
+    for router in homes {
+        connect_at(column, *router);
+    }
+}
+
+/// Puts that a connected prefix is used at a router, if that is there.
+fn connect_at(column: &mut [Cell], router: u32)
+    ensures { column.new ≡ slice_set column.old router connected_cell }
+{
+    if (router as usize) < column.len() {
+        column[router as usize] = Cell::connected();
     }
 }

@@ -17,6 +17,15 @@ pub(crate) struct Spots {
     pub news: Vec<Number>,
 }
 
+/// Where one of them stands.
+#[derive(Clone, Copy, Debug)]
+pub(crate) struct BothSpots {
+    /// Among those of the old tables.
+    pub old: Number,
+    /// Among those of the new tables.
+    pub new: Number,
+}
+
 impl Spots {
     /// The spots of ascending prefixes in the tables of all routers, which share their prefixes.
     pub fn of_tables(

@@ -1,7 +1,7 @@
 -- What routers use for sorts of prefixes, kept sort by sort.
-use Rattle.std.specs.Prelude.{◌≡◌, ◌≢◌, ℕ, ◌<◌, ◌+◌, ◌*◌, ◌^◌, [], List, length, map, slice_index_or, slice_set}
+use Rattle.std.specs.Prelude.{◌≡◌, ℕ, ◌<◌, ◌+◌, ◌*◌, ◌^◌, ◌++◌, ◌∷◌, [], List, Option, length, map, slice_index_or}
 use Rattle.std.specs.List.{range_with_len}
-use Rattle.rib_mix.specs.Cells.{no_cell}
+use Rattle.rib_mix.specs.Cells.{cell_at, no_cell}
 use Rattle.rib_mix.specs.declared.cell.Cell.{Cell}
 
 -- the cells of router u, of those of so many routers and sorts that stand sort by sort
@@ -21,16 +21,17 @@ pub record AreColumns (routers sorts : ℕ) (all : List Cell) : Type 0 where
 abbrev pub HaveLength : ℕ → List (List Cell) → Type 0
 HaveLength sorts rows = (u : ℕ) → u < length rows → length (slice_index_or rows u []) ≡ sorts
 
--- the cell of a sort is put at router u
-abbrev pub with_cell : ℕ → ℕ → Cell → List (List Cell) → List (List Cell)
-with_cell u sort cell rows = slice_set rows u (slice_set (slice_index_or rows u []) sort cell)
-
 -- these are the cells of a sort, router by router
 pub record IsColumn (rows : List (List Cell)) (sort : ℕ) (column : List Cell) : Type 0 where
   pub count : length column ≡ length rows
   pub each : (u : ℕ) → u < length rows → slice_index_or column u no_cell ≡ slice_index_or (slice_index_or rows u []) sort no_cell
 
--- all rows but that of router u are the same
-pub record AreOtherRows (u : ℕ) (old new : List (List Cell)) : Type 0 where
+-- these are what routers use for a sort, if there is one
+pub record AreCellsAt (rows : List (List Cell)) (sort : Option ℕ) (column : List Cell) : Type 0 where
+  pub count : length column ≡ length rows
+  pub each : (u : ℕ) → u < length rows → slice_index_or column u no_cell ≡ cell_at (slice_index_or rows u []) sort
+
+-- each router gains a cell, that of a column
+pub record GainColumn (column : List Cell) (old new : List (List Cell)) : Type 0 where
   pub count : length new ≡ length old
-  pub others : (v : ℕ) → v ≢ u → slice_index_or new v [] ≡ slice_index_or old v []
+  pub each : (u : ℕ) → u < length old → slice_index_or new u [] ≡ slice_index_or old u [] ++ slice_index_or column u no_cell ∷ []

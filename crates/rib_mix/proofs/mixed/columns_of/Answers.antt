@@ -1,128 +1,112 @@
-use Rattle.std.proofs.lemmas.Grind.{common_steps}
-use Rattle.std.proofs.Common.{◌≡◌, ◌<◌, ◌∙◌, ℕ, Bool, List, [], Some, below_more, get_or, length, map, slice_get, arith}
-use Rattle.std.proofs.Common.{refl, sym, subst}
-use Rattle.std.proofs.lemmas.Bool.{cases_eq}
-use Rattle.std.proofs.lemmas.List.{get_or_default}
-use Rattle.std.proofs.lemmas.Option.{get_or_from_slice_get, same_Some, slice_get_read, slice_get_within}
-use Rattle.prefix_atoms.specs.Classes.{Classes}
-use Rattle.rib_mix.specs.Rows.{Ground, IsRow, site}
-use Rattle.rib_mix.specs.declared.both_tables.BothTables.{BothTables}
+use Rattle.std.proofs.Common.{◌≡◌, ◌∙◌, ℕ, ◌<◌, ◌++◌, ◌∷◌, List, Option, [], None, Some, IfSome, ap, arith, drop}
+use Rattle.std.proofs.Common.{get_or, length, slice_get}
+use Rattle.std.proofs.Common.{subst, sym, take}
+use Rattle.std.proofs.lemmas.List.{get_or_default, take-append-le, take_all}
+use Rattle.std.proofs.lemmas.Option.{get_or_from_slice_get, slice_get_within}
+use Rattle.prefix_atoms.proofs.Pushed.{at_place}
+use Rattle.rib_mix.specs.Cells.{cell_at, no_cell}
 use Rattle.rib_mix.specs.declared.cell.Cell.{Cell}
+use Rattle.rib_mix.specs.declared.own.OfRouter.{OfRouter}
 use Rattle.rib_mix.specs.declared.sorts.Sorts.{Sorts}
-use Rattle.rib_mix.specs.steps.Columns.{AreOtherRows, HaveLength}
-use Rattle.rib_mix.specs.steps.ConnectedSorts.{AreConnectedSorts}
-use Rattle.rib_mix.specs.steps.Sorts.{sort_at}
-use Rattle.rib_mix.specs.declared.sort_kinds.LaneKinds.{LaneKinds}
-use Rattle.rib_mix.specs.declared.sort_kinds.SortKinds.{SortKinds}
-use Rattle.rib_mix.specs.declared.spots.Spots.{Spots}
-use Rattle.rib_mix.specs.steps.SortKinds.{AreKindCells, AreSortKinds, HaveEarlierParents, TellsOfRouter}
-use Rattle.rib_mix.proofs.RowLaws.{IsServing, earlier_parents, own_codes, row_of_cells}
+use Rattle.rib_mix.specs.steps.Likeness.{PlacedPrefixes}
+use Rattle.rib_mix.specs.steps.OwnCells.{AreKindCells, HaveAllCodes, has_in}
+use Rattle.rib_mix.specs.steps.Unlike.{HaveCells}
+use Rattle.rib_mix.specs.steps.Uses.{cell_over}
+use Rattle.rib_mix.proofs.OwnLaws.{all_codes, parent_cells}
+use Rattle.rib_mix.proofs.RowLaws.{row_of_cells}
+use Rattle.rib_mix.proofs.SortLaws.{cells_more}
 use Rattle.rib_mix.proofs.mixed.columns_of.Goals as goal
 
-pub put_cells-requires-clause-parents : goal.put_cells-requires-clause-parents
-put_cells-requires-clause-parents c =
-    let kinds : LaneKinds = c.in_ok-kinds-2.kinds in
-    subst HaveEarlierParents (sym c.as_slice.ensures.value)
-    (earlier_parents c.args.shared.now.spots.now c.args.shared.now.sorts.now (length c.args.shared.now.atoms.now.parents)
-    kinds.olds.now kinds.news.now kinds.of_sorts.items c.requires.sorts.sorting c.in_ok-kinds-2.ensures.kinds)
+-- the parents' sort that is read is that of the sort
+parent_read : (parents : List (Option ℕ)) (sort : ℕ) (read : Option ℕ) → sort < length parents → read ≡ get_or parents sort read
+    → read ≡ get_or parents sort None
+parent_read parents sort read within is = is ∙ get_or_default parents sort read None within
 
-pub put_cells-requires-clause-connected : goal.put_cells-requires-clause-connected
-put_cells-requires-clause-connected c = grind (arith, common_steps)
+-- cells that are written over as many others are these
+written : (new old : List Cell) (count : ℕ) → length new ≡ length old → length old ≡ count
+    → take count (new ++ drop (length new) old) ≡ new
+written new old count same many =
+    take-append-le count new (drop (length new) old) (omega (arith, same, many)) ∙ take_all count new (omega (arith, same, many))
 
-pub put_cells-requires-clause-old_codes : goal.put_cells-requires-clause-old_codes
-put_cells-requires-clause-old_codes c =
-    (own_codes (length c.args.net.now) c.loop-router.router c.ospf_distance.result c.args.tables.now c.index-tables-router.result
-    c.as_slice-flags.result.now c.in_ok-own.own c.requires.tables
-    (slice_get_read c.args.tables.now (length c.args.tables.now) c.loop-router.router c.index-tables-router.result refl
-    (omega (arith, c.loop-router-test.true, c.requires.tables.count, c.routers-router-end.ensures.count))
-    c.index-tables-router.is) c.in_ok-own.ensures).0
-
-pub put_cells-requires-clause-new_codes : goal.put_cells-requires-clause-new_codes
-put_cells-requires-clause-new_codes c =
-    (own_codes (length c.args.net.now) c.loop-router.router c.ospf_distance.result c.args.tables.now c.index-tables-router.result
-    c.as_slice-flags.result.now c.in_ok-own.own c.requires.tables
-    (slice_get_read c.args.tables.now (length c.args.tables.now) c.loop-router.router c.index-tables-router.result refl
-    (omega (arith, c.loop-router-test.true, c.requires.tables.count, c.routers-router-end.ensures.count))
-    c.index-tables-router.is) c.in_ok-own.ensures).1
-
--- of so many cells is each row, where the new one is
-lengths_kept : (u sorts : ℕ) (old new : List (List Cell)) → AreOtherRows u old new → length (get_or new u []) ≡ sorts
-    → HaveLength sorts old → HaveLength sorts new
-lengths_kept u sorts old new others own are v below = grind (arith, common_steps, cases_eq)
-
-pub loop-router-preserved : goal.loop-router-preserved
-loop-router-preserved c =
-    let router : ℕ = c.loop-router.router in
-    let both : BothTables = c.index-tables-router.result in
-    let ospf : ℕ = c.ospf_distance.result in
-    let g : Ground = record { net = c.args.net.now; tables = c.args.tables.now } in
-    let classes : Classes = c.args.shared.now.atoms.now in
-    let spots : Spots = c.args.shared.now.spots.now in
+pub at-up-requires-clause-sort : goal.at-up-requires-clause-sort
+at-up-requires-clause-sort c =
     let sorts : Sorts = c.args.shared.now.sorts.now in
-    let homes : List (List ℕ) = c.args.shared.now.homes.now in
-    let kinds : List SortKinds = c.in_ok-kinds-2.kinds.of_sorts.items in
-    let flags : List (List Bool) = c.in_ok-connected.connected.items in
-    let row : List Cell = get_or c.put_cells.new.columns router [] in
-    let inside : router < length c.args.net.now = omega (arith, c.loop-router-test.true, c.routers-router-end.ensures.count) in
-    let serving : IsServing g classes spots homes sorts = record {
-      tables_are = c.requires.tables;
-      occur = c.requires.occur;
-      classing = c.requires.classing;
-      spots_are = c.requires.spots;
-      homes_are = c.requires.homes;
-      sorts_are = c.requires.sorts;
-    } in
-    let here : slice_get c.args.tables.now router ≡ Some both =
-    slice_get_read c.args.tables.now (length c.args.tables.now) router both refl (omega (arith, inside, c.requires.tables.count))
-    c.index-tables-router.is in
-    let flagged : AreConnectedSorts (length c.args.net.now) sorts.firsts.items homes (length sorts.firsts.items) flags =
-    subst (λ (n : ℕ). AreConnectedSorts n sorts.firsts.items homes (length sorts.firsts.items) flags) c.routers.ensures.count
-    (subst (λ (firsts : List ℕ). AreConnectedSorts c.routers.result firsts homes (length firsts) flags)
-    c.as_slice-firsts.ensures.value c.in_ok-connected.ensures) in
-    let own : c.as_slice-flags.result.now ≡ get_or flags router [] =
-    c.as_slice-flags.ensures ∙ c.index.ensures
-    ∙ get_or_default flags router c.index.result.now [] (omega (arith, inside, flagged.flags.count)) in
-    let own_is : TellsOfRouter (get_or flags router []) both ospf c.in_ok-own.own =
-    subst (λ (flags : List Bool). TellsOfRouter flags both ospf c.in_ok-own.own) own c.in_ok-own.ensures in
-    let kinds_are : AreSortKinds spots sorts both.old.kinds.now both.new.kinds.now (length sorts.firsts.items) kinds =
-    subst (λ (olds : List ℕ). AreSortKinds spots sorts olds both.new.kinds.now (length sorts.firsts.items) kinds)
-    c.in_ok-kinds-2.ensures.lanes.olds
-    (subst (λ (news : List ℕ). AreSortKinds spots sorts c.in_ok-kinds-2.kinds.olds.now news (length sorts.firsts.items) kinds)
-    c.in_ok-kinds-2.ensures.lanes.news c.in_ok-kinds-2.ensures.kinds) in
-    let made : AreKindCells kinds c.in_ok-own.own (length kinds) row =
-    subst (λ (all : List SortKinds). AreKindCells all c.in_ok-own.own (length all) row)
-    c.as_slice.ensures.value c.put_cells.ensures.cells in
-    let is_row : IsRow (site g router both) classes.samples (map (sort_at sorts.of_places.items) classes.tops) row =
-    row_of_cells g classes spots homes sorts router both ospf kinds c.in_ok-own.own flags row serving here
-    c.ospf_distance.ensures.network c.ospf_distance.ensures.distance kinds_are flagged inside own_is made in
-    let others : AreOtherRows router c.loop-router.columns c.put_cells.new.columns = c.put_cells.ensures.others in
+    let sort : ℕ = c.loop-sort.sort in
+    let below : sort < length sorts.firsts.items = omega (arith, c.loop-sort-test.true, c.len-count.ensures) in
+    let parent_is : c.index.result.now ≡ get_or sorts.parents.items sort None =
+    parent_read sorts.parents.items sort c.index.result.now (omega (arith, below, c.requires.sorts.sorting.count))
+    c.index.ensures in
+    subst (λ (o : Option ℕ). IfSome o (HaveCells c.loop-sort.columns)) (sym parent_is)
+    (parent_cells (record { spots = c.args.shared.now.spots.now; homes = c.args.shared.now.homes.now })
+    c.in_ok-all.all.items sorts
+    sort c.loop-sort.columns (get_or sorts.parents.items sort None)
+    (omega (arith, c.loop-sort.invariant.count, c.in_ok-all.ensures.count, c.requires.tables.count)) c.loop-sort.invariant.each
+    (c.requires.sorts.sorting.parents sort below))
+
+pub fill_sort-requires-clause-codes : goal.fill_sort-requires-clause-codes
+fill_sort-requires-clause-codes c =
+    subst HaveAllCodes (sym c.as_slice-in-loop-sort.ensures.value)
+    (all_codes c.args.net.now c.args.tables.now c.in_ok-all.all.items c.requires.tables c.in_ok-all.ensures)
+
+pub loop-sort-preserved : goal.loop-sort-preserved
+loop-sort-preserved c =
+    let sorts : Sorts = c.args.shared.now.sorts.now in
+    let sort : ℕ = c.loop-sort.sort in
+    let places : PlacedPrefixes = record { spots = c.args.shared.now.spots.now; homes = c.args.shared.now.homes.now } in
+    let owns : List OfRouter = c.in_ok-all.all.items in
+    let rows : List (List Cell) = c.loop-sort.columns in
+    let column : List Cell = c.fill_sort.new.column in
+    let up : List Cell = c.at-up.result.now in
+    let first : ℕ = get_or sorts.firsts.items sort 0 in
+    let parent : Option ℕ = get_or sorts.parents.items sort None in
+    let below : sort < length sorts.firsts.items = omega (arith, c.loop-sort-test.true, c.len-count.ensures) in
+    let parent_is : c.index.result.now ≡ parent =
+    parent_read sorts.parents.items sort c.index.result.now (omega (arith, below, c.requires.sorts.sorting.count))
+    c.index.ensures in
+    let many : length owns ≡ length rows =
+    omega (arith, c.loop-sort.invariant.count, c.in_ok-all.ensures.count, c.requires.tables.count) in
+    let long : length column ≡ length c.loop-sort.column.items =
+    c.fill_sort.ensures.count ∙ ap length c.deref_mut.ensures.value in
+    let kept : take c.loop-sort.column.len (column ++ drop (length column) c.loop-sort.column.items) ≡ column =
+    written column c.loop-sort.column.items c.loop-sort.column.len long (omega (arith, c.loop-sort.column.ok.0)) in
+    let added : c.as_slice-in-loop-sort-2.result.now ≡ column = c.as_slice-in-loop-sort-2.ensures.value ∙ kept in
     record {
-      count = others.count ∙ c.loop-router.invariant.count;
-      kinds = c.in_ok-kinds-2.ensures.kinds;
-      lengths = lengths_kept router (length sorts.firsts.items) c.loop-router.columns c.put_cells.new.columns others
-          (made.count ∙ kinds_are.count) c.loop-router.invariant.lengths;
-      each = below_more
-          (λ u. (both : BothTables) → slice_get c.args.tables.now u ≡ Some both → IsRow (site g u both)
-          classes.samples (map (sort_at sorts.of_places.items) classes.tops) (get_or c.put_cells.new.columns u []))
-          router
-          (λ u below both at. subst (IsRow (site g u both) classes.samples (map (sort_at sorts.of_places.items) classes.tops))
-          (sym (others.others u (λ same. absurd (omega (arith, same, below))))) (c.loop-router.invariant.each u below both at))
-          (λ other at. subst (λ (b : BothTables). IsRow (site g router b) classes.samples
-          (map (sort_at sorts.of_places.items) classes.tops) row) (same_Some both other (sym here ∙ at)) is_row);
+      count = c.in_ok-add.ensures.count ∙ c.loop-sort.invariant.count;
+      column = ap length kept ∙ long ∙ c.loop-sort.invariant.column;
+      each = λ u own at.
+          let in_rows : u < length rows = omega (arith, slice_get_within owns u own at, many) in
+          let over : Cell → Cell = cell_over (has_in places u own first) own.old_first in
+          cells_more places u own sorts sort (get_or rows u []) (get_or c.add.new.self u []) (get_or column u no_cell)
+          (c.requires.sorts.sorting.parents sort below)
+          (λ earlier before. c.requires.sorts.sorting.parents earlier (omega (arith, before, below)))
+          (c.fill_sort.ensures.cells u own
+          (subst (λ (xs : List OfRouter). slice_get xs u ≡ Some own) (sym c.as_slice-in-loop-sort.ensures.value) at)
+          ∙ ap over (c.at-up.ensures.each u in_rows)
+          ∙ ap (λ (o : Option ℕ). over (cell_at (get_or rows u []) o)) parent_is)
+          (c.in_ok-add.ensures.each u in_rows
+          ∙ ap (λ (cells : List Cell). get_or rows u [] ++ get_or cells u no_cell ∷ []) added)
+          (c.loop-sort.invariant.each u own at);
     }
 
 pub returns : goal.returns
 returns c = record {
-  count = c.loop-router.invariant.count;
-  each = λ u row at both at_both. subst
-      (IsRow (site (record { net = c.args.net.now; tables = c.args.tables.now }) u both) c.args.shared.now.atoms.now.samples
-      (map (sort_at c.args.shared.now.sorts.now.of_places.items) c.args.shared.now.atoms.now.tops))
-      (get_or_from_slice_get c.loop-router.columns u row [] at)
-      (c.loop-router.invariant.each u (omega (
-        arith,
-        slice_get_within c.loop-router.columns u row at,
-        c.loop-router.invariant.count,
-        c.loop-router-test.false,
-        c.routers-router-end.ensures.count,
-      )) both at_both);
+  count = c.loop-sort.invariant.count;
+  each = λ u row at both at_both.
+      let sorts : Sorts = c.args.shared.now.sorts.now in
+      let places : PlacedPrefixes = record { spots = c.args.shared.now.spots.now; homes = c.args.shared.now.homes.now } in
+      let owns : List OfRouter = c.in_ok-all.all.items in
+      let one = at_place owns u (omega (arith, slice_get_within c.args.tables.now u both at_both, c.in_ok-all.ensures.count)) in
+      row_of_cells (record { net = c.args.net.now; tables = c.args.tables.now }) c.args.shared.now.atoms.now
+      places.spots places.homes sorts u both one.0 row (record {
+        tables_are = c.requires.tables;
+        occur = c.requires.occur;
+        classing = c.requires.classing;
+        spots_are = c.requires.spots;
+        homes_are = c.requires.homes;
+        sorts_are = c.requires.sorts;
+      }) at_both (c.in_ok-all.ensures.each u one.0 one.1 both at_both)
+      (subst (λ (n : ℕ). AreKindCells places u one.0 sorts n row)
+      (omega (arith, c.loop-sort.auto.sort-end, c.loop-sort-test.false, c.len-count.ensures))
+      (subst (AreKindCells places u one.0 sorts c.loop-sort.sort) (get_or_from_slice_get c.loop-sort.columns u row [] at)
+      (c.loop-sort.invariant.each u one.0 one.1)));
 }
