@@ -1,11 +1,12 @@
 -- How a router reaches each vertex, and what that tells of its entries.
 use Rattle.std.proofs.lemmas.Grind.{common_steps}
 use Rattle.std.proofs.Common.{◌≡◌, ◌≢◌, ℕ, ◌+◌, ◌<◌, ◌≤◌, inl, inr, List, [], ◌∷◌, ◌++◌, Option, Some, IfSome, MatchOption, length, get_or, refl, sym, ap}
-use Rattle.std.proofs.Common.{subst, ◌∙◌, arith, true, false}
+use Rattle.std.proofs.Common.{subst, ◌∙◌, arith, true, false, set, None}
 use Rattle.std.specs.List.{Contains}
-use Rattle.std.proofs.lemmas.Bool.{cases_lt, false≢true}
+use Rattle.std.proofs.lemmas.Bool.{cases_eq, cases_lt, false≢true}
+use Rattle.std.proofs.lemmas.List.{get_or-set_other, get_or-set_same, length-set}
 use Rattle.std.proofs.lemmas.List.Elements.{Contains-push_cases}
-use Rattle.std.proofs.lemmas.Option.{same_Some}
+use Rattle.std.proofs.lemmas.Option.{none-some, same_Some}
 use Rattle.net_addr.specs.Addresses.{Block}
 use Rattle.walk_core.specs.Reach.{Reach, HasHop}
 use Rattle.walk_core.specs.BestOffers.{total_towards, total_with}
@@ -20,9 +21,9 @@ use Rattle.route_tables.specs.declared.lane.Behind.{Behind}
 use Rattle.route_tables.specs.declared.lane.Decision.{Decision}
 use Rattle.route_tables.specs.declared.leads.Lead.{Lead}
 use Rattle.route_tables.specs.steps.BestSoFar.{IsBestAt, IsBetterOf, lower, kept, both}
-use Rattle.route_tables.specs.steps.Leads.{AreLeads, AreMissed, IsFarAt, IsLead, IsLeadAt, IsNumberToBest, IsTold, IsLeadTo}
+use Rattle.route_tables.specs.steps.Leads.{AreLeads, AreLeadsTo, AreMissed, IsFarAt, IsLead, IsLeadAt, IsNumberToBest, IsTold, IsLeadTo}
 use Rattle.route_tables.specs.steps.Leads.{told_best, told_nothing, told_nothing_but, told_one}
-use Rattle.route_tables.specs.steps.Leads.{IsToldBeyond, no_lead}
+use Rattle.route_tables.specs.steps.Leads.{IsToldBeyond, far_lead, no_lead}
 use Rattle.route_tables.specs.steps.Sharing.{HasNumber, IsNumberOf}
 use Rattle.route_tables.proofs.ListFacts.{each_more, the_one}
 use Rattle.route_tables.proofs.SharingLaws.{number_kept}
@@ -35,36 +36,68 @@ lead_kept : (reach : Reach) (n : ℕ) (entries more : List Entry) (at : ℕ) (le
     IsLead reach n (entries ++ more) at lead
 lead_kept reach n entries more at lead is = grind (arith, common_steps, number_kept)
 
-pub leads_kept : (reach : Reach) (n : ℕ) (entries more : List Entry) (leads : List Lead) → AreLeads reach n entries leads →
-    AreLeads reach n (entries ++ more) leads
-leads_kept reach n entries more leads are = λ at within. lead_kept reach n entries more at (get_or leads at no_lead) (are at within)
+leads_to_kept : (reach : Reach) (n : ℕ) (entries more : List Entry) (leads : List Lead) → AreLeadsTo reach n entries leads →
+    AreLeadsTo reach n (entries ++ more) leads
+leads_to_kept reach n entries more leads are = λ at within. lead_kept reach n entries more at (get_or leads at no_lead) (are at within)
+
+leads_kept : (reach : Reach) (u n : ℕ) (entries more : List Entry) (leads : List Lead) → AreLeads reach u n entries leads →
+    AreLeads reach u n (entries ++ more) leads
+leads_kept reach u n entries more leads are = record { each = leads_to_kept reach n entries more leads are.each; own = are.own }
 
 -- one more lead, by which there may be more entries
 pub leads_more : (reach : Reach) (n at : ℕ) (entries more : List Entry) (leads : List Lead) (next : Lead) → length leads ≡ at →
-    AreLeads reach n entries leads → IsLead reach n (entries ++ more) at next → (i : ℕ) → i < at + 1 →
+    AreLeadsTo reach n entries leads → IsLead reach n (entries ++ more) at next → (i : ℕ) → i < at + 1 →
     IsLead reach n (entries ++ more) i (get_or (leads ++ next ∷ []) i no_lead)
 leads_more reach n at entries more leads next long are here =
     each_more (IsLead reach n (entries ++ more)) leads at next no_lead long
-    (λ i within. leads_kept reach n entries more leads are i (omega (arith, long, within))) here
+    (λ i within. leads_to_kept reach n entries more leads are i (omega (arith, long, within))) here
+
+-- a lead to nothing says nothing
+no_lead_is : (reach : Reach) (n : ℕ) (entries : List Entry) (at : ℕ) → IsLead reach n entries at no_lead
+no_lead_is reach n entries at = record { to = tt; far = λ same. let here = ap (λ (l : Lead). l.distance) same in absurd (omega (arith, here)) }
+
+-- leads to the vertices, but for one to router u itself
+pub leads_but : (reach : Reach) (u n : ℕ) (entries : List Entry) (leads : List Lead) → AreLeadsTo reach n entries leads →
+    AreLeads reach u n entries (set leads u no_lead)
+leads_but reach u n entries leads are = record {
+  each = λ at within. elim (cases_eq at u) [
+    | inl same ↦ subst (IsLead reach n entries at) (sym (own at same)) (no_lead_is reach n entries at)
+    | inr other ↦ subst (IsLead reach n entries at) (sym (get_or-set_other leads u at no_lead no_lead other))
+        (are at (let long = length-set leads u no_lead in omega (arith, long, within)))
+  ];
+  own = own u refl;
+}
+  where
+    own : (at : ℕ) → at ≡ u → get_or (set leads u no_lead) at no_lead ≡ no_lead
+    own at same = grind (arith, common_steps, cases_lt, get_or-set_same)
 
 -- leads by the walks that are known are those by walks that these are
-pub leads_by : {W : Type 0} (found : Option W) (now : W → Reach) (reach : Reach) (n : ℕ) (entries : List Entry) (leads : List Lead) →
-    IfSome found (λ walks. now walks ≡ reach) → MatchOption found (leads ≡ []) (λ walks. AreLeads (now walks) n entries leads) →
-    AreLeads reach n entries leads
-leads_by found now reach n entries leads known none = grind (arith, common_steps)
+pub leads_by : {W : Type 0} (found : Option W) (now : W → Reach) (reach : Reach) (u n : ℕ) (entries : List Entry) (leads : List Lead) →
+    IfSome found (λ walks. now walks ≡ reach) → MatchOption found (leads ≡ []) (λ walks. AreLeads (now walks) u n entries leads) →
+    AreLeads reach u n entries leads
+leads_by None now reach u n entries leads known none =
+    subst (AreLeads reach u n entries) (sym none) (record { each = λ at within. absurd (omega (arith, within)); own = refl })
+leads_by (Some walks) now reach u n entries leads known are = subst (λ (r : Reach). AreLeads r u n entries leads) known are
 
 -- they stay so with more entries
-pub lane_leads_kept : {W : Type 0} (found : Option W) (now : W → Reach) (n : ℕ) (entries more : List Entry) (leads : List Lead) →
-    MatchOption found (leads ≡ []) (λ walks. AreLeads (now walks) n entries leads) →
-    MatchOption found (leads ≡ []) (λ walks. AreLeads (now walks) n (entries ++ more) leads)
-lane_leads_kept found now n entries more leads none = grind (arith, common_steps, leads_kept)
+pub lane_leads_kept : {W : Type 0} (found : Option W) (now : W → Reach) (u n : ℕ) (entries more : List Entry) (leads : List Lead) →
+    MatchOption found (leads ≡ []) (λ walks. AreLeads (now walks) u n entries leads) →
+    MatchOption found (leads ≡ []) (λ walks. AreLeads (now walks) u n (entries ++ more) leads)
+lane_leads_kept found now u n entries more leads none = grind (arith, common_steps, leads_kept)
 
 -- What leads tell
 
 -- the lead to a vertex has the number of the entry towards it
-led_to : (reach : Reach) (n : ℕ) (entries : List Entry) (leads : List Lead) (at : ℕ) (lead : Lead) (number : ℕ) → AreLeads reach n entries leads →
+led_to : (reach : Reach) (n : ℕ) (entries : List Entry) (leads : List Lead) (at : ℕ) (lead : Lead) (number : ℕ) → AreLeadsTo reach n entries leads →
     IsLeadAt leads at lead → lead.number ≡ Some number → IsLeadTo reach n entries at lead.distance number
 led_to reach n entries leads at lead number are is known = grind (arith, common_steps)
+
+-- a lead that has a number isn't one to the router itself
+led_apart : (reach : Reach) (u n : ℕ) (entries : List Entry) (leads : List Lead) (at : ℕ) (lead : Lead) → AreLeads reach u n entries leads →
+    IsLeadAt leads at lead → u ≢ at
+led_apart reach u n entries leads at lead are is = λ same.
+    let none : lead ≡ no_lead = sym is.is ∙ sym (ap (λ (v : ℕ). get_or leads v no_lead) same) ∙ are.own in
+    none-some is.number (sym (ap (λ (l : Lead). l.number) none) ∙ is.known)
 
 -- an entry over hops has these hops
 abbrev hops_in : Entry → List ℕ
@@ -114,7 +147,7 @@ alike_both reach one other n best entry at first second = λ o among total h bel
 
 -- what the leads to two offers tell is the number of the entry
 told_of_two : (reach : ℕ → Reach) (zones zone n : ℕ) (entry : Entry → Type 0) (entries : List Entry) (leads : List Lead) (one other : Offer)
-    (number : Option ℕ) → AreLeads (reach zone) n entries leads →
+    (number : Option ℕ) → AreLeadsTo (reach zone) n entries leads →
     LeadToBest (reach zone) zone n (IsRouteFor reach zones n entry) (one ∷ other ∷ []) → IsNumberToBest leads one other number →
     IsNumberOf entry entries number
 told_of_two reach zones zone n entry entries leads one other number are lead is =
@@ -154,7 +187,7 @@ told_of_two reach zones zone n entry entries leads one other number are lead is 
 
 -- what the leads to one offer tell is the number of the entry
 told_of_one : (reach : ℕ → Reach) (zones zone n : ℕ) (entry : Entry → Type 0) (entries : List Entry) (leads : List Lead) (at : ℕ) (lead : Lead) →
-    AreLeads (reach zone) n entries leads →
+    AreLeadsTo (reach zone) n entries leads →
     LeadToBest (reach zone) zone n (IsRouteFor reach zones n entry) (record { at = at; asks = 0 } ∷ []) → IsLeadAt leads at lead →
     IsNumberOf entry entries lead.number
 told_of_one reach zones zone n entry entries leads at lead are routes is =
@@ -168,31 +201,41 @@ told_of_one reach zones zone n entry entries leads at lead are routes is =
 
 -- what the leads tell is the number of the entry whose route is decided
 pub told_number : (reach : ℕ → Reach) (zones zone n u : ℕ) (entry : Entry → Type 0) (entries : List Entry) (leads : List Lead) (decision : Decision)
-    (number : Option ℕ) → AreLeads (reach zone) n entries leads →
+    (number : Option ℕ) → AreLeads (reach zone) u n entries leads →
     DecidesRoute u entry (LeadToBest (reach zone) zone n (IsRouteFor reach zones n entry)) decision → IsTold leads u decision number →
     IsNumberOf entry entries number
 told_number reach zones zone n u entry entries leads _ _ are decides told_nothing = decides
 told_number reach zones zone n u entry entries leads _ _ are decides (told_nothing_but one other first second) = decides first second
-told_number reach zones zone n u entry entries leads _ _ are decides (told_one at lead apart is) =
-    told_of_one reach zones zone n entry entries leads at lead are (decides apart) is
-told_number reach zones zone n u entry entries leads _ _ are decides (told_best one other number first second is) =
-    told_of_two reach zones zone n entry entries leads one other number are (decides first second) is
+told_number reach zones zone n u entry entries leads _ _ are decides (told_one at lead is) =
+    told_of_one reach zones zone n entry entries leads at lead are.each
+    (decides (led_apart (reach zone) u n entries leads at lead are is)) is
+told_number reach zones zone n u entry entries leads _ _ are decides (told_best one other number is) =
+    told_of_two reach zones zone n entry entries leads one other number are.each
+    (decides (led_apart (reach zone) u n entries leads one.at is.first are is.first_is)
+    (led_apart (reach zone) u n entries leads other.at is.second are is.second_is)) is
 
 -- What is missed
 
 -- a vertex to which there is a lead to what isn't reached isn't reached
-far_at : (reach : Reach) (n : ℕ) (entries : List Entry) (leads : List Lead) (u at : ℕ) → AreLeads reach n entries leads → (u ≢ at) × IsFarAt leads at →
+far_at : (reach : Reach) (n : ℕ) (entries : List Entry) (leads : List Lead) (u at : ℕ) → AreLeads reach u n entries leads → IsFarAt leads at →
     IsBeyond reach u at
-far_at reach n entries leads u at are (other, is) = record { other = other; unreached = (are at is.within).far is.is }
+far_at reach n entries leads u at are is = record {
+  other = λ same.
+      let none : far_lead ≡ no_lead = sym is.is ∙ sym (ap (λ (v : ℕ). get_or leads v no_lead) same) ∙ are.own in
+      let here = ap (λ (l : Lead). l.distance) none in
+      absurd (omega (arith, here));
+  unreached = (are.each at is.within).far is.is;
+}
 
 -- offers that the leads miss are missed
-missed : (reach : Reach) (n : ℕ) (entries : List Entry) (leads : List Lead) (u : ℕ) (decision : Decision) → AreLeads reach n entries leads →
-    AreMissed leads u decision → MissesOffers reach u decision
+missed : (reach : Reach) (n : ℕ) (entries : List Entry) (leads : List Lead) (u : ℕ) (decision : Decision) → AreLeads reach u n entries leads →
+    AreMissed leads decision → MissesOffers reach u decision
 missed reach n entries leads u decision are is = grind (arith, common_steps, far_at)
 
 -- what the leads over the zone behind tell is the number of the entry whose route is decided there
 pub told_number_behind : (routes : ProtocolRoutes) (zone behind u : ℕ) (p : Block) (entries : List Entry) (first other : List Lead) (decisions : Behind)
-    (number : Option ℕ) → AreLeads (routes.reach u zone) routes.routers entries first → AreLeads (routes.reach u behind) routes.routers entries other →
+    (number : Option ℕ) → AreLeads (routes.reach u zone) u routes.routers entries first →
+    AreLeads (routes.reach u behind) u routes.routers entries other →
     DecidesBeyond routes (routes.reach u zone) behind u p decisions → IsToldBeyond first other u decisions number →
     IsNumberOf (routes.entry u p) entries number
 told_number_behind routes zone behind u p entries first other decisions number are others decides is =

@@ -1,4 +1,4 @@
-ghost use Rattle.std.specs.Prelude.{◌≡◌, ◌≢◌, [], IfOk, IfSome, IsTrue, MatchOption, OnOk};
+ghost use Rattle.std.specs.Prelude.{◌≡◌, [], IfOk, IfSome, IsTrue, MatchOption, OnOk, slice_set};
 ghost use Rattle.route_tables.specs.steps.Leads.{AreLeads, AreMissed, IsFarAt, IsLead, IsLeadAt, IsNumberOfBest, IsNumberToBest, IsTold};
 ghost use Rattle.route_tables.specs.steps.Leads.{IsToldBeyond, far_lead, no_lead};
 ghost use Rattle.route_tables.specs.steps.Sharing.{AreOverOne, KeepsMore};
@@ -16,46 +16,59 @@ use walk_core::{LeastWalks, Offer};
 pub(crate) struct Lead {
     /// How far it is where there is a number, and the greatest number where it isn't reached.
     distance: u64,
-    /// The number of the entry towards it. There is none towards what isn't reached, nor towards the router itself.
+    /// The number of the entry towards it. There is none towards what isn't reached, nor towards the router itself, to which
+    /// there is a lead to nothing.
     number: Number,
 }
 
-/// The leads to the vertices below `count`, and none where the walks aren't known.
+/// The leads of a router to the vertices below `count`, and none where the walks aren't known.
 pub(crate) fn leads_of(
     alloc: Global,
     walks: Option<&LeastWalks>,
+    router: u32,
     count: u32,
     pool: &mut Pool,
 ) -> Result<Vec<Lead>, OutOfMemory>
     requires { AreOverOne count pool.old.entries.items }
     ensures kept { OnOk result (KeepsMore pool.old pool.new) }
     ensures leads { IfOk result (λ leads. MatchOption walks.entry (leads.items ≡ [])
-        (λ walks. AreLeads walks.now count pool.new.entries.items leads.items)) }
+        (λ walks. AreLeads walks.now router count pool.new.entries.items leads.items)) }
 {
     match walks {
-        Some(walks) => leads_over(alloc, walks, count, pool),
+        Some(walks) => leads_over(alloc, walks, router, count, pool),
         None => Ok(Vec::new(alloc)),
     }
 }
 
-/// The leads to the vertices below `count` by these walks.
+/// The leads of a router to the vertices below `count` by these walks.
 #[inline(never)]
 fn leads_over(
     alloc: Global,
     walks: &LeastWalks,
+    router: u32,
     count: u32,
     pool: &mut Pool,
 ) -> Result<Vec<Lead>, OutOfMemory>
     requires { AreOverOne count pool.old.entries.items }
     ensures kept { OnOk result (KeepsMore pool.old pool.new) }
-    ensures leads { IfOk result (λ leads. AreLeads walks.now count pool.new.entries.items leads.items) }
+    ensures leads { IfOk result (λ leads. AreLeads walks.now router count pool.new.entries.items leads.items) }
 {
     let mut all = Vec::with_capacity(alloc, count as usize)?;
     for at in 0..count {
         let lead = lead_to(alloc, walks, at, count, pool)?;
         all.push_reserved(lead);
     }
+    leave_out(&mut all, router);
     Ok(all)
+}
+
+/// Puts a lead to nothing in place of that to a vertex, if there is one.
+fn leave_out(leads: &mut Vec<Lead>, at: u32)
+    ensures { leads.new.items ≡ slice_set leads.old.items at no_lead }
+{
+    if (at as usize) < leads.len() {
+        leads[at as usize] = no_lead();
+    }
 }
 
 /// The lead to a vertex, with hops below `count`.
@@ -113,13 +126,11 @@ pub(crate) fn told(leads: &[Lead], router: u32, decision: Decision) -> Option<Nu
         Decision::NothingBut(one, other) if one != router && other != router => {
             Some(Number::none())
         }
-        Decision::One(at) if at != router => {
+        Decision::One(at) => {
             let lead = lead_at(leads, at)?;
             Some(lead.number)
         }
-        Decision::Two(one, other) if one.at != router && other.at != router => {
-            number_to_best(leads, one, other)
-        }
+        Decision::Two(one, other) => number_to_best(leads, one, other),
         _ => None,
     }
 }
@@ -160,34 +171,24 @@ pub(crate) fn told_behind(
 ) -> Option<Number>
     ensures { IfSome result (IsToldBeyond first.now behind.now router decisions) }
 {
-    if are_missed(first, router, decisions.first) {
+    if are_missed(first, decisions.first) {
         told(behind, router, decisions.second)
     } else {
         None
     }
 }
 
-/// Whether a router makes and reaches none of the offers of a decision.
+/// Whether the router of the leads makes and reaches none of the offers of a decision.
 #[inline(always)]
-fn are_missed(leads: &[Lead], router: u32, decision: Decision) -> bool
-    ensures { IsTrue result → AreMissed leads.now router decision }
+fn are_missed(leads: &[Lead], decision: Decision) -> bool
+    ensures { IsTrue result → AreMissed leads.now decision }
 {
     match decision {
         Decision::Nothing => true,
-        Decision::One(at) => is_missed(leads, router, at),
-        Decision::Two(one, other) => {
-            is_missed(leads, router, one.at) && is_missed(leads, router, other.at)
-        }
+        Decision::One(at) => is_far_at(leads, at),
+        Decision::Two(one, other) => is_far_at(leads, one.at) && is_far_at(leads, other.at),
         Decision::NothingBut(_, _) | Decision::Unknown => false,
     }
-}
-
-/// Whether a vertex is another one than the router and isn't reached.
-#[inline(always)]
-fn is_missed(leads: &[Lead], router: u32, at: u32) -> bool
-    ensures { IsTrue result → (router ≢ at) × IsFarAt leads.now at }
-{
-    at != router && is_far_at(leads, at)
 }
 
 /// Whether a vertex isn't reached.

@@ -140,15 +140,15 @@ fn numbers_at<P: Protocol>(
         (length lane.entry.firsts.now) pool.new.entries.items numbers.items) }
 {
     pool.begin_table();
-    let leads = leads_of(alloc, lane.walks, lane.count, pool)?;
-    let behind = leads_of(alloc, lane.walks_behind, lane.count, pool)?;
+    let leads = leads_of(alloc, lane.walks, lane.router, lane.count, pool)?;
+    let behind = leads_of(alloc, lane.walks_behind, lane.router, lane.count, pool)?;
     let led = LedLane {
         lane,
         leads: leads.as_slice(),
         behind: behind.as_slice(),
     };
     let mut numbers = Vec::with_capacity(alloc, lane.firsts.len())?;
-    for kind in 0..lane.firsts.len() {
+    for kind in 0..lane.decisions.len() {
         let number = number_at(alloc, protocol, led, pool, kind)?;
         numbers.push_reserved(number);
     }

@@ -30,13 +30,18 @@ pub record IsLead (reach : Reach) (n : ℕ) (entries : List Entry) (at : ℕ) (l
   pub far : lead ≡ far_lead → distance_of reach at ≡ None
 
 -- these are leads to the vertices, by their numbers
-abbrev pub AreLeads : Reach → ℕ → List Entry → List Lead → Type 0
-AreLeads reach n entries leads = (at : ℕ) → at < length leads → IsLead reach n entries at (slice_index_or leads at no_lead)
+abbrev pub AreLeadsTo : Reach → ℕ → List Entry → List Lead → Type 0
+AreLeadsTo reach n entries leads = (at : ℕ) → at < length leads → IsLead reach n entries at (slice_index_or leads at no_lead)
+
+-- these are the leads of router u, which has none to itself
+pub record AreLeads (reach : Reach) (u n : ℕ) (entries : List Entry) (leads : List Lead) : Type 0 where
+  pub each : AreLeadsTo reach n entries leads
+  pub own : slice_index_or leads u no_lead ≡ no_lead
 
 -- these are the leads by both walks of the router in the lane, and none where they aren't known
 pub record AreLaneLeads (lane : RouterLane) (entries : List Entry) (first behind : List Lead) : Type 0 where
-  pub of_lane : MatchOption lane.walks (first ≡ []) (λ walks. AreLeads walks.now lane.count entries first)
-  pub of_behind : MatchOption lane.walks_behind (behind ≡ []) (λ walks. AreLeads walks.now lane.count entries behind)
+  pub of_lane : MatchOption lane.walks (first ≡ []) (λ walks. AreLeads walks.now lane.router lane.count entries first)
+  pub of_behind : MatchOption lane.walks_behind (behind ≡ []) (λ walks. AreLeads walks.now lane.router lane.count entries behind)
 
 -- this is the lead to the vertex, and it has a number
 pub record IsLeadAt (leads : List Lead) (at : ℕ) (lead : Lead) : Type 0 where
@@ -63,23 +68,22 @@ pub record IsFarAt (leads : List Lead) (at : ℕ) : Type 0 where
   pub within : at < length leads
   pub is : slice_index_or leads at no_lead ≡ far_lead
 
--- the leads tell that router u makes and reaches none of the offers of the decision
-abbrev pub AreMissed : List Lead → ℕ → Decision → Type 0
-AreMissed leads u Nothing = Unit {0}
-AreMissed leads u (NothingBut one other) = ⊥
-AreMissed leads u (One at) = (u ≢ at) × IsFarAt leads at
-AreMissed leads u (Two one other) = ((u ≢ one.at) × IsFarAt leads one.at) × ((u ≢ other.at) × IsFarAt leads other.at)
-AreMissed leads u Unknown = ⊥
+-- the leads of a router tell that it makes and reaches none of the offers of the decision
+abbrev pub AreMissed : List Lead → Decision → Type 0
+AreMissed leads Nothing = Unit {0}
+AreMissed leads (NothingBut one other) = ⊥
+AreMissed leads (One at) = IsFarAt leads at
+AreMissed leads (Two one other) = IsFarAt leads one.at × IsFarAt leads other.at
+AreMissed leads Unknown = ⊥
 
 -- the leads tell router u this number of its entry by what decides, None where it has none
 pub data IsTold (leads : List Lead) (u : ℕ) : Decision → Option ℕ → Type 0 where
   told_nothing : IsTold leads u Nothing None
   told_nothing_but : (one other : ℕ) → u ≢ one → u ≢ other → IsTold leads u (NothingBut one other) None
-  told_one : (at : ℕ) (lead : Lead) → u ≢ at → IsLeadAt leads at lead → IsTold leads u (One at) lead.number
-  told_best : (one other : Offer) (number : Option ℕ) → u ≢ one.at → u ≢ other.at → IsNumberToBest leads one other number →
-      IsTold leads u (Two one other) number
+  told_one : (at : ℕ) (lead : Lead) → IsLeadAt leads at lead → IsTold leads u (One at) lead.number
+  told_best : (one other : Offer) (number : Option ℕ) → IsNumberToBest leads one other number → IsTold leads u (Two one other) number
 
 -- the leads by both walks tell it by what decides behind: the first offers are missed, and the others tell it
 pub record IsToldBeyond (first behind : List Lead) (u : ℕ) (decisions : Behind) (number : Option ℕ) : Type 0 where
-  pub missed : AreMissed first u decisions.first
+  pub missed : AreMissed first decisions.first
   pub told : IsTold behind u decisions.second number

@@ -19,9 +19,9 @@ pub returns-in_ok-lead-in-One : goal.returns-in_ok-lead-in-One
 returns-in_ok-lead-in-One c =
     let leads = c.args.leads.now in
     subst (λ (d : Decision). IsTold leads c.args.router d c.in_ok-lead-in-One.lead.number) (sym c.in-One.is)
-    (told_one c.in-One.at c.in_ok-lead-in-One.lead (λ same. c.if-at-router.true (sym same)) c.in_ok-lead-in-One.ensures)
+    (told_one c.in-One.at c.in_ok-lead-in-One.lead c.in_ok-lead-in-One.ensures)
 
 pub returns-in-Two : goal.returns-in-Two
 returns-in-Two c = IfSome_then c.number_to_best.result c.number_to_best.ensures
     (λ number is. subst (λ (d : Decision). IsTold c.args.leads.now c.args.router d number) (sym c.in-Two.is)
-    (told_best c.in-Two.one c.in-Two.other number (λ same. c.if-one-router-2.true (sym same)) (λ same. c.if-other-router-2.true (sym same)) is))
+    (told_best c.in-Two.one c.in-Two.other number is))

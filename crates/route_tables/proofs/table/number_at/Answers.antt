@@ -25,13 +25,13 @@ told_of_kind routes dests entries led kind number is are within told = go told
     p : Block
     p = first_prefix_of dests led.lane.firsts.now kind
 
-    first : AreLeads (routes.reach u is.zone) routes.routers entries led.leads.now
-    first = subst (λ (n : ℕ). AreLeads (routes.reach u is.zone) n entries led.leads.now) is.count
-        (leads_by led.lane.walks (λ walks. walks.now) (routes.reach u is.zone) led.lane.count entries led.leads.now is.walks are.of_lane)
+    first : AreLeads (routes.reach u is.zone) u routes.routers entries led.leads.now
+    first = subst (λ (n : ℕ). AreLeads (routes.reach u is.zone) u n entries led.leads.now) is.count
+        (leads_by led.lane.walks (λ walks. walks.now) (routes.reach u is.zone) u led.lane.count entries led.leads.now is.walks are.of_lane)
 
-    other : AreLeads (routes.reach u is.zone_behind) routes.routers entries led.behind.now
-    other = subst (λ (n : ℕ). AreLeads (routes.reach u is.zone_behind) n entries led.behind.now) is.count
-        (leads_by led.lane.walks_behind (λ walks. walks.now) (routes.reach u is.zone_behind) led.lane.count entries led.behind.now is.walks_behind
+    other : AreLeads (routes.reach u is.zone_behind) u routes.routers entries led.behind.now
+    other = subst (λ (n : ℕ). AreLeads (routes.reach u is.zone_behind) u n entries led.behind.now) is.count
+        (leads_by led.lane.walks_behind (λ walks. walks.now) (routes.reach u is.zone_behind) u led.lane.count entries led.behind.now is.walks_behind
         are.of_behind)
 
     go : IsToldOfKind led kind number → IsNumberOf (routes.entry u p) entries number

@@ -27,9 +27,9 @@ loop-kind-preserved g c =
           (numbers_more wanted i old kept.more before.numbers.items number before.invariant.numbers
           (subst (λ (l : List Entry). IsNumberOf (wanted i) l number) kept.entries c.in_ok-number.ensures.number)));
       leads = subst (λ (l : List Entry). AreLaneLeads lane l c.as_slice.result.now c.as_slice-2.result.now) (sym kept.entries) (record {
-        of_lane = lane_leads_kept lane.walks (λ walks. walks.now) lane.count old kept.more c.as_slice.result.now before.invariant.leads.of_lane;
+        of_lane = lane_leads_kept lane.walks (λ walks. walks.now) lane.router lane.count old kept.more c.as_slice.result.now before.invariant.leads.of_lane;
         of_behind =
-            lane_leads_kept lane.walks_behind (λ walks. walks.now) lane.count old kept.more c.as_slice-2.result.now before.invariant.leads.of_behind;
+            lane_leads_kept lane.walks_behind (λ walks. walks.now) lane.router lane.count old kept.more c.as_slice-2.result.now before.invariant.leads.of_behind;
       });
       single = single_kept (g.P.Protocol.routes protocol).routers before.pool pool kept before.invariant.single;
       room = omega (arith, c.push_reserved.ensures.capacity, before.invariant.room);
@@ -53,12 +53,12 @@ loop-kind-init g c =
     record {
       numbers = record { count = ap length c.in_ok-numbers.ensures.items; each = λ kind below. absurd (omega arith) };
       leads = record {
-        of_lane = subst (λ (l : List Lead). MatchOption lane.walks (l ≡ []) (λ walks. AreLeads walks.now lane.count pool.entries.items l))
+        of_lane = subst (λ (l : List Lead). MatchOption lane.walks (l ≡ []) (λ walks. AreLeads walks.now lane.router lane.count pool.entries.items l))
             (sym c.as_slice.ensures.value)
-            (subst (λ (l : List Entry). MatchOption lane.walks (c.in_ok-leads.leads.items ≡ []) (λ walks. AreLeads walks.now lane.count l c.in_ok-leads.leads.items))
+            (subst (λ (l : List Entry). MatchOption lane.walks (c.in_ok-leads.leads.items ≡ []) (λ walks. AreLeads walks.now lane.router lane.count l c.in_ok-leads.leads.items))
             (sym kept.entries)
-            (lane_leads_kept lane.walks (λ walks. walks.now) lane.count mid.entries.items kept.more c.in_ok-leads.leads.items c.in_ok-leads.ensures.leads));
-        of_behind = subst (λ (l : List Lead). MatchOption lane.walks_behind (l ≡ []) (λ walks. AreLeads walks.now lane.count pool.entries.items l))
+            (lane_leads_kept lane.walks (λ walks. walks.now) lane.router lane.count mid.entries.items kept.more c.in_ok-leads.leads.items c.in_ok-leads.ensures.leads));
+        of_behind = subst (λ (l : List Lead). MatchOption lane.walks_behind (l ≡ []) (λ walks. AreLeads walks.now lane.router lane.count pool.entries.items l))
             (sym c.as_slice-2.ensures.value) c.in_ok-behind.ensures.leads;
       };
       single = single_kept n mid pool kept
