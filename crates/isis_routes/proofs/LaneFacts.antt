@@ -12,7 +12,7 @@ use Rattle.igp_theory.specs.Isis.{HasDownRoute, HasLevelOneRoute, HasLevelTwoRou
 use Rattle.route_tables.specs.Lanes.{DecidesAt, DecidesRoute, LeadToBest}
 use Rattle.route_tables.specs.declared.lane.Decision.{Decision}
 use Rattle.route_tables.specs.declared.lane.Decision.TheVariants.{Nothing, NothingBut, One as OneOffer, Two as TwoOffers, Unknown}
-use Rattle.route_tables.specs.declared.route.Route.TheVariants.{Towards}
+use Rattle.route_tables.specs.declared.route.Route.TheVariants.{Through, Towards}
 use Rattle.route_tables.proofs.ListFacts.{any_in_one, any_in_two, the_one}
 use Rattle.isis_routes.specs.steps.Destinations.{HasAnnouncements}
 use Rattle.isis_routes.specs.steps.Domain.{IsisDomain, IsKnown}
@@ -71,7 +71,11 @@ decided_by domain level u p none homes offers decision are runs (made_at_homes a
     (LeadToBest (level_reach domain.walks u (zone_number level)) (zone_number level) (length domain.net) (IsIsisRoute domain u p)) decision
     (λ none_made given good.
     let lead = law (λ connected. none_made ((All-contains (MakesOne domain.net level offers) homes u at_home ((are u).1 connected)).made runs)) given good in
-    record { range = lead.range; leads = λ target best. lead.route (Some (Towards target)) best }) is
+    record {
+      range = lead.range;
+      leads = λ target best. lead.route (Some (Towards target)) best;
+      through = λ hops best. lead.route (Some (Through hops)) best;
+    }) is
 
 -- level 1 offers decide at routers of level 1
 one_decides : (domain : IsisDomain) (u : ℕ) (d : Destination) (decision : Decision) → IsKnown domain → HasAnnouncements domain.net d →

@@ -18,7 +18,7 @@ use Rattle.route_tables.specs.BestRoutes.{AreBestHops}
 use Rattle.route_tables.specs.Lanes.{DecidesRoute}
 use Rattle.route_tables.specs.declared.lane.Decision.{Decision}
 use Rattle.route_tables.specs.declared.lane.Decision.TheVariants.{Nothing, NothingBut, One, Two, Unknown}
-use Rattle.route_tables.specs.declared.route.Route.TheVariants.{Towards}
+use Rattle.route_tables.specs.declared.route.Route.TheVariants.{Through, Towards}
 use Rattle.route_tables.proofs.BestRoutes.{best_route_makes, route_by_hops}
 use Rattle.route_tables.proofs.ListFacts.{any_in_one, any_in_two, the_one}
 use Rattle.ospf_routes.specs.steps.AreaReach.{area_reach}
@@ -128,6 +128,8 @@ leads_by l u p offers within range by =
       range = range;
       leads = λ t is. route_by_hops reach zones n (AreBestHops (reach l.zone) offers n) (OspfEntry l.domain.net u p) (Towards t) by
           (best_route_makes reach zones n l.zone (reach l.zone) offers (Towards t) within refl is);
+      through = λ hops is. route_by_hops reach zones n (AreBestHops (reach l.zone) offers n) (OspfEntry l.domain.net u p) (Through hops) by
+          (best_route_makes reach zones n l.zone (reach l.zone) offers (Through hops) within refl is);
     }
 
 pub free_leads : (l : LaneOf) (u : ℕ) (p : Block) (o : Offer) → LeadsLane l u p (o ∷ []) → LeadsLane l u p (free o.at ∷ [])
@@ -137,6 +139,7 @@ free_leads l u p o lead =
       range = all_one (FitsTotal reach) (free o.at) (λ d is. let fits : d + o.asks < 2 ^ 64 = lead.range 0 o (omega arith) d is in omega (arith, fits));
       leads = λ t is. lead.leads t
           (record { zone_is = is.zone_is; reached = is.reached; best = λ hops are. free_hops reach o (length l.domain.net) hops (is.best hops are) });
+      through = λ hops are. lead.through hops (free_hops reach o (length l.domain.net) hops are);
     }
 
 -- one or two offers decide, unless the prefix is connected at a router that makes none

@@ -5,11 +5,11 @@ use Rattle.std.proofs.Common.{subst, ◌∙◌, arith, true, false, set, None}
 use Rattle.std.specs.List.{Contains}
 use Rattle.std.proofs.lemmas.Bool.{cases_eq, cases_lt, false≢true}
 use Rattle.std.proofs.lemmas.List.{get_or-set_other, get_or-set_same, length-set}
-use Rattle.std.proofs.lemmas.List.Elements.{Contains-push_cases}
+use Rattle.std.proofs.lemmas.List.Elements.{Contains-append_left, Contains-push, Contains-push_cases}
 use Rattle.std.proofs.lemmas.Option.{none-some, same_Some}
 use Rattle.net_addr.specs.Addresses.{Block}
 use Rattle.walk_core.specs.Reach.{Reach, HasHop}
-use Rattle.walk_core.specs.BestOffers.{total_towards, total_with}
+use Rattle.walk_core.specs.BestOffers.{AreHopsTowards, total_towards, total_with}
 use Rattle.walk_core.specs.declared.offers.Offer.{Offer}
 use Rattle.route_core.specs.declared.entry.Entry.{Entry}
 use Rattle.route_core.specs.declared.entry.Entry.TheVariants.{Via, Discard}
@@ -20,11 +20,12 @@ use Rattle.route_tables.specs.Protocols.{ProtocolRoutes}
 use Rattle.route_tables.specs.declared.lane.Behind.{Behind}
 use Rattle.route_tables.specs.declared.lane.Decision.{Decision}
 use Rattle.route_tables.specs.declared.leads.Lead.{Lead}
+use Rattle.route_tables.specs.declared.sharing.Ends.{Ends}
 use Rattle.route_tables.specs.steps.BestSoFar.{IsBestAt, IsBetterOf, lower, kept, both}
-use Rattle.route_tables.specs.steps.Leads.{AreLeads, AreLeadsTo, AreMissed, IsFarAt, IsLead, IsLeadAt, IsNumberToBest, IsTold, IsLeadTo}
+use Rattle.route_tables.specs.steps.Leads.{AreLeads, AreLeadsTo, AreLevelEnds, AreMissed, IsFarAt, IsLead, IsLeadAt, IsNumberToBest, IsTold, IsLeadTo}
 use Rattle.route_tables.specs.steps.Leads.{told_best, told_nothing, told_nothing_but, told_one}
 use Rattle.route_tables.specs.steps.Leads.{IsToldBeyond, far_lead, no_lead}
-use Rattle.route_tables.specs.steps.Sharing.{HasNumber, IsNumberOf}
+use Rattle.route_tables.specs.steps.Sharing.{AreHopsToEither, HasNumber, HasSomeNumber, IsEntryToEither, IsNumberOf}
 use Rattle.route_tables.proofs.ListFacts.{each_more, the_one}
 use Rattle.route_tables.proofs.SharingLaws.{number_kept}
 use Rattle.route_tables.proofs.BestSteps.{LeadBelow, below_hops, best_is_reached, best_of_none, better_more, first_more}
@@ -213,6 +214,67 @@ told_number reach zones zone n u entry entries leads _ _ are decides (told_best 
     told_of_two reach zones zone n entry entries leads one other number are.each
     (decides (led_apart (reach zone) u n entries leads one.at is.first are is.first_is)
     (led_apart (reach zone) u n entries leads other.at is.second are is.second_is)) is
+
+-- the first hops towards the vertices of two offers that cost the same are those towards the best of both
+level_hops : (reach : Reach) (one other : Offer) (n cost : ℕ) (hops : List ℕ) → total_towards reach one ≡ Some cost →
+    total_towards reach other ≡ Some cost → AreHopsToEither reach (record { one = one.at; other = other.at }) n hops →
+    AreHopsTowards reach (one ∷ other ∷ []) cost n hops
+level_hops reach one other n cost hops first second are = record {
+  ascending = are.ascending;
+  exact = λ h. (
+    λ has. let to = (are.exact h).0 has in (
+      to.0,
+      elim to.1 [
+        | inl hop ↦ record { offer = one; among = Contains-append_left (one ∷ []) (other ∷ []) one (Contains-push [] one); total = first; hop = hop }
+        | inr hop ↦ record { offer = other; among = Contains-push (one ∷ []) other; total = second; hop = hop }
+      ],
+    ),
+    λ to. (are.exact h).1 (
+      to.0,
+      elim (Contains-push_cases (one ∷ []) other to.1.offer to.1.among) [
+        | inl earlier ↦ inl (subst (λ (o : Offer). HasHop reach o.at h) (the_one one to.1.offer earlier) to.1.hop)
+        | inr same ↦ inr (subst (λ (o : Offer). HasHop reach o.at h) (sym same) to.1.hop)
+      ],
+    ),
+  );
+}
+
+-- the number of the entry over the hops towards two offers that decide and cost the same is that of the router's entry
+level_number : (reach : ℕ → Reach) (zones zone n u : ℕ) (entry : Entry → Type 0) (entries after : List Entry) (leads : List Lead) (decision : Decision)
+    (ends : Ends) (number : ℕ) → AreLeads (reach zone) u n entries leads →
+    DecidesRoute u entry (LeadToBest (reach zone) zone n (IsRouteFor reach zones n entry)) decision → AreLevelEnds leads decision ends →
+    HasNumber (IsEntryToEither (reach zone) ends n) after number → HasNumber entry after number
+level_number reach zones zone n u entry entries after leads decision ends number are decides level has =
+    let r : Reach = reach zone in
+    let one : Offer = level.one in
+    let other : Offer = level.other in
+    let is = level.level in
+    let cost : ℕ = is.first.distance + one.asks in
+    let lead : LeadToBest r zone n (IsRouteFor reach zones n entry) (one ∷ other ∷ []) =
+    subst (λ (d : Decision). DecidesRoute u entry (LeadToBest r zone n (IsRouteFor reach zones n entry)) d) level.is decides
+    (led_apart r u n entries leads one.at is.first are is.first_is) (led_apart r u n entries leads other.at is.second are is.second_is) in
+    let first = led_to r n entries leads one.at is.first is.first_is.number are.each is.first_is is.first_is.known in
+    let second = led_to r n entries leads other.at is.second is.second_is.number are.each is.second_is is.second_is.known in
+    let reached : total_towards r one ≡ Some cost = ap (λ d. total_with d one.asks) first.far in
+    let other_reached : total_towards r other ≡ Some cost = ap (λ d. total_with d other.asks) second.far ∙ ap (λ (k : ℕ). Some k) (sym is.same) in
+    let best : BestAt = record { cost = cost; at = one.at; alone = false } in
+    let here = best_of_two r one other cost cost best reached other_reached (both refl refl refl (λ no. absurd (false≢true no))) in
+    let to : IsEntryToEither r (record { one = one.at; other = other.at }) n (get_or after number Discard) =
+    subst (λ (e : Ends). IsEntryToEither r e n (get_or after number Discard)) level.ends_are has.is in
+    let route = lead.through to.hops (record { cost = cost; best = here.best_total; towards = level_hops r one other n cost to.hops reached other_reached to.are }) in
+    record { below = has.below; is = route.makes (get_or after number Discard) to.is }
+
+-- the same by the walks that are known
+pub level_number_by : {W : Type 0} (found : Option W) (now : W → Reach) (walks : W) (reach : ℕ → Reach) (zones zone n u : ℕ) (entry : Entry → Type 0)
+    (entries after : List Entry) (leads : List Lead) (decision : Decision) (ends : Ends) (number : Option ℕ) → found ≡ Some walks →
+    IfSome found (λ known. now known ≡ reach zone) → AreLeads (reach zone) u n entries leads →
+    DecidesRoute u entry (LeadToBest (reach zone) zone n (IsRouteFor reach zones n entry)) decision → AreLevelEnds leads decision ends →
+    HasSomeNumber (IsEntryToEither (now walks) ends n) after number → IsNumberOf entry after number
+level_number_by found now walks reach zones zone n u entry entries after leads decision ends None is known are decides level none = absurd none
+level_number_by found now walks reach zones zone n u entry entries after leads decision ends (Some number) is known are decides level has =
+    level_number reach zones zone n u entry entries after leads decision ends number are decides level
+    (subst (λ (r : Reach). HasNumber (IsEntryToEither r ends n) after number)
+    (subst (λ f. IfSome f (λ w. now w ≡ reach zone)) is known) has)
 
 -- What is missed
 

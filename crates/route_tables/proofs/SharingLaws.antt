@@ -1,7 +1,8 @@
 -- Tables in the making: entries that all tables share, and the numbers of those that a table has.
 use Rattle.std.proofs.lemmas.Grind.{common_steps}
-use Rattle.std.proofs.Common.{◌≡◌, ℕ, ◌+◌, ◌<◌, ◌≤◌, ◌↔◌, List, [], ◌∷◌, ◌++◌, length, Some, None, Option, get_or, take, inl, inr}
+use Rattle.std.proofs.Common.{◌≡◌, ℕ, ◌+◌, ◌<◌, ◌≤◌, ◌↔◌, ◌⊎◌, List, [], ◌∷◌, ◌++◌, length, Some, None, Option, get_or, take, inl, inr}
 use Rattle.std.proofs.Common.{sym, ap, subst, arith, true, false, ltb, length-append}
+use Rattle.std.specs.List.{Contains}
 use Rattle.std.specs.List.Sorted.{IsNonDecreasingBy, IsPartitionPoint, IsStrictlyIncreasing}
 use Rattle.std.proofs.lemmas.Bool.{cases_eq, cases_lt}
 use Rattle.std.proofs.lemmas.List.{get_or_append_left, get_or-take, length-take-le, length_push}
@@ -10,8 +11,9 @@ use Rattle.walk_core.specs.Reach.{Reach, listed_hops_of}
 use Rattle.route_core.specs.declared.entry.Entry.{Entry}
 use Rattle.route_core.specs.declared.entry.Entry.TheVariants.{Via, Discard}
 use Rattle.route_tables.specs.Routings.{AreHopsTo}
-use Rattle.route_tables.specs.steps.Sharing.{AreNumbers, AreOverOne, HasNumber, IsNumberOf, KeepsMore}
+use Rattle.route_tables.specs.steps.Sharing.{AreHopsToEither, AreNumbers, AreOverOne, HasNumber, IsNumberOf, KeepsMore}
 use Rattle.route_tables.specs.declared.pool.Pool.{Pool}
+use Rattle.route_tables.specs.declared.sharing.Ends.{Ends}
 use Rattle.route_tables.proofs.ListFacts.{each_more}
 
 -- Numbers of entries
@@ -78,3 +80,26 @@ pub hops_below : (reach : Reach) (at n k : ℕ) (hops : List ℕ) → hops ≡ l
     k ≤ length hops → IsPartitionPoint (λ (h : ℕ). ltb h n ≡ true) (λ (h : ℕ). ltb h n ≡ false) hops k →
     AreHopsTo reach at n (take k hops)
 hops_below reach at n k hops same up within point = grind (arith, common_steps, cases_lt, get_or-take, length-take-le)
+
+-- the first hops below n towards two vertices, one after another and then in order, are those towards either
+pub either_found : (reach : Reach) (ends : Ends) (n : ℕ) (start first both found one other : List ℕ) → start ≡ [] →
+    ((h : ℕ) → Contains first h ↔ (Contains start h ⊎ ((h < n) × Contains one h))) →
+    ((h : ℕ) → Contains both h ↔ (Contains first h ⊎ ((h < n) × Contains other h))) → IsStrictlyIncreasing found →
+    ((h : ℕ) → Contains found h ↔ Contains both h) → one ≡ listed_hops_of reach ends.one → other ≡ listed_hops_of reach ends.other →
+    AreHopsToEither reach ends n found
+either_found reach ends n start first both found one other empty one_added other_added ascending kept one_is other_is = record {
+  ascending = ascending;
+  exact = λ h. (
+    λ has. elim ((other_added h).0 ((kept h).0 has)) [
+      | inl earlier ↦ elim ((one_added h).0 earlier) [
+        | inl old ↦ absurd (let none = subst (λ (l : List ℕ). Contains l h) empty old in omega (arith, none.1))
+        | inr hop ↦ (hop.0, inl (subst (λ (l : List ℕ). Contains l h) one_is hop.1))
+      ]
+      | inr hop ↦ (hop.0, inr (subst (λ (l : List ℕ). Contains l h) other_is hop.1))
+    ],
+    λ to. (kept h).1 (elim to.1 [
+      | inl hop ↦ (other_added h).1 (inl ((one_added h).1 (inr (to.0, subst (λ (l : List ℕ). Contains l h) (sym one_is) hop))))
+      | inr hop ↦ (other_added h).1 (inr (to.0, subst (λ (l : List ℕ). Contains l h) (sym other_is) hop))
+    ]),
+  );
+}

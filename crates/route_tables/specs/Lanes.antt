@@ -5,19 +5,21 @@ use Rattle.walk_core.specs.Reach.{Reach, distance_of}
 use Rattle.walk_core.specs.BestOffers.{AreInRange}
 use Rattle.walk_core.specs.declared.offers.Offer.{Offer}
 use Rattle.route_core.specs.declared.entry.Entry.{Entry}
-use Rattle.route_tables.specs.BestRoutes.{IsBestTarget}
+use Rattle.route_tables.specs.BestRoutes.{AreBestHops, IsBestTarget}
 use Rattle.route_tables.specs.Protocols.{IsRouteOf, ProtocolRoutes}
 use Rattle.route_tables.specs.declared.lane.Behind.{Behind}
 use Rattle.route_tables.specs.declared.lane.Decision.{Decision}
 use Rattle.route_tables.specs.declared.lane.Decision.TheVariants.{Nothing, NothingBut, One, Two, Unknown}
 use Rattle.route_tables.specs.declared.route.Route.{Route}
-use Rattle.route_tables.specs.declared.route.Route.TheVariants.{Towards}
+use Rattle.route_tables.specs.declared.route.Route.TheVariants.{Through, Towards}
 use Rattle.route_tables.specs.declared.route.Target.{Target}
 
--- the offers fit, and where all best ones have the first hops towards one router, a route of these leads there
+-- the offers fit, and a route of these has the hops towards the best ones: it leads to one router, where all best ones have the
+-- first hops towards that
 pub record LeadToBest (reach : Reach) (zone n : ℕ) (routes : Route → Type 0) (offers : List Offer) : Type 0 where
   pub range : AreInRange reach offers
   pub leads : (target : Target) → IsBestTarget reach offers zone n target → routes (Towards target)
+  pub through : (hops : List ℕ) → AreBestHops reach offers n hops → routes (Through hops)
 
 -- what decides the route of router u, which has these entries, where offers of which this holds decide it: it isn't said of
 -- routers that make the offers or are excepted

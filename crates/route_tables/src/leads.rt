@@ -1,12 +1,12 @@
-ghost use Rattle.std.specs.Prelude.{◌≡◌, [], IfOk, IfSome, IsTrue, MatchOption, OnOk, slice_set};
-ghost use Rattle.route_tables.specs.steps.Leads.{AreLeads, AreMissed, IsFarAt, IsLead, IsLeadAt, IsNumberOfBest, IsNumberToBest, IsTold};
-ghost use Rattle.route_tables.specs.steps.Leads.{IsToldBeyond, far_lead, no_lead};
+ghost use Rattle.std.specs.Prelude.{◌≡◌, ◌+◌, [], IfOk, IfSome, IsTrue, MatchOption, OnOk, slice_set};
+ghost use Rattle.route_tables.specs.steps.Leads.{AreLeads, AreLevelEnds, AreMissed, CostTheSame, IsFarAt, IsLead, IsLeadAt, IsNumberOfBest, IsNumberToBest};
+ghost use Rattle.route_tables.specs.steps.Leads.{IsTold, IsToldBeyond, far_lead, no_lead};
 ghost use Rattle.route_tables.specs.steps.Sharing.{AreOverOne, KeepsMore};
 
 use crate::OutOfMemory;
 use crate::lane::{Behind, Decision};
 use crate::pool::Pool;
-use crate::sharing::number_towards;
+use crate::sharing::{Ends, number_towards};
 use route_core::Number;
 use std::alloc::Global;
 use walk_core::{LeastWalks, Offer};
@@ -159,6 +159,42 @@ fn number_of_best(first: Lead, one_asks: u64, second: Lead, other_asks: u64) -> 
         return Some(second.number);
     }
     None
+}
+
+/// The vertices of two offers that decide, where both are reached and cost the same.
+#[inline(never)]
+pub(crate) fn level_ends(leads: &[Lead], decision: &Decision) -> Option<Ends>
+    ensures { IfSome result (AreLevelEnds leads.now decision.now) }
+{
+    match *decision {
+        Decision::Two(one, other) if cost_the_same(leads, one, other) => Some(Ends {
+            one: one.at,
+            other: other.at,
+        }),
+        _ => None,
+    }
+}
+
+/// Whether two offers have leads with numbers, and cost the same.
+fn cost_the_same(leads: &[Lead], one: Offer, other: Offer) -> bool
+    ensures { IsTrue result → CostTheSame leads.now one other }
+{
+    match (lead_at(leads, one.at), lead_at(leads, other.at)) {
+        (Some(first), Some(second)) => {
+            are_level(first.distance, one.asks, second.distance, other.asks)
+        }
+        _ => false,
+    }
+}
+
+/// Whether two sums are there and the same.
+fn are_level(first: u64, one_asks: u64, second: u64, other_asks: u64) -> bool
+    ensures { IsTrue result → (first + one_asks ≡ second + other_asks) }
+{
+    match (first.checked_add(one_asks), second.checked_add(other_asks)) {
+        (Some(one), Some(other)) => one == other,
+        _ => false,
+    }
 }
 
 /// The same by what decides behind: where the first offers are missed, what the leads over the zone behind tell.

@@ -5,14 +5,16 @@ ghost use Rattle.route_core.specs.declared.entry.Entry.TheVariants.{Discard, Via
 use crate::OutOfMemory;
 use route_core::{Entry, Hops};
 use std::alloc::Global;
+use std::mem;
 
 /// The entries of all tables: first those over one hop alone, each under the number of its hop, then those that each
 /// table added, one table after another. Hop lists of several hops are hardly ever those of another router, so a table
-/// looks among its own alone.
+/// looks among its own alone. Hops are put together in room that is made once.
 #[derive(Debug, Drop)]
 pub(crate) struct Pool {
     pub(crate) entries: Vec<Entry>,
     start: usize,
+    room: Vec<u32>,
 }
 
 impl Pool {
@@ -24,7 +26,11 @@ impl Pool {
         for hop in 0..routers {
             entries.push(Entry::Via(Hops::from_one(hop)))?;
         }
-        Ok(Pool { entries, start: 0 })
+        Ok(Pool {
+            entries,
+            start: 0,
+            room: Vec::new(alloc),
+        })
     }
 
     /// Goes on to the next table, which has added nothing.
@@ -32,6 +38,20 @@ impl Pool {
         ensures { self.new.entries.items ≡ self.old.entries.items }
     {
         self.start = self.entries.len();
+    }
+
+    /// The room for hops, which may hold some.
+    pub(crate) fn take_room(&mut self, alloc: Global) -> Vec<u32>
+        ensures { self.new.entries.items ≡ self.old.entries.items }
+    {
+        mem::replace(&mut self.room, Vec::new(alloc))
+    }
+
+    /// Gives the room for hops back.
+    pub(crate) fn give_back(&mut self, room: Vec<u32>)
+        ensures { self.new.entries.items ≡ self.old.entries.items }
+    {
+        self.room = room;
     }
 
     /// Keeps an entry of the table, and gives its number.

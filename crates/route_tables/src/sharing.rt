@@ -4,7 +4,8 @@ ghost use Rattle.route_tables.specs.Prefixes.{prefix_at};
 ghost use Rattle.walk_core.specs.Reach.{listed_hops_of};
 ghost use Rattle.route_tables.specs.Routings.{AreHopsTo, HasZoneTarget, IsEntryTo, Makes};
 ghost use Rattle.route_tables.specs.steps.Kinds.{IsToldBehind, IsToldLane};
-ghost use Rattle.route_tables.specs.steps.Sharing.{AreOverOne, HasNumber, HasSomeNumber, IsNumberOf, IsRouterLane, KeepsMore};
+ghost use Rattle.route_tables.specs.steps.Sharing.{AreHopsToEither, AreOverOne, HasNumber, HasSomeNumber, IsEntryToEither, IsNumberOf, IsRouterLane};
+ghost use Rattle.route_tables.specs.steps.Sharing.{KeepsMore};
 ghost use Rattle.route_core.specs.declared.entry.Entry.TheVariants.{Via};
 
 use crate::OutOfMemory;
@@ -15,7 +16,7 @@ use crate::protocol::Protocol;
 use crate::route::Route;
 use route_core::{Entry, Hops, Number};
 use std::alloc::Global;
-use walk_core::LeastWalks;
+use walk_core::{LeastWalks, push_below, put_in_order};
 
 /// A router's lane: the router, how many there are, the place of the first prefix of each kind, and what decides for each
 /// kind and behind that, each with the router's least walks of the zone over which it decides, where these are known.
@@ -163,6 +164,49 @@ fn number_over(
     ensures number { IfOk result (HasNumber (IsEntryTo walks.now at count) pool.new.entries.items) }
 {
     number_through(alloc, hops_towards(walks, at, count), count, pool)
+}
+
+/// Two vertices towards which entries go.
+#[derive(Clone, Copy, Debug)]
+pub(crate) struct Ends {
+    pub(crate) one: u32,
+    pub(crate) other: u32,
+}
+
+/// The number of the entry over the first hops below `count` towards either of two vertices.
+#[inline(never)]
+pub(crate) fn number_over_both(
+    alloc: Global,
+    walks: &LeastWalks,
+    ends: Ends,
+    count: u32,
+    pool: &mut Pool,
+) -> Result<Number, OutOfMemory>
+    requires { AreOverOne count pool.old.entries.items }
+    ensures kept { OnOk result (KeepsMore pool.old pool.new) }
+    ensures number { IfOk result (HasSomeNumber (IsEntryToEither walks.now ends count) pool.new.entries.items) }
+{
+    let mut hops = pool.take_room(alloc);
+    find_either(&mut hops, walks, ends, count)?;
+    let number = number_through(alloc, hops.as_slice(), count, pool)?;
+    pool.give_back(hops);
+    Number::of(number)
+}
+
+/// Finds the first hops below `count` towards either of two vertices.
+fn find_either(
+    hops: &mut Vec<u32>,
+    walks: &LeastWalks,
+    ends: Ends,
+    count: u32,
+) -> Result<(), OutOfMemory>
+    ensures { OnOk result (AreHopsToEither walks.now ends count hops.new.items) }
+{
+    hops.clear();
+    push_below(hops, walks.hops_to(ends.one), count)?;
+    push_below(hops, walks.hops_to(ends.other), count)?;
+    put_in_order(hops);
+    Ok(())
 }
 
 /// The number of the entry over these hops: that of one that is kept, else that of a new one.

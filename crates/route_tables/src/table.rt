@@ -13,10 +13,10 @@ ghost use Rattle.route_tables.specs.steps.Sharing.{KeepsMore, kept_with};
 
 use crate::OutOfMemory;
 use crate::kinds::{LaneKinds, all_kinds};
-use crate::leads::{Lead, leads_of, told, told_behind};
+use crate::leads::{Lead, leads_of, level_ends, told, told_behind};
 use crate::pool::Pool;
 use crate::protocol::Protocol;
-use crate::sharing::{RouterLane, number_asked, router_lane};
+use crate::sharing::{RouterLane, number_asked, number_over_both, router_lane};
 use net_addr::Prefix;
 use route_core::{Entry, Number, Table};
 use std::alloc::Global;
@@ -156,7 +156,7 @@ fn numbers_at<P: Protocol>(
 }
 
 /// The number of the entry for the prefixes of a kind, where there is one: that which the router's leads tell, else that
-/// which the protocol is asked for.
+/// over the hops towards both of two offers that cost the same, else that which the protocol is asked for.
 #[inline(always)]
 fn number_at<P: Protocol>(
     alloc: Global,
@@ -177,6 +177,11 @@ fn number_at<P: Protocol>(
     match number_told(led, kind) {
         Some(number) => Ok(number),
         None => {
+            if let Some(walks) = led.lane.walks {
+                if let Some(ends) = level_ends(led.leads, &led.lane.decisions[kind]) {
+                    return number_over_both(alloc, walks, ends, led.lane.count, pool);
+                }
+            }
             let place = led.lane.firsts[kind] as usize;
             number_asked(alloc, protocol, led.lane.router, pool, place)
         }

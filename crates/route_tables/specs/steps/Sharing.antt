@@ -1,5 +1,7 @@
 -- Tables in the making: entries that all tables share, and the numbers of a table's own.
-use Rattle.std.specs.Prelude.{◌≡◌, ◌<◌, ℕ, List, [], ◌∷◌, ◌++◌, length, None, Option, IfSome, MatchOption, slice_index_or}
+use Rattle.std.specs.Prelude.{◌≡◌, ◌<◌, ◌⊎◌, ◌↔◌, ℕ, List, [], ◌∷◌, ◌++◌, length, None, Option, IfSome, MatchOption, Contains, slice_index_or}
+use Rattle.std.specs.List.Sorted.{IsStrictlyIncreasing}
+use Rattle.walk_core.specs.Reach.{Reach, HasHop}
 use Rattle.net_addr.specs.Addresses.{Block}
 use Rattle.route_core.specs.Rows.{KeptTable}
 use Rattle.route_core.specs.declared.entry.Entry.{Entry}
@@ -9,6 +11,7 @@ use Rattle.route_tables.specs.steps.Entries.{AreSameEntries}
 use Rattle.route_tables.specs.Protocols.{ProtocolRoutes}
 use Rattle.route_tables.specs.declared.lane.Decision.TheVariants.{Unknown}
 use Rattle.route_tables.specs.declared.pool.Pool.{Pool}
+use Rattle.route_tables.specs.declared.sharing.Ends.{Ends}
 use Rattle.route_tables.specs.declared.sharing.RouterLane.{RouterLane}
 use Rattle.route_tables.specs.declared.table.RouterNumbers.{RouterNumbers}
 use Rattle.route_tables.specs.steps.Kinds.{AreKinds, first_prefix_of, open_behind}
@@ -21,6 +24,17 @@ pub record HasNumber (wanted : Entry → Type 0) (entries : List Entry) (number 
 -- there is a number, and its entry is so
 abbrev pub HasSomeNumber : (Entry → Type 0) → List Entry → Option ℕ → Type 0
 HasSomeNumber wanted entries number = MatchOption number ⊥ (HasNumber wanted entries)
+
+-- the hops are the first hops below n towards either of two vertices, in ascending order
+pub record AreHopsToEither (reach : Reach) (ends : Ends) (n : ℕ) (hops : List ℕ) : Type 0 where
+  pub ascending : IsStrictlyIncreasing hops
+  pub exact : (h : ℕ) → Contains hops h ↔ ((h < n) × (HasHop reach ends.one h ⊎ HasHop reach ends.other h))
+
+-- the entry forwards to these
+pub record IsEntryToEither (reach : Reach) (ends : Ends) (n : ℕ) (entry : Entry) : Type 0 where
+  pub hops : List ℕ
+  pub is : entry ≡ Via hops
+  pub are : AreHopsToEither reach ends n hops
 
 -- or there is none, where no entry is wanted
 abbrev pub IsNumberOf : (Entry → Type 0) → List Entry → Option ℕ → Type 0
