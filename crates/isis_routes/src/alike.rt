@@ -16,7 +16,7 @@ pub(crate) fn earlier_alike(
     ensures { IfOk result (λ earlier. AreEarlierAlike destinations.now earlier.items) }
 {
     let mut latest = vec![in alloc; None; routers as usize]?;
-    let mut all = Vec::new(alloc);
+    let mut all = Vec::with_capacity(alloc, destinations.len())?;
     for place in 0..destinations.len() {
         let earlier = take_latest(&mut latest, destinations, place);
         all.push(alike_before(destinations, place, earlier))?;

@@ -83,7 +83,7 @@ fn each_destination(
     ensures dests { IfOk result (λ all. isis_prefixes all.items ≡ dests.now) }
     ensures announced { IfOk result (λ all. All (HasAnnouncements domain.now.net) all.items) }
 {
-    let mut all = Vec::new(alloc);
+    let mut all = Vec::with_capacity(alloc, dests.len())?;
     for dest in dests {
         let routers = routers_at(alloc, homes, *dest)?;
         all.push(Destination::build(alloc, domain, near, *dest, routers)?)?;

@@ -76,8 +76,8 @@ pub(crate) fn routers_at(
     requires { IsNonDecreasingBy (λ h. h.dest.base) homes.now }
     ensures { IfOk result (λ routers. Exactly (λ u. Any (λ h. IsHomeOf dest h u) homes.now) routers.items) }
 {
-    let mut routers = Vec::new(alloc);
     let run = homes_from(homes, dest.base());
+    let mut routers = Vec::with_capacity(alloc, run.len())?;
     for home in run {
         push_option(&mut routers, router_at(*home, dest))?;
     }
