@@ -20,9 +20,9 @@ use Rattle.route_tables.specs.Protocols.{ProtocolRoutes}
 use Rattle.route_tables.specs.declared.lane.Behind.{Behind}
 use Rattle.route_tables.specs.declared.lane.Decision.{Decision}
 use Rattle.route_tables.specs.declared.leads.Lead.{Lead}
-use Rattle.route_tables.specs.declared.sharing.Ends.{Ends}
+use Rattle.route_tables.specs.declared.sharing.TwoMakers.{TwoMakers}
 use Rattle.route_tables.specs.steps.BestSoFar.{IsBestAt, IsBetterOf, lower, kept, both}
-use Rattle.route_tables.specs.steps.Leads.{AreLeads, AreLeadsTo, AreLevelEnds, AreMissed, IsFarAt, IsLead, IsLeadAt, IsNumberToBest, IsTold, IsLeadTo}
+use Rattle.route_tables.specs.steps.Leads.{AreLeads, AreLeadsTo, AreLevelMakers, AreMissed, IsFarAt, IsLead, IsLeadAt, IsNumberToBest, IsTold, IsLeadTo}
 use Rattle.route_tables.specs.steps.Leads.{told_best, told_nothing, told_nothing_but, told_one}
 use Rattle.route_tables.specs.steps.Leads.{IsToldBeyond, far_lead, no_lead}
 use Rattle.route_tables.specs.steps.Sharing.{AreHopsToEither, HasNumber, HasSomeNumber, IsEntryToEither, IsNumberOf}
@@ -241,10 +241,10 @@ level_hops reach one other n cost hops first second are = record {
 
 -- the number of the entry over the hops towards two offers that decide and cost the same is that of the router's entry
 level_number : (reach : ℕ → Reach) (zones zone n u : ℕ) (entry : Entry → Type 0) (entries after : List Entry) (leads : List Lead) (decision : Decision)
-    (ends : Ends) (number : ℕ) → AreLeads (reach zone) u n entries leads →
-    DecidesRoute u entry (LeadToBest (reach zone) zone n (IsRouteFor reach zones n entry)) decision → AreLevelEnds leads decision ends →
-    HasNumber (IsEntryToEither (reach zone) ends n) after number → HasNumber entry after number
-level_number reach zones zone n u entry entries after leads decision ends number are decides level has =
+    (makers : TwoMakers) (number : ℕ) → AreLeads (reach zone) u n entries leads →
+    DecidesRoute u entry (LeadToBest (reach zone) zone n (IsRouteFor reach zones n entry)) decision → AreLevelMakers leads decision makers →
+    HasNumber (IsEntryToEither (reach zone) makers n) after number → HasNumber entry after number
+level_number reach zones zone n u entry entries after leads decision makers number are decides level has =
     let r : Reach = reach zone in
     let one : Offer = level.one in
     let other : Offer = level.other in
@@ -260,20 +260,20 @@ level_number reach zones zone n u entry entries after leads decision ends number
     let best : BestAt = record { cost = cost; at = one.at; alone = false } in
     let here = best_of_two r one other cost cost best reached other_reached (both refl refl refl (λ no. absurd (false≢true no))) in
     let to : IsEntryToEither r (record { one = one.at; other = other.at }) n (get_or after number Discard) =
-    subst (λ (e : Ends). IsEntryToEither r e n (get_or after number Discard)) level.ends_are has.is in
+    subst (λ (m : TwoMakers). IsEntryToEither r m n (get_or after number Discard)) level.makers_are has.is in
     let route = lead.through to.hops (record { cost = cost; best = here.best_total; towards = level_hops r one other n cost to.hops reached other_reached to.are }) in
     record { below = has.below; is = route.makes (get_or after number Discard) to.is }
 
 -- the same by the walks that are known
 pub level_number_by : {W : Type 0} (found : Option W) (now : W → Reach) (walks : W) (reach : ℕ → Reach) (zones zone n u : ℕ) (entry : Entry → Type 0)
-    (entries after : List Entry) (leads : List Lead) (decision : Decision) (ends : Ends) (number : Option ℕ) → found ≡ Some walks →
+    (entries after : List Entry) (leads : List Lead) (decision : Decision) (makers : TwoMakers) (number : Option ℕ) → found ≡ Some walks →
     IfSome found (λ known. now known ≡ reach zone) → AreLeads (reach zone) u n entries leads →
-    DecidesRoute u entry (LeadToBest (reach zone) zone n (IsRouteFor reach zones n entry)) decision → AreLevelEnds leads decision ends →
-    HasSomeNumber (IsEntryToEither (now walks) ends n) after number → IsNumberOf entry after number
-level_number_by found now walks reach zones zone n u entry entries after leads decision ends None is known are decides level none = absurd none
-level_number_by found now walks reach zones zone n u entry entries after leads decision ends (Some number) is known are decides level has =
-    level_number reach zones zone n u entry entries after leads decision ends number are decides level
-    (subst (λ (r : Reach). HasNumber (IsEntryToEither r ends n) after number)
+    DecidesRoute u entry (LeadToBest (reach zone) zone n (IsRouteFor reach zones n entry)) decision → AreLevelMakers leads decision makers →
+    HasSomeNumber (IsEntryToEither (now walks) makers n) after number → IsNumberOf entry after number
+level_number_by found now walks reach zones zone n u entry entries after leads decision makers None is known are decides level none = absurd none
+level_number_by found now walks reach zones zone n u entry entries after leads decision makers (Some number) is known are decides level has =
+    level_number reach zones zone n u entry entries after leads decision makers number are decides level
+    (subst (λ (r : Reach). HasNumber (IsEntryToEither r makers n) after number)
     (subst (λ f. IfSome f (λ w. now w ≡ reach zone)) is known) has)
 
 -- What is missed

@@ -13,7 +13,7 @@ use Rattle.route_core.specs.declared.entry.Entry.TheVariants.{Via, Discard}
 use Rattle.route_tables.specs.Routings.{AreHopsTo}
 use Rattle.route_tables.specs.steps.Sharing.{AreHopsToEither, AreNumbers, AreOverOne, HasNumber, IsNumberOf, KeepsMore}
 use Rattle.route_tables.specs.declared.pool.Pool.{Pool}
-use Rattle.route_tables.specs.declared.sharing.Ends.{Ends}
+use Rattle.route_tables.specs.declared.sharing.TwoMakers.{TwoMakers}
 use Rattle.route_tables.proofs.ListFacts.{each_more}
 
 -- Numbers of entries
@@ -82,12 +82,12 @@ pub hops_below : (reach : Reach) (at n k : ℕ) (hops : List ℕ) → hops ≡ l
 hops_below reach at n k hops same up within point = grind (arith, common_steps, cases_lt, get_or-take, length-take-le)
 
 -- the first hops below n towards two vertices, one after another and then in order, are those towards either
-pub either_found : (reach : Reach) (ends : Ends) (n : ℕ) (start first both found one other : List ℕ) → start ≡ [] →
+pub either_found : (reach : Reach) (makers : TwoMakers) (n : ℕ) (start first both found one other : List ℕ) → start ≡ [] →
     ((h : ℕ) → Contains first h ↔ (Contains start h ⊎ ((h < n) × Contains one h))) →
     ((h : ℕ) → Contains both h ↔ (Contains first h ⊎ ((h < n) × Contains other h))) → IsStrictlyIncreasing found →
-    ((h : ℕ) → Contains found h ↔ Contains both h) → one ≡ listed_hops_of reach ends.one → other ≡ listed_hops_of reach ends.other →
-    AreHopsToEither reach ends n found
-either_found reach ends n start first both found one other empty one_added other_added ascending kept one_is other_is = record {
+    ((h : ℕ) → Contains found h ↔ Contains both h) → one ≡ listed_hops_of reach makers.one → other ≡ listed_hops_of reach makers.other →
+    AreHopsToEither reach makers n found
+either_found reach makers n start first both found one other empty one_added other_added ascending kept one_is other_is = record {
   ascending = ascending;
   exact = λ h. (
     λ has. elim ((other_added h).0 ((kept h).0 has)) [

@@ -1,12 +1,12 @@
 ghost use Rattle.std.specs.Prelude.{◌≡◌, ◌+◌, [], IfOk, IfSome, IsTrue, MatchOption, OnOk, slice_set};
-ghost use Rattle.route_tables.specs.steps.Leads.{AreLeads, AreLevelEnds, AreMissed, CostTheSame, IsFarAt, IsLead, IsLeadAt, IsNumberOfBest, IsNumberToBest};
+ghost use Rattle.route_tables.specs.steps.Leads.{AreLeads, AreLevelMakers, AreMissed, CostTheSame, IsFarAt, IsLead, IsLeadAt, IsNumberOfBest, IsNumberToBest};
 ghost use Rattle.route_tables.specs.steps.Leads.{IsTold, IsToldBeyond, far_lead, no_lead};
 ghost use Rattle.route_tables.specs.steps.Sharing.{AreOverOne, KeepsMore};
 
 use crate::OutOfMemory;
 use crate::lane::{Behind, Decision};
 use crate::pool::Pool;
-use crate::sharing::{Ends, number_towards};
+use crate::sharing::{TwoMakers, number_towards};
 use route_core::Number;
 use std::alloc::Global;
 use walk_core::{LeastWalks, Offer};
@@ -163,11 +163,11 @@ fn number_of_best(first: Lead, one_asks: u64, second: Lead, other_asks: u64) -> 
 
 /// The vertices of two offers that decide, where both are reached and cost the same.
 #[inline(never)]
-pub(crate) fn level_ends(leads: &[Lead], decision: &Decision) -> Option<Ends>
-    ensures { IfSome result (AreLevelEnds leads.now decision.now) }
+pub(crate) fn level_makers(leads: &[Lead], decision: &Decision) -> Option<TwoMakers>
+    ensures { IfSome result (AreLevelMakers leads.now decision.now) }
 {
     match *decision {
-        Decision::Two(one, other) if cost_the_same(leads, one, other) => Some(Ends {
+        Decision::Two(one, other) if cost_the_same(leads, one, other) => Some(TwoMakers {
             one: one.at,
             other: other.at,
         }),

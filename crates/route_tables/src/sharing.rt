@@ -166,45 +166,45 @@ fn number_over(
     number_through(alloc, hops_towards(walks, at, count), count, pool)
 }
 
-/// Two vertices towards which entries go.
+/// The vertices that make two offers.
 #[derive(Clone, Copy, Debug)]
-pub(crate) struct Ends {
+pub(crate) struct TwoMakers {
     pub(crate) one: u32,
     pub(crate) other: u32,
 }
 
-/// The number of the entry over the first hops below `count` towards either of two vertices.
+/// The number of the entry over the first hops below `count` towards the makers of two offers.
 #[inline(never)]
 pub(crate) fn number_over_both(
     alloc: Global,
     walks: &LeastWalks,
-    ends: Ends,
+    makers: TwoMakers,
     count: u32,
     pool: &mut Pool,
 ) -> Result<Number, OutOfMemory>
     requires { AreOverOne count pool.old.entries.items }
     ensures kept { OnOk result (KeepsMore pool.old pool.new) }
-    ensures number { IfOk result (HasSomeNumber (IsEntryToEither walks.now ends count) pool.new.entries.items) }
+    ensures number { IfOk result (HasSomeNumber (IsEntryToEither walks.now makers count) pool.new.entries.items) }
 {
     let mut hops = pool.take_room(alloc);
-    find_either(&mut hops, walks, ends, count)?;
+    find_either(&mut hops, walks, makers, count)?;
     let number = number_through(alloc, hops.as_slice(), count, pool)?;
     pool.give_back(hops);
     Number::of(number)
 }
 
-/// Finds the first hops below `count` towards either of two vertices.
+/// Finds the first hops below `count` towards the makers of two offers.
 fn find_either(
     hops: &mut Vec<u32>,
     walks: &LeastWalks,
-    ends: Ends,
+    makers: TwoMakers,
     count: u32,
 ) -> Result<(), OutOfMemory>
-    ensures { OnOk result (AreHopsToEither walks.now ends count hops.new.items) }
+    ensures { OnOk result (AreHopsToEither walks.now makers count hops.new.items) }
 {
     hops.clear();
-    push_below(hops, walks.hops_to(ends.one), count)?;
-    push_below(hops, walks.hops_to(ends.other), count)?;
+    push_below(hops, walks.hops_to(makers.one), count)?;
+    push_below(hops, walks.hops_to(makers.other), count)?;
     put_in_order(hops);
     Ok(())
 }

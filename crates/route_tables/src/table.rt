@@ -13,7 +13,7 @@ ghost use Rattle.route_tables.specs.steps.Sharing.{KeepsMore, kept_with};
 
 use crate::OutOfMemory;
 use crate::kinds::{LaneKinds, all_kinds};
-use crate::leads::{Lead, leads_of, level_ends, told, told_behind};
+use crate::leads::{Lead, leads_of, level_makers, told, told_behind};
 use crate::pool::Pool;
 use crate::protocol::Protocol;
 use crate::sharing::{RouterLane, number_asked, number_over_both, router_lane};
@@ -178,8 +178,8 @@ fn number_at<P: Protocol>(
         Some(number) => Ok(number),
         None => {
             if let Some(walks) = led.lane.walks {
-                if let Some(ends) = level_ends(led.leads, &led.lane.decisions[kind]) {
-                    return number_over_both(alloc, walks, ends, led.lane.count, pool);
+                if let Some(makers) = level_makers(led.leads, &led.lane.decisions[kind]) {
+                    return number_over_both(alloc, walks, makers, led.lane.count, pool);
                 }
             }
             let place = led.lane.firsts[kind] as usize;

@@ -8,7 +8,7 @@ use Rattle.route_tables.specs.declared.lane.Behind.{Behind}
 use Rattle.route_tables.specs.declared.lane.Decision.{Decision}
 use Rattle.route_tables.specs.declared.lane.Decision.TheVariants.{Nothing, NothingBut, One, Two, Unknown}
 use Rattle.route_tables.specs.declared.leads.Lead.{Lead}
-use Rattle.route_tables.specs.declared.sharing.Ends.{Ends}
+use Rattle.route_tables.specs.declared.sharing.TwoMakers.{TwoMakers}
 use Rattle.route_tables.specs.declared.sharing.RouterLane.{RouterLane}
 use Rattle.route_tables.specs.steps.Sharing.{HasNumber}
 
@@ -73,12 +73,12 @@ pub record CostTheSame (leads : List Lead) (one other : Offer) : Type 0 where
   pub same : first.distance + one.asks ≡ second.distance + other.asks
 
 -- two offers that cost the same decide, and these vertices make them
-pub record AreLevelEnds (leads : List Lead) (decision : Decision) (ends : Ends) : Type 0 where
+pub record AreLevelMakers (leads : List Lead) (decision : Decision) (makers : TwoMakers) : Type 0 where
   pub one : Offer
   pub other : Offer
   pub is : decision ≡ Two one other
   pub level : CostTheSame leads one other
-  pub ends_are : ends ≡ record { one = one.at; other = other.at }
+  pub makers_are : makers ≡ record { one = one.at; other = other.at }
 
 -- the lead to the vertex is that to what isn't reached
 pub record IsFarAt (leads : List Lead) (at : ℕ) : Type 0 where

@@ -11,7 +11,7 @@ use Rattle.route_tables.specs.steps.Entries.{AreSameEntries}
 use Rattle.route_tables.specs.Protocols.{ProtocolRoutes}
 use Rattle.route_tables.specs.declared.lane.Decision.TheVariants.{Unknown}
 use Rattle.route_tables.specs.declared.pool.Pool.{Pool}
-use Rattle.route_tables.specs.declared.sharing.Ends.{Ends}
+use Rattle.route_tables.specs.declared.sharing.TwoMakers.{TwoMakers}
 use Rattle.route_tables.specs.declared.sharing.RouterLane.{RouterLane}
 use Rattle.route_tables.specs.declared.table.RouterNumbers.{RouterNumbers}
 use Rattle.route_tables.specs.steps.Kinds.{AreKinds, first_prefix_of, open_behind}
@@ -26,15 +26,15 @@ abbrev pub HasSomeNumber : (Entry → Type 0) → List Entry → Option ℕ → 
 HasSomeNumber wanted entries number = MatchOption number ⊥ (HasNumber wanted entries)
 
 -- the hops are the first hops below n towards either of two vertices, in ascending order
-pub record AreHopsToEither (reach : Reach) (ends : Ends) (n : ℕ) (hops : List ℕ) : Type 0 where
+pub record AreHopsToEither (reach : Reach) (makers : TwoMakers) (n : ℕ) (hops : List ℕ) : Type 0 where
   pub ascending : IsStrictlyIncreasing hops
-  pub exact : (h : ℕ) → Contains hops h ↔ ((h < n) × (HasHop reach ends.one h ⊎ HasHop reach ends.other h))
+  pub exact : (h : ℕ) → Contains hops h ↔ ((h < n) × (HasHop reach makers.one h ⊎ HasHop reach makers.other h))
 
 -- the entry forwards to these
-pub record IsEntryToEither (reach : Reach) (ends : Ends) (n : ℕ) (entry : Entry) : Type 0 where
+pub record IsEntryToEither (reach : Reach) (makers : TwoMakers) (n : ℕ) (entry : Entry) : Type 0 where
   pub hops : List ℕ
   pub is : entry ≡ Via hops
-  pub are : AreHopsToEither reach ends n hops
+  pub are : AreHopsToEither reach makers n hops
 
 -- or there is none, where no entry is wanted
 abbrev pub IsNumberOf : (Entry → Type 0) → List Entry → Option ℕ → Type 0

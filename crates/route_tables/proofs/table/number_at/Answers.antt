@@ -10,7 +10,7 @@ use Rattle.route_tables.specs.declared.lane.Decision.{Decision}
 use Rattle.route_tables.specs.declared.lane.Decision.TheVariants.{Nothing, Unknown}
 use Rattle.route_tables.specs.declared.table.LedLane.{LedLane}
 use Rattle.route_tables.specs.steps.Kinds.{first_prefix_of, open_behind}
-use Rattle.route_tables.specs.steps.Leads.{AreLaneLeads, AreLeads, AreLevelEnds}
+use Rattle.route_tables.specs.steps.Leads.{AreLaneLeads, AreLeads, AreLevelMakers}
 use Rattle.route_tables.specs.steps.Sharing.{HasSomeNumber, IsEntryToEither, IsNumberOf, IsRouterLane}
 use Rattle.route_tables.specs.steps.Told.{IsToldOfKind, told_beyond, told_first}
 use Rattle.route_tables.proofs.LeadLaws.{leads_by, level_number_by, told_number, told_number_behind}
@@ -48,8 +48,8 @@ told_of_kind routes dests entries led kind number is are within told = go told
 pub returns-in-Some-clause-number : goal.returns-in-Some-clause-number
 returns-in-Some-clause-number g c = grind (arith, common_steps, told_of_kind)
 
-pub returns-in-Some-level_ends-clause-number : goal.returns-in-Some-level_ends-clause-number
-returns-in-Some-level_ends-clause-number g c =
+pub returns-in-Some-level_makers-clause-number : goal.returns-in-Some-level_makers-clause-number
+returns-in-Some-level_makers-clause-number g c =
     let routes : ProtocolRoutes = g.P.Protocol.routes c.args.protocol.now in
     let led = c.args.led in
     let kind : ℕ = c.args.kind in
@@ -59,14 +59,14 @@ returns-in-Some-level_ends-clause-number g c =
     let entries : List Entry = c.args.pool.now.entries.items in
     let after : List Entry = c.number_over_both.new.pool.entries.items in
     let walks = c.in-Some-walks.walks in
-    let ends = c.in-Some-level_ends.ends in
+    let makers = c.in-Some-level_makers.makers in
     let leads : AreLeads (routes.reach u is.zone) u routes.routers entries led.leads.now =
     subst (λ (n : ℕ). AreLeads (routes.reach u is.zone) u n entries led.leads.now) is.count
     (leads_by led.lane.walks (λ known. known.now) (routes.reach u is.zone) u led.lane.count entries led.leads.now is.walks c.requires.leads.of_lane) in
-    let level : AreLevelEnds led.leads.now (get_or led.lane.decisions.now kind Unknown) ends =
-    subst (λ (d : Decision). AreLevelEnds led.leads.now d ends)
-    (get_or_default led.lane.decisions.now kind Nothing Unknown (omega (arith, is.long, c.requires.kind))) c.in-Some-level_ends.ensures in
+    let level : AreLevelMakers led.leads.now (get_or led.lane.decisions.now kind Unknown) makers =
+    subst (λ (d : Decision). AreLevelMakers led.leads.now d makers)
+    (get_or_default led.lane.decisions.now kind Nothing Unknown (omega (arith, is.long, c.requires.kind))) c.in-Some-level_makers.ensures in
     IfOk-weaker c.number_over_both.result _ _ (λ number has. level_number_by led.lane.walks (λ known. known.now) walks (routes.reach u) routes.zones
-    is.zone routes.routers u (routes.entry u p) entries after led.leads.now (get_or led.lane.decisions.now kind Unknown) ends number
+    is.zone routes.routers u (routes.entry u p) entries after led.leads.now (get_or led.lane.decisions.now kind Unknown) makers number
     c.in-Some-walks.is is.walks leads (is.decides kind c.requires.kind) level
-    (subst (λ (n : ℕ). HasSomeNumber (IsEntryToEither walks.now ends n) after number) is.count has)) c.number_over_both.ensures.number
+    (subst (λ (n : ℕ). HasSomeNumber (IsEntryToEither walks.now makers n) after number) is.count has)) c.number_over_both.ensures.number
