@@ -1,7 +1,7 @@
 -- The table of interfaces by name: where one more section goes.
 use Rattle.std.proofs.lemmas.Grind.{common_steps}
 use Rattle.std.proofs.Common.{◌≡◌, ℕ, suc, ◌+◌, ◌<◌, Bool, true, false, not, ◌||◌, List, [], ◌∷◌, ◌++◌, refl, ap, cond, map, bytes_eq, length}
-use Rattle.std.proofs.Common.{get_or, set, arith, nat_lt, Option, Some, None, sym, ◌∙◌}
+use Rattle.std.proofs.Common.{get_or, set, arith, nat_lt, Some, None, sym, ◌∙◌}
 use Rattle.std.specs.Prelude.{position}
 use Rattle.std.proofs.lemmas.Bool.Decides.{nat_tests}
 use Rattle.ios_lines.proofs.Places.{no_place}

@@ -1,4 +1,4 @@
-use Rattle.std.proofs.Common.{◌≡◌, ◌<◌, ◌∙◌, sym, ap, Bool, Option, length}
+use Rattle.std.proofs.Common.{◌∙◌, sym, ap, Bool, Option}
 use Rattle.ios_lines.specs.Lookups.{later}
 use Rattle.ios_reader.specs.Routers.{ospf_passive_said}
 use Rattle.ios_lines.specs.declared.ospf_line.OspfStatement.{OspfStatement}
