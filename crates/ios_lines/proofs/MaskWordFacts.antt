@@ -1,5 +1,6 @@
 -- Masks as words, against the function of the word.
-use Rattle.std.proofs.Common.{sym, ◌≡◌, ◌≢◌, ℕ, zero, suc, ◌+◌, ◌-◌, ◌^◌, ◌<◌, ◌≤◌, Bool, true, false, Option, Some, None, refl, ap, ◌∙◌, nat_eq, cond, arith}
+use Rattle.std.proofs.Common.{sym, ◌≡◌, ◌≢◌, ℕ, zero, suc, ◌+◌, ◌-◌, ◌^◌, ◌<◌, ◌≤◌, Bool, true, false, Option, Some, None, refl}
+use Rattle.std.proofs.Common.{ap, ◌∙◌, nat_eq, cond, arith}
 use Rattle.std.specs.List.{range_with_len}
 use Rattle.std.specs.Prelude.{find, IfSome}
 use Rattle.std.proofs.Math.Pow.{pow-lt, pow_mono}
@@ -11,12 +12,14 @@ use Rattle.ios_lines.specs.Words.{Word, address_of, mask_with, mask_length, mask
 use Rattle.ios_lines.proofs.AddressFacts.{address-some, address_back, none_of}
 use Rattle.ios_lines.proofs.Picked.{by_some}
 
-picked : (b : Bool) (start len : ℕ) (rest : Option ℕ) → (start ≢ len → b ≡ false) → (start ≡ len → b ≡ true) → (start ≢ len → rest ≡ Some len) →
+picked : (b : Bool) (start len : ℕ) (rest : Option ℕ) → (start ≢ len → b ≡ false) → (start ≡ len → b ≡ true) →
+    (start ≢ len → rest ≡ Some len) →
     start ≤ len → cond b (Some start) rest ≡ Some len
 picked b start len rest miss hit later low = grind arith
 
 -- the first number of a run of numbers that passes
-find_in_run : (p : ℕ → Bool) (n start len : ℕ) → start ≤ len → len < start + n → p len ≡ true → ((k : ℕ) → k < len → p k ≡ false) →
+find_in_run : (p : ℕ → Bool) (n start len : ℕ) → start ≤ len → len < start + n → p len ≡ true →
+    ((k : ℕ) → k < len → p k ≡ false) →
     find p (range_with_len start n) ≡ Some len
 find_in_run p zero start len low high hit miss = absurd (omega arith)
 find_in_run p (suc n) start len low high hit miss =
@@ -31,7 +34,8 @@ record IsFound (p : ℕ → Bool) (start n len : ℕ) : Type 0 where
   low : start ≤ len
   high : len < start + n
 
-found_first : (p : ℕ → Bool) (n start len : ℕ) (b : Bool) → p start ≡ b → (find p (range_with_len (start + 1) n) ≡ Some len → IsFound p (start + 1) n len) →
+found_first : (p : ℕ → Bool) (n start len : ℕ) (b : Bool) → p start ≡ b →
+    (find p (range_with_len (start + 1) n) ≡ Some len → IsFound p (start + 1) n len) →
     cond b (Some start) (find p (range_with_len (start + 1) n)) ≡ Some len → IsFound p start (suc n) len
 found_first p n start len b passes later e = grind arith
 
@@ -77,7 +81,8 @@ pub mask_missed : (a : ℕ) → ((zeros : ℕ) → zeros < 32 → nat_eq (mask_w
 mask_missed a missed = none_of (mask_length (Some a)) (λ len e.
     let found = found_in_run (λ (k : ℕ). nat_eq (mask_with k) a) 32 1 len e in
     let len_is : 32 - (32 - len) ≡ len = omega (arith, found.high) in
-    let no : nat_eq (mask_with len) a ≡ false = ap (λ (k : ℕ). nat_eq (mask_with k) a) (sym len_is) ∙ missed (32 - len) (omega (arith, found.low)) in
+    let no : nat_eq (mask_with len) a ≡ false =
+    ap (λ (k : ℕ). nat_eq (mask_with k) a) (sym len_is) ∙ missed (32 - len) (omega (arith, found.low)) in
     false≢true (sym no ∙ found.passes))
 
 -- a mask by its sum with the size of its block

@@ -1,7 +1,8 @@
 -- Octets, cut off one after the other, against the address of a word.
 use Rattle.std.proofs.Common.{arith}
 use Rattle.std.proofs.lemmas.Grind.{common_steps}
-use Rattle.std.proofs.Common.{◌≡◌, ℕ, ◌+◌, ◌*◌, true, false, ◌||◌, [], ◌∷◌, get_or, length, drop, Option, Some, None, refl, ◌⊎◌, inl, inr}
+use Rattle.std.proofs.Common.{◌≡◌, ℕ, ◌+◌, ◌*◌, true, false, ◌||◌, [], ◌∷◌, get_or, length, drop, Option, Some, None, refl, ◌⊎◌}
+use Rattle.std.proofs.Common.{inl, inr}
 use Rattle.std.specs.Prelude.{is_none, nat_eq}
 use Rattle.std.specs.List.{before_first, after_first}
 use Rattle.std.proofs.lemmas.Bool.Decides.{nat_tests}
@@ -16,7 +17,8 @@ cut_at_one (a ∷ []) dot first = absurd cc
 cut_at_one (a ∷ b ∷ bs) dot first = grind (arith, common_steps)
 
 -- no dot stands among the first bytes
-pub no_cut : (bytes : Word) → is_dot (get_or bytes 1 0) ≡ false → is_dot (get_or bytes 2 0) ≡ false → is_dot (get_or bytes 3 0) ≡ false →
+pub no_cut : (bytes : Word) → is_dot (get_or bytes 1 0) ≡ false → is_dot (get_or bytes 2 0) ≡ false →
+    is_dot (get_or bytes 3 0) ≡ false →
     lacks_octet bytes ≡ true
 no_cut [] one two three = refl
 no_cut (a ∷ []) one two three = grind (arith, common_steps)
@@ -25,7 +27,8 @@ no_cut (a ∷ b ∷ c ∷ []) one two three = grind (arith, common_steps)
 no_cut (a ∷ b ∷ c ∷ d ∷ bs) one two three = grind (arith, common_steps)
 
 -- the first dot is the third byte
-pub cut_at_two : (bytes : Word) → is_dot (get_or bytes 2 0) ≡ true → is_dot (get_or bytes 0 0) ≡ false → is_dot (get_or bytes 1 0) ≡ false →
+pub cut_at_two : (bytes : Word) → is_dot (get_or bytes 2 0) ≡ true → is_dot (get_or bytes 0 0) ≡ false →
+    is_dot (get_or bytes 1 0) ≡ false →
     (before_first is_dot bytes ≡ get_or bytes 0 0 ∷ get_or bytes 1 0 ∷ []) × (after_first is_dot bytes ≡ drop 3 bytes)
 cut_at_two [] dot first second = absurd cc
 cut_at_two (a ∷ []) dot first second = absurd cc
@@ -33,7 +36,8 @@ cut_at_two (a ∷ b ∷ []) dot first second = absurd cc
 cut_at_two (a ∷ b ∷ c ∷ bs) dot first second = grind (arith, common_steps)
 
 -- the first dot is the fourth byte
-pub cut_at_three : (bytes : Word) → is_dot (get_or bytes 3 0) ≡ true → is_dot (get_or bytes 0 0) ≡ false → is_dot (get_or bytes 1 0) ≡ false →
+pub cut_at_three : (bytes : Word) → is_dot (get_or bytes 3 0) ≡ true → is_dot (get_or bytes 0 0) ≡ false →
+    is_dot (get_or bytes 1 0) ≡ false →
     is_dot (get_or bytes 2 0) ≡ false →
     (before_first is_dot bytes ≡ get_or bytes 0 0 ∷ get_or bytes 1 0 ∷ get_or bytes 2 0 ∷ []) × (after_first is_dot bytes ≡ drop 4 bytes)
 cut_at_three [] dot first second third = absurd cc
@@ -68,7 +72,8 @@ is_nothing (b ∷ bs) none = grind (arith, common_steps, nat_tests)
 either : (word : Word) → lacks_octet word ≡ true → (octet_of (before_first is_dot word) ≡ None) ⊎ (after_first is_dot word ≡ [])
 either word lacks = cases (octet_of (before_first is_dot word)) refl lacks
   where
-    cases : (o : Option ℕ) → octet_of (before_first is_dot word) ≡ o → (is_none o || nat_eq (length (after_first is_dot word)) 0) ≡ true →
+    cases : (o : Option ℕ) → octet_of (before_first is_dot word) ≡ o →
+        (is_none o || nat_eq (length (after_first is_dot word)) 0) ≡ true →
         (octet_of (before_first is_dot word) ≡ None) ⊎ (after_first is_dot word ≡ [])
     cases None e h = inl e
     cases (Some n) e h = inr (is_nothing (after_first is_dot word) h)
@@ -85,7 +90,8 @@ pub lacks_third : (word : Word) → lacks_octet (after_first is_dot (after_first
 unfolding address_of
 lacks_third word lacks = grind (arith, either, none_of_third, none_of_fourth)
 
-pub lacks_fourth : (word : Word) → octet_of (after_first is_dot (after_first is_dot (after_first is_dot word))) ≡ None → address_of word ≡ None
+pub lacks_fourth : (word : Word) → octet_of (after_first is_dot (after_first is_dot (after_first is_dot word))) ≡ None →
+    address_of word ≡ None
 unfolding address_of
 lacks_fourth word lacks = grind (arith, none_of_fourth)
 

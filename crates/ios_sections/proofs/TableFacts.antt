@@ -1,6 +1,7 @@
 -- The table of interfaces by name: where one more section goes.
 use Rattle.std.proofs.lemmas.Grind.{common_steps}
-use Rattle.std.proofs.Common.{◌≡◌, ℕ, suc, ◌+◌, ◌<◌, Bool, true, false, not, ◌||◌, List, [], ◌∷◌, ◌++◌, refl, ap, cond, map, bytes_eq, length}
+use Rattle.std.proofs.Common.{◌≡◌, ℕ, suc, ◌+◌, ◌<◌, Bool, true, false, not, ◌||◌, List, [], ◌∷◌, ◌++◌, refl, ap, cond, map}
+use Rattle.std.proofs.Common.{bytes_eq, length}
 use Rattle.std.proofs.Common.{get_or, set, arith, nat_lt, Some, None, sym, ◌∙◌}
 use Rattle.std.specs.Prelude.{position}
 use Rattle.std.proofs.lemmas.Bool.Decides.{nat_tests}
@@ -12,7 +13,8 @@ use Rattle.ios_lines.specs.Words.{Word}
 use Rattle.ios_sections.specs.Gathering.{with_interface}
 use Rattle.ios_sections.specs.declared.section.InterfaceSection.{InterfaceSection}
 
-pub place-map : {X : Type 0} (f : X → Word) (p : Word → Bool) (xs : List X) → position_or_len (λ x. p (f x)) xs ≡ position_or_len p (map f xs)
+pub place-map : {X : Type 0} (f : X → Word) (p : Word → Bool) (xs : List X) →
+    position_or_len (λ x. p (f x)) xs ≡ position_or_len p (map f xs)
 place-map f p [] = refl
 place-map f p (x ∷ xs) = ap (λ (n : ℕ). cond (not (p (f x))) (1 + n) 0) (place-map f p xs)
 
@@ -20,7 +22,8 @@ pub any-map : {X : Type 0} (f : X → Word) (p : Word → Bool) (xs : List X) �
 any-map f p [] = refl
 any-map f p (x ∷ xs) = ap (λ (b : Bool). p (f x) || b) (any-map f p xs)
 
-pub map-insert : {X : Type 0} (f : X → Word) (b : Bool) (xs : List X) (x : X) → map f (cond b xs (xs ++ x ∷ [])) ≡ cond b (map f xs) (map f xs ++ f x ∷ [])
+pub map-insert : {X : Type 0} (f : X → Word) (b : Bool) (xs : List X) (x : X) →
+    map f (cond b xs (xs ++ x ∷ [])) ≡ cond b (map f xs) (map f xs ++ f x ∷ [])
 map-insert f b xs x = grind (arith, common_steps, map-append)
 
 abbrev pub names_of : List InterfaceSection → List Word
@@ -29,12 +32,14 @@ names_of xs = map (λ (s : InterfaceSection). s.name) xs
 abbrev pub joined : InterfaceSection → InterfaceSection → InterfaceSection
 joined s more = record { line = s.line; name = s.name; lines = s.lines ++ more.lines }
 
-new_cases : (t b : Bool) (x s : InterfaceSection) (xs rest : List InterfaceSection) → (b ≡ false → rest ≡ xs ++ s ∷ []) → (t || b) ≡ false →
+new_cases : (t b : Bool) (x s : InterfaceSection) (xs rest : List InterfaceSection) → (b ≡ false → rest ≡ xs ++ s ∷ []) →
+    (t || b) ≡ false →
     cond t (joined x s ∷ xs) (x ∷ rest) ≡ (x ∷ xs) ++ s ∷ []
 new_cases t b x s xs rest later h = grind (arith, common_steps, false≢true)
 
 -- a section of a new name goes last
-pub table_new : (xs : List InterfaceSection) (s : InterfaceSection) → list_any (bytes_eq s.name) (names_of xs) ≡ false → with_interface xs s ≡ xs ++ s ∷ []
+pub table_new : (xs : List InterfaceSection) (s : InterfaceSection) → list_any (bytes_eq s.name) (names_of xs) ≡ false →
+    with_interface xs s ≡ xs ++ s ∷ []
 table_new [] s h = refl
 table_new (x ∷ xs) s h = new_cases (bytes_eq s.name x.name) (list_any (bytes_eq s.name) (names_of xs)) x s xs (with_interface xs s) (λ g. table_new xs s g) h
 
@@ -51,7 +56,8 @@ table_old (x ∷ xs) s d h =
     old_cases (bytes_eq s.name x.name) (list_any (bytes_eq s.name) (names_of xs)) x s d xs (with_interface xs s)
     (position_or_len (bytes_eq s.name) (names_of xs)) (λ g. table_old xs s d g) h
 
-name_cases : (t b : Bool) (x s : InterfaceSection) (xs rest : List InterfaceSection) → names_of rest ≡ cond b (names_of xs) (names_of xs ++ s.name ∷ []) →
+name_cases : (t b : Bool) (x s : InterfaceSection) (xs rest : List InterfaceSection) →
+    names_of rest ≡ cond b (names_of xs) (names_of xs ++ s.name ∷ []) →
     names_of (cond t (joined x s ∷ xs) (x ∷ rest)) ≡ cond (t || b) (names_of (x ∷ xs)) (names_of (x ∷ xs) ++ s.name ∷ [])
 name_cases t b x s xs rest later = grind arith
 
@@ -70,7 +76,8 @@ place_within [] n h = absurd (false≢true h)
 place_within (m ∷ ms) n h = place_cases (bytes_eq n m) (list_any (bytes_eq n) ms) (position_or_len (bytes_eq n) ms) (length ms) (λ g. place_within ms n g) h
 
 -- the names go with the table
-pub names_after : (xs ys : List InterfaceSection) (s : InterfaceSection) (ns ms : List Word) → ys ≡ with_interface xs s → ns ≡ names_of xs → ms
+pub names_after : (xs ys : List InterfaceSection) (s : InterfaceSection) (ns ms : List Word) → ys ≡ with_interface xs s →
+    ns ≡ names_of xs → ms
     ≡ cond (list_any (bytes_eq s.name) ns) ns (ns ++ s.name ∷ []) → ms ≡ names_of ys
 names_after xs ys s ns ms table before after = grind (arith, common_steps, names-table)
 
@@ -94,7 +101,8 @@ refused : (t : Bool) (place : ℕ) → cond t (Some place) None ≡ None → t �
 refused t place e = grind (arith, common_steps)
 
 -- the place of the first interface of a name, where one has it
-pub named : (xs : List InterfaceSection) (name : Word) (n : ℕ) → position (λ (s : InterfaceSection). bytes_eq name s.name) xs ≡ Some n →
+pub named : (xs : List InterfaceSection) (name : Word) (n : ℕ) →
+    position (λ (s : InterfaceSection). bytes_eq name s.name) xs ≡ Some n →
     (n ≡ position_or_len (bytes_eq name) (names_of xs)) × (list_any (bytes_eq name) (names_of xs) ≡ true)
 named xs name n e =
     let there = chosen _ (position_or_len (λ (s : InterfaceSection). bytes_eq name s.name) xs) n e in
