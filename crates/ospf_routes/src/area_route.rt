@@ -71,7 +71,7 @@ pub(crate) fn outside_offer(route: AreaRoute, area: u32) -> Option<Offer>
 }
 
 /// The route as an offer.
-fn offer_of(route: AreaRoute) -> Offer
+pub(crate) fn offer_of(route: AreaRoute) -> Offer
     ensures at { result.at ≡ route.at }
     ensures asks { result.asks ≡ route.asks }
 {

@@ -12,9 +12,11 @@ ghost use Rattle.walk_core.specs.BestOffers.{AreInRange};
 ghost use Rattle.walk_core.specs.declared.offers.Offer.{Offer as OfferValue};
 
 use crate::OutOfMemory;
-use crate::area_route::{AreaRoute, offers_inside};
+use crate::area_route::{AreaRoute, offer_of, offers_inside};
 use crate::domain::Domain;
+use crate::homes::Homes;
 use crate::ordered::HasPrefix;
+use crate::part_offers::PartOffers;
 use crate::subnets::{Subnets, homes_among, put_routes};
 use net_addr::Prefix;
 use std::alloc::Global;
@@ -28,7 +30,7 @@ pub(crate) struct AreaOffers {
     /// The place of the area among all.
     pub zone: usize,
     /// The offers.
-    pub offers: Vec<Offer>,
+    pub offers: PartOffers,
 }
 
 /// A prefix with the routers that it is connected at, and what the interfaces of each area offer of it.
@@ -37,7 +39,7 @@ pub(crate) struct Destination {
     /// The prefix.
     pub dest: Prefix,
     /// The routers of which an up interface has it as its subnet, whatever that interface runs.
-    pub homes: Vec<u32>,
+    pub homes: Homes,
     /// The offers of each area that has some.
     pub parts: Vec<AreaOffers>,
 }
@@ -77,7 +79,7 @@ impl Destination {
     pub fn is_home(&self, u: u32) -> bool
         ensures { IsTrue result ↔ Contains self.now.homes.items u }
     {
-        self.homes.iter().any(|home| *home == u)
+        self.homes.as_slice().iter().any(|home| *home == u)
     }
 }
 
@@ -127,8 +129,24 @@ fn push_part(
 ) -> Result<(), OutOfMemory>
     ensures { OnOk result (AddsPart (IsPartAt routes.now area zone) parts.old.items parts.new.items) }
 {
-    let offers = offers_inside(alloc, routes, area)?;
+    let offers = offers_of(alloc, routes, area)?;
     Ok(parts.push(AreaOffers { area, zone, offers })?)
+}
+
+/// The routes of an area, as offers. Mostly they are one or two, and all of it.
+fn offers_of(alloc: Global, routes: &[AreaRoute], area: u32) -> Result<PartOffers, OutOfMemory>
+    ensures { IfOk result (λ offers. Exactly (λ o. Any (λ r. InsideOf area r o) routes.now) offers.items) }
+{
+    match routes {
+        [one] if one.area == area => Ok(PartOffers::from_one(offer_of(*one))),
+        [one, other] if one.area == area && other.area == area => {
+            Ok(PartOffers::from_two(offer_of(*one), offer_of(*other)))
+        }
+        _ => {
+            let offers = offers_inside(alloc, routes, area)?;
+            Ok(PartOffers::from_vec(offers))
+        }
+    }
 }
 
 /// The offers of an area.

@@ -6,6 +6,7 @@ ghost use Rattle.ospf_routes.specs.declared.subnets.Subnet.{Subnet as SubnetValu
 
 use crate::OutOfMemory;
 use crate::area_route::AreaRoute;
+use crate::homes::Homes;
 use crate::ordered::{HasPrefix, between, sort_by_base, under};
 use net_addr::Prefix;
 use net_model::{Interface, Net};
@@ -123,12 +124,28 @@ fn interface_subnet(interface: &Interface, w: u32) -> Option<Subnet>
     }
 }
 
-/// The routers of those of these subnets that are of the prefix.
+/// The routers of those of these subnets that are of the prefix. Mostly one or two are there, and are.
 pub(crate) fn homes_among(
     alloc: Global,
     subnets: &[Subnet],
     dest: Prefix,
-) -> Result<Vec<u32>, OutOfMemory>
+) -> Result<Homes, OutOfMemory>
+    ensures { IfOk result (λ homes. Exactly (λ u. Any (IsHome dest u) subnets.now) homes.items) }
+{
+    match subnets {
+        [one] if one.dest == dest => Ok(Homes::from_one(one.at)),
+        [one, other] if one.dest == dest && other.dest == dest => {
+            Ok(Homes::from_two(one.at, other.at))
+        }
+        _ => {
+            let homes = home_numbers(alloc, subnets, dest)?;
+            Ok(Homes::from_vec(homes))
+        }
+    }
+}
+
+/// The routers of those of these subnets that are of the prefix, in a vector.
+fn home_numbers(alloc: Global, subnets: &[Subnet], dest: Prefix) -> Result<Vec<u32>, OutOfMemory>
     ensures { IfOk result (λ homes. Exactly (λ u. Any (IsHome dest u) subnets.now) homes.items) }
 {
     let mut homes = Vec::with_capacity(alloc, subnets.len())?;

@@ -111,8 +111,9 @@ pub(crate) fn latest_at_home(
 fn only_home(destination: &Destination) -> Option<u32>
     ensures { IfSome result (λ home. (u : ℕ) → Contains destination.now.homes.items u ↔ (home ≡ u)) }
 {
-    if destination.homes.len() == 1 {
-        Some(destination.homes[0])
+    let homes = destination.homes.as_slice();
+    if homes.len() == 1 {
+        Some(homes[0])
     } else {
         None
     }

@@ -1,15 +1,9 @@
-use Rattle.route_tables.proofs.ListFacts.{adds_step, exactly_added, adds_end}
+use Rattle.std.proofs.Common.{ℕ, List, subst, sym}
+use Rattle.std.specs.List.{Any}
+use Rattle.ospf_routes.specs.Lists.{Exactly}
 use Rattle.ospf_routes.specs.steps.Subnets.{IsHome}
 use Rattle.ospf_routes.proofs.subnets.homes_among.Goals as goal
 
-pub loop-subnet-preserved : goal.loop-subnet-preserved
-loop-subnet-preserved c =
-    adds_step (IsHome c.args.dest) c.in_ok-homes.homes.items c.loop-subnet.homes.items c.push_option.new.all.items c.args.subnets.now
-    c.loop-subnet.subnet-index c.subnet-item.result c.home_at.result c.loop-subnet-test.true c.subnet-item.is
-    c.loop-subnet.invariant c.in_ok-push_option.ensures.ok c.home_at.ensures
-
-pub returns : goal.returns
-returns c =
-    exactly_added c.in_ok-homes.homes.items c.loop-subnet.homes.items _ c.in_ok-homes.ensures.items
-    (adds_end (IsHome c.args.dest) c.in_ok-homes.homes.items c.loop-subnet.homes.items c.args.subnets.now c.loop-subnet.subnet-index
-    c.loop-subnet-test.false c.loop-subnet.invariant)
+pub returns-in_ok-homes-in_default : goal.returns-in_ok-homes-in_default
+returns-in_ok-homes-in_default c =
+    subst (λ (l : List ℕ). Exactly (λ (u : ℕ). Any (IsHome c.args.dest u) c.args.subnets.now) l) (sym c.from_vec.ensures) c.in_ok-homes-in_default.ensures
