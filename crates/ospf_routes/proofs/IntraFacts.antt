@@ -18,7 +18,8 @@ use Rattle.igp_theory.specs.Ospf.{OffersSubnet, IntraAreaCost, IsIntraArea}
 use Rattle.ospf_routes.specs.steps.Areas.{AreAreas, HasArea, IsAreaAt, IsReach}
 use Rattle.ospf_routes.specs.declared.areas.AreaWalks.{AreaWalks}
 use Rattle.ospf_routes.specs.steps.Domain.{OspfDomain}
-use Rattle.ospf_routes.specs.steps.Destinations.{AddsArea, AddsPart, HasAreaPart, IsDestination, IsDestinationIn, IsSomePart, IsPartAt, IsPartFor, IsPartIn, IsPartOf}
+use Rattle.ospf_routes.specs.steps.Destinations.{AddsArea, AddsPart, HasAreaPart, IsDestination, IsDestinationIn}
+use Rattle.ospf_routes.specs.steps.Destinations.{IsSomePart, IsPartAt, IsPartFor, IsPartIn, IsPartOf}
 use Rattle.ospf_routes.specs.Lists.{Exactly}
 use Rattle.ospf_routes.specs.steps.Offered.{AreOffers, InsideOf}
 use Rattle.ospf_routes.specs.declared.intra_area.AreaOffers.{AreaOffers}
@@ -84,7 +85,8 @@ pub record PartsSoFar (routes : List AreaRoute) (areas : List AreaWalks) (k : �
   pub every : (r : AreaRoute) → Contains (take k routes) r → HasArea areas r.area → HasAreaPart parts r.area
 
 pub parts_more : (routes : List AreaRoute) (areas : List AreaWalks) (k : ℕ) (d : AreaRoute) (old new : List AreaOffers) →
-    PartsSoFar routes areas k old → k < length routes → AddsArea areas routes (get_or routes k d).area old new → PartsSoFar routes areas (k + 1) new
+    PartsSoFar routes areas k old → k < length routes → AddsArea areas routes (get_or routes k d).area old new →
+    PartsSoFar routes areas (k + 1) new
 parts_more routes areas k d old new before within adds =
     let r : AreaRoute = get_or routes k d in
     let one : take k routes ++ r ∷ [] ≡ take (k + 1) routes = one_more routes k r within (get_or_default routes k d r within) in
@@ -99,8 +101,9 @@ parts_more routes areas k d old new before within adds =
     }
 
 -- all areas with routes have parts, once all routes have been looked at
-pub parts_of_all : (routes : List AreaRoute) (areas : List AreaWalks) (k : ℕ) (parts : List AreaOffers) → PartsSoFar routes areas k parts →
-    take k routes ≡ routes → (n : ℕ) (o : Offer) → HasArea areas n → Any (λ (r : AreaRoute). InsideOf n r o) routes → HasAreaPart parts n
+pub parts_of_all : (routes : List AreaRoute) (areas : List AreaWalks) (k : ℕ) (parts : List AreaOffers) →
+    PartsSoFar routes areas k parts → take k routes ≡ routes →
+    (n : ℕ) (o : Offer) → HasArea areas n → Any (λ (r : AreaRoute). InsideOf n r o) routes → HasAreaPart parts n
 parts_of_all routes areas k parts so_far all n o has any =
     let found = any_in (λ (r : AreaRoute). InsideOf n r o) routes any in
     subst (λ (m : ℕ). HasAreaPart parts m) found.holds.area
@@ -108,8 +111,8 @@ parts_of_all routes areas k parts so_far all n o has any =
     (subst (λ (m : ℕ). HasArea areas m) (sym found.holds.area) has))
 
 -- the part of an area at its place
-pub part_added : (areas : List AreaWalks) (routes : List AreaRoute) (n zone : ℕ) (old new : List AreaOffers) → IsAreaAt areas n zone →
-    AddsPart (IsPartAt routes n zone) old new → AddsArea areas routes n old new
+pub part_added : (areas : List AreaWalks) (routes : List AreaRoute) (n zone : ℕ) (old new : List AreaOffers) →
+    IsAreaAt areas n zone → AddsPart (IsPartAt routes n zone) old new → AddsArea areas routes n old new
 part_added areas routes n zone old new placed adds = record {
   each = λ all j d below. ⊎_elim
       (λ among. All-contains (IsPartIn areas routes) old (get_or new j d) all among)

@@ -15,7 +15,10 @@ candidates_of-requires c =
 
 pub each_destination-requires : goal.each_destination-requires
 each_destination-requires c =
-    record { areas = c.net.ensures.known; subnets = subst (λ (n : Network). Exactly (IsUpSubnet n) c.in_ok-subnets.subnets) c.net.ensures.is c.in_ok-subnets.ensures }
+    record {
+      areas = c.net.ensures.known;
+      subnets = subst (λ (n : Network). Exactly (IsUpSubnet n) c.in_ok-subnets.subnets) c.net.ensures.is c.in_ok-subnets.ensures;
+    }
 
 pub returns : goal.returns
 returns c =

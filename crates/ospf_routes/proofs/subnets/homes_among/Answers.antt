@@ -6,4 +6,5 @@ use Rattle.ospf_routes.proofs.subnets.homes_among.Goals as goal
 
 pub returns-in_ok-homes-in_default : goal.returns-in_ok-homes-in_default
 returns-in_ok-homes-in_default c =
-    subst (λ (l : List ℕ). Exactly (λ (u : ℕ). Any (IsHome c.args.dest u) c.args.subnets.now) l) (sym c.from_vec.ensures) c.in_ok-homes-in_default.ensures
+    subst (λ (l : List ℕ). Exactly (λ (u : ℕ). Any (IsHome c.args.dest u) c.args.subnets.now) l)
+    (sym c.from_vec.ensures) c.in_ok-homes-in_default.ensures
