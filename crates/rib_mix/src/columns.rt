@@ -63,7 +63,7 @@ impl Columns {
 
     /// What a router uses for a sort, and nothing where there is none.
     #[inline(always)]
-    pub fn cell(&self, router: u32, sort: Option<u32>) -> Cell
+    fn cell(&self, router: u32, sort: Option<u32>) -> Cell
         requires router { router < length self.now }
         requires sort { IfSome sort (λ s. s < length (slice_index_or self.now router [])) }
         ensures { result ≡ cell_at (slice_index_or self.now router []) sort }
