@@ -8,6 +8,7 @@ ghost use Rattle.isis_routes.specs.steps.Near.{AreAllNear, HoldAnnouncers};
 
 use crate::OutOfMemory;
 use crate::domain::Domain;
+use crate::kept_offers::{KeptOffers, OfferRoom};
 use crate::level::Level;
 use crate::level_one::LevelOne;
 use crate::near::{NearRouters, announcers};
@@ -15,41 +16,41 @@ use crate::offers::{push_cost, push_router_offers};
 use crate::runs::runs_level_two;
 use net_addr::Prefix;
 use net_model::Net;
-use std::alloc::Global;
 use walk_core::Offer;
 
 /// What is announced of a prefix into level 2 (RFC 1195, section 3.2): by the routers at which it is connected their
 /// own level 2 subnets, and by those of both levels what they reach by level 1.
 pub(crate) fn announcements(
-    alloc: Global,
+    room: &mut OfferRoom,
     domain: &Domain<'_>,
     near: &[NearRouters],
     one: &LevelOne,
-) -> Result<Vec<Offer>, OutOfMemory>
+) -> Result<KeptOffers, OutOfMemory>
     requires near { AreAllNear domain.now.net (length domain.now.net) near.now }
     requires one { IsLevelOne domain.now.net one.now }
     ensures { IfOk result (λ offers. HoldsOffers (LevelTwoAnnouncement domain.now.net one.now.dest) offers.items) }
 {
-    let mut offers = own_subnets(alloc, domain.net(), one.dest, one.homes.as_slice())?;
-    push_level_one(&mut offers, domain, one, announcers(domain, near, one))?;
-    Ok(offers)
+    let offers = &mut room.offers;
+    put_own_subnets(offers, domain.net(), one.dest, one.homes.as_slice())?;
+    push_level_one(offers, domain, one, announcers(domain, near, one))?;
+    room.kept()
 }
 
-/// What routers announce of a prefix that is their own level 2 subnet.
-fn own_subnets(
-    alloc: Global,
+/// Puts what routers announce of a prefix that is their own level 2 subnet in place of other offers.
+fn put_own_subnets(
+    offers: &mut Vec<Offer>,
     net: &Net,
     dest: Prefix,
     homes: &[u32],
-) -> Result<Vec<Offer>, OutOfMemory>
+) -> Result<(), OutOfMemory>
     requires { AreRoutersAt net.now dest homes.now }
-    ensures { IfOk result (λ offers. Exactly (IsOfferOf (OwnAnnouncement net.now dest)) offers.items) }
+    ensures { OnOk result (Exactly (IsOfferOf (OwnAnnouncement net.now dest)) offers.new.items) }
 {
-    let mut offers = Vec::new(alloc);
+    offers.clear();
     for router in homes {
-        push_own_subnets(&mut offers, net, dest, *router)?;
+        push_own_subnets(offers, net, dest, *router)?;
     }
-    Ok(offers)
+    Ok(())
 }
 
 /// Adds what a router announces of its own level 2 subnets.

@@ -8,13 +8,14 @@ use crate::OutOfMemory;
 use crate::announcements::announcements;
 use crate::candidates::candidates_of;
 use crate::domain::Domain;
+use crate::home_routers::HomeRouters;
 use crate::homes::{Home, routers_at, sorted_homes};
-use crate::leaked::down_announcements;
+use crate::kept_offers::{KeptOffers, OfferRoom};
+use crate::leaked::put_down_announcements;
 use crate::level_one::LevelOne;
 use crate::near::{NearRouters, all_near};
 use net_addr::Prefix;
 use std::alloc::Global;
-use walk_core::Offer;
 
 /// What both levels know of a prefix.
 #[derive(Debug, Drop)]
@@ -22,29 +23,30 @@ pub(crate) struct Destination {
     /// Where it is connected, and what level 1 offers of it.
     pub one: LevelOne,
     /// What is announced of it into level 2.
-    pub two: Vec<Offer>,
+    pub two: KeptOffers,
     /// What is announced of it into level 1, marked down.
-    pub down: Vec<Offer>,
+    pub down: KeptOffers,
 }
 
 impl Destination {
     /// What both levels know of a prefix, which is connected at these routers.
     fn build(
-        alloc: Global,
+        room: &mut OfferRoom,
         domain: &Domain<'_>,
         near: &[NearRouters],
         dest: Prefix,
-        homes: Vec<u32>,
+        homes: HomeRouters,
     ) -> Result<Destination, OutOfMemory>
         requires near { AreAllNear domain.now.net (length domain.now.net) near.now }
         requires homes { AreRoutersAt domain.now.net dest homes.items }
         ensures dest { IfOk result (λ d. d.one.dest ≡ dest) }
         ensures announced { IfOk result (λ d. HasAnnouncements domain.now.net d) }
     {
-        let one = LevelOne::collect(alloc, domain.net(), dest, homes)?;
-        let two = announcements(alloc, domain, near, &one)?;
+        let one = LevelOne::collect(room, domain.net(), dest, homes)?;
+        let two = announcements(room, domain, near, &one)?;
         let leaking = domain.leaking();
-        let down = down_announcements(alloc, domain, &one, two.as_slice(), leaking)?;
+        put_down_announcements(&mut room.offers, domain, &one, two.as_slice(), leaking)?;
+        let down = room.kept()?;
         Ok(Destination { one, two, down })
     }
 }
@@ -84,9 +86,10 @@ fn each_destination(
     ensures announced { IfOk result (λ all. All (HasAnnouncements domain.now.net) all.items) }
 {
     let mut all = Vec::with_capacity(alloc, dests.len())?;
+    let mut room = OfferRoom::none(alloc);
     for dest in dests {
         let routers = routers_at(alloc, homes, *dest)?;
-        all.push(Destination::build(alloc, domain, near, *dest, routers)?)?;
+        all.push(Destination::build(&mut room, domain, near, *dest, routers)?)?;
     }
     Ok(all)
 }

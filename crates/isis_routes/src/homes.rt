@@ -5,6 +5,7 @@ ghost use Rattle.isis_routes.specs.steps.Homes.{AreHomes, IsHomeOf, IsOwnSubnet}
 ghost use Rattle.isis_routes.specs.declared.homes.Home.{Home as HomeValue};
 
 use crate::OutOfMemory;
+use crate::home_routers::HomeRouters;
 use net_addr::Prefix;
 use net_model::{Interface, Net};
 use route_tables::push_option;
@@ -72,13 +73,36 @@ pub(crate) fn routers_at(
     alloc: Global,
     homes: &[Home],
     dest: Prefix,
-) -> Result<Vec<u32>, OutOfMemory>
+) -> Result<HomeRouters, OutOfMemory>
     requires { IsNonDecreasingBy (λ h. h.dest.base) homes.now }
     ensures { IfOk result (λ routers. Exactly (λ u. Any (λ h. IsHomeOf dest h u) homes.now) routers.items) }
 {
     let run = homes_from(homes, dest.base());
-    let mut routers = Vec::with_capacity(alloc, run.len())?;
-    for home in run {
+    routers_among(alloc, run, dest)
+}
+
+/// The routers of those of these homes that are of the prefix. Mostly one or two are there, and are.
+fn routers_among(alloc: Global, homes: &[Home], dest: Prefix) -> Result<HomeRouters, OutOfMemory>
+    ensures { IfOk result (λ routers. Exactly (λ u. Any (λ h. IsHomeOf dest h u) homes.now) routers.items) }
+{
+    match homes {
+        [one] if one.dest == dest => Ok(HomeRouters::from_one(one.router)),
+        [one, other] if one.dest == dest && other.dest == dest => {
+            Ok(HomeRouters::from_two(one.router, other.router))
+        }
+        _ => {
+            let routers = router_numbers(alloc, homes, dest)?;
+            Ok(HomeRouters::from_vec(routers))
+        }
+    }
+}
+
+/// The routers of those of these homes that are of the prefix, in a vector.
+fn router_numbers(alloc: Global, homes: &[Home], dest: Prefix) -> Result<Vec<u32>, OutOfMemory>
+    ensures { IfOk result (λ routers. Exactly (λ u. Any (λ h. IsHomeOf dest h u) homes.now) routers.items) }
+{
+    let mut routers = Vec::with_capacity(alloc, homes.len())?;
+    for home in homes {
         push_option(&mut routers, router_at(*home, dest))?;
     }
     Ok(routers)

@@ -1,4 +1,4 @@
-ghost use Rattle.std.specs.Prelude.{◌≡◌, ◌<◌, ◌↔◌, ℕ, Some, IfOk};
+ghost use Rattle.std.specs.Prelude.{◌≡◌, ◌<◌, ◌↔◌, ℕ, Some, OnOk};
 ghost use Rattle.igp_theory.specs.Isis.{DownAnnouncement, Leaks, LevelTwoAnnouncement};
 ghost use Rattle.route_tables.specs.Lists.{Exactly};
 ghost use Rattle.isis_routes.specs.steps.Destinations.{IsLevelOne};
@@ -9,28 +9,27 @@ use crate::domain::Domain;
 use crate::level::Level;
 use crate::level_one::LevelOne;
 use crate::offers::push_cost;
-use std::alloc::Global;
 use walk_core::Offer;
 
-/// What is announced of a prefix into level 1, marked down, by the routers that leak (RFC 5302).
-pub(crate) fn down_announcements(
-    alloc: Global,
+/// Puts what is announced of a prefix into level 1, marked down, by the routers that leak (RFC 5302), in place of other offers.
+pub(crate) fn put_down_announcements(
+    offers: &mut Vec<Offer>,
     domain: &Domain<'_>,
     one: &LevelOne,
     two: &[Offer],
     leaking: &[u32],
-) -> Result<Vec<Offer>, OutOfMemory>
+) -> Result<(), OutOfMemory>
     requires one { IsLevelOne domain.now.net one.now }
     requires two { HoldsOffers (LevelTwoAnnouncement domain.now.net one.now.dest) two.now }
     requires small { AreSmall two.now }
     requires leaking { Exactly (Leaks domain.now.net) leaking.now }
-    ensures { IfOk result (λ offers. HoldsOffers (DownAnnouncement domain.now.net one.now.dest) offers.items) }
+    ensures { OnOk result (HoldsOffers (DownAnnouncement domain.now.net one.now.dest) offers.new.items) }
 {
-    let mut offers = Vec::new(alloc);
+    offers.clear();
     for router in leaking {
-        push_cost(&mut offers, *router, leaked_cost(domain, one, two, *router))?;
+        push_cost(offers, *router, leaked_cost(domain, one, two, *router))?;
     }
-    Ok(offers)
+    Ok(())
 }
 
 /// The cost at which a router that leaks announces a prefix into level 1: that of its level 2 route. There is none

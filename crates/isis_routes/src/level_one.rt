@@ -6,12 +6,12 @@ ghost use Rattle.isis_routes.specs.steps.Homes.{AreRoutersAt};
 
 use crate::OutOfMemory;
 use crate::domain::Domain;
+use crate::home_routers::HomeRouters;
+use crate::kept_offers::{KeptOffers, OfferRoom};
 use crate::level::Level;
-use crate::offers::level_offers;
+use crate::offers::put_level_offers;
 use net_addr::Prefix;
 use net_model::Net;
-use std::alloc::Global;
-use walk_core::Offer;
 
 /// Where a prefix is connected, and what level 1 offers of it: one offer for each interface with that subnet.
 #[derive(Debug, Drop)]
@@ -19,24 +19,25 @@ pub(crate) struct LevelOne {
     /// The prefix.
     pub dest: Prefix,
     /// The routers at which it is connected.
-    pub homes: Vec<u32>,
+    pub homes: HomeRouters,
     /// The offers, each at a router and at the metric of its interface.
-    pub offers: Vec<Offer>,
+    pub offers: KeptOffers,
 }
 
 impl LevelOne {
     /// The offers of a prefix in level 1, which is connected at these routers.
     pub fn collect(
-        alloc: Global,
+        room: &mut OfferRoom,
         net: &Net,
         dest: Prefix,
-        homes: Vec<u32>,
+        homes: HomeRouters,
     ) -> Result<LevelOne, OutOfMemory>
         requires { AreRoutersAt net.now dest homes.items }
         ensures dest { IfOk result (λ one. one.dest ≡ dest) }
         ensures is { IfOk result (IsLevelOne net.now) }
     {
-        let offers = level_offers(alloc, net, Level::One, dest, homes.as_slice())?;
+        put_level_offers(&mut room.offers, net, Level::One, dest, homes.as_slice())?;
+        let offers = room.kept()?;
         Ok(LevelOne {
             dest,
             homes,
@@ -67,17 +68,16 @@ impl LevelOne {
     pub fn has_no_offers(&self) -> bool
         ensures { IsTrue result ↔ (length self.now.offers.items ≡ 0) }
     {
-        self.offers.is_empty()
+        self.offers.as_slice().is_empty()
     }
 
     /// The router that makes the only offer, where there is one alone.
     pub fn lone_offer(&self) -> Option<u32>
         ensures { IfSome result (λ router. (at asks : ℕ) → ListsOffer self.now.offers.items at asks → at ≡ router) }
     {
-        if self.offers.len() == 1 {
-            Some(self.offers[0].at)
-        } else {
-            None
+        match self.offers.as_slice() {
+            [offer] => Some(offer.at),
+            _ => None,
         }
     }
 

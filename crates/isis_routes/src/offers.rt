@@ -1,4 +1,4 @@
-ghost use Rattle.std.specs.Prelude.{◌≡◌, ◌<◌, ◌↔◌, length, Some, Any, IfOk, OnOk};
+ghost use Rattle.std.specs.Prelude.{◌≡◌, ◌<◌, ◌↔◌, length, Some, Any, OnOk};
 ghost use Rattle.route_tables.specs.Lists.{Adds};
 ghost use Rattle.walk_core.specs.declared.offers.Offer.{Offer as OfferValue};
 ghost use Rattle.isis_routes.specs.steps.Homes.{AreRoutersAt};
@@ -9,25 +9,25 @@ use crate::level::Level;
 use net_addr::Prefix;
 use net_model::{Interface, Net};
 use route_tables::push_option;
-use std::alloc::Global;
 use walk_core::Offer;
 
-/// What the subnets of all routers' interfaces in the level offer of a prefix, which is connected at these routers.
-pub(crate) fn level_offers(
-    alloc: Global,
+/// Puts what the subnets of all routers' interfaces in the level offer of a prefix, which is connected at these routers, in
+/// place of other offers.
+pub(crate) fn put_level_offers(
+    offers: &mut Vec<Offer>,
     net: &Net,
     level: Level,
     dest: Prefix,
     homes: &[u32],
-) -> Result<Vec<Offer>, OutOfMemory>
+) -> Result<(), OutOfMemory>
     requires { AreRoutersAt net.now dest homes.now }
-    ensures { IfOk result (λ offers. HoldsOffers (OffersIn net.now level dest) offers.items) }
+    ensures { OnOk result (HoldsOffers (OffersIn net.now level dest) offers.new.items) }
 {
-    let mut offers = Vec::new(alloc);
+    offers.clear();
     for router in homes {
-        push_router_offers(&mut offers, net, level, dest, *router)?;
+        push_router_offers(offers, net, level, dest, *router)?;
     }
-    Ok(offers)
+    Ok(())
 }
 
 /// Adds what a router's own interfaces offer of a prefix.
