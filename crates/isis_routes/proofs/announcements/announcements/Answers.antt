@@ -21,7 +21,7 @@ returns c =
     let first : List Offer = c.put_own_subnets.new.offers.items in
     let all : List Offer = c.push_level_one.new.offers.items in
     let are : holds all = announced_all c.args.domain.now.net p first all
-    (subst (λ (net : Network). Exactly (IsOfferOf (OwnAnnouncement net p)) first) c.net.ensures.is c.in_ok-put_own_subnets.ensures)
-    c.in_ok-push_level_one.ensures in
+    (subst (λ (net : Network). Exactly (IsOfferOf (OwnAnnouncement net p)) first) c.net.ensures.is
+    c.in_ok-put_own_subnets.ensures) c.in_ok-push_level_one.ensures in
     IfOk-weaker c.kept.result (λ kept. kept.items ≡ all) (λ kept. holds kept.items)
     (λ kept same. subst (λ (l : List Offer). holds l) (sym same) are) c.kept.ensures

@@ -11,12 +11,14 @@ push_own_subnets-requires c =
 
 pub loop-router-preserved : goal.loop-router-preserved
 loop-router-preserved c =
-    given_more (OwnAnnouncement c.args.net.now c.args.dest) c.clear.new.self.items c.loop-router.offers.items c.push_own_subnets.new.offers.items
-    c.args.homes.now c.loop-router.router-index c.loop-router-test.true c.loop-router.invariant c.in_ok-push_own_subnets.ensures
+    given_more (OwnAnnouncement c.args.net.now c.args.dest) c.clear.new.self.items c.loop-router.offers.items
+    c.push_own_subnets.new.offers.items c.args.homes.now c.loop-router.router-index c.loop-router-test.true
+    c.loop-router.invariant c.in_ok-push_own_subnets.ensures
 
 pub returns : goal.returns
 returns c =
     let owned = OwnAnnouncement c.args.net.now c.args.dest in
     exactly_added c.clear.new.self.items c.loop-router.offers.items (IsOfferOf owned) c.clear.ensures.items
-    (given_end owned c.clear.new.self.items c.loop-router.offers.items c.args.homes.now c.loop-router.router-index c.loop-router-test.false
-    (λ b k is. (c.requires b).1 (offered_is_connected c.args.net.now Two c.args.dest b k is.offers)) c.loop-router.invariant)
+    (given_end owned c.clear.new.self.items c.loop-router.offers.items c.args.homes.now c.loop-router.router-index
+    c.loop-router-test.false (λ b k is. (c.requires b).1 (offered_is_connected c.args.net.now Two c.args.dest b k is.offers))
+    c.loop-router.invariant)

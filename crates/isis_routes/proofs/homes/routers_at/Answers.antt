@@ -13,7 +13,8 @@ returns c =
     let p = c.args.dest in
     let run = c.homes_from-run.result.now in
     let among : List Home → ℕ → Type 0 = λ homes u. Any (λ (h : Home). IsHomeOf p h u) homes in
-    IfOk-weaker c.routers_among.result (λ routers. Exactly (among run) routers.items) (λ routers. Exactly (among c.args.homes.now) routers.items)
+    IfOk-weaker c.routers_among.result (λ routers. Exactly (among run) routers.items)
+    (λ routers. Exactly (among c.args.homes.now) routers.items)
     (λ routers exact. exactly_same routers.items (among run) (among c.args.homes.now) exact
     (λ u. begins_with p c.args.homes.now run c.base.result u c.base.ensures.value c.homes_from-run.ensures))
     c.routers_among.ensures

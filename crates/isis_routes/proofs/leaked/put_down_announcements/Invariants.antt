@@ -6,4 +6,5 @@ use Rattle.isis_routes.proofs.leaked.put_down_announcements.Given as goal
 
 abbrev pub invariant-loop-router : goal.invariant-loop-router
 invariant-loop-router l =
-    Adds l.initial.offers.items l.offers.items (GivenBy (DownAnnouncement l.domain.net l.one.dest) (take l.router-index l.leaking))
+    Adds l.initial.offers.items l.offers.items
+    (GivenBy (DownAnnouncement l.domain.net l.one.dest) (take l.router-index l.leaking))

@@ -10,11 +10,12 @@ push_router_offers-requires c =
 pub loop-router-preserved : goal.loop-router-preserved
 loop-router-preserved c =
     given_more (OffersIn c.args.net.now c.args.level c.args.dest) c.clear.new.self.items c.loop-router.offers.items
-    c.push_router_offers.new.offers.items c.args.homes.now c.loop-router.router-index c.loop-router-test.true c.loop-router.invariant
-    c.in_ok-push_router_offers.ensures
+    c.push_router_offers.new.offers.items c.args.homes.now c.loop-router.router-index c.loop-router-test.true
+    c.loop-router.invariant c.in_ok-push_router_offers.ensures
 
 pub returns : goal.returns
 returns c =
-    holds_given (OffersIn c.args.net.now c.args.level c.args.dest) c.clear.new.self.items c.loop-router.offers.items c.args.homes.now
-    c.loop-router.router-index c.clear.ensures.items c.loop-router-test.false
-    (λ b k offers. (c.requires b).1 (offered_is_connected c.args.net.now c.args.level c.args.dest b k offers)) c.loop-router.invariant
+    holds_given (OffersIn c.args.net.now c.args.level c.args.dest) c.clear.new.self.items c.loop-router.offers.items
+    c.args.homes.now c.loop-router.router-index c.clear.ensures.items c.loop-router-test.false
+    (λ b k offers. (c.requires b).1 (offered_is_connected c.args.net.now c.args.level c.args.dest b k offers))
+    c.loop-router.invariant

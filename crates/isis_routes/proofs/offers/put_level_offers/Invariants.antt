@@ -5,4 +5,5 @@ use Rattle.isis_routes.proofs.OfferLists.{GivenBy}
 use Rattle.isis_routes.proofs.offers.put_level_offers.Given as goal
 
 abbrev pub invariant-loop-router : goal.invariant-loop-router
-invariant-loop-router l = Adds l.initial.offers.items l.offers.items (GivenBy (OffersIn l.net l.level l.dest) (take l.router-index l.homes))
+invariant-loop-router l =
+    Adds l.initial.offers.items l.offers.items (GivenBy (OffersIn l.net l.level l.dest) (take l.router-index l.homes))
