@@ -1,7 +1,5 @@
 pub mod Levels
 pub mod Homes
-pub mod HomeRouterLists
-pub mod KeptOfferLists
 pub mod Offered
 pub mod Attached
 pub mod Candidates

@@ -8,14 +8,15 @@ ghost use Rattle.isis_routes.specs.steps.Near.{AreAllNear, HoldAnnouncers};
 
 use crate::OutOfMemory;
 use crate::domain::Domain;
-use crate::kept_offers::{KeptOffers, OfferRoom};
 use crate::level::Level;
 use crate::level_one::LevelOne;
 use crate::near::{NearRouters, announcers};
+use crate::offer_room::OfferRoom;
 use crate::offers::{push_cost, push_router_offers};
 use crate::runs::runs_level_two;
 use net_addr::Prefix;
 use net_model::Net;
+use route_tables::KeptOffers;
 use walk_core::Offer;
 
 /// What is announced of a prefix into level 2 (RFC 1195, section 3.2): by the routers at which it is connected their

@@ -8,13 +8,13 @@ use crate::OutOfMemory;
 use crate::announcements::announcements;
 use crate::candidates::candidates_of;
 use crate::domain::Domain;
-use crate::home_routers::HomeRouters;
 use crate::homes::{Home, routers_at, sorted_homes};
-use crate::kept_offers::{KeptOffers, OfferRoom};
 use crate::leaked::put_down_announcements;
 use crate::level_one::LevelOne;
 use crate::near::{NearRouters, all_near};
+use crate::offer_room::OfferRoom;
 use net_addr::Prefix;
+use route_tables::{Homes, KeptOffers};
 use std::alloc::Global;
 
 /// What both levels know of a prefix.
@@ -35,7 +35,7 @@ impl Destination {
         domain: &Domain<'_>,
         near: &[NearRouters],
         dest: Prefix,
-        homes: HomeRouters,
+        homes: Homes,
     ) -> Result<Destination, OutOfMemory>
         requires near { AreAllNear domain.now.net (length domain.now.net) near.now }
         requires homes { AreRoutersAt domain.now.net dest homes.items }

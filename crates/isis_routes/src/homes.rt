@@ -5,10 +5,9 @@ ghost use Rattle.isis_routes.specs.steps.Homes.{AreHomes, IsHomeOf, IsOwnSubnet}
 ghost use Rattle.isis_routes.specs.declared.homes.Home.{Home as HomeValue};
 
 use crate::OutOfMemory;
-use crate::home_routers::HomeRouters;
 use net_addr::Prefix;
 use net_model::{Interface, Net};
-use route_tables::push_option;
+use route_tables::{Homes, push_option};
 use std::alloc::Global;
 
 /// A prefix, and a router at which it is connected.
@@ -69,11 +68,7 @@ fn sort_by_base(homes: &mut Vec<Home>)
 
 /// The routers at which a prefix is connected, by the sorted homes of all prefixes. It takes time of the logarithm of
 /// these.
-pub(crate) fn routers_at(
-    alloc: Global,
-    homes: &[Home],
-    dest: Prefix,
-) -> Result<HomeRouters, OutOfMemory>
+pub(crate) fn routers_at(alloc: Global, homes: &[Home], dest: Prefix) -> Result<Homes, OutOfMemory>
     requires { IsNonDecreasingBy (λ h. h.dest.base) homes.now }
     ensures { IfOk result (λ routers. Exactly (λ u. Any (λ h. IsHomeOf dest h u) homes.now) routers.items) }
 {
@@ -82,17 +77,17 @@ pub(crate) fn routers_at(
 }
 
 /// The routers of those of these homes that are of the prefix. Mostly one or two are there, and are.
-fn routers_among(alloc: Global, homes: &[Home], dest: Prefix) -> Result<HomeRouters, OutOfMemory>
+fn routers_among(alloc: Global, homes: &[Home], dest: Prefix) -> Result<Homes, OutOfMemory>
     ensures { IfOk result (λ routers. Exactly (λ u. Any (λ h. IsHomeOf dest h u) homes.now) routers.items) }
 {
     match homes {
-        [one] if one.dest == dest => Ok(HomeRouters::from_one(one.router)),
+        [one] if one.dest == dest => Ok(Homes::from_one(one.router)),
         [one, other] if one.dest == dest && other.dest == dest => {
-            Ok(HomeRouters::from_two(one.router, other.router))
+            Ok(Homes::from_two(one.router, other.router))
         }
         _ => {
             let routers = router_numbers(alloc, homes, dest)?;
-            Ok(HomeRouters::from_vec(routers))
+            Ok(Homes::from_vec(routers))
         }
     }
 }

@@ -6,12 +6,12 @@ ghost use Rattle.isis_routes.specs.steps.Homes.{AreRoutersAt};
 
 use crate::OutOfMemory;
 use crate::domain::Domain;
-use crate::home_routers::HomeRouters;
-use crate::kept_offers::{KeptOffers, OfferRoom};
 use crate::level::Level;
+use crate::offer_room::OfferRoom;
 use crate::offers::put_level_offers;
 use net_addr::Prefix;
 use net_model::Net;
+use route_tables::{Homes, KeptOffers};
 
 /// Where a prefix is connected, and what level 1 offers of it: one offer for each interface with that subnet.
 #[derive(Debug, Drop)]
@@ -19,7 +19,7 @@ pub(crate) struct LevelOne {
     /// The prefix.
     pub dest: Prefix,
     /// The routers at which it is connected.
-    pub homes: HomeRouters,
+    pub homes: Homes,
     /// The offers, each at a router and at the metric of its interface.
     pub offers: KeptOffers,
 }
@@ -30,7 +30,7 @@ impl LevelOne {
         room: &mut OfferRoom,
         net: &Net,
         dest: Prefix,
-        homes: HomeRouters,
+        homes: Homes,
     ) -> Result<LevelOne, OutOfMemory>
         requires { AreRoutersAt net.now dest homes.items }
         ensures dest { IfOk result (λ one. one.dest ≡ dest) }

@@ -8,8 +8,8 @@
 //! 1. `domain.rt`: what is known before any prefix: the least walks of both levels (`level_walks.rt`, by the number of the
 //!    level, `level.rt`) over their segments, by which the tables know who is adjacent to whom, the routers that run both levels and those that
 //!    leak (`runs.rt`), and the attached routers (`attached.rt`; RFC 1195, section 3.2).
-//! 2. `candidates.rt`, `homes.rt`: the prefixes, and the routers at which each is connected (`home_routers.rt`).
-//! 3. `level_one.rt`, `offers.rt`: what level 1 offers of each prefix (`kept_offers.rt`).
+//! 2. `candidates.rt`, `homes.rt`: the prefixes, and the routers at which each is connected.
+//! 3. `level_one.rt`, `offers.rt`: what level 1 offers of each prefix (`offer_room.rt`: where offers are put together).
 //! 4. `announcements.rt`: what is announced into level 2 (RFC 1195, section 3.2); `near.rt`: by whom.
 //! 5. `leaked.rt`: what is announced into level 1, marked down (RFC 5302).
 //! 6. `alike.rt`: prefixes with the same routes.
@@ -35,12 +35,11 @@ mod alike;
 mod announcements;
 mod candidates;
 mod destinations;
-mod home_routers;
 mod homes;
-mod kept_offers;
 mod leaked;
 mod level_one;
 mod near;
+mod offer_room;
 mod offers;
 
 // The routes of each router.

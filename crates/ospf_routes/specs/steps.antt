@@ -4,8 +4,6 @@ pub mod Areas
 pub mod Candidates
 pub mod Offered
 pub mod Subnets
-pub mod HomeLists
-pub mod PartOfferLists
 pub mod Destinations
 pub mod Domain
 pub mod Ranges

@@ -14,11 +14,10 @@ ghost use Rattle.walk_core.specs.declared.offers.Offer.{Offer as OfferValue};
 use crate::OutOfMemory;
 use crate::area_route::{AreaRoute, offer_of, offers_inside};
 use crate::domain::Domain;
-use crate::homes::Homes;
 use crate::ordered::HasPrefix;
-use crate::part_offers::PartOffers;
 use crate::subnets::{Subnets, homes_among, put_routes};
 use net_addr::Prefix;
+use route_tables::{Homes, KeptOffers};
 use std::alloc::Global;
 use walk_core::{LeastWalks, Offer};
 
@@ -30,7 +29,7 @@ pub(crate) struct AreaOffers {
     /// The place of the area among all.
     pub zone: usize,
     /// The offers.
-    pub offers: PartOffers,
+    pub offers: KeptOffers,
 }
 
 /// A prefix with the routers that it is connected at, and what the interfaces of each area offer of it.
@@ -134,17 +133,17 @@ fn push_part(
 }
 
 /// The routes of an area, as offers. Mostly they are one or two, and all of it.
-fn offers_of(alloc: Global, routes: &[AreaRoute], area: u32) -> Result<PartOffers, OutOfMemory>
+fn offers_of(alloc: Global, routes: &[AreaRoute], area: u32) -> Result<KeptOffers, OutOfMemory>
     ensures { IfOk result (λ offers. Exactly (λ o. Any (λ r. InsideOf area r o) routes.now) offers.items) }
 {
     match routes {
-        [one] if one.area == area => Ok(PartOffers::from_one(offer_of(*one))),
+        [one] if one.area == area => Ok(KeptOffers::from_one(offer_of(*one))),
         [one, other] if one.area == area && other.area == area => {
-            Ok(PartOffers::from_two(offer_of(*one), offer_of(*other)))
+            Ok(KeptOffers::from_two(offer_of(*one), offer_of(*other)))
         }
         _ => {
             let offers = offers_inside(alloc, routes, area)?;
-            Ok(PartOffers::from_vec(offers))
+            Ok(KeptOffers::from_vec(offers))
         }
     }
 }

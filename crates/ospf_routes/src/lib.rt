@@ -9,7 +9,7 @@
 //!    tables keep, and routers, border routers (3.3), whom a router listens to (16.2). Its facts are known wherever one has it.
 //!    `destinations.rt`: what the routers know of each prefix before anything is summarized. `candidates.rt`, `subnets.rt`,
 //!    `intra_area.rt`, over lists in the order of their prefixes (`ordered.rt`): the prefixes, where each is connected
-//!    (`homes.rt`), what the interfaces of each area offer of it (`part_offers.rt`), and what it costs within an area.
+//!    (`subnets.rt`), what the interfaces of each area offer of it, and what it costs within an area.
 //! 2. `ranges.rt`: the active ranges of border routers (12.4.3, 11.1), what they cost, and the prefixes of all of them.
 //! 3. `all_summaries` (`originating.rt`, 12.4.3): what the border routers of each area announce of a prefix into it, for all
 //!    prefixes and areas in one vector (`summaries.rt`). `area_boundary.rt` has what they summarize out of whichever area,
@@ -38,11 +38,9 @@ mod areas;
 mod candidates;
 mod destinations;
 mod domain;
-mod homes;
 mod intra_area;
 mod members;
 mod ordered;
-mod part_offers;
 mod subnets;
 
 // Between areas

@@ -6,11 +6,10 @@ ghost use Rattle.ospf_routes.specs.declared.subnets.Subnet.{Subnet as SubnetValu
 
 use crate::OutOfMemory;
 use crate::area_route::AreaRoute;
-use crate::homes::Homes;
 use crate::ordered::{HasPrefix, between, sort_by_base, under};
 use net_addr::Prefix;
 use net_model::{Interface, Net};
-use route_tables::push_option;
+use route_tables::{Homes, push_option};
 use std::alloc::Global;
 use std::marker::Model;
 

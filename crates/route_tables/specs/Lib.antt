@@ -2,6 +2,8 @@ pub mod Lists
 pub mod Prefixes
 pub mod Routings
 pub mod BestRoutes
+pub mod HomeLists
+pub mod KeptOfferLists
 pub mod AlikeOffers
 pub mod Entries
 pub mod Protocols

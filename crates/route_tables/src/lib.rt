@@ -16,6 +16,7 @@
 //! - `sharing.rt`, `table.rt`: of each router the number of its entry for each kind of its lane, and the tables; no route is
 //!   asked for where the lane tells the entry.
 //! - `candidates.rt`, `distinct.rt`, `lists.rt`: prefixes, in order and each once, and lists that grow.
+//! - `homes.rt`, `kept_offers.rt`: lists of a prefix that are short mostly.
 //! - `source.rt`, `joined.rt`: tables as a source of tables, with the segments that join neighbors.
 //!
 //! `RouteTables::build` takes time of lanes times prefixes, and of routers times the kinds in their lanes, besides the routes
@@ -32,6 +33,8 @@ mod alike;
 mod best;
 mod candidates;
 mod distinct;
+mod homes;
+mod kept_offers;
 mod lists;
 
 // Tables.
@@ -46,6 +49,8 @@ mod table;
 pub use alike::are_alike;
 pub use best::{best_hops, best_route};
 pub use candidates::{Candidates, DistinctPrefixes, is_all_addresses};
+pub use homes::Homes;
+pub use kept_offers::KeptOffers;
 pub use lane::{Behind, Decision};
 pub use lists::push_option;
 pub use protocol::Protocol;

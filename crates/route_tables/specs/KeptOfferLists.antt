@@ -1,8 +1,8 @@
 -- What is offered or announced of a prefix: nothing, one or two offers, or those of a vector.
 use Rattle.std.specs.Prelude.{List, [], ◌∷◌}
 use Rattle.walk_core.specs.declared.offers.Offer.{Offer}
-use Rattle.isis_routes.specs.declared.kept_offers.OffersKept.{OffersKept}
-use Rattle.isis_routes.specs.declared.kept_offers.OffersKept.TheVariants.{None, One, Two, Several}
+use Rattle.route_tables.specs.declared.kept_offers.OffersKept.{OffersKept}
+use Rattle.route_tables.specs.declared.kept_offers.OffersKept.TheVariants.{None, One, Two, Several}
 
 -- the list
 pub record KeptOfferList : Type 0 where

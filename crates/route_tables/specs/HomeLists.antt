@@ -1,7 +1,7 @@
 -- Routers that a prefix is connected at: one or two, or those of a vector.
 use Rattle.std.specs.Prelude.{ℕ, List, [], ◌∷◌}
-use Rattle.ospf_routes.specs.declared.homes.HomeNumbers.{HomeNumbers}
-use Rattle.ospf_routes.specs.declared.homes.HomeNumbers.TheVariants.{One, Two, Several}
+use Rattle.route_tables.specs.declared.homes.HomeNumbers.{HomeNumbers}
+use Rattle.route_tables.specs.declared.homes.HomeNumbers.TheVariants.{One, Two, Several}
 
 -- the list
 pub record HomeList : Type 0 where

@@ -1,14 +1,12 @@
-ghost use Rattle.std.specs.Prelude.{◌≡◌, ◌∷◌, [], IfOk};
+ghost use Rattle.std.specs.Prelude.{◌≡◌, ◌∷◌, []};
 
-use crate::OutOfMemory;
-use std::alloc::Global;
 use std::marker::Model;
 use std::slice;
 use walk_core::Offer;
 
 /// What is offered or announced of a prefix. Mostly it is nothing, or one or two offers.
 #[derive(Debug, Drop)]
-pub(crate) struct KeptOffers {
+pub struct KeptOffers {
     list: OffersKept,
 }
 
@@ -22,7 +20,7 @@ enum OffersKept {
 }
 
 impl Model for KeptOffers {
-    ghost use Rattle.isis_routes.specs.steps.KeptOfferLists.{KeptOfferList, listed_kept};
+    ghost use Rattle.route_tables.specs.KeptOfferLists.{KeptOfferList, listed_kept};
 
     ghost Value = { KeptOfferList };
 
@@ -31,7 +29,7 @@ impl Model for KeptOffers {
 
 impl KeptOffers {
     /// None.
-    fn none() -> KeptOffers
+    pub fn none() -> KeptOffers
         ensures { result.items ≡ [] }
     {
         KeptOffers {
@@ -40,7 +38,7 @@ impl KeptOffers {
     }
 
     /// One alone.
-    fn from_one(offer: Offer) -> KeptOffers
+    pub fn from_one(offer: Offer) -> KeptOffers
         ensures { result.items ≡ offer ∷ [] }
     {
         KeptOffers {
@@ -49,7 +47,7 @@ impl KeptOffers {
     }
 
     /// Two.
-    fn from_two(offer: Offer, other: Offer) -> KeptOffers
+    pub fn from_two(offer: Offer, other: Offer) -> KeptOffers
         ensures { result.items ≡ offer ∷ other ∷ [] }
     {
         KeptOffers {
@@ -58,7 +56,7 @@ impl KeptOffers {
     }
 
     /// Those of a vector, in its order.
-    fn from_vec(all: Vec<Offer>) -> KeptOffers
+    pub fn from_vec(all: Vec<Offer>) -> KeptOffers
         ensures { result.items ≡ all.items }
     {
         KeptOffers {
@@ -76,39 +74,6 @@ impl KeptOffers {
             OffersKept::One(offer) => slice::from_ref(offer),
             OffersKept::Two(two) => &two[..],
             OffersKept::Several(all) => all.as_slice(),
-        }
-    }
-}
-
-/// Room in which offers are put together before they are kept, and which is taken again for the next ones.
-#[derive(Debug, Drop)]
-pub(crate) struct OfferRoom {
-    alloc: Global,
-    /// What is put together.
-    pub offers: Vec<Offer>,
-}
-
-impl OfferRoom {
-    /// Room for no offers yet.
-    pub fn none(alloc: Global) -> OfferRoom {
-        OfferRoom {
-            alloc,
-            offers: Vec::new(alloc),
-        }
-    }
-
-    /// What is put together, where it can stay.
-    pub fn kept(&self) -> Result<KeptOffers, OutOfMemory>
-        ensures { IfOk result (λ kept. kept.items ≡ self.now.offers.items) }
-    {
-        match self.offers.as_slice() {
-            [] => Ok(KeptOffers::none()),
-            [one] => Ok(KeptOffers::from_one(*one)),
-            [one, other] => Ok(KeptOffers::from_two(*one, *other)),
-            several => {
-                let all = Vec::from_slice(self.alloc, several)?;
-                Ok(KeptOffers::from_vec(all))
-            }
         }
     }
 }

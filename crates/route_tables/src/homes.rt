@@ -5,7 +5,7 @@ use std::slice;
 
 /// The routers that a prefix is connected at. Mostly they are one or two.
 #[derive(Debug, Drop)]
-pub(crate) struct Homes {
+pub struct Homes {
     list: HomeNumbers,
 }
 
@@ -18,7 +18,7 @@ enum HomeNumbers {
 }
 
 impl Model for Homes {
-    ghost use Rattle.ospf_routes.specs.steps.HomeLists.{HomeList, listed_homes};
+    ghost use Rattle.route_tables.specs.HomeLists.{HomeList, listed_homes};
 
     ghost Value = { HomeList };
 
