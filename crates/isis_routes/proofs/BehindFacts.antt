@@ -69,7 +69,8 @@ behind_decides domain own lane zone u d behind known has numbered of is missed =
     none runs first = no_level_one domain u d behind.first known has of.below runs is.first
         (subst (λ (z : ℕ). MissesOffers (level_reach domain.walks u z) u behind.first) first missed)
 
-    go : (l : LevelLane) → lane_number l ≡ lane → IsSecondIn domain.net l zone d behind.second → DecidesAt (given_by_isis domain) zone u d.one.dest behind.second
+    go : (l : LevelLane) → lane_number l ≡ lane → IsSecondIn domain.net l zone d behind.second →
+        DecidesAt (given_by_isis domain) zone u d.one.dest behind.second
     go OneAlone same (behind_one _ (nothing_left nothing empty some)) =
         let inside = of.of_lane OneAlone same in
         subst (DecidesAt (given_by_isis domain) zone u d.one.dest) (sym nothing)

@@ -65,7 +65,8 @@ decided_by : (domain : IsisDomain) (level : Level) (u : ℕ) (p : Block) (none :
     AreRoutersAt domain.net p homes → RunsLevel domain.net level u → IsDecisionBy domain.net level homes offers decision →
     ((Connected domain.net u p → ⊥) → (given : List Offer) → AreAsGood given offers → LeadIn (in_level domain level u) p none given) →
     DecidesAt (given_by_isis domain) (zone_number level) u p decision
-decided_by domain level u p none homes offers decision are runs (left_open is) law = subst (DecidesAt (given_by_isis domain) (zone_number level) u p) (sym is) tt
+decided_by domain level u p none homes offers decision are runs (left_open is) law =
+    subst (DecidesAt (given_by_isis domain) (zone_number level) u p) (sym is) tt
 decided_by domain level u p none homes offers decision are runs (made_at_homes at_home is) law =
     decided u offers (IsisEntry domain.net u p)
     (LeadToBest (level_reach domain.walks u (zone_number level)) (zone_number level) (length domain.net) (IsIsisRoute domain u p)) decision

@@ -261,7 +261,8 @@ level_number reach zones zone n u entry entries after leads decision makers numb
     let here = best_of_two r one other cost cost best reached other_reached (both refl refl refl (λ no. absurd (false≢true no))) in
     let to : IsEntryToEither r (record { one = one.at; other = other.at }) n (get_or after number Discard) =
     subst (λ (m : TwoMakers). IsEntryToEither r m n (get_or after number Discard)) level.makers_are has.is in
-    let route = lead.through to.hops (record { cost = cost; best = here.best_total; towards = level_hops r one other n cost to.hops reached other_reached to.are }) in
+    let towards = level_hops r one other n cost to.hops reached other_reached to.are in
+        let route = lead.through to.hops (record { cost = cost; best = here.best_total; towards = towards }) in
     record { below = has.below; is = route.makes (get_or after number Discard) to.is }
 
 -- the same by the walks that are known

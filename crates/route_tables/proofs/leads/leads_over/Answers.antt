@@ -24,7 +24,8 @@ loop-at-preserved c =
       leads = subst (AreLeadsTo reach n pool.entries.items) (sym c.push_reserved.ensures.items)
           (subst (λ (l : List Entry). AreLeadsTo reach n l (before.all.items ++ lead ∷ [])) (sym kept.entries)
           (λ i within. leads_more reach n at old kept.more before.all.items lead before.invariant.count before.invariant.leads
-          (subst (λ (l : List Entry). IsLead reach n l at lead) kept.entries c.in_ok-lead.ensures.lead) i (omega (arith, long, before.invariant.count, within))));
+          (subst (λ (l : List Entry). IsLead reach n l at lead) kept.entries c.in_ok-lead.ensures.lead)
+          i (omega (arith, long, before.invariant.count, within))));
       single = single_kept n before.pool pool kept before.invariant.single;
       room = omega (arith, c.push_reserved.ensures.capacity, before.invariant.room);
       kept = more_kept c.args.pool.now before.pool pool before.invariant.kept kept;

@@ -29,7 +29,8 @@ loop-kind-preserved g c =
       leads = subst (λ (l : List Entry). AreLaneLeads lane l c.as_slice.result.now c.as_slice-2.result.now) (sym kept.entries) (record {
         of_lane = lane_leads_kept lane.walks (λ walks. walks.now) lane.router lane.count old kept.more c.as_slice.result.now before.invariant.leads.of_lane;
         of_behind =
-            lane_leads_kept lane.walks_behind (λ walks. walks.now) lane.router lane.count old kept.more c.as_slice-2.result.now before.invariant.leads.of_behind;
+            lane_leads_kept lane.walks_behind (λ walks. walks.now) lane.router lane.count old kept.more c.as_slice-2.result.now
+            before.invariant.leads.of_behind;
       });
       single = single_kept (g.P.Protocol.routes protocol).routers before.pool pool kept before.invariant.single;
       room = omega (arith, c.push_reserved.ensures.capacity, before.invariant.room);
@@ -55,9 +56,11 @@ loop-kind-init g c =
       leads = record {
         of_lane = subst (λ (l : List Lead). MatchOption lane.walks (l ≡ []) (λ walks. AreLeads walks.now lane.router lane.count pool.entries.items l))
             (sym c.as_slice.ensures.value)
-            (subst (λ (l : List Entry). MatchOption lane.walks (c.in_ok-leads.leads.items ≡ []) (λ walks. AreLeads walks.now lane.router lane.count l c.in_ok-leads.leads.items))
+            (subst (λ (l : List Entry). MatchOption lane.walks (c.in_ok-leads.leads.items ≡ [])
+            (λ walks. AreLeads walks.now lane.router lane.count l c.in_ok-leads.leads.items))
             (sym kept.entries)
-            (lane_leads_kept lane.walks (λ walks. walks.now) lane.router lane.count mid.entries.items kept.more c.in_ok-leads.leads.items c.in_ok-leads.ensures.leads));
+            (lane_leads_kept lane.walks (λ walks. walks.now) lane.router lane.count mid.entries.items kept.more c.in_ok-leads.leads.items
+            c.in_ok-leads.ensures.leads));
         of_behind = subst (λ (l : List Lead). MatchOption lane.walks_behind (l ≡ []) (λ walks. AreLeads walks.now lane.router lane.count pool.entries.items l))
             (sym c.as_slice-2.ensures.value) c.in_ok-behind.ensures.leads;
       };
