@@ -1,6 +1,6 @@
-ghost use Rattle.std.specs.Prelude.{◌≡◌, ◌<◌, [], length, replicate, slice_index_or, None, Some, IfOk, IfSome, OnOk};
+ghost use Rattle.std.specs.Prelude.{◌≡◌, ◌<◌, [], length, slice_index_or, None, IfOk, IfSome, OnOk};
 ghost use Rattle.std.specs.Bool.{OnTrue};
-ghost use Rattle.rib_mix.specs.Cells.{cell_at, no_cell};
+ghost use Rattle.rib_mix.specs.Cells.{cell_at};
 ghost use Rattle.rib_mix.specs.steps.Columns.{AreCellsAt, GainColumn, HaveLength, IsColumn};
 ghost use Rattle.rib_mix.specs.steps.Unlike.{HaveCells};
 
@@ -9,13 +9,28 @@ use route_core::OutOfMemory;
 use std::alloc::Global;
 use std::marker::Model;
 
-/// What each router of a network uses for each sort of prefixes. The cells stand sort by sort, and those of a sort router by
-/// router, since routers are compared by their cells of two sorts.
+/// What each router of a network uses for a sort of prefixes, router by router.
+#[derive(Drop)]
+struct Column {
+    cells: Vec<Cell>,
+}
+
+impl Model for Column {
+    ghost use Rattle.std.specs.Prelude.{List};
+    ghost use Rattle.rib_mix.specs.declared.cell.Cell.{Cell};
+
+    ghost Value = { List Cell };
+
+    ghost view = { λ x. x.cells.items };
+}
+
+/// What each router of a network uses for each sort of prefixes. The cells stand sort by sort, since routers are compared by
+/// their cells of two sorts. Each sort has memory of its own: such blocks fit where the tables' walks gave memory back, while
+/// one block for all would be of pages that are touched for the first time.
 #[derive(Drop)]
 pub(crate) struct Columns {
-    all: Vec<Cell>,
+    all: Vec<Column>,
     routers: usize,
-    sorts: usize,
 }
 
 impl Model for Columns {
@@ -25,9 +40,9 @@ impl Model for Columns {
 
     ghost Value = { List (List Cell) };
 
-    ghost view = { λ x. column_rows x.routers x.sorts x.all.items };
+    ghost view = { λ x. column_rows x.routers x.all.items };
 
-    ghost invariant = { λ x. AreColumns x.routers x.sorts x.all.items };
+    ghost invariant = { λ x. AreColumns x.routers x.all.items };
 }
 
 impl Columns {
@@ -36,29 +51,19 @@ impl Columns {
         ensures count { IfOk result (λ columns. length columns ≡ routers) }
         ensures lengths { IfOk result (HaveLength 0) }
     {
-        let routers = routers as usize;
-        let Some(count) = sorts.checked_mul(routers) else {
-            return Err(OutOfMemory);
-        };
-        let all = Vec::with_capacity(alloc, count)?;
+        let all = Vec::with_capacity(alloc, sorts)?;
         Ok(Columns {
             all,
-            routers,
-            sorts: 0,
+            routers: routers as usize,
         })
     }
 
     /// Adds what the routers use for the next sort.
-    pub fn add(&mut self, column: &[Cell]) -> Result<(), OutOfMemory>
-        requires { length column.now ≡ length self.old }
-        ensures { OnOk result (GainColumn column.now self.old self.new) }
+    pub fn add(&mut self, cells: Vec<Cell>) -> Result<(), OutOfMemory>
+        requires { length cells.items ≡ length self.old }
+        ensures { OnOk result (GainColumn cells.items self.old self.new) }
     {
-        let Some(sorts) = self.sorts.checked_add(1) else {
-            return Err(OutOfMemory);
-        };
-        self.all.extend_from_slice(column)?;
-        self.sorts = sorts;
-        Ok(())
+        Ok(self.all.push(Column { cells })?)
     }
 
     /// What a router uses for a sort, and nothing where there is none.
@@ -69,30 +74,31 @@ impl Columns {
         ensures { result ≡ cell_at (slice_index_or self.now router []) sort }
     {
         match sort {
-            Some(sort) => self.all[sort as usize * self.routers + router as usize],
+            Some(sort) => self.all[sort as usize].cells[router as usize],
             None => Cell::nothing(),
         }
     }
 
-    /// What the routers use for a sort, router by router.
+    /// What the routers use for a sort, router by router. Without routers any sort will do.
     #[inline(always)]
     pub fn of_sort(&self, sort: u32) -> &[Cell]
         requires { HaveCells self.now sort }
         ensures { IsColumn self.now sort result.now }
     {
-        let start = sort as usize * self.routers;
-        &self.all[start..start + self.routers]
+        match self.all.get(sort as usize) {
+            Some(column) => column.cells.as_slice(),
+            None => &[],
+        }
     }
 
-    /// What the routers use for a sort, and nothing where there is none.
-    pub fn at<'c>(&'c self, sort: Option<u32>, nothing: &'c [Cell]) -> &'c [Cell]
-        requires sort { IfSome sort (HaveCells self.now) }
-        requires nothing { nothing.now ≡ replicate (length self.now) no_cell }
-        ensures { AreCellsAt self.now sort result.now }
+    /// A copy of what the routers use for a sort, and of nothing where there is none.
+    pub fn copy_at(&self, alloc: Global, sort: Option<u32>) -> Result<Vec<Cell>, OutOfMemory>
+        requires { IfSome sort (HaveCells self.now) }
+        ensures { IfOk result (λ cells. AreCellsAt self.now sort cells.items) }
     {
         match sort {
-            Some(sort) => self.of_sort(sort),
-            None => nothing,
+            Some(sort) => Ok(Vec::from_slice(alloc, self.of_sort(sort))?),
+            None => Ok(vec![in alloc; Cell::nothing(); self.routers]?),
         }
     }
 }

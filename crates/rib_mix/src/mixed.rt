@@ -292,40 +292,31 @@ fn columns_of(
     let all = all_own(alloc, net, tables)?;
     let count = shared.sorts.firsts.len();
     let mut columns = Columns::none(alloc, net.routers(), count)?;
-    let nothing = vec![in alloc; Cell::nothing(); tables.len()]?;
-    let mut column = vec![in alloc; Cell::nothing(); tables.len()]?;
     for sort in 0..count {
-        let up = columns.at(shared.sorts.parents[sort], nothing.as_slice());
-        fill_sort(&mut column, up, all.as_slice(), shared, sort);
-        columns.add(column.as_slice())?;
+        let mut column = columns.copy_at(alloc, shared.sorts.parents[sort])?;
+        fill_sort(&mut column, all.as_slice(), shared, sort);
+        columns.add(column)?;
     }
     Ok(columns)
 }
 
-/// Puts what each router uses for a sort, over what it uses for that of the parents.
-fn fill_sort(
-    column: &mut [Cell],
-    up: &[Cell],
-    all: &[OfRouter<'_>],
-    shared: &Shared<'_>,
-    sort: usize,
-)
+/// Puts what each router uses for a sort, in place of what it uses for that of the parents.
+fn fill_sort(column: &mut [Cell], all: &[OfRouter<'_>], shared: &Shared<'_>, sort: usize)
     requires many { length column.old ≡ length all.now }
-    requires up { length up.now ≡ length all.now }
     requires lanes { AreByLanes all.now }
     requires codes { HaveAllCodes all.now }
     requires sort { sort < length shared.now.sorts.now.firsts.items }
     requires places { IsPlaceOfAll shared.now (slice_index shared.now.sorts.now.firsts.items sort) }
     ensures count { length column.new ≡ length column.old }
     ensures cells { AreColumnCells (own_placed shared.now) all.now (slice_index shared.now.sorts.now.firsts.items sort)
-        up.now column.new }
+        column.old column.new }
 {
     let first = shared.sorts.firsts[sort] as usize;
     let spots = BothSpots {
         old: shared.spots.olds[first],
         new: shared.spots.news[first],
     };
-    fill_column(column, up, all, &spots);
+    fill_column(column, all, &spots);
     connect(column, shared.homes[first].as_slice());
 }
 

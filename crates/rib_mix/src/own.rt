@@ -135,16 +135,15 @@ fn counted_numbers<'a>(parts: TableParts<'a>, ospf: u8) -> &'a [Number]
     }
 }
 
-/// Puts what each router uses for the prefix at these spots where that isn't connected, over what it uses for the parent. The
-/// kinds are looked up once for each run of routers that have the same.
+/// Puts what each router uses for the prefix at these spots where that isn't connected, in place of what it uses for the parent.
+/// The kinds are looked up once for each run of routers that have the same.
 #[inline(never)]
-pub(crate) fn fill_column(column: &mut [Cell], up: &[Cell], all: &[OfRouter<'_>], spots: &BothSpots)
+pub(crate) fn fill_column(column: &mut [Cell], all: &[OfRouter<'_>], spots: &BothSpots)
     requires many { length column.old ≡ length all.now }
-    requires up { length up.now ≡ length all.now }
     requires lanes { AreByLanes all.now }
     requires codes { HaveAllCodes all.now }
     ensures count { length column.new ≡ length column.old }
-    ensures cells { AreEntryCells all.now spots.now up.now (length all.now) column.new }
+    ensures cells { AreEntryCells all.now spots.now column.old (length all.now) column.new }
 {
     let mut kinds = Kinds {
         old: NO_KIND,
@@ -152,7 +151,7 @@ pub(crate) fn fill_column(column: &mut [Cell], up: &[Cell], all: &[OfRouter<'_>]
     };
     for (router, own) in all.iter().enumerate() {
         kinds = own_kinds(own, spots, kinds);
-        column[router] = own_cell(own, kinds, up[router]);
+        column[router] = own_cell(own, kinds, column[router]);
     }
 }
 

@@ -1,21 +1,20 @@
 -- What routers use for sorts of prefixes, kept sort by sort.
-use Rattle.std.specs.Prelude.{◌≡◌, ℕ, ◌<◌, ◌+◌, ◌*◌, ◌^◌, ◌++◌, ◌∷◌, [], List, Option, length, map, slice_index_or}
+use Rattle.std.specs.Prelude.{◌≡◌, ℕ, ◌<◌, ◌++◌, ◌∷◌, [], List, Option, length, map, slice_index_or}
 use Rattle.std.specs.List.{range_with_len}
 use Rattle.rib_mix.specs.Cells.{cell_at, no_cell}
 use Rattle.rib_mix.specs.declared.cell.Cell.{Cell}
 
--- the cells of router u, of those of so many routers and sorts that stand sort by sort
-abbrev pub column_row : ℕ → ℕ → List Cell → ℕ → List Cell
-column_row routers sorts all u = map (λ sort. slice_index_or all (sort * routers + u) no_cell) (range_with_len 0 sorts)
+-- the cells of router u, of the columns of all sorts
+abbrev pub column_row : List (List Cell) → ℕ → List Cell
+column_row columns u = map (λ column. slice_index_or column u no_cell) columns
 
--- those of each router
-abbrev pub column_rows : ℕ → ℕ → List Cell → List (List Cell)
-column_rows routers sorts all = map (column_row routers sorts all) (range_with_len 0 routers)
+-- those of each of so many routers
+abbrev pub column_rows : ℕ → List (List Cell) → List (List Cell)
+column_rows routers columns = map (column_row columns) (range_with_len 0 routers)
 
--- there is a cell for each router and sort, and their number is one of a machine
-pub record AreColumns (routers sorts : ℕ) (all : List Cell) : Type 0 where
-  pub long : length all ≡ sorts * routers
-  pub fits : sorts * routers < 2 ^ 64
+-- each column has a cell of each router
+abbrev pub AreColumns : ℕ → List (List Cell) → Type 0
+AreColumns routers columns = (sort : ℕ) → sort < length columns → length (slice_index_or columns sort []) ≡ routers
 
 -- each router has so many cells
 abbrev pub HaveLength : ℕ → List (List Cell) → Type 0

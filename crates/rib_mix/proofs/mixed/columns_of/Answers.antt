@@ -28,8 +28,8 @@ written : (new old : List Cell) (count : ℕ) → length new ≡ length old → 
 written new old count same many =
     take-append-le count new (drop (length new) old) (omega (arith, same, many)) ∙ take_all count new (omega (arith, same, many))
 
-pub at-up-requires-clause-sort : goal.at-up-requires-clause-sort
-at-up-requires-clause-sort c =
+pub copy_at-requires : goal.copy_at-requires
+copy_at-requires c =
     let sorts : Sorts = c.args.shared.now.sorts.now in
     let sort : ℕ = c.loop-sort.sort in
     let below : sort < length sorts.firsts.items = omega (arith, c.loop-sort-test.true, c.len-count.ensures) in
@@ -45,7 +45,7 @@ at-up-requires-clause-sort c =
 
 pub fill_sort-requires-clause-codes : goal.fill_sort-requires-clause-codes
 fill_sort-requires-clause-codes c =
-    subst HaveAllCodes (sym c.as_slice-in-loop-sort.ensures.value)
+    subst HaveAllCodes (sym c.as_slice.ensures.value)
     (all_codes c.args.net.now c.args.tables.now c.in_ok-all.all.items c.requires.tables c.in_ok-all.ensures)
 
 pub loop-sort-preserved : goal.loop-sort-preserved
@@ -56,7 +56,6 @@ loop-sort-preserved c =
     let owns : List OfRouter = c.in_ok-all.all.items in
     let rows : List (List Cell) = c.loop-sort.columns in
     let column : List Cell = c.fill_sort.new.column in
-    let up : List Cell = c.at-up.result.now in
     let first : ℕ = get_or sorts.firsts.items sort 0 in
     let parent : Option ℕ = get_or sorts.parents.items sort None in
     let below : sort < length sorts.firsts.items = omega (arith, c.loop-sort-test.true, c.len-count.ensures) in
@@ -65,14 +64,12 @@ loop-sort-preserved c =
     c.index.ensures in
     let many : length owns ≡ length rows =
     omega (arith, c.loop-sort.invariant.count, c.in_ok-all.ensures.count, c.requires.tables.count) in
-    let long : length column ≡ length c.loop-sort.column.items =
+    let long : length column ≡ length c.in_ok-column.column.items =
     c.fill_sort.ensures.count ∙ ap length c.deref_mut.ensures.value in
-    let kept : take c.loop-sort.column.len (column ++ drop (length column) c.loop-sort.column.items) ≡ column =
-    written column c.loop-sort.column.items c.loop-sort.column.len long (omega (arith, c.loop-sort.column.ok.0)) in
-    let added : c.as_slice-in-loop-sort-2.result.now ≡ column = c.as_slice-in-loop-sort-2.ensures.value ∙ kept in
+    let kept : take c.in_ok-column.column.len (column ++ drop (length column) c.in_ok-column.column.items) ≡ column =
+    written column c.in_ok-column.column.items c.in_ok-column.column.len long (omega (arith, c.in_ok-column.column.ok.0)) in
     record {
       count = c.in_ok-add.ensures.count ∙ c.loop-sort.invariant.count;
-      column = ap length kept ∙ long ∙ c.loop-sort.invariant.column;
       each = λ u own at.
           let in_rows : u < length rows = omega (arith, slice_get_within owns u own at, many) in
           let over : Cell → Cell = cell_over (has_in places u own first) own.old_first in
@@ -80,11 +77,12 @@ loop-sort-preserved c =
           (c.requires.sorts.sorting.parents sort below)
           (λ earlier before. c.requires.sorts.sorting.parents earlier (omega (arith, before, below)))
           (c.fill_sort.ensures.cells u own
-          (subst (λ (xs : List OfRouter). slice_get xs u ≡ Some own) (sym c.as_slice-in-loop-sort.ensures.value) at)
-          ∙ ap over (c.at-up.ensures.each u in_rows)
+          (subst (λ (xs : List OfRouter). slice_get xs u ≡ Some own) (sym c.as_slice.ensures.value) at)
+          ∙ ap (λ (cells : List Cell). over (get_or cells u no_cell)) c.deref_mut.ensures.value
+          ∙ ap over (c.in_ok-column.ensures.each u in_rows)
           ∙ ap (λ (o : Option ℕ). over (cell_at (get_or rows u []) o)) parent_is)
           (c.in_ok-add.ensures.each u in_rows
-          ∙ ap (λ (cells : List Cell). get_or rows u [] ++ get_or cells u no_cell ∷ []) added)
+          ∙ ap (λ (cells : List Cell). get_or rows u [] ++ get_or cells u no_cell ∷ []) kept)
           (c.loop-sort.invariant.each u own at);
     }
 

@@ -5,7 +5,6 @@ use Rattle.rib_mix.proofs.mixed.columns_of.Given as goal
 abbrev pub invariant-loop-sort : goal.invariant-loop-sort
 invariant-loop-sort l = record {
   count : length l.columns ≡ length l.net;
-  column : length l.column.items ≡ length l.net;
   each : AreKindRows (record { spots = l.shared.spots.now; homes = l.shared.homes.now }) l.all.items
       l.shared.sorts.now l.sort l.columns;
 }

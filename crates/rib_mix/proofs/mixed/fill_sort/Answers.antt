@@ -27,6 +27,6 @@ returns-clause-cells c =
     ∙ get_or_default homes c.index.result.now c.index-shared-first.result [] (omega (arith, first_is, c.requires.places.homes))
     ∙ ap (λ (k : ℕ). get_or homes k []) first_is in
     column_cells (own_placed c.args.shared.now) c.args.all.now first
-    (record { old = c.index-2.result.now; new = c.index-3.result.now }) c.args.up.now c.fill_column.new.column
+    (record { old = c.index-2.result.now; new = c.index-3.result.now }) c.args.column.now c.fill_column.new.column
     c.connect.new.column old_is new_is (c.fill_column.ensures.count ∙ c.requires.many) c.fill_column.ensures.cells
     (subst (λ (seen : List ℕ). Connects seen c.fill_column.new.column c.connect.new.column) homes_are c.connect.ensures)

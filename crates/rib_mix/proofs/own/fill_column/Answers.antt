@@ -1,6 +1,6 @@
-use Rattle.std.proofs.Common.{◌≡◌, ◌∙◌, ℕ, List, None, Some, ap, arith, get_or, length, length-set, refl, set}
+use Rattle.std.proofs.Common.{◌≡◌, ◌<◌, ◌∙◌, ℕ, List, None, Some, ap, arith, get_or, length, length-set, refl, set}
 use Rattle.std.proofs.Common.{slice_get, subst, sym}
-use Rattle.std.proofs.lemmas.List.{get_or_default}
+use Rattle.std.proofs.lemmas.List.{get_or-set_other, get_or_default}
 use Rattle.std.proofs.lemmas.Option.{same_Some, slice_get_read}
 use Rattle.rib_mix.specs.Cells.{no_cell}
 use Rattle.rib_mix.specs.declared.cell.Cell.{Cell}
@@ -18,7 +18,8 @@ loop-router-preserved c =
     let own : OfRouter = c.index-all-router.result in
     let all : List OfRouter = c.args.all.now in
     let spots : BothSpots = c.args.spots.now in
-    let up : List Cell = c.args.up.now in
+    let up : List Cell = c.args.column.now in
+    let column : List Cell = c.loop-router.column in
     let cell : Cell = c.own_cell.result in
     let here : slice_get all router ≡ Some own =
     slice_get_read all (length all) router own refl (omega (arith, c.loop-router-test.true)) c.index-all-router.is in
@@ -26,16 +27,20 @@ loop-router-preserved c =
     kinds_here all spots router own c.loop-router.kinds c.own_kinds-kinds.result here c.requires.lanes
     c.loop-router.invariant.kinds
     c.own_kinds-kinds.ensures in
+    let within : router < length column = omega (arith, c.loop-router-test.true, c.loop-router.invariant.count) in
     let made : cell ≡ entry_cell own spots (get_or up router no_cell) =
     c.own_cell.ensures
     ∙ ap (λ (k : Kinds). cell_of_two (get_or own.olds.now k.old None) (get_or own.news.now k.new None) own.old_first
-    c.index-up-router.result) kinds_are
-    ∙ ap (entry_cell own spots) (c.index-up-router.is ∙ get_or_default up router c.index-up-router.result no_cell
-    (omega (arith, c.loop-router-test.true, c.requires.up))) in
+    c.index-column-router.result) kinds_are
+    ∙ ap (entry_cell own spots) (c.index-column-router.is
+    ∙ get_or_default column router c.index-column-router.result no_cell within
+    ∙ c.loop-router.invariant.rest router (omega arith)) in
     record {
-      count = length-set c.loop-router.column router cell ∙ c.loop-router.invariant.count;
-      cells = entry_cells_more all spots up c.loop-router.column (set c.loop-router.column router cell) router own cell here
-          (omega (arith, c.loop-router-test.true, c.loop-router.invariant.count)) made refl c.loop-router.invariant.cells;
+      count = length-set column router cell ∙ c.loop-router.invariant.count;
+      cells = entry_cells_more all spots up column (set column router cell) router own cell here within made refl
+          c.loop-router.invariant.cells;
+      rest = λ u past. get_or-set_other column router u cell no_cell (λ same. absurd (omega (arith, past, same)))
+          ∙ c.loop-router.invariant.rest u (omega (arith, past));
       kinds = λ before one next at.
           let same : router ≡ before = omega (arith, next) in
           kinds_are ∙ ap (λ (o : OfRouter). kinds_of o spots)
