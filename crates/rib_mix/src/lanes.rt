@@ -76,11 +76,11 @@ fn add_lane<'a>(lanes: &mut Vec<Lane<'a>>, lane: Lane<'a>) -> Result<(), OutOfMe
     Ok(lanes.push(lane)?)
 }
 
-/// Whether a lane is among some.
+/// Whether a lane is among some. The latest is looked at first: routers that follow each other mostly have one lane.
 fn is_among(lanes: &[Lane<'_>], lane: Lane<'_>) -> bool
     ensures { OnTrue result (HasLane lanes.now lane.entry.kinds.now) }
 {
-    for other in lanes {
+    for other in lanes.iter().rev() {
         if are_same_kinds(other.kinds, lane.kinds) {
             return true;
         }
