@@ -1,3 +1,4 @@
+pub mod NumberCodes
 pub mod NumberLists
 pub mod Codes
 pub mod Rows

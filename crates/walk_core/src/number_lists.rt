@@ -19,10 +19,87 @@ pub(crate) enum Numbers {
     More(u32),
 }
 
+/// The same in 4 bytes, since there is one for each root and vertex.
+#[derive(Clone, Copy, Debug)]
+pub(crate) struct PackedNumbers {
+    /// One number alone below 2^31, that much more than the place of a long list, or 2^32 - 1 for none.
+    code: u32,
+}
+
+impl Model for PackedNumbers {
+    ghost use Rattle.std.specs.Prelude.{ℕ};
+    ghost use Rattle.std.proofs.Common.{ap};
+    ghost use Rattle.walk_core.specs.declared.number_lists.Numbers.{Numbers};
+    ghost use Rattle.walk_core.specs.steps.NumberCodes.{code_of_numbers, numbers_code_back, numbers_of_code};
+
+    ghost Value = { Numbers };
+
+    ghost view = { λ x. numbers_of_code x.code };
+
+    ghost inverse = { λ n. record { code = code_of_numbers n } };
+
+    ghost inverse_ok = { λ x h. let P : ℕ → Inside = λ n. record { code = n } in ap P (numbers_code_back x.code) };
+}
+
+impl PackedNumbers {
+    ghost use Rattle.std.specs.Prelude.{◌≡◌, ◌<◌, IfOk};
+    ghost use Rattle.walk_core.specs.declared.number_lists.Numbers.TheVariants.{More, Nothing, One};
+    ghost use Rattle.walk_core.specs.steps.NumberLists.{list_of};
+
+    /// None.
+    #[inline(always)]
+    fn nothing() -> PackedNumbers
+        ensures { result ≡ Nothing }
+    {
+        PackedNumbers { code: NO_NUMBER }
+    }
+
+    /// This number alone.
+    #[inline(always)]
+    fn one(number: u32) -> PackedNumbers
+        requires { number < LONG_LISTS }
+        ensures { result ≡ One number }
+    {
+        PackedNumbers { code: number }
+    }
+
+    /// Those of the long list of this place, which has a code.
+    fn more(place: u32) -> Result<PackedNumbers, OutOfMemory>
+        ensures { IfOk result (λ numbers. numbers ≡ More place) }
+    {
+        if place >= NO_NUMBER - LONG_LISTS {
+            return Err(OutOfMemory);
+        }
+        Ok(PackedNumbers {
+            code: LONG_LISTS + place,
+        })
+    }
+
+    /// The list of these, by the long lists.
+    #[inline(always)]
+    fn list<'a>(&'a self, long: &'a LongLists) -> &'a [u32]
+        ensures { result.now ≡ list_of long.now self.now }
+    {
+        if self.code < LONG_LISTS {
+            return slice::from_ref(&self.code);
+        }
+        if self.code == NO_NUMBER {
+            return &[];
+        }
+        long.at((self.code - LONG_LISTS) as usize)
+    }
+}
+
+/// The code of the first long list. Numbers below it have themselves as codes.
+const LONG_LISTS: u32 = 2_147_483_648;
+
+/// The code of no numbers.
+const NO_NUMBER: u32 = u32::MAX;
+
 /// Lists of numbers, of which most have one or none.
 #[derive(Debug, Drop)]
 pub(crate) struct NumberLists {
-    all: Vec<Numbers>,
+    all: Vec<PackedNumbers>,
     long: LongLists,
 }
 
@@ -103,32 +180,31 @@ impl NumberLists {
         ensures { result.now ≡ slice_index_or self.now place [] }
     {
         match self.all.get(place) {
-            Some(Numbers::One(number)) => slice::from_ref(number),
-            Some(Numbers::More(place)) => self.long.at(*place as usize),
-            _ => &[],
+            Some(numbers) => numbers.list(&self.long),
+            None => &[],
         }
     }
 }
 
 /// Puts an empty list at a place, if there is one.
-fn clear_at(all: &mut Vec<Numbers>, place: usize)
+fn clear_at(all: &mut Vec<PackedNumbers>, place: usize)
     ensures { all.new.items ≡ slice_set all.old.items place Nothing }
 {
     if place < all.len() {
-        all[place] = Numbers::Nothing;
+        all[place] = PackedNumbers::nothing();
     }
 }
 
 /// The numbers of a list, which is kept among the long ones if need be.
 #[inline(always)]
-fn numbers_of(long: &mut LongLists, list: &[u32]) -> Result<Numbers, OutOfMemory>
+fn numbers_of(long: &mut LongLists, list: &[u32]) -> Result<PackedNumbers, OutOfMemory>
     ensures is { IfOk result (λ numbers. list_of long.new numbers ≡ list.now) }
     ensures kept { IfOk result (IsLongListKept long.new) }
     ensures grows { Grows long.old long.new }
 {
     match list {
-        [] => Ok(Numbers::Nothing),
-        [number] => Ok(Numbers::One(*number)),
-        _ => Ok(Numbers::More(long.keep(list)?)),
+        [] => Ok(PackedNumbers::nothing()),
+        [number] if *number < LONG_LISTS => Ok(PackedNumbers::one(*number)),
+        _ => PackedNumbers::more(long.keep(list)?),
     }
 }
