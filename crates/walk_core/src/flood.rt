@@ -5,7 +5,7 @@ ghost use Rattle.walk_core.specs.steps.Cheapest.{HasCost};
 ghost use Rattle.walk_core.specs.Distances.{distance_at};
 ghost use Rattle.walk_core.specs.steps.Ends.{IsShortRow};
 ghost use Rattle.walk_core.specs.steps.Flooding.{cost_onto, segment_at, what_is_left, AreAllAtMost, AreSettled, IsLastAbove, IsNextStale, Lowers};
-ghost use Rattle.walk_core.specs.steps.Floods.{marked_in, IsFlood};
+ghost use Rattle.walk_core.specs.steps.Floods.{marked_in, IsFlood, IsRoom};
 ghost use Rattle.walk_core.specs.steps.Relaxing.{AreWalked, Fall, IsAtMost, IsTightFrom, weight_of};
 ghost use Rattle.walk_core.specs.steps.SegmentWalks.{IsLan};
 ghost use Rattle.walk_core.specs.Segments.{Sends, SendsAcross};
@@ -18,9 +18,11 @@ use crate::rows::Distances;
 use crate::segment::ports_at;
 use crate::segment_graph::SegmentGraph;
 use std::alloc::Global;
+use std::mem;
 
 /// How far a flood has come: how far the vertices are by the walks that were found, which of them are stale, and at what
-/// cost each segment was entered.
+/// cost each segment was entered. The floods from the roots of a graph take turns in one of these, so that its marks and
+/// entries take memory once.
 #[derive(Debug, Drop)]
 pub(crate) struct Flood {
     distances: Vec<Distance>,
@@ -28,28 +30,53 @@ pub(crate) struct Flood {
     entries: Vec<Option<u64>>,
 }
 
-/// The distances from a root of a graph of segments.
+impl Flood {
+    ghost use Rattle.std.specs.Prelude.{IfOk};
+    ghost use Rattle.walk_core.specs.steps.Floods.{IsRoom};
+
+    /// Room for the floods over a graph, before the first of them.
+    pub fn new(alloc: Global, graph: &SegmentGraph<'_>) -> Result<Flood, OutOfMemory>
+        ensures { IfOk result (IsRoom graph.now) }
+    {
+        let stale = vec![in alloc; false; graph.count() as usize]?;
+        let entries = vec![in alloc; None; graph.segments().len()]?;
+        Ok(Flood {
+            distances: Vec::new(alloc),
+            stale,
+            entries,
+        })
+    }
+}
+
+/// The distances from a root of a graph of segments, by a flood in the room of an earlier one. What that entered is
+/// forgotten; it left no mark, and one that it had left would cost no more than time.
 pub(crate) fn distances_over(
     alloc: Global,
     graph: &SegmentGraph<'_>,
     root: u32,
+    flood: &mut Flood,
 ) -> Result<Distances, OutOfMemory>
-    requires { root < graph.now.count }
-    ensures { IfOk result (IsShortRow (SendsAcross graph.now.segments) graph.now.count root) }
+    requires root { root < graph.now.count }
+    requires room { IsRoom graph.now flood.old }
+    ensures row { IfOk result (IsShortRow (SendsAcross graph.now.segments) graph.now.count root) }
+    ensures room { IsRoom graph.now flood.new }
 {
-    let count = graph.count() as usize;
-    let mut distances = vec![in alloc; Distance::none(); count]?;
+    let mut distances = vec![in alloc; Distance::none(); graph.count() as usize]?;
     distances[root as usize] = Distance::of(0);
-    let mut stale = vec![in alloc; false; count]?;
-    stale[root as usize] = true;
-    let entries = vec![in alloc; None; graph.segments().len()]?;
-    let mut flood = Flood {
-        distances,
-        stale,
-        entries,
-    };
-    settle(graph, &mut flood);
-    Ok(Distances::from_vec(flood.distances))
+    flood.distances = distances;
+    flood.stale[root as usize] = true;
+    flood.entries.fill(None);
+    settle(graph, flood);
+    Ok(Distances::from_vec(take_distances(alloc, flood)))
+}
+
+/// Takes the distances out of a flood that is done.
+fn take_distances(alloc: Global, flood: &mut Flood) -> Vec<Distance>
+    ensures taken { result.items ≡ flood.old.distances.items }
+    ensures stale { flood.new.stale.items ≡ flood.old.stale.items }
+    ensures entries { flood.new.entries.items ≡ flood.old.entries.items }
+{
+    mem::replace(&mut flood.distances, Vec::new(alloc))
 }
 
 /// Lets distances fall to the costs of walks until no vertex is stale. The next one lies ahead, as long as one does, so

@@ -7,7 +7,7 @@ ghost use Rattle.walk_core.specs.steps.SegmentWalks.{AreOutlets};
 
 use crate::beyond::all_beyond;
 use crate::ends::{roots_by_ends, row_by_ends};
-use crate::flood::distances_over;
+use crate::flood::{Flood, distances_over};
 use crate::kept::Kept;
 use crate::number_lists::NumberLists;
 use crate::outlets::{Outlet, Outlets, is_lone, outlets_of};
@@ -43,6 +43,7 @@ impl<'a> SegmentGraph<'a> {
     ghost use Rattle.walk_core.specs.Segments.{SendsAcross};
     ghost use Rattle.walk_core.specs.steps.Ends.{AreRowsFound, AreSearched, IsShortRow};
     ghost use Rattle.walk_core.specs.steps.FirstHops.{AreAllHops};
+    ghost use Rattle.walk_core.specs.steps.Floods.{IsRoom};
     ghost use Rattle.walk_core.specs.steps.Kept.{StayLeast};
     ghost use Rattle.walk_core.specs.steps.Rows.{AreDistanceRows, IsDistanceRow};
     ghost use Rattle.walk_core.specs.steps.SegmentWalks.{AreOutlets, IsJoined};
@@ -153,9 +154,10 @@ impl<'a> SegmentGraph<'a> {
         ensures { IfOk result (λ rows. AreDistanceRows (SendsAcross self.now.segments) self.now.count self.now.count rows.items) }
     {
         let count = self.count();
+        let mut flood = Flood::new(alloc, self)?;
         let mut rows = Vec::with_capacity(alloc, count as usize)?;
         for root in 0..count {
-            let row = self.row_keeping(alloc, kept, root)?;
+            let row = self.row_keeping(alloc, kept, root, &mut flood)?;
             rows.push(row)?;
         }
         Ok(rows)
@@ -167,13 +169,16 @@ impl<'a> SegmentGraph<'a> {
         alloc: Global,
         kept: Kept<'_>,
         root: u32,
+        flood: &mut Flood,
     ) -> Result<Distances, OutOfMemory>
         requires root { root < self.now.count }
         requires kept { StayLeast (SendsAcross self.now.segments) self.now.count kept.roots.now kept.walks.now }
-        ensures { IfOk result (IsDistanceRow (SendsAcross self.now.segments) self.now.count root) }
+        requires room { IsRoom self.now flood.old }
+        ensures row { IfOk result (IsDistanceRow (SendsAcross self.now.segments) self.now.count root) }
+        ensures room { IsRoom self.now flood.new }
     {
         let Some(walks) = kept.walks_from(root) else {
-            return self.searched_row(alloc, root);
+            return self.searched_row(alloc, root, flood);
         };
         let row = walks.copy_distances(alloc)?;
         Ok(row)
@@ -219,12 +224,13 @@ impl<'a> SegmentGraph<'a> {
         ensures { IfOk result (λ rows. AreSearched (SendsAcross self.now.segments) self.now.count by_ends.now self.now.count rows.items) }
     {
         let count = self.count();
+        let mut flood = Flood::new(alloc, self)?;
         let mut rows = Vec::with_capacity(alloc, count as usize)?;
         for root in 0..count {
             let row = if by_ends[root as usize] {
                 Distances::none(alloc)
             } else {
-                self.searched_row(alloc, root)?
+                self.searched_row(alloc, root, &mut flood)?
             };
             rows.push(row)?;
         }
@@ -266,19 +272,29 @@ impl<'a> SegmentGraph<'a> {
     {
         match row_by_ends(alloc, self, rows, by_ends, root)? {
             Some(row) => Ok(row),
-            None => Ok(distances_over(alloc, self, root)?),
+            None => {
+                let mut flood = Flood::new(alloc, self)?;
+                distances_over(alloc, self, root, &mut flood)
+            }
         }
     }
 
     /// The distances from the root.
-    fn searched_row(&self, alloc: Global, root: u32) -> Result<Distances, OutOfMemory>
-        requires { root < self.now.count }
-        ensures { IfOk result (IsShortRow (SendsAcross self.now.segments) self.now.count root) }
+    fn searched_row(
+        &self,
+        alloc: Global,
+        root: u32,
+        flood: &mut Flood,
+    ) -> Result<Distances, OutOfMemory>
+        requires root { root < self.now.count }
+        requires room { IsRoom self.now flood.old }
+        ensures row { IfOk result (IsShortRow (SendsAcross self.now.segments) self.now.count root) }
+        ensures room { IsRoom self.now flood.new }
     {
         if is_lone(self.ports(root as usize)) {
             return Ok(Distances::of_lone(root));
         }
-        distances_over(alloc, self, root)
+        distances_over(alloc, self, root, flood)
     }
 }
 

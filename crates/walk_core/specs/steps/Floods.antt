@@ -16,3 +16,8 @@ pub record IsFlood (graph : Joined) (flood : Flood) : Type 0 where
   pub marks : length flood.stale.items ≡ graph.count
   pub room : HaveRoom flood.distances.items
   pub entered : AreEntered graph.segments flood.distances.items flood.entries.items
+
+-- room for the floods over a graph: a mark for each vertex, and an entry for each segment
+pub record IsRoom (graph : Joined) (flood : Flood) : Type 0 where
+  pub marks : length flood.stale.items ≡ graph.count
+  pub entries : length flood.entries.items ≡ length graph.segments

@@ -11,7 +11,13 @@ loop-root-preserved c =
     let count : ℕ = c.args.self.now.count in
     let rows : List (List (Option ℕ)) = c.loop-root.rows.items in
     let row : List (Option ℕ) = c.in_ok-row.row in
-    subst (λ (l : List (List (Option ℕ))). AreDistanceRows arc count (c.loop-root.root + 1) l) (sym c.in_ok-push.ensures.items) (record {
-      long = omega (arith, length-append rows (row ∷ []), c.loop-root.invariant.long);
-      each = each_at_more [] (IsDistanceRow arc count) rows c.loop-root.root row c.loop-root.invariant.long c.loop-root.invariant.each c.in_ok-row.ensures;
-    })
+    let before = c.loop-root.invariant.rows in
+    let row_is : IsDistanceRow arc count c.loop-root.root row = c.in_ok-row.ensures.row in
+    record {
+      rows = subst (λ (l : List (List (Option ℕ))). AreDistanceRows arc count (c.loop-root.root + 1) l)
+          (sym c.in_ok-push.ensures.items) (record {
+            long = omega (arith, length-append rows (row ∷ []), before.long);
+            each = each_at_more [] (IsDistanceRow arc count) rows c.loop-root.root row before.long before.each row_is;
+          });
+      room = c.in_ok-row.ensures.room;
+    }
