@@ -43,10 +43,9 @@ pub struct InterfaceFacts {
 }
 
 /// What the lines of an interface say in the end, with one more line.
-fn noted(facts: InterfaceFacts, statement: &InterfaceStatement) -> InterfaceFacts
-    ensures { result ≡ noted facts statement.now }
+fn note(facts: &mut InterfaceFacts, statement: &InterfaceStatement)
+    ensures { facts.new ≡ noted facts.old statement.now }
 {
-    let mut facts = facts;
     match &statement.says {
         InterfaceLine::Address(address) => {
             facts.address = Some(Some(PlacedAddress {
@@ -67,7 +66,6 @@ fn noted(facts: InterfaceFacts, statement: &InterfaceStatement) -> InterfaceFact
         InterfaceLine::Metric2(metric) => facts.metric2 = Some(*metric),
         InterfaceLine::Vrf | InterfaceLine::Faulty(_) | InterfaceLine::Skipped => {}
     }
-    facts
 }
 
 /// What the lines of an interface say in the end: of each form the last one.
@@ -88,7 +86,7 @@ pub(crate) fn facts_of(lines: &[InterfaceStatement]) -> InterfaceFacts
         metric2: None,
     };
     for statement in lines {
-        facts = noted(facts, statement);
+        note(&mut facts, statement);
     }
     facts
 }

@@ -49,10 +49,9 @@ pub(crate) struct ProcessFacts {
 }
 
 /// What the lines of an OSPF process say in the end, with one more line.
-fn ospf_noted(facts: OspfFacts, statement: &OspfStatement) -> OspfFacts
-    ensures { result ≡ ospf_noted facts statement.now }
+fn note_ospf(facts: &mut OspfFacts, statement: &OspfStatement)
+    ensures { facts.new ≡ ospf_noted facts.old statement.now }
 {
-    let mut facts = facts;
     match &statement.says {
         OspfLine::PassiveDefault(passive) => facts.passive_default = Some(*passive),
         OspfLine::Reference(reference) => facts.reference = Some(*reference),
@@ -60,7 +59,6 @@ fn ospf_noted(facts: OspfFacts, statement: &OspfStatement) -> OspfFacts
         OspfLine::Rfc1583(compatible) => facts.rfc1583 = Some(*compatible),
         _ => {}
     }
-    facts
 }
 
 /// What the lines of an OSPF process say in the end: of each form the last one.
@@ -74,16 +72,15 @@ fn ospf_facts_of(lines: &[OspfStatement]) -> OspfFacts
         rfc1583: None,
     };
     for statement in lines {
-        facts = ospf_noted(facts, statement);
+        note_ospf(&mut facts, statement);
     }
     facts
 }
 
 /// What the lines of an IS-IS process say in the end, with one more line.
-fn isis_noted(facts: IsisFacts, statement: &IsisStatement) -> IsisFacts
-    ensures { result ≡ isis_noted facts statement.now }
+fn note_isis(facts: &mut IsisFacts, statement: &IsisStatement)
+    ensures { facts.new ≡ isis_noted facts.old statement.now }
 {
-    let mut facts = facts;
     match &statement.says {
         IsisLine::Levels(levels) => facts.levels = Some(*levels),
         IsisLine::Metric(metric) => facts.metric = Some(*metric),
@@ -91,7 +88,6 @@ fn isis_noted(facts: IsisFacts, statement: &IsisStatement) -> IsisFacts
         IsisLine::Leak => facts.leak = Some(true),
         _ => {}
     }
-    facts
 }
 
 /// What the lines of an IS-IS process say in the end: of each form the last one.
@@ -105,7 +101,7 @@ fn isis_facts_of(lines: &[IsisStatement]) -> IsisFacts
         leak: None,
     };
     for statement in lines {
-        facts = isis_noted(facts, statement);
+        note_isis(&mut facts, statement);
     }
     facts
 }
