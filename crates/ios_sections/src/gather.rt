@@ -138,14 +138,13 @@ fn with_section(
     alloc: Global,
     names: &mut NameIndex,
     few: bool,
-    gathering: Gathering,
+    gathering: &mut Gathering,
     section: Section,
-) -> Result<Gathering, OutOfMemory>
-    requires { few ≡ false → names.old ≡ map (λ s. s.name) gathering.interfaces }
-    ensures value { IfOk result (λ g. g ≡ with_section gathering section) }
-    ensures index { IfOk result (λ g. few ≡ false → names.new ≡ map (λ s. s.name) g.interfaces) }
+) -> Result<(), OutOfMemory>
+    requires { few ≡ false → names.old ≡ map (λ s. s.name) gathering.old.interfaces }
+    ensures value { OnOk result (gathering.new ≡ with_section gathering.old section) }
+    ensures index { OnOk result (few ≡ false → names.new ≡ map (λ s. s.name) gathering.new.interfaces) }
 {
-    let mut gathering = gathering;
     match section {
         Section::Hostname(name) => gathering.name = Some(name),
         Section::Interface(section) => with_interface(
@@ -160,7 +159,7 @@ fn with_section(
         Section::Faulty(fault) => gathering.faults.push(fault)?,
         Section::Other => {}
     }
-    Ok(gathering)
+    Ok(())
 }
 
 /// What the sections of a configuration say, gathered.
@@ -179,7 +178,7 @@ pub(crate) fn gather(alloc: Global, sections: Vec<Section>) -> Result<Gathering,
         faults: Vec::new(alloc),
     };
     for section in sections {
-        gathering = with_section(alloc, &mut names, few, gathering, section)?;
+        with_section(alloc, &mut names, few, &mut gathering, section)?;
     }
     Ok(gathering)
 }
