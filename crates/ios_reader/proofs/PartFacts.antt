@@ -1,17 +1,18 @@
 -- The parts of a text, one more line at a time.
-use Rattle.std.proofs.Common.{sym, ◌≡◌, ℕ, ◌+◌, ◌-◌, ◌<◌, ◌≤◌, Bool, true, false, not, ◌||◌, List, [], ◌∷◌, ◌++◌, length, take, drop, get_or}
-use Rattle.std.proofs.Common.{refl, ap, subst, ◌∙◌, cond, map, append-nil, arith}
+use Rattle.std.proofs.Common.{sym, ◌≡◌, ℕ, ◌+◌, ◌-◌, ◌<◌, ◌≤◌, Bool, true, false, List, [], ◌∷◌, ◌++◌, length, take, drop, get_or}
+use Rattle.std.proofs.Common.{refl, ap, ◌∙◌, cond, map, append_assoc, arith}
 use Rattle.std.specs.Prelude.{flat_map, option_to_list}
-use Rattle.std.specs.List.{list_any, slice_range}
+use Rattle.std.specs.List.{slice_range}
 use Rattle.std.proofs.lemmas.Grind.{common_steps}
 use Rattle.std.proofs.lemmas.List.{take_more, map-append}
 use Rattle.std.proofs.lemmas.List.Concat.{flat_map-append}
 use Rattle.net_model.specs.Configuration.{Configuration}
-use Rattle.ios_sections.specs.TextLines.{TextLine, Part, is_end, parts_after, rest_after, is_empty, begins_configuration}
+use Rattle.ios_sections.specs.TextLines.{TextLine, Part, is_end, parts_after, rest_after, is_empty}
 use Rattle.ios_sections.specs.Sections.{sections_in}
 use Rattle.ios_reader.specs.Faults.{part_faults}
 use Rattle.ios_reader.specs.Configurations.{configuration_of}
-use Rattle.ios_reader.specs.steps.Parts.{part_at, PartRead, IsPartRead, Reading, IsReadingOf}
+use Rattle.ios_reader.specs.steps.Parts.{part_at, PartRead, IsPartRead, Reading, IsReadingOf, TakesLine, is_nothing}
+use Rattle.ios_lines.specs.declared.fault.Fault.{Fault}
 use Rattle.ios_reader.proofs.LookedUp.{none_left, none_right}
 
 -- ---- one more line ----
@@ -86,49 +87,44 @@ pub reading-push : (parts : List Part) (part : Part) (r s : Reading) (read : Par
     s.faults ≡ r.faults ++ read.faults → s.configs ≡ r.configs ++ option_to_list read.config → IsReadingOf (parts ++ part ∷ []) s
 reading-push parts part r s read before h f g = grind (arith, common_steps, faults-push, map-append, none_left, none_right)
 
--- ---- whether a configuration is open ----
-
-any-push : (xs : List TextLine) (x : TextLine) → list_any begins_configuration (xs ++ x ∷ []) ≡ (list_any begins_configuration xs || begins_configuration x)
-any-push [] x = or_false (begins_configuration x)
+-- nothing is read exactly of no parts
+pub nothing_read : (parts : List Part) (r : Reading) → IsReadingOf parts r → is_nothing r ≡ is_empty parts
+nothing_read [] r h = grind (arith, common_steps)
+nothing_read (p ∷ ps) r h = by_faults r.faults refl
   where
-    or_false : (b : Bool) → (b || false) ≡ b
-    or_false true = refl
-    or_false false = refl
-any-push (y ∷ ys) x = or_assoc (begins_configuration y) (list_any begins_configuration ys) (begins_configuration x) (any-push ys x)
-  where
-    or_assoc : (a b c : Bool) {d : Bool} → d ≡ (b || c) → (a || d) ≡ ((a || b) || c)
-    or_assoc true b c e = refl
-    or_assoc false b c e = e
+    by_faults : (fs : List Fault) → r.faults ≡ fs → is_nothing r ≡ false
+    by_faults [] e = grind (arith, common_steps)
+    by_faults (f ∷ fs) e = grind (arith, common_steps)
 
-any_cases : (t : Bool) (xs : List TextLine) (x : TextLine) → list_any begins_configuration (cond t [] (xs ++ x ∷ []))
-    ≡ cond t false (list_any begins_configuration xs || begins_configuration x)
-any_cases t xs x = grind (arith, common_steps, any-push)
+-- ---- one more line that is left ----
 
-pub open_more : (lines : List TextLine) (i : ℕ) (x : TextLine) → i < length lines → x ≡ get_or lines i x →
-    list_any begins_configuration (rest_after [] (take (i + 1) lines))
-    ≡ cond (is_end x) false (list_any begins_configuration (rest_after [] (take i lines)) || begins_configuration x)
-open_more lines i x within read =
-    ap (list_any begins_configuration) (rest_more lines i x within read) ∙ any_cases (is_end x) (rest_after [] (take i lines)) x
+module _ (part : List TextLine) (line : TextLine) where
+  -- the parts behind the line, where it is an `end` line or not
+  abbrev behind : Bool → List TextLine → List Part
+  behind ends left = cond ends (part_at part line.number ∷ parts_after [] left) (parts_after (part ++ line ∷ []) left)
 
-empty_cases : (t : Bool) (ps : List Part) (p : Part) → is_empty (ps ++ cond t (p ∷ []) []) ≡ not (not (is_empty ps) || t)
-empty_cases t ps p = grind arith
+  abbrev rest_behind : Bool → List TextLine → List TextLine
+  rest_behind ends left = cond ends (rest_after [] left) (rest_after (part ++ line ∷ []) left)
 
-pub ended_more : (lines : List TextLine) (i : ℕ) (x : TextLine) → i < length lines → x ≡ get_or lines i x →
-    is_empty (parts_after [] (take (i + 1) lines)) ≡ not (not (is_empty (parts_after [] (take i lines))) || is_end x)
-ended_more lines i x within read =
-    ap is_empty (parts_more lines i x within read) ∙ empty_cases (is_end x) (parts_after [] (take i lines)) (part_at (rest_after [] (take i lines)) x.number)
+  -- at an `end` line one more part is read
+  pub taken_at_end : (r s : Reading) (read : PartRead) → is_end line ≡ true → IsPartRead (part_at part line.number) read →
+      s.faults ≡ r.faults ++ read.faults → s.configs ≡ r.configs ++ option_to_list read.config → TakesLine part r line [] s
+  taken_at_end r s read ends now f g = λ all left h. record {
+    done = h.done ++ part_at part line.number ∷ [];
+    parts = append_assoc h.done (part_at part line.number ∷ []) (parts_after [] left)
+        ∙ ap (λ (b : Bool). h.done ++ behind b left) (sym ends) ∙ h.parts;
+    rest = ap (λ (b : Bool). rest_behind b left) (sym ends) ∙ h.rest;
+    read = reading-push h.done (part_at part line.number) r s read h.read now f g;
+  }
 
-double_not : (b : Bool) → not (not b) ≡ b
-double_not b = grind (arith, common_steps)
-
--- the same, of the flag that an `end` line was there
-pub flag_more : (lines : List TextLine) (i : ℕ) (x : TextLine) (was now : Bool) → i < length lines → x ≡ get_or lines i x →
-    is_empty (parts_after [] (take i lines)) ≡ not was → now ≡ (was || is_end x) → is_empty (parts_after [] (take (i + 1) lines)) ≡ not now
-flag_more lines i x was now within read before f =
-    ended_more lines i x within read
-    ∙ ap (λ (b : Bool). not (not b || is_end x)) before
-    ∙ ap (λ (b : Bool). not (b || is_end x)) (double_not was)
-    ∙ ap not (sym f)
+  -- another line goes on with the part
+  pub taken_on : (r : Reading) → is_end line ≡ false → TakesLine part r line (part ++ line ∷ []) r
+  taken_on r on = λ all left h. record {
+    done = h.done;
+    parts = ap (λ (b : Bool). h.done ++ behind b left) (sym on) ∙ h.parts;
+    rest = ap (λ (b : Bool). rest_behind b left) (sym on) ∙ h.rest;
+    read = h.read;
+  }
 
 -- ---- the loop over the lines ----
 
@@ -146,26 +142,3 @@ module _ (lines : List TextLine) (i : ℕ) (x : TextLine) (within : i < length l
       slice_more lines start i x low within read
       ∙ ap (λ (w : List TextLine). w ++ x ∷ []) before
       ∙ sym (rest_more lines i x within read ∙ ap (λ (b : Bool). cond b [] (rest_after [] (take i lines) ++ x ∷ [])) on)
-
-  -- at an `end` line one more part is read
-  pub read_at_end : (slice : List TextLine) (number : ℕ) (r s : Reading) (part : PartRead) → is_end x ≡ true → slice
-      ≡ rest_after [] (take i lines) → number ≡ x.number →
-      IsReadingOf (parts_after [] (take i lines)) r → IsPartRead (part_at slice number) part →
-      s.faults ≡ r.faults ++ part.faults → s.configs ≡ r.configs ++ option_to_list part.config →
-      IsReadingOf (parts_after [] (take (i + 1) lines)) s
-  read_at_end slice number r s part ends before same was now f g =
-      let parts : parts_after [] (take i lines) ++ part_at slice number ∷ [] ≡ parts_after [] (take (i + 1) lines) =
-      ap (λ (w : List TextLine). parts_after [] (take i lines) ++ part_at w number ∷ []) before
-      ∙ ap (λ (n : ℕ). parts_after [] (take i lines) ++ part_at (rest_after [] (take i lines)) n ∷ []) same
-      ∙ sym (parts_more lines i x within read ∙ ap (λ (b : Bool). parts_after [] (take i lines)
-      ++ cond b (part_at (rest_after [] (take i lines)) x.number ∷ []) []) ends) in
-      subst (λ (ps : List Part). IsReadingOf ps s) parts (reading-push (parts_after [] (take i lines)) (part_at slice number) r s part was now f g)
-
-  -- at another line nothing more is read
-  pub read_on : (r : Reading) → is_end x ≡ false → IsReadingOf (parts_after [] (take i lines)) r → IsReadingOf (parts_after [] (take (i + 1) lines)) r
-  read_on r on was =
-      let parts : parts_after [] (take i lines) ≡ parts_after [] (take (i + 1) lines) =
-      sym (append-nil (parts_after [] (take i lines)))
-      ∙ sym (parts_more lines i x within read ∙ ap (λ (b : Bool). parts_after [] (take i lines)
-      ++ cond b (part_at (rest_after [] (take i lines)) x.number ∷ []) []) on) in
-      subst (λ (ps : List Part). IsReadingOf ps r) parts was

@@ -1,7 +1,7 @@
 -- A text is read by the lines that tell something.
 use Rattle.std.proofs.Common.{arith}
 use Rattle.std.proofs.lemmas.Grind.{common_steps}
-use Rattle.std.proofs.Common.{◌≡◌, Bool, false, ◌||◌, List, [], ◌∷◌, ◌++◌, map, refl, ap, ◌∙◌}
+use Rattle.std.proofs.Common.{◌≡◌, Bool, false, ◌||◌, List, [], ◌∷◌, ◌++◌, map, refl, ap, sym, subst, append-nil, ◌∙◌}
 use Rattle.std.specs.Prelude.{flat_map}
 use Rattle.std.specs.List.{list_any}
 use Rattle.net_model.specs.Configuration.{Configuration}
@@ -12,7 +12,8 @@ use Rattle.ios_sections.specs.Sections.{sections_in}
 use Rattle.ios_sections.proofs.TellingFacts.{told_part, parts_told, rest_told, begins_told, none_told, first_told, statements_told}
 use Rattle.ios_reader.specs.Faults.{part_faults}
 use Rattle.ios_reader.specs.Configurations.{configuration_of, configuration_by}
-use Rattle.ios_reader.specs.steps.Parts.{Reading, IsReadingOf}
+use Rattle.ios_reader.specs.steps.Parts.{Reading, IsReadingOf, IsReadTo, is_nothing}
+use Rattle.ios_reader.proofs.PartFacts.{nothing_read}
 
 faults_of_told : (part : Part) → part_faults (told_part part) ≡ part_faults part
 faults_of_told part = grind (arith, common_steps, first_told, statements_told)
@@ -47,3 +48,27 @@ lacks_told lines =
     ∙ ap (λ (b : Bool). b || list_any begins_configuration (rest_after [] (telling_lines false lines))) (none_told (parts_after [] lines))
     ∙ ap (λ (ls : List TextLine). is_empty (parts_after [] lines) || list_any begins_configuration ls) (rest_told [] lines)
     ∙ ap (λ (b : Bool). is_empty (parts_after [] lines) || b) (begins_told false (rest_after [] lines))
+
+-- ---- where no line is left ----
+
+module _ (lines left part : List TextLine) (r : Reading) (none : left ≡ []) (before : IsReadTo (telling_lines false lines) left part r) where
+  abbrev told : List TextLine
+  told = telling_lines false lines
+
+  now : IsReadTo told [] part r
+  now = subst (λ (ls : List TextLine). IsReadTo told ls part r) none before
+
+  whole : IsReadingOf (parts_after [] told) r
+  whole = subst (λ (ps : List Part). IsReadingOf ps r) (sym (append-nil now.done) ∙ now.parts) now.read
+
+  -- the parts of the lines are read
+  pub parts_read : IsReadingOf (parts_after [] lines) r
+  parts_read = reading_told (parts_after [] lines) r (subst (λ (ps : List Part). IsReadingOf ps r) (parts_told [] lines) whole)
+
+  -- whether an `end` line is missing
+  pub lacks_read : (is_nothing r || list_any begins_configuration part)
+      ≡ (is_empty (parts_after [] lines) || list_any begins_configuration (rest_after [] lines))
+  lacks_read =
+      ap (λ (b : Bool). b || list_any begins_configuration part) (nothing_read (parts_after [] told) r whole)
+      ∙ ap (λ (ls : List TextLine). is_empty (parts_after [] told) || list_any begins_configuration ls) now.rest
+      ∙ lacks_told lines

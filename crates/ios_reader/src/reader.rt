@@ -1,8 +1,8 @@
-ghost use Rattle.std.specs.Prelude.{◌≡◌, ◌<◌, ◌^◌, ◌||◌, false, [], ◌++◌, length, option_to_list, IfOk, IfErr, if◌then◌else◌};
+ghost use Rattle.std.specs.Prelude.{◌≡◌, ◌<◌, ◌^◌, ◌||◌, ◌++◌, length, option_to_list, IfOk, IfErr, OnOk};
 ghost use Rattle.std.specs.List.{list_any};
-ghost use Rattle.ios_sections.specs.TextLines.{is_end, parts_after, rest_after, is_empty, begins_configuration};
+ghost use Rattle.ios_sections.specs.TextLines.{begins_configuration};
 ghost use Rattle.ios_lines.specs.FaultOrder.{faults_if};
-ghost use Rattle.ios_reader.specs.steps.Parts.{IsReadingOf, IsTextReading};
+ghost use Rattle.ios_reader.specs.steps.Parts.{IsTextReading, TakesLine, is_nothing};
 ghost use Rattle.ios_reader.specs.Texts.{ReadsText, RefusesConfiguration};
 ghost use Rattle.ios_reader.specs.FaultyLines.{AreFaultyLines};
 
@@ -12,11 +12,14 @@ use crate::faulty_lines::faulty_lines;
 use crate::refusal::ReadRefusal;
 use ios_lines::fault::{Fault, least_fault, push_fault_if};
 use ios_lines::kind::ReadKind;
-use ios_sections::text::told_text;
 use ios_sections::text_line::TextLine;
+use ios_sections::told_lines::ToldLines;
 use net_model::{Config, Configs};
 use std::alloc::Global;
 use std::marker::Model;
+
+/// There is room for so many lines of a configuration from the beginning: most have fewer that tell something.
+const FIRST_LINES: usize = 256;
 
 /// What was read of the configurations of a text.
 #[derive(Drop)]
@@ -36,68 +39,55 @@ impl Model for Reading {
 }
 
 /// Takes in what was read of one more configuration.
-fn with_part(reading: Reading, read: PartRead) -> Result<Reading, OutOfMemory>
-    ensures faults { IfOk result (λ r. r.faults ≡ reading.faults ++ read.faults) }
-    ensures configs { IfOk result (λ r. r.configs ≡ reading.configs ++ option_to_list read.config) }
+fn add_part(reading: &mut Reading, read: PartRead) -> Result<(), OutOfMemory>
+    ensures faults { OnOk result (reading.new.faults ≡ reading.old.faults ++ read.faults) }
+    ensures configs { OnOk result (reading.new.configs ≡ reading.old.configs ++ option_to_list read.config) }
 {
-    let Reading { configs, faults } = reading;
-    let PartRead {
-        config,
-        faults: more,
-    } = read;
-    let mut configs = configs;
-    let mut faults = faults;
+    let PartRead { config, faults } = read;
     if let Some(config) = config {
-        configs.push(config)?;
+        reading.configs.push(config)?;
     }
-    faults.extend_from_slice(more.as_slice())?;
-    Ok(Reading { configs, faults })
+    reading.faults.extend_from_slice(faults.as_slice())
 }
 
-/// Reads the configurations that `end` lines end.
-fn read_parts(alloc: Global, lines: &[TextLine]) -> Result<Reading, OutOfMemory>
-    ensures { IfOk result (IsReadingOf (parts_after [] lines.now)) }
+/// Takes in one more line: a line of the configuration that is open, or its `end` line, at which that is read.
+fn add_line<'a>(
+    alloc: Global,
+    reading: &mut Reading,
+    part: &mut Vec<TextLine<'a>>,
+    line: TextLine<'a>,
+) -> Result<(), OutOfMemory>
+    ensures { OnOk result (TakesLine part.old.items reading.old line.entry part.new.items reading.new) }
 {
-    let mut reading = Reading {
-        configs: Vec::new(alloc),
-        faults: Vec::new(alloc),
-    };
-    let mut start = 0;
-    for (i, line) in lines.iter().enumerate() {
-        if line.is_end() {
-            let read = read_part(alloc, &lines[start..i], line.number())?;
-            reading = with_part(reading, read)?;
-            start = i + 1;
-        }
+    if line.is_end() {
+        let read = read_part(alloc, part.as_slice(), line.number())?;
+        part.clear();
+        add_part(reading, read)?;
+    } else {
+        part.push(line)?;
     }
-    Ok(reading)
+    Ok(())
 }
 
-/// Whether a configuration is open after a line, as one was open before it or not.
-fn is_unended(before: bool, line: &TextLine) -> bool
-    ensures { result ≡ (if is_end line.now then false else (before || begins_configuration line.now)) }
+/// Whether some of these lines begin a configuration.
+fn any_begins(lines: &[TextLine]) -> bool
+    ensures { result ≡ list_any begins_configuration lines.now }
 {
-    !line.is_end() && (before || line.begins_configuration())
+    lines.iter().any(|line| line.begins_configuration())
 }
 
-/// Whether an `end` line stands at a line or before it.
-fn ended_after(ended: bool, line: &TextLine) -> bool
-    ensures { result ≡ (ended || is_end line.now) }
+/// Whether nothing was read: no configuration and no fault.
+fn is_nothing(reading: &Reading) -> bool
+    ensures { result ≡ is_nothing reading.now }
 {
-    ended || line.is_end()
+    reading.configs.is_empty() && reading.faults.is_empty()
 }
 
-/// Whether no `end` line is there, or a configuration is open after the last one.
-fn lacks_end(lines: &[TextLine]) -> bool
-    ensures { result ≡ (is_empty (parts_after [] lines.now) || list_any begins_configuration (rest_after [] lines.now)) }
+/// Whether no `end` line was read, or these lines, which stand behind the last one, begin a configuration.
+fn lacks_end(reading: &Reading, lines: &[TextLine]) -> bool
+    ensures { result ≡ (is_nothing reading.now || list_any begins_configuration lines.now) }
 {
-    let mut ended = false;
-    let mut unended = false;
-    for line in lines {
-        unended = is_unended(unended, line);
-        ended = ended_after(ended, line);
-    }
-    !ended || unended
+    is_nothing(reading) || any_begins(lines)
 }
 
 /// What was read of a text, with the fault of the line behind its last one, where an `end` line is missing.
@@ -111,17 +101,23 @@ fn with_end(reading: Reading, lacks_end: bool, behind: u32) -> Result<Reading, O
     Ok(Reading { configs, faults })
 }
 
-/// Reads a text of fewer than 2^26 bytes: its faults, and where there is none its configurations.
+/// Reads a text of fewer than 2^26 bytes: its faults, and where there is none its configurations. The lines of one configuration
+/// at a time are at hand.
 fn read_text(alloc: Global, text: &[u8]) -> Result<Reading, OutOfMemory>
     requires { length text.now < 2 ^ 26 }
     ensures { IfOk result (IsTextReading text.now) }
 {
-    let told = match told_text(alloc, text) {
-        Ok(told) => told,
-        Err(error) => return Err(error),
+    let mut told = ToldLines::new(text);
+    let mut reading = Reading {
+        configs: Vec::new(alloc),
+        faults: Vec::new(alloc),
     };
-    let reading = read_parts(alloc, told.lines.as_slice())?;
-    let read = with_end(reading, lacks_end(told.lines.as_slice()), told.count + 1)?;
+    let mut part = Vec::with_capacity(alloc, FIRST_LINES)?;
+    while let Some(line) = told.next_line()? {
+        add_line(alloc, &mut reading, &mut part, line)?;
+    }
+    let lacks = lacks_end(&reading, part.as_slice());
+    let read = with_end(reading, lacks, told.number() + 1)?;
     Ok(read)
 }
 

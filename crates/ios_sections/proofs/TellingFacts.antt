@@ -21,7 +21,8 @@ use Rattle.ios_sections.specs.steps.ToldLines.{told_at, place_after, told_from}
 use Rattle.ios_sections.specs.Sections.{section_with, section_of, sections_among, sections_in, counted_from, own_lines, head_number, first_number, from_first}
 use Rattle.ios_sections.specs.Processes.{as_hostname}
 use Rattle.ios_sections.specs.Statements.{statements_of}
-use Rattle.ios_sections.specs.declared.text.TextPlace.{TextPlace}
+use Rattle.ios_sections.specs.declared.told_lines.TextPlace.{TextPlace}
+use Rattle.ios_sections.proofs.PlaceFacts.{at_head, at_line}
 use Rattle.ios_sections.specs.declared.section.Section.{Section}
 use Rattle.ios_sections.specs.declared.section.Section.TheVariants.{Other}
 
@@ -177,12 +178,6 @@ begins_told below (x ∷ xs) = by_telling (line_tells below x) refl (begins_told
         ∙ sym (ap (λ (b : Bool). b || list_any begins_configuration xs) (begins_nothing below x e))
 
 -- ---- the lines of a section ----
-
-at_head : (x : TextLine) (xs : List TextLine) → opens_section x ≡ true → before_first opens_section (x ∷ xs) ≡ []
-at_head x xs e = grind (arith, common_steps)
-
-at_line : (x : TextLine) (xs : List TextLine) → opens_section x ≡ false → before_first opens_section (x ∷ xs) ≡ x ∷ before_first opens_section xs
-at_line x xs e = grind (arith, common_steps)
 
 -- below a section whose lines say nothing no line is told before the next section
 none_inside : (xs : List TextLine) → before_first opens_section (telling_lines false xs) ≡ []

@@ -1,5 +1,5 @@
 -- The lines that tell something: without the others the sections of a text say the same.
-use Rattle.std.specs.Prelude.{Bool, ◌||◌, List, [], ◌∷◌, codes, if◌then◌else◌}
+use Rattle.std.specs.Prelude.{ℕ, Bool, ◌||◌, List, [], ◌∷◌, codes, if◌then◌else◌}
 use Rattle.ios_lines.specs.Words.{says}
 use Rattle.ios_sections.specs.TextLines.{TextLine, opens_section}
 
@@ -25,3 +25,9 @@ abbrev pub telling_lines : Bool → List TextLine → List TextLine
 telling_lines below [] = []
 telling_lines below (line ∷ lines) =
     if line_tells below line then line ∷ telling_lines (open_after below line) lines else telling_lines (open_after below line) lines
+
+-- the lines that are left of those that tell something, and how many lines of the text were read and weren't
+pub record LinesLeft : Type 0 where
+  pub lines : List TextLine
+  pub read : ℕ
+  pub unread : ℕ

@@ -1,9 +1,9 @@
 ghost use Rattle.std.specs.Prelude.{◌≡◌, ◌≤◌, IfOk, map, filter, position, nat_eq, length};
 ghost use Rattle.std.specs.List.{position_or_len};
 ghost use Rattle.ios_lines.specs.InterfaceLines.{interface_line};
-ghost use Rattle.ios_sections.specs.TextLines.{opens_section, first_indent, section_lines, sections_of};
-ghost use Rattle.ios_sections.specs.Sections.{interface_statements, ospf_statements, isis_statements, section_with, section_of};
-ghost use Rattle.ios_sections.specs.Sections.{may_begin, own_lines, head_number, first_number, from_first, sections_from_first};
+ghost use Rattle.ios_sections.specs.TextLines.{opens_section, first_indent, section_lines};
+ghost use Rattle.ios_sections.specs.Sections.{interface_statements, ospf_statements, isis_statements, section_with, section_of, sections_among};
+ghost use Rattle.ios_sections.specs.Sections.{counted_from, may_begin, own_lines, head_number, first_number, sections_from_first};
 
 use crate::OutOfMemory;
 use crate::section::{
@@ -17,21 +17,23 @@ use ios_lines::interface_line::{InterfaceLine, InterfaceStatement, interface_lin
 use ios_lines::isis_line::{IsisStatement, isis_line};
 use ios_lines::ospf_line::{OspfStatement, ospf_line};
 use std::alloc::Global;
+use std::marker::Model;
 
-/// The lines of an interface, those of this indent.
+/// The lines of an interface, those of this indent, counted from the line of a number.
 fn interface_statements(
     alloc: Global,
     lines: &[TextLine],
     indent: u32,
+    first: u32,
 ) -> Result<InterfaceStatements, OutOfMemory>
-    ensures { IfOk result (λ s. s ≡ interface_statements (filter (λ line. nat_eq line.indent indent) lines.now)) }
+    ensures { IfOk result (λ s. s ≡ interface_statements (map (counted_from first) (filter (λ line. nat_eq line.indent indent) lines.now))) }
 {
     let mut statements = Vec::with_capacity(alloc, lines.len())?;
     for line in lines {
         if line.indent() == indent {
             let says = says_of_interface(alloc, line)?;
             statements.push(InterfaceStatement {
-                line: line.number(),
+                line: line.number_from(first),
                 says,
             })?;
         }
@@ -50,20 +52,21 @@ fn says_of_interface(alloc: Global, line: &TextLine) -> Result<InterfaceLine, Ou
     }
 }
 
-/// The lines of an OSPF process, those of this indent.
+/// The lines of an OSPF process, those of this indent, counted from the line of a number.
 fn ospf_statements(
     alloc: Global,
     lines: &[TextLine],
     indent: u32,
+    first: u32,
 ) -> Result<OspfStatements, OutOfMemory>
-    ensures { IfOk result (λ s. s ≡ ospf_statements (filter (λ line. nat_eq line.indent indent) lines.now)) }
+    ensures { IfOk result (λ s. s ≡ ospf_statements (map (counted_from first) (filter (λ line. nat_eq line.indent indent) lines.now))) }
 {
     let mut statements = Vec::with_capacity(alloc, lines.len())?;
     for line in lines {
         if line.indent() == indent {
             let says = ospf_line(alloc, &line.words())?;
             statements.push(OspfStatement {
-                line: line.number(),
+                line: line.number_from(first),
                 says,
             })?;
         }
@@ -71,20 +74,21 @@ fn ospf_statements(
     Ok(OspfStatements::from_vec(statements))
 }
 
-/// The lines of an IS-IS process, those of this indent.
+/// The lines of an IS-IS process, those of this indent, counted from the line of a number.
 fn isis_statements(
     alloc: Global,
     lines: &[TextLine],
     indent: u32,
+    first: u32,
 ) -> Result<IsisStatements, OutOfMemory>
-    ensures { IfOk result (λ s. s ≡ isis_statements (filter (λ line. nat_eq line.indent indent) lines.now)) }
+    ensures { IfOk result (λ s. s ≡ isis_statements (map (counted_from first) (filter (λ line. nat_eq line.indent indent) lines.now))) }
 {
     let mut statements = Vec::with_capacity(alloc, lines.len())?;
     for line in lines {
         if line.indent() == indent {
             let says = isis_line(alloc, &line.words())?;
             statements.push(IsisStatement {
-                line: line.number(),
+                line: line.number_from(first),
                 says,
             })?;
         }
@@ -121,24 +125,54 @@ fn first_indent(lines: &[TextLine]) -> u32
     }
 }
 
+/// The lines of a section: of some lines those of an indent, counted from the line of a number.
+#[derive(Drop)]
+struct SectionBody<'b, 'a> {
+    inside: &'b [TextLine<'a>],
+    indent: u32,
+    first: u32,
+}
+
+impl<'b, 'a> Model for SectionBody<'b, 'a> {
+    ghost use Rattle.std.specs.Prelude.{List, map, filter, nat_eq};
+    ghost use Rattle.ios_sections.specs.TextLines.{TextLine};
+    ghost use Rattle.ios_sections.specs.Sections.{counted_from};
+
+    ghost Value = { List TextLine };
+
+    ghost view = { λ b. map (counted_from b.first) (filter (λ line. nat_eq line.indent b.indent) b.inside.now) };
+}
+
+/// The lines of the section that some lines begin with, counted from the line of a number.
+#[tactic(auto, using(crate::proofs::PlaceFacts::lines_counted))]
+fn body_of<'b, 'a>(after: &'b [TextLine<'a>], first: u32) -> SectionBody<'b, 'a>
+    ensures { result ≡ section_lines (map (counted_from first) after.now) }
+{
+    let inside = &after[..inside_count(after)];
+    SectionBody {
+        inside,
+        indent: first_indent(inside),
+        first,
+    }
+}
+
 /// A section by what its first line says.
 fn section_with(
     alloc: Global,
     head: Head,
     line: u32,
-    inside: &[TextLine],
-    indent: u32,
+    body: &SectionBody,
 ) -> Result<Section, OutOfMemory>
-    ensures { IfOk result (λ s. s ≡ section_with head line (filter (λ line. nat_eq line.indent indent) inside.now)) }
+    ensures { IfOk result (λ s. s ≡ section_with head line body.now) }
 {
     match head {
         Head::Hostname(Ok(name)) => Ok(Section::Hostname(name)),
         Head::Interface(Ok(name)) => {
-            let lines = interface_statements(alloc, inside, indent)?;
+            let lines = interface_statements(alloc, body.inside, body.indent, body.first)?;
             Ok(Section::Interface(InterfaceSection { line, name, lines }))
         }
         Head::Ospf(Ok(process)) => {
-            let lines = ospf_statements(alloc, inside, indent)?;
+            let lines = ospf_statements(alloc, body.inside, body.indent, body.first)?;
             Ok(Section::Ospf(OspfSection {
                 line,
                 process,
@@ -146,7 +180,7 @@ fn section_with(
             }))
         }
         Head::Isis(tag) => {
-            let lines = isis_statements(alloc, inside, indent)?;
+            let lines = isis_statements(alloc, body.inside, body.indent, body.first)?;
             Ok(Section::Isis(IsisSection { line, tag, lines }))
         }
         Head::Hostname(Err(kind))
@@ -157,26 +191,31 @@ fn section_with(
     }
 }
 
-/// The section that a line at indent 0 opens, before these lines. Most such lines say nothing by their first word.
-fn section_at(alloc: Global, head: &TextLine, after: &[TextLine]) -> Result<Section, OutOfMemory>
-    ensures { IfOk result (λ s. s ≡ section_of (record { head = head.now; body = section_lines after.now })) }
+/// The section that a line at indent 0 opens, before these lines, all counted from the line of a number. Most such lines say
+/// nothing by their first word.
+fn section_at(
+    alloc: Global,
+    head: &TextLine,
+    after: &[TextLine],
+    first: u32,
+) -> Result<Section, OutOfMemory>
+    ensures { IfOk result (λ s. s ≡ section_of (record { head = counted_from first head.now; body = section_lines (map (counted_from first) after.now) })) }
 {
     if !head.may_tell() {
         return Ok(Section::Other);
     }
-    let inside = &after[..inside_count(after)];
     let says = head_of(alloc, &head.words())?;
-    section_with(alloc, says, head.number(), inside, first_indent(inside))
+    section_with(alloc, says, head.number_from(first), &body_of(after, first))
 }
 
-/// What the sections of some lines say, in order.
-fn read_sections(alloc: Global, lines: &[TextLine]) -> Result<Vec<Section>, OutOfMemory>
-    ensures { IfOk result (λ s. s.items ≡ map section_of (sections_of lines.now)) }
+/// What the sections of some lines say, in order, counted from the line of a number.
+fn read_sections(alloc: Global, lines: &[TextLine], first: u32) -> Result<Vec<Section>, OutOfMemory>
+    ensures { IfOk result (λ s. s.items ≡ sections_among (map (counted_from first) lines.now)) }
 {
     let mut sections = Vec::with_capacity(alloc, lines.len().min(FIRST_SECTIONS))?;
     for (i, head) in lines.iter().enumerate() {
         if head.opens_section() {
-            sections.push(section_at(alloc, head, &lines[i + 1..])?)?;
+            sections.push(section_at(alloc, head, &lines[i + 1..], first)?)?;
         }
     }
     Ok(sections)
@@ -225,23 +264,9 @@ pub fn first_number(lines: &[TextLine]) -> u32
     head_number(own_lines(lines))
 }
 
-/// The lines from that line on, counted from it.
-fn from_first<'a>(alloc: Global, lines: &[TextLine<'a>]) -> Result<Vec<TextLine<'a>>, OutOfMemory>
-    ensures { IfOk result (λ own. own.items ≡ from_first lines.now) }
-{
-    let first = first_number(lines);
-    let own = own_lines(lines);
-    let mut counted = Vec::with_capacity(alloc, own.len())?;
-    for line in own {
-        counted.push(line.counted_from(first))?;
-    }
-    Ok(counted)
-}
-
 /// What the lines of a configuration say, each counted from the first one that opens a section and may tell something.
 pub fn sections_from_first(alloc: Global, lines: &[TextLine]) -> Result<Vec<Section>, OutOfMemory>
     ensures { IfOk result (λ s. s.items ≡ sections_from_first lines.now) }
 {
-    let own = from_first(alloc, lines)?;
-    read_sections(alloc, own.as_slice())
+    read_sections(alloc, own_lines(lines), first_number(lines))
 }

@@ -5,7 +5,7 @@ ghost use Rattle.ios_lines.specs.Words.{says};
 ghost use Rattle.ios_sections.specs.TextLines.{carets, is_caret, opens_banner, closes_banner, counts, is_end, begins_configuration, opens_section};
 ghost use Rattle.ios_sections.specs.TellingLines.{may_tell, has_lines};
 ghost use Rattle.ios_sections.specs.Sections.{counted_from, may_begin};
-ghost use Rattle.ios_sections.specs.steps.ToldLines.{may_concern_interface, numbered_line};
+ghost use Rattle.ios_sections.specs.steps.ToldLines.{may_concern_interface, numbered_line, tells_alone};
 
 use crate::OutOfMemory;
 use ios_lines::words::{Words, begins_with, behind_blanks};
@@ -71,16 +71,11 @@ impl<'a> TextLine<'a> {
         self.number
     }
 
-    /// The same line, counted from the line of this number.
-    pub(crate) fn counted_from(&self, first: u32) -> TextLine<'a>
-        ensures { result ≡ counted_from first self.now }
+    /// The number of the line, counted from the line of this number.
+    pub(crate) fn number_from(&self, first: u32) -> u32
+        ensures { result ≡ (counted_from first self.now).number }
     {
-        TextLine {
-            number: self.number.saturating_sub(first),
-            indent: self.indent,
-            bytes: self.bytes,
-            from_word: self.from_word,
-        }
+        self.number.saturating_sub(first)
     }
 
     /// How many blanks the line begins with.
@@ -160,10 +155,14 @@ impl<'a> TextLine<'a> {
     pub fn may_tell(&self) -> bool
         ensures { result ≡ may_tell self.now }
     {
-        self.has_lines()
-            || self.begins_with(b"hostname")
-            || self.begins_with(b"ip")
-            || self.begins_with(b"end")
+        self.has_lines() || self.tells_alone()
+    }
+
+    /// Whether the line may say something at indent 0 without lines below it, or ends a configuration.
+    pub(crate) fn tells_alone(&self) -> bool
+        ensures { result ≡ tells_alone self.now }
+    {
+        self.begins_with(b"hostname") || self.begins_with(b"ip") || self.begins_with(b"end")
     }
 
     /// Whether the line opens a section and may tell something.

@@ -1,7 +1,7 @@
 -- The parts of a text, read one after the other.
-use Rattle.std.specs.Prelude.{◌≡◌, ℕ, List, [], Option, Some, map, flat_map}
+use Rattle.std.specs.Prelude.{◌≡◌, ℕ, Bool, ◌&&◌, nat_eq, List, [], ◌∷◌, ◌++◌, length, Option, Some, map, flat_map}
 use Rattle.net_model.specs.Configuration.{Configuration}
-use Rattle.ios_sections.specs.TextLines.{TextLine, Part, lines_in}
+use Rattle.ios_sections.specs.TextLines.{TextLine, Part, lines_in, parts_after, rest_after}
 use Rattle.ios_sections.specs.Sections.{sections_in}
 use Rattle.ios_reader.specs.Faults.{part_faults, faults_in}
 use Rattle.ios_reader.specs.Configurations.{configuration_of, configurations_in}
@@ -30,6 +30,21 @@ pub record Reading : Type 0 where
 pub record IsReadingOf (parts : List Part) (reading : Reading) : Type 0 where
   pub faults : reading.faults ≡ flat_map part_faults parts
   pub configs : reading.faults ≡ [] → reading.configs ≡ map (λ (part : Part). configuration_of (sections_in part)) parts
+
+-- nothing was read
+abbrev pub is_nothing : Reading → Bool
+is_nothing reading = nat_eq (length reading.configs) 0 && nat_eq (length reading.faults) 0
+
+-- of some lines those that are left aren't read yet: the parts that the others end are, and the lines of the open part are at hand
+pub record IsReadTo (all left part : List TextLine) (reading : Reading) : Type 0 where
+  pub done : List Part
+  pub parts : done ++ parts_after part left ≡ parts_after [] all
+  pub rest : rest_after part left ≡ rest_after [] all
+  pub read : IsReadingOf done reading
+
+-- one more line is taken in
+abbrev pub TakesLine : List TextLine → Reading → TextLine → List TextLine → Reading → Type 0
+TakesLine part reading line after now = (all left : List TextLine) → IsReadTo all (line ∷ left) part reading → IsReadTo all left after now
 
 -- a text is read: its faults, and where there is none its configurations
 pub record IsTextReading (text : List ℕ) (reading : Reading) : Type 0 where

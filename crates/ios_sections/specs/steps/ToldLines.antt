@@ -4,7 +4,7 @@ use Rattle.net_addr.specs.Blanks.{indent_of, words_in}
 use Rattle.ios_lines.specs.Words.{says}
 use Rattle.ios_sections.specs.TextLines.{TextLine, banner_after, counts, outside_banner, outside_banners}
 use Rattle.ios_sections.specs.TellingLines.{open_after, telling_lines}
-use Rattle.ios_sections.specs.declared.text.TextPlace.{TextPlace}
+use Rattle.ios_sections.specs.declared.told_lines.TextPlace.{TextPlace}
 
 -- a line, where it counts and tells something
 abbrev pub told_at : TextPlace → TextLine → List TextLine
@@ -29,6 +29,10 @@ numbered_line number bytes = record { number = number; indent = indent_of bytes;
 abbrev pub lines_from_number : ℕ → List (List ℕ) → List TextLine
 lines_from_number number [] = []
 lines_from_number number (bytes ∷ more) = numbered_line number bytes ∷ lines_from_number (number + 1) more
+
+-- a line that may say something at indent 0 without lines below it, or end a configuration
+abbrev pub tells_alone : TextLine → Bool
+tells_alone line = says line.words 0 (codes "hostname") || says line.words 0 (codes "ip") || says line.words 0 (codes "end")
 
 -- a line of an interface that may say something of it, by its first word
 abbrev pub may_concern_interface : TextLine → Bool
