@@ -1,7 +1,7 @@
 -- The places at which a change of a router is looked at, and what it leaves sound.
 use Rattle.std.proofs.lemmas.Grind.{common_steps}
 use Rattle.std.proofs.Common.{◌≡◌, ℕ, ◌+◌, ◌<◌, ◌≤◌, true, List, [], ◌∷◌, ◌++◌, length, get_or, Contains, Option, Some, None, IfNone, IfSome, inl, inr}
-use Rattle.std.proofs.Common.{arith, sym, ◌∙◌, ap, subst}
+use Rattle.std.proofs.Common.{arith, rules, sym, ◌∙◌, ap, subst}
 use Rattle.std.specs.List.{AllPairs}
 use Rattle.std.proofs.lemmas.List.{get_or_default}
 use Rattle.std.proofs.lemmas.List.Quantifiers.{all_pairs_push}
@@ -26,6 +26,10 @@ use Rattle.loop_finder.proofs.StateVerdicts.{sound_from_classes}
 use Rattle.loop_finder.proofs.ToldOfStates.{faulty_at}
 
 -- Places
+
+-- of no parts there are no places
+pub no_places : (parts : List ClassPart) (u : ℕ) (places : List ℕ) → places ≡ [] → AreFirstPlaces parts u 0 places
+no_places parts u places none = subst (AreFirstPlaces parts u 0) (sym none) (search rules)
 
 -- the next place
 pub AreFirstPlaces-more : (parts : List ClassPart) (u n : ℕ) (part : ClassPart) (old new : List ℕ) → n < length parts → part ≡ get_or parts n part

@@ -201,12 +201,13 @@ impl Calm {
 }
 
 /// Lowers the numbers at some places that are above a number to that.
-fn lower(places: &[usize], most: u32, before: &mut Vec<u32>)
+fn lower(places: &[u32], most: u32, before: &mut Vec<u32>)
     requires { All (λ p. p < length before.old.items) places.now }
     ensures { AreLowered places.now most before.old.items before.new.items }
 {
     for place in places {
-        before[*place] = before[*place].min(most);
+        let piece = *place as usize;
+        before[piece] = before[piece].min(most);
     }
 }
 
@@ -216,9 +217,10 @@ fn has_mark(marks: &[bool], place: usize) -> bool {
 }
 
 /// Takes the marks from those of some places at which there is no lower number than this.
-fn unmark(places: &[usize], most: u32, before: &[u32], marks: &mut [bool]) {
+fn unmark(places: &[u32], most: u32, before: &[u32], marks: &mut [bool]) {
     for place in places {
-        if let (Some(wave), Some(mark)) = (before.get(*place), marks.get_mut(*place)) {
+        let piece = *place as usize;
+        if let (Some(wave), Some(mark)) = (before.get(piece), marks.get_mut(piece)) {
             *mark &= *wave < most;
         }
     }

@@ -34,7 +34,7 @@ pub(crate) struct Turned<'s> {
 /// change concerns, and of those in which the router's hops change only the walks through it.
 pub(crate) fn turned_fault<O: RouteSource, N: RouteSource>(
     subject: &Subject<'_, O, N>,
-    places: &[usize],
+    places: &[u32],
     turned: &Turned<'_>,
     room: &mut Room,
 ) -> Option<Fault>
@@ -51,7 +51,12 @@ pub(crate) fn turned_fault<O: RouteSource, N: RouteSource>(
     ensures ring { KeepsRing result room.old.ring.items room.new.ring.items }
 {
     for place in places {
-        if let Some(fault) = part_fault(subject.mixed, &subject.parts[*place], turned, room) {
+        if let Some(fault) = part_fault(
+            subject.mixed,
+            &subject.parts[*place as usize],
+            turned,
+            room,
+        ) {
             return Some(fault);
         }
     }

@@ -124,11 +124,11 @@ fn is_calm_in(part: &Part<'_>, places: &Places, stir: Stir<'_>) -> bool
 }
 
 /// Whether the pieces at some places are calm in a wave.
-fn are_calm_in(places: &[usize], before: &Vec<u32>, wave: u32) -> bool
+fn are_calm_in(places: &[u32], before: &Vec<u32>, wave: u32) -> bool
     ensures { OnTrue result (All (λ p. wave < slice_index before.now.items p) places.now) }
 {
     for place in places {
-        if wave >= calm_at(before, *place) {
+        if wave >= calm_at(before, *place as usize) {
             return false;
         }
     }

@@ -15,9 +15,9 @@ pub(crate) struct Cut<'s, 'm> {
     /// The layers of its routers.
     pub layers: &'s [u32],
     /// For each layer the place of its piece.
-    pub owners: &'s Vec<usize>,
+    pub owners: &'s Vec<u32>,
     /// The places of its pieces.
-    pub places: &'s Vec<usize>,
+    pub places: &'s Vec<u32>,
     /// All pieces.
     pub pieces: &'s Vec<Part<'m>>,
 }
@@ -41,11 +41,11 @@ pub(crate) fn is_made_of(part: &Part<'_>, routers: u32, cut: &Cut<'_, '_>) -> bo
 }
 
 /// Whether some places are below another.
-fn are_below(places: &Vec<usize>, end: usize) -> bool
+fn are_below(places: &Vec<u32>, end: usize) -> bool
     ensures { OnTrue result (All (λ p. p < end) places.now.items) }
 {
     for place in places {
-        if *place >= end {
+        if *place as usize >= end {
             return false;
         }
     }
@@ -60,17 +60,17 @@ fn is_cut_at(part: &Part<'_>, router: u32, cut: &Cut<'_, '_>) -> bool
 {
     let owner = owner_of(cut.owners, layer_in(cut.layers, router));
     if is_place(cut.places, owner, cut.pieces.len()) {
-        return is_cut_by(part, &cut.pieces[owner], router, cut.layers);
+        return is_cut_by(part, &cut.pieces[owner as usize], router, cut.layers);
     }
     falls(part, router, cut.layers)
 }
 
 /// Whether a place is among some, and below another.
-fn is_place(places: &Vec<usize>, place: usize, end: usize) -> bool
+fn is_place(places: &Vec<u32>, place: u32, end: usize) -> bool
     ensures below { OnTrue result (place < end) }
     ensures among { OnTrue result (Contains places.now.items place) }
 {
-    place < end && places.contains(&place)
+    (place as usize) < end && places.contains(&place)
 }
 
 /// Whether the steps of a router lead to lower layers, or stay in its layer and are in a piece.
@@ -130,7 +130,7 @@ fn layer_in(layers: &[u32], router: u32) -> u32
 }
 
 /// The place of the piece of a layer.
-fn owner_of(owners: &Vec<usize>, layer: u32) -> usize
+fn owner_of(owners: &Vec<u32>, layer: u32) -> u32
     ensures { result ≡ slice_index owners.now.items layer }
 {
     owners.get(layer as usize).copied().unwrap_or(0)

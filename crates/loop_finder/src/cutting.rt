@@ -16,13 +16,13 @@ pub(crate) struct Cutting<'m> {
     /// The layers of its routers: one for each strongly connected component.
     pub layers: Layers,
     /// For each layer the place of its piece.
-    pub owners: Vec<usize>,
+    pub owners: Vec<u32>,
     /// These places.
-    pub places: Vec<usize>,
+    pub places: Vec<u32>,
 }
 
 /// The place of no piece.
-const NO_PLACE: usize = usize::MAX;
+const NO_PLACE: u32 = u32::MAX;
 
 impl<'m> Cutting<'m> {
     /// What parts of so many routers are cut with.
@@ -73,21 +73,21 @@ impl<'m> Cutting<'m> {
     }
 
     /// The place of the piece of a part in which a router is, the first one of the piece.
-    pub fn find(&self, part: &Part<'_>, router: u32, all: &[Part<'_>]) -> Option<usize> {
+    pub fn find(&self, part: &Part<'_>, router: u32, all: &[Part<'_>]) -> Option<u32> {
         let layers = self.layers.numbers();
         let layer = self.layer_of(router);
         let count = part.count_in(layers, layer);
         for place in 0..all.len() {
             let piece = &all[place];
             if piece.begins_with(router, count) && piece.is_piece_of(part, layers, layer) {
-                return Some(place);
+                return u32::try_from(place).ok();
             }
         }
         None
     }
 
     /// Keeps the place of the piece of a router's layer.
-    pub fn put(&mut self, router: u32, place: usize) -> Result<(), OutOfMemory> {
+    pub fn put(&mut self, router: u32, place: u32) -> Result<(), OutOfMemory> {
         let layer = self.layer_of(router);
         if let Some(owner) = self.owners.get_mut(layer as usize) {
             *owner = place;

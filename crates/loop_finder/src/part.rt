@@ -424,7 +424,7 @@ fn steppers_of(alloc: Global, rows: &Rows<'_>, routers: u32) -> Result<Vec<u32>,
     requires { length rows.now ≡ routers }
     ensures { IfOk result (λ steppers. AreSteppers rows.now steppers.items) }
 {
-    let mut steppers = Vec::new(alloc);
+    let mut steppers = Vec::with_capacity(alloc, rows.own_len())?;
     for router in 0..routers {
         add_stepper(rows, router, &mut steppers)?;
     }

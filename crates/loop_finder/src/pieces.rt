@@ -22,7 +22,8 @@ pub(crate) struct Pieces<'m> {
 
 /// The pieces of parts of so many routers.
 ///
-/// Takes time of the parts' steps, and for each piece of a part that of the pieces found before.
+/// Takes time of the parts' steps, and for each piece of a part that of the pieces found before. 2^32 pieces or more give
+/// `OutOfMemory`.
 pub(crate) fn pieces_of<'m>(
     alloc: Global,
     parts: &[Part<'m>],
@@ -114,7 +115,10 @@ fn add_piece<'m>(
     if let Some(place) = cutting.find(part, router, all.as_slice()) {
         return cutting.put(router, place);
     }
-    cutting.put(router, all.len())?;
+    let Ok(place) = u32::try_from(all.len()) else {
+        return Err(OutOfMemory);
+    };
+    cutting.put(router, place)?;
     let layers = cutting.layers.numbers();
     let piece = part.piece(cutting.alloc, routers, layers, cutting.layer_of(router))?;
     all.push(piece)?;
@@ -135,7 +139,10 @@ fn add_whole<'m>(
     ensures kept { IfOk result (λ places. (other : ClassPart) (others : List ℕ) →
         IsMadeOf all.old.items other others → IsMadeOf all.new.items other others) }
 {
-    let places = Places::of_one(alloc, all.len())?;
+    let Ok(place) = u32::try_from(all.len()) else {
+        return Err(OutOfMemory);
+    };
+    let places = Places::of_one(alloc, place)?;
     let piece = part.piece(alloc, routers, &[], 0)?;
     all.push(piece)?;
     Ok(places)

@@ -65,6 +65,11 @@ impl<'m> Rows<'m> {
         self.places.len()
     }
 
+    /// How many rows have hops, which says how much room their routers take.
+    pub fn own_len(&self) -> usize {
+        self.own.len().saturating_sub(1)
+    }
+
     /// The row of a router.
     #[inline(always)]
     pub fn at(&self, router: usize) -> &Row<'m>

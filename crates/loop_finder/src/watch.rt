@@ -10,7 +10,7 @@ use std::marker::Model;
 /// The places of the parts that a change of a router may make unsound, ascending.
 #[derive(Drop)]
 pub(crate) struct Places {
-    all: Vec<usize>,
+    all: Vec<u32>,
 }
 
 impl Model for Places {
@@ -22,20 +22,29 @@ impl Model for Places {
 }
 
 impl Places {
-    /// The places for a router.
-    fn of_router(alloc: Global, parts: &[Part<'_>], router: u32) -> Result<Places, OutOfMemory>
+    /// The places for a router, which are gathered in some room, so that they take no more memory than they need.
+    fn of_router(
+        alloc: Global,
+        parts: &[Part<'_>],
+        router: u32,
+        room: &mut Vec<u32>,
+    ) -> Result<Places, OutOfMemory>
         requires { All (λ part. router < length part.rows) parts.now }
         ensures { IfOk result (ArePlacesOf parts.now router) }
     {
-        let mut all = Vec::new(alloc);
-        for place in 0..parts.len() {
-            add_place(&parts[place], router, place, &mut all)?;
+        let Ok(count) = u32::try_from(parts.len()) else {
+            return Err(OutOfMemory);
+        };
+        room.clear();
+        for place in 0..count {
+            add_place(&parts[place as usize], router, place, room)?;
         }
+        let all = Vec::from_slice(alloc, room.as_slice())?;
         Ok(Places { all })
     }
 
     /// One place.
-    pub fn of_one(alloc: Global, place: usize) -> Result<Places, OutOfMemory>
+    pub fn of_one(alloc: Global, place: u32) -> Result<Places, OutOfMemory>
         ensures { IfOk result (λ places. places ≡ place ∷ []) }
     {
         let mut all = Vec::new(alloc);
@@ -44,14 +53,14 @@ impl Places {
     }
 
     /// These places.
-    pub fn from_vec(all: Vec<usize>) -> Places
+    pub fn from_vec(all: Vec<u32>) -> Places
         ensures { result ≡ all.items }
     {
         Places { all }
     }
 
     /// The places.
-    pub fn as_slice(&self) -> &[usize]
+    pub fn as_slice(&self) -> &[u32]
         ensures { result.now ≡ self.now }
     {
         self.all.as_slice()
@@ -62,8 +71,8 @@ impl Places {
 fn add_place(
     part: &Part<'_>,
     router: u32,
-    place: usize,
-    places: &mut Vec<usize>,
+    place: u32,
+    places: &mut Vec<u32>,
 ) -> Result<(), OutOfMemory>
     requires { router < length part.now.rows }
     ensures { OnOk result (AddsUnless (IsIdle part.now router) place places.old.items places.new.items) }
@@ -84,9 +93,10 @@ pub(crate) fn watch_of(
     requires { All (λ part. length part.rows ≡ routers) parts.now }
     ensures { IfOk result (λ watch. IsWatch parts.now routers watch.items) }
 {
+    let mut room = Vec::new(alloc);
     let mut watch = Vec::with_capacity(alloc, routers as usize)?;
     for router in 0..routers {
-        let places = Places::of_router(alloc, parts, router)?;
+        let places = Places::of_router(alloc, parts, router, &mut room)?;
         watch.push(places)?;
     }
     Ok(watch)
