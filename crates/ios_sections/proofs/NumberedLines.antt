@@ -10,7 +10,7 @@ use Rattle.net_addr.specs.Spans.{bytes_of}
 use Rattle.net_addr.specs.Lines.{without_empty_last, line_pieces, lines_of, line_texts}
 use Rattle.net_addr.proofs.PlacedPieces.{text_lines-texts}
 use Rattle.ios_sections.specs.TextLines.{text_line, lines_in}
-use Rattle.ios_sections.specs.steps.ToldLines.{lines_from_number}
+use Rattle.ios_sections.specs.TellingLines.{lines_from_number}
 
 abbrev texts_in : List ℕ → List Line → List (List ℕ)
 texts_in text lines = map (λ (line : Line). bytes_of text line.span) lines

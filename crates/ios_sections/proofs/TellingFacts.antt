@@ -16,8 +16,8 @@ use Rattle.ios_lines.specs.declared.head.Head.{Head}
 use Rattle.ios_lines.specs.declared.head.Head.TheVariants.{Hostname as NameHead, Faulty as FaultyHead, Other as OtherHead}
 use Rattle.ios_sections.specs.TextLines.{TextLine, TextSection, Part, is_end, is_empty}
 use Rattle.ios_sections.specs.TextLines.{parts_after, rest_after, begins_configuration, opens_section, first_indent, section_lines, sections_of}
-use Rattle.ios_sections.specs.TellingLines.{has_lines, may_tell, line_tells, open_after, telling_lines}
-use Rattle.ios_sections.specs.steps.ToldLines.{told_at, place_after, told_from}
+use Rattle.ios_sections.specs.TellingLines.{has_lines, may_tell, line_tells, open_after, telling_lines, told_from}
+use Rattle.ios_sections.specs.steps.ToldLines.{told_at, place_after}
 use Rattle.ios_sections.specs.Sections.{section_with, section_of, sections_among, sections_in, counted_from, own_lines, head_number, first_number, from_first}
 use Rattle.ios_sections.specs.Processes.{as_hostname}
 use Rattle.ios_sections.specs.Statements.{statements_of}

@@ -1,7 +1,9 @@
 -- The lines that tell something: without the others the sections of a text say the same.
-use Rattle.std.specs.Prelude.{ℕ, Bool, ◌||◌, List, [], ◌∷◌, codes, if◌then◌else◌}
+use Rattle.std.specs.Prelude.{ℕ, ◌+◌, Bool, ◌||◌, List, [], ◌∷◌, codes, filter, if◌then◌else◌}
+use Rattle.net_addr.specs.Blanks.{indent_of, words_in}
 use Rattle.ios_lines.specs.Words.{says}
-use Rattle.ios_sections.specs.TextLines.{TextLine, opens_section}
+use Rattle.ios_sections.specs.TextLines.{TextLine, counts, opens_section, outside_banners}
+use Rattle.ios_sections.specs.declared.told_lines.TextPlace.{TextPlace}
 
 -- the line opens a section whose lines say something: of an interface, or of a process
 abbrev pub has_lines : TextLine → Bool
@@ -25,6 +27,19 @@ abbrev pub telling_lines : Bool → List TextLine → List TextLine
 telling_lines below [] = []
 telling_lines below (line ∷ lines) =
     if line_tells below line then line ∷ telling_lines (open_after below line) lines else telling_lines (open_after below line) lines
+
+-- of the lines from a place on those that count and tell something
+abbrev pub told_from : TextPlace → List TextLine → List TextLine
+told_from place lines = telling_lines place.below (filter counts (outside_banners place.in_banner lines))
+
+-- the line of this number that has these bytes
+abbrev pub numbered_line : ℕ → List ℕ → TextLine
+numbered_line number bytes = record { number = number; indent = indent_of bytes; bytes = bytes; words = words_in bytes }
+
+-- the lines that have these bytes, numbered from this number on
+abbrev pub lines_from_number : ℕ → List (List ℕ) → List TextLine
+lines_from_number number [] = []
+lines_from_number number (bytes ∷ more) = numbered_line number bytes ∷ lines_from_number (number + 1) more
 
 -- the lines that are left of those that tell something, and how many lines of the text were read and weren't
 pub record LinesLeft : Type 0 where

@@ -65,8 +65,7 @@ fn add_isis_lines(
     ensures { OnOk result (lines.new.items ≡ lines.old.items ++ lines_of_tag (option_copied tag.entry) section) }
 {
     if is_of_tag(tag, &section) {
-        let mut more = section.lines.into_vec();
-        lines.append(&mut more)?;
+        section.lines.append_to(lines)?;
     }
     Ok(())
 }

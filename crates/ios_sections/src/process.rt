@@ -163,8 +163,7 @@ fn add_ospf_lines(
     ensures { OnOk result (lines.new.items ≡ lines.old.items ++ lines_of_process process section) }
 {
     if is_of_process(process, &section) {
-        let mut more = section.lines.into_vec();
-        lines.append(&mut more)?;
+        section.lines.append_to(lines)?;
     }
     Ok(())
 }

@@ -94,6 +94,18 @@ impl OspfStatements {
     {
         self.all
     }
+
+    /// Puts the lines behind some others. Where there are none they stay in their vector.
+    pub(crate) fn append_to(self, lines: &mut Vec<OspfStatement>) -> Result<(), OutOfMemory>
+        ensures { OnOk result (lines.new.items ≡ lines.old.items ++ self) }
+    {
+        let mut more = self.all;
+        if lines.is_empty() {
+            *lines = more;
+            return Ok(());
+        }
+        lines.append(&mut more)
+    }
 }
 
 /// Lines of `router isis`, in the order of the text.
@@ -131,6 +143,18 @@ impl IsisStatements {
         ensures { result.items ≡ self }
     {
         self.all
+    }
+
+    /// Puts the lines behind some others. Where there are none they stay in their vector.
+    pub(crate) fn append_to(self, lines: &mut Vec<IsisStatement>) -> Result<(), OutOfMemory>
+        ensures { OnOk result (lines.new.items ≡ lines.old.items ++ self) }
+    {
+        let mut more = self.all;
+        if lines.is_empty() {
+            *lines = more;
+            return Ok(());
+        }
+        lines.append(&mut more)
     }
 }
 

@@ -3,9 +3,9 @@ ghost use Rattle.std.specs.List.{list_any};
 ghost use Rattle.net_addr.specs.Blanks.{is_blank, words_in};
 ghost use Rattle.ios_lines.specs.Words.{says};
 ghost use Rattle.ios_sections.specs.TextLines.{carets, is_caret, opens_banner, closes_banner, counts, is_end, begins_configuration, opens_section};
-ghost use Rattle.ios_sections.specs.TellingLines.{may_tell, has_lines};
+ghost use Rattle.ios_sections.specs.TellingLines.{may_tell, has_lines, numbered_line};
 ghost use Rattle.ios_sections.specs.Sections.{counted_from, may_begin};
-ghost use Rattle.ios_sections.specs.steps.ToldLines.{may_concern_interface, numbered_line, tells_alone};
+ghost use Rattle.ios_sections.specs.steps.ToldLines.{may_concern_interface, tells_alone};
 
 use crate::OutOfMemory;
 use ios_lines::words::{Words, begins_with, behind_blanks};

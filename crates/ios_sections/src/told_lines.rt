@@ -50,8 +50,7 @@ pub struct ToldLines<'a> {
 
 impl<'a> Model for ToldLines<'a> {
     ghost use Rattle.std.specs.Prelude.{◌+◌, ◌<◌, ◌^◌, length};
-    ghost use Rattle.ios_sections.specs.TellingLines.{LinesLeft};
-    ghost use Rattle.ios_sections.specs.steps.ToldLines.{lines_from_number, told_from};
+    ghost use Rattle.ios_sections.specs.TellingLines.{LinesLeft, lines_from_number, told_from};
 
     ghost Value = { LinesLeft };
 

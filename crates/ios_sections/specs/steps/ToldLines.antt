@@ -1,8 +1,7 @@
 -- The lines that count and tell something, taken in one after the other.
-use Rattle.std.specs.Prelude.{ℕ, ◌+◌, Bool, ◌||◌, List, [], ◌∷◌, codes, filter, fold}
-use Rattle.net_addr.specs.Blanks.{indent_of, words_in}
+use Rattle.std.specs.Prelude.{Bool, ◌||◌, List, codes, filter, fold}
 use Rattle.ios_lines.specs.Words.{says}
-use Rattle.ios_sections.specs.TextLines.{TextLine, banner_after, counts, outside_banner, outside_banners}
+use Rattle.ios_sections.specs.TextLines.{TextLine, banner_after, counts, outside_banner}
 use Rattle.ios_sections.specs.TellingLines.{open_after, telling_lines}
 use Rattle.ios_sections.specs.declared.told_lines.TextPlace.{TextPlace}
 
@@ -16,19 +15,6 @@ place_after place line = record {
   in_banner = banner_after place.in_banner line;
   below = fold open_after place.below (filter counts (outside_banner place.in_banner line));
 }
-
--- of the lines from a place on those that count and tell something
-abbrev pub told_from : TextPlace → List TextLine → List TextLine
-told_from place lines = telling_lines place.below (filter counts (outside_banners place.in_banner lines))
-
--- the line of this number that has these bytes
-abbrev pub numbered_line : ℕ → List ℕ → TextLine
-numbered_line number bytes = record { number = number; indent = indent_of bytes; bytes = bytes; words = words_in bytes }
-
--- the lines that have these bytes, numbered from this number on
-abbrev pub lines_from_number : ℕ → List (List ℕ) → List TextLine
-lines_from_number number [] = []
-lines_from_number number (bytes ∷ more) = numbered_line number bytes ∷ lines_from_number (number + 1) more
 
 -- a line that may say something at indent 0 without lines below it, or end a configuration
 abbrev pub tells_alone : TextLine → Bool

@@ -1,5 +1,5 @@
 use Rattle.std.proofs.Common.{◌≡◌, ◌+◌, length}
-use Rattle.ios_sections.specs.steps.ToldLines.{lines_from_number, told_from}
+use Rattle.ios_sections.specs.TellingLines.{lines_from_number, told_from}
 use Rattle.ios_sections.proofs.told_lines.ToldLines.next_line.Given as goal
 
 abbrev pub invariant-loop-bytes : goal.invariant-loop-bytes
