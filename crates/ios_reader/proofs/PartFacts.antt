@@ -11,7 +11,7 @@ use Rattle.ios_sections.specs.TextLines.{TextLine, Part, is_end, parts_after, re
 use Rattle.ios_sections.specs.Sections.{sections_in}
 use Rattle.ios_reader.specs.Faults.{part_faults}
 use Rattle.ios_reader.specs.Configurations.{configuration_of}
-use Rattle.ios_reader.specs.steps.Parts.{part_at, PartRead, IsPartRead, Reading, IsReadingOf, TakesLine, is_nothing}
+use Rattle.ios_reader.specs.steps.Parts.{part_at, PartRead, IsPartRead, Reading, IsReadingOf, TakesInLine, is_nothing}
 use Rattle.ios_lines.specs.declared.fault.Fault.{Fault}
 use Rattle.ios_reader.proofs.LookedUp.{none_left, none_right}
 
@@ -108,7 +108,7 @@ module _ (part : List TextLine) (line : TextLine) where
 
   -- at an `end` line one more part is read
   pub taken_at_end : (r s : Reading) (read : PartRead) → is_end line ≡ true → IsPartRead (part_at part line.number) read →
-      s.faults ≡ r.faults ++ read.faults → s.configs ≡ r.configs ++ option_to_list read.config → TakesLine part r line [] s
+      s.faults ≡ r.faults ++ read.faults → s.configs ≡ r.configs ++ option_to_list read.config → TakesInLine part r line [] s
   taken_at_end r s read ends now f g = λ all left h. record {
     done = h.done ++ part_at part line.number ∷ [];
     parts = append_assoc h.done (part_at part line.number ∷ []) (parts_after [] left)
@@ -118,7 +118,7 @@ module _ (part : List TextLine) (line : TextLine) where
   }
 
   -- another line goes on with the part
-  pub taken_on : (r : Reading) → is_end line ≡ false → TakesLine part r line (part ++ line ∷ []) r
+  pub taken_on : (r : Reading) → is_end line ≡ false → TakesInLine part r line (part ++ line ∷ []) r
   taken_on r on = λ all left h. record {
     done = h.done;
     parts = ap (λ (b : Bool). h.done ++ behind b left) (sym on) ∙ h.parts;

@@ -12,7 +12,7 @@ use Rattle.ios_sections.specs.Sections.{sections_in}
 use Rattle.ios_sections.proofs.TellingFacts.{told_part, parts_told, rest_told, begins_told, none_told, first_told, statements_told}
 use Rattle.ios_reader.specs.Faults.{part_faults}
 use Rattle.ios_reader.specs.Configurations.{configuration_of, configuration_by}
-use Rattle.ios_reader.specs.steps.Parts.{Reading, IsReadingOf, IsReadTo, is_nothing}
+use Rattle.ios_reader.specs.steps.Parts.{Reading, IsReadingOf, IsReadBut, is_nothing}
 use Rattle.ios_reader.proofs.PartFacts.{nothing_read}
 
 faults_of_told : (part : Part) → part_faults (told_part part) ≡ part_faults part
@@ -51,12 +51,12 @@ lacks_told lines =
 
 -- ---- where no line is left ----
 
-module _ (lines left part : List TextLine) (r : Reading) (none : left ≡ []) (before : IsReadTo (telling_lines false lines) left part r) where
+module _ (lines left part : List TextLine) (r : Reading) (none : left ≡ []) (before : IsReadBut (telling_lines false lines) left part r) where
   abbrev told : List TextLine
   told = telling_lines false lines
 
-  now : IsReadTo told [] part r
-  now = subst (λ (ls : List TextLine). IsReadTo told ls part r) none before
+  now : IsReadBut told [] part r
+  now = subst (λ (ls : List TextLine). IsReadBut told ls part r) none before
 
   whole : IsReadingOf (parts_after [] told) r
   whole = subst (λ (ps : List Part). IsReadingOf ps r) (sym (append-nil now.done) ∙ now.parts) now.read

@@ -2,7 +2,7 @@ ghost use Rattle.std.specs.Prelude.{◌≡◌, ◌<◌, ◌^◌, ◌||◌, ◌++
 ghost use Rattle.std.specs.List.{list_any};
 ghost use Rattle.ios_sections.specs.TextLines.{begins_configuration};
 ghost use Rattle.ios_lines.specs.FaultOrder.{faults_if};
-ghost use Rattle.ios_reader.specs.steps.Parts.{IsTextReading, TakesLine, is_nothing};
+ghost use Rattle.ios_reader.specs.steps.Parts.{IsTextReading, TakesInLine, is_nothing};
 ghost use Rattle.ios_reader.specs.Texts.{ReadsText, RefusesConfiguration};
 ghost use Rattle.ios_reader.specs.FaultyLines.{AreFaultyLines};
 
@@ -57,7 +57,7 @@ fn add_line<'a>(
     part: &mut Vec<TextLine<'a>>,
     line: TextLine<'a>,
 ) -> Result<(), OutOfMemory>
-    ensures { OnOk result (TakesLine part.old.items reading.old line.entry part.new.items reading.new) }
+    ensures { OnOk result (TakesInLine part.old.items reading.old line.entry part.new.items reading.new) }
 {
     if line.is_end() {
         let read = read_part(alloc, part.as_slice(), line.number())?;

@@ -5,8 +5,8 @@ use Rattle.std.proofs.lemmas.List.{drop-append-le, drop_at, take-append-le, take
 use Rattle.std.proofs.lemmas.List.Elements.{All-head, All-tail}
 use Rattle.walk_core.specs.steps.NumberLists.{part_of, lists_of, list_of, IsWithin, AreSpansWithin, IsLongListKept, Grows}
 use Rattle.walk_core.specs.declared.long_lists.Span.{Span}
-use Rattle.walk_core.specs.declared.number_lists.Numbers.{Numbers}
-use Rattle.walk_core.specs.declared.number_lists.Numbers.TheVariants.{Nothing, One, More}
+use Rattle.walk_core.specs.steps.NumberLists.{Numbers}
+use Rattle.walk_core.specs.steps.NumberLists.Numbers.{Nothing, One, More}
 
 -- more numbers behind the others change no span
 pub part_stays : (numbers more : List ℕ) (span : Span) → IsWithin numbers span → part_of (numbers ++ more) span ≡ part_of numbers span

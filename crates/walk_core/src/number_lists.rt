@@ -1,5 +1,5 @@
 ghost use Rattle.std.specs.Prelude.{◌≡◌, IfOk, slice_set};
-ghost use Rattle.walk_core.specs.declared.number_lists.Numbers.TheVariants.{Nothing};
+ghost use Rattle.walk_core.specs.steps.NumberLists.Numbers.{Nothing};
 ghost use Rattle.walk_core.specs.steps.NumberLists.{list_of, Grows, IsLongListKept};
 
 use crate::OutOfMemory;
@@ -8,18 +8,8 @@ use std::alloc::Global;
 use std::marker::Model;
 use std::slice;
 
-/// The numbers of a list: one alone stands here, and more of them at a place among the long lists.
-#[derive(Clone, Copy, Debug)]
-pub(crate) enum Numbers {
-    /// None.
-    Nothing,
-    /// This one alone.
-    One(u32),
-    /// Those of the long list of this place.
-    More(u32),
-}
-
-/// The same in 4 bytes, since there is one for each root and vertex.
+/// The numbers of a list, in 4 bytes, since there is one for each root and vertex: one number alone stands here, and more of them
+/// at a place among the long lists.
 #[derive(Clone, Copy, Debug)]
 pub(crate) struct PackedNumbers {
     /// One number alone below 2^31, that much more than the place of a long list, or 2^32 - 1 for none.
@@ -29,7 +19,7 @@ pub(crate) struct PackedNumbers {
 impl Model for PackedNumbers {
     ghost use Rattle.std.specs.Prelude.{ℕ};
     ghost use Rattle.std.proofs.Common.{ap};
-    ghost use Rattle.walk_core.specs.declared.number_lists.Numbers.{Numbers};
+    ghost use Rattle.walk_core.specs.steps.NumberLists.{Numbers};
     ghost use Rattle.walk_core.specs.steps.NumberCodes.{code_of_numbers, numbers_code_back, numbers_of_code};
 
     ghost Value = { Numbers };
@@ -43,7 +33,7 @@ impl Model for PackedNumbers {
 
 impl PackedNumbers {
     ghost use Rattle.std.specs.Prelude.{◌≡◌, ◌<◌, IfOk};
-    ghost use Rattle.walk_core.specs.declared.number_lists.Numbers.TheVariants.{More, Nothing, One};
+    ghost use Rattle.walk_core.specs.steps.NumberLists.Numbers.{More, Nothing, One};
     ghost use Rattle.walk_core.specs.steps.NumberLists.{list_of};
 
     /// None.

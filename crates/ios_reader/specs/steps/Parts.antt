@@ -36,15 +36,15 @@ abbrev pub is_nothing : Reading → Bool
 is_nothing reading = nat_eq (length reading.configs) 0 && nat_eq (length reading.faults) 0
 
 -- of some lines those that are left aren't read yet: the parts that the others end are, and the lines of the open part are at hand
-pub record IsReadTo (all left part : List TextLine) (reading : Reading) : Type 0 where
+pub record IsReadBut (all left part : List TextLine) (reading : Reading) : Type 0 where
   pub done : List Part
   pub parts : done ++ parts_after part left ≡ parts_after [] all
   pub rest : rest_after part left ≡ rest_after [] all
   pub read : IsReadingOf done reading
 
 -- one more line is taken in
-abbrev pub TakesLine : List TextLine → Reading → TextLine → List TextLine → Reading → Type 0
-TakesLine part reading line after now = (all left : List TextLine) → IsReadTo all (line ∷ left) part reading → IsReadTo all left after now
+abbrev pub TakesInLine : List TextLine → Reading → TextLine → List TextLine → Reading → Type 0
+TakesInLine part reading line after now = (all left : List TextLine) → IsReadBut all (line ∷ left) part reading → IsReadBut all left after now
 
 -- a text is read: its faults, and where there is none its configurations
 pub record IsTextReading (text : List ℕ) (reading : Reading) : Type 0 where

@@ -2,8 +2,8 @@
 use Rattle.std.specs.Prelude.{◌≡◌, ℕ, ◌+◌, ◌-◌, ◌==◌, Bool, true, false, nat_lt, if◌then◌else◌}
 use Rattle.std.proofs.Common.{arith, eqb-true, refl, sym}
 use Rattle.std.proofs.lemmas.Bool.{ltb-false}
-use Rattle.walk_core.specs.declared.number_lists.Numbers.{Numbers}
-use Rattle.walk_core.specs.declared.number_lists.Numbers.TheVariants.{Nothing, One, More}
+use Rattle.walk_core.specs.steps.NumberLists.{Numbers}
+use Rattle.walk_core.specs.steps.NumberLists.Numbers.{Nothing, One, More}
 
 -- one number is its own code, long lists come from 2^31 on, and 2^32 - 1 is the code of none
 abbrev pub code_of_numbers : Numbers → ℕ

@@ -1,8 +1,6 @@
 -- Lists of numbers: those of one number by it, and long ones one after another in one list of numbers.
 use Rattle.std.specs.Prelude.{◌≡◌, ℕ, ◌-◌, ◌<◌, ◌≤◌, List, [], ◌∷◌, length, take, drop, map, All, slice_index_or}
 use Rattle.walk_core.specs.declared.long_lists.Span.{Span}
-use Rattle.walk_core.specs.declared.number_lists.Numbers.{Numbers}
-use Rattle.walk_core.specs.declared.number_lists.Numbers.TheVariants.{Nothing, One, More}
 
 -- the numbers of a span
 abbrev pub part_of : List ℕ → Span → List ℕ
@@ -20,6 +18,12 @@ pub record IsWithin (numbers : List ℕ) (span : Span) : Type 0 where
 -- all spans are
 abbrev pub AreSpansWithin : List ℕ → List Span → Type 0
 AreSpansWithin numbers spans = All (IsWithin numbers) spans
+
+-- the numbers of a list: none, one alone, and more of them at a place among the long lists
+pub data Numbers : Type 0 where
+  Nothing : Numbers
+  One : ℕ → Numbers
+  More : ℕ → Numbers
 
 -- the list of some numbers, by the long lists
 abbrev pub list_of : List (List ℕ) → Numbers → List ℕ

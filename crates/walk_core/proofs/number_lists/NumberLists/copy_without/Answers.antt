@@ -1,6 +1,6 @@
 use Rattle.std.proofs.Common.{◌≡◌, ◌++◌, [], ℕ, List, set, ap, ◌∙◌}
-use Rattle.walk_core.specs.declared.number_lists.Numbers.{Numbers}
-use Rattle.walk_core.specs.declared.number_lists.Numbers.TheVariants.{Nothing}
+use Rattle.walk_core.specs.steps.NumberLists.{Numbers}
+use Rattle.walk_core.specs.steps.NumberLists.Numbers.{Nothing}
 use Rattle.walk_core.proofs.ListParts.{copied_without}
 use Rattle.walk_core.proofs.number_lists.NumberLists.copy_without.Goals as goal
 
