@@ -21,3 +21,5 @@ pub mod RowLaws
 pub mod StaleLaws
 mod FloodSteps
 mod EndLaws
+mod MemberSteps
+mod MemberLists

@@ -15,3 +15,4 @@ pub mod Ends
 pub mod Ascending
 pub mod BestOver
 pub mod Kept
+pub mod Members

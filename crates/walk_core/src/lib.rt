@@ -56,6 +56,7 @@ mod exits;
 mod flood;
 mod kept;
 mod lost;
+mod members;
 mod outlets;
 mod over_segments;
 mod segment_graph;

@@ -1,4 +1,5 @@
-ghost use Rattle.std.specs.Prelude.{◌≡◌};
+ghost use Rattle.std.specs.Prelude.{◌≡◌, IfOk};
+ghost use Rattle.walk_core.specs.steps.Members.{member_at, members_at};
 
 use crate::OutOfMemory;
 use std::alloc::Global;
@@ -30,7 +31,8 @@ impl Model for LongLists {
 }
 
 impl LongLists {
-    ghost use Rattle.std.specs.Prelude.{◌≡◌, ◌++◌, ◌∷◌, [], IfOk, OnOk, OnErr, length, slice_index_or};
+    ghost use Rattle.std.specs.Prelude.{◌≡◌, ◌++◌, ◌∷◌, [], IfOk, OnOk, OnErr, length, map, slice_index_or};
+    ghost use Rattle.walk_core.specs.steps.Members.{members_at};
 
     /// No lists.
     pub fn none(alloc: Global) -> LongLists
@@ -71,6 +73,15 @@ impl LongLists {
         Ok(LongLists { numbers, spans })
     }
 
+    /// The lists of the vertices that stand at the numbers of these.
+    pub fn renumbered(&self, alloc: Global, vertices: &[u32]) -> Result<LongLists, OutOfMemory>
+        ensures { IfOk result (λ lists. lists ≡ map (members_at vertices.now) self.now) }
+    {
+        let numbers = renumbered(alloc, self.numbers.as_slice(), vertices)?;
+        let spans = Vec::from_slice(alloc, self.spans.as_slice())?;
+        Ok(LongLists { numbers, spans })
+    }
+
     /// The list of this place, and an empty one past the last.
     pub fn at(&self, place: usize) -> &[u32]
         ensures { result.now ≡ slice_index_or self.now place [] }
@@ -79,5 +90,31 @@ impl LongLists {
             Some(span) => &self.numbers[span.start..span.end],
             None => &self.numbers[..0],
         }
+    }
+}
+
+/// The vertices that stand at some numbers.
+fn renumbered(
+    alloc: Global,
+    numbers: &[u32],
+    vertices: &[u32],
+) -> Result<Vec<u32>, OutOfMemory>
+    ensures { IfOk result (λ all. all.items ≡ members_at vertices.now numbers.now) }
+{
+    let mut all = Vec::with_capacity(alloc, numbers.len())?;
+    for number in numbers {
+        all.push(vertex_at(vertices, *number))?;
+    }
+    Ok(all)
+}
+
+/// The vertex that stands at a place, and 0 past the last.
+#[inline(always)]
+pub(crate) fn vertex_at(vertices: &[u32], place: u32) -> u32
+    ensures { result ≡ member_at vertices.now place }
+{
+    match vertices.get(place as usize) {
+        Some(vertex) => *vertex,
+        None => 0,
     }
 }

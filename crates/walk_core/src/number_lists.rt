@@ -1,9 +1,10 @@
-ghost use Rattle.std.specs.Prelude.{◌≡◌, IfOk, slice_set};
+ghost use Rattle.std.specs.Prelude.{◌≡◌, All, List, ℕ, IfOk, length, map, slice_index_or, slice_set};
+ghost use Rattle.walk_core.specs.steps.Members.{AreVertices, IsSpread};
 ghost use Rattle.walk_core.specs.steps.NumberLists.Numbers.{Nothing};
-ghost use Rattle.walk_core.specs.steps.NumberLists.{list_of, Grows, IsLongListKept};
+ghost use Rattle.walk_core.specs.steps.NumberLists.{list_of, renumbered, Grows, IsLongListKept};
 
 use crate::OutOfMemory;
-use crate::long_lists::LongLists;
+use crate::long_lists::{LongLists, vertex_at};
 use std::alloc::Global;
 use std::marker::Model;
 use std::slice;
@@ -34,7 +35,7 @@ impl Model for PackedNumbers {
 impl PackedNumbers {
     ghost use Rattle.std.specs.Prelude.{◌≡◌, ◌<◌, IfOk};
     ghost use Rattle.walk_core.specs.steps.NumberLists.Numbers.{More, Nothing, One};
-    ghost use Rattle.walk_core.specs.steps.NumberLists.{list_of};
+    ghost use Rattle.walk_core.specs.steps.NumberLists.{list_of, renumbered};
 
     /// None.
     #[inline(always)]
@@ -63,6 +64,20 @@ impl PackedNumbers {
         Ok(PackedNumbers {
             code: LONG_LISTS + place,
         })
+    }
+
+    /// The vertex that stands at one number alone; those of a long list stay.
+    fn renumbered(self, vertices: &[u32]) -> Result<PackedNumbers, OutOfMemory>
+        ensures { IfOk result (λ own. own ≡ renumbered vertices.now self) }
+    {
+        if self.code >= LONG_LISTS {
+            return Ok(self);
+        }
+        let vertex = vertex_at(vertices, self.code);
+        if vertex >= LONG_LISTS {
+            return Err(OutOfMemory);
+        }
+        Ok(PackedNumbers::one(vertex))
     }
 
     /// The list of these, by the long lists.
@@ -105,7 +120,8 @@ impl Model for NumberLists {
 }
 
 impl NumberLists {
-    ghost use Rattle.std.specs.Prelude.{◌≡◌, ◌↔◌, ◌++◌, ◌∷◌, [], IfOk, IsTrue, OnOk, slice_index_or, slice_set};
+    ghost use Rattle.std.specs.Prelude.{◌≡◌, ◌↔◌, ◌++◌, ◌∷◌, [], IfOk, IsTrue, OnOk, length, map, slice_index_or, slice_set};
+    ghost use Rattle.walk_core.specs.steps.Members.{AreVertices, IsSpread, members_at};
 
     /// No lists.
     pub fn none(alloc: Global) -> NumberLists
@@ -164,6 +180,21 @@ impl NumberLists {
         Ok(NumberLists { all, long })
     }
 
+    /// The lists of the vertices of places, which are all below `end`, by those of the places: of the vertices of their numbers.
+    pub fn spread(
+        &self,
+        alloc: Global,
+        vertices: &[u32],
+        end: u32,
+    ) -> Result<NumberLists, OutOfMemory>
+        requires { AreVertices vertices.now end }
+        ensures { IfOk result (IsSpread [] vertices.now (length vertices.now) (map (members_at vertices.now) self.now)) }
+    {
+        let all = spread_numbers(alloc, self.all.as_slice(), vertices, end)?;
+        let long = self.long.renumbered(alloc, vertices)?;
+        Ok(NumberLists { all, long })
+    }
+
     /// The list of this place, and an empty one past the last.
     #[inline(always)]
     pub fn at(&self, place: usize) -> &[u32]
@@ -196,5 +227,38 @@ fn numbers_of(long: &mut LongLists, list: &[u32]) -> Result<PackedNumbers, OutOf
         [] => Ok(PackedNumbers::nothing()),
         [number] if *number < LONG_LISTS => Ok(PackedNumbers::one(*number)),
         _ => PackedNumbers::more(long.keep(list)?),
+    }
+}
+
+/// The numbers of the vertices of places, by those of the places.
+fn spread_numbers(
+    alloc: Global,
+    numbers: &[PackedNumbers],
+    vertices: &[u32],
+    end: u32,
+) -> Result<Vec<PackedNumbers>, OutOfMemory>
+    requires { AreVertices vertices.now end }
+    ensures spread { IfOk result (λ all. IsSpread Nothing vertices.now (length vertices.now) (map (renumbered vertices.now) numbers.now) all.items) }
+    ensures kept { IfOk result (λ all. (long : List (List ℕ)) → All (IsLongListKept long) numbers.now → All (IsLongListKept long) all.items) }
+{
+    let mut all = vec![in alloc; PackedNumbers::nothing(); end as usize]?;
+    for place in 0..vertices.len() {
+        let own = renumbered_at(numbers, place, vertices)?;
+        all[vertices[place] as usize] = own;
+    }
+    Ok(all)
+}
+
+/// The numbers of a place, each the vertex that stands there.
+fn renumbered_at(
+    numbers: &[PackedNumbers],
+    place: usize,
+    vertices: &[u32],
+) -> Result<PackedNumbers, OutOfMemory>
+    ensures { IfOk result (λ own. own ≡ renumbered vertices.now (slice_index_or numbers.now place Nothing)) }
+{
+    match numbers.get(place) {
+        Some(numbers) => numbers.renumbered(vertices),
+        None => Ok(PackedNumbers::nothing()),
     }
 }

@@ -35,10 +35,11 @@ impl Model for Distances {
 }
 
 impl Distances {
-    ghost use Rattle.std.specs.Prelude.{◌≡◌, ◌≤◌, [], length, IfOk, IfSome};
+    ghost use Rattle.std.specs.Prelude.{◌≡◌, ◌≤◌, [], None, length, IfOk, IfSome};
     ghost use Rattle.std.specs.Bool.{OnTrue};
     ghost use Rattle.walk_core.specs.Distances.{distance_at};
     ghost use Rattle.walk_core.specs.KeptWalks.{lone_row};
+    ghost use Rattle.walk_core.specs.steps.Members.{AreVertices, IsSpread};
 
     /// No distances.
     pub fn none(alloc: Global) -> Distances
@@ -103,6 +104,24 @@ impl Distances {
             Kept::Lone(root) => *root < count,
             Kept::Row(all) => all.len() <= count as usize,
         }
+    }
+
+    /// The distances of the vertices of places, which are all below `end`, by those of the places.
+    pub fn spread(
+        &self,
+        alloc: Global,
+        vertices: &[u32],
+        end: u32,
+    ) -> Result<Distances, OutOfMemory>
+        requires { AreVertices vertices.now end }
+        ensures spread { IfOk result (IsSpread None vertices.now (length vertices.now) self.now) }
+        ensures long { IfOk result (λ whole. length whole ≡ end) }
+    {
+        let mut all = vec![in alloc; Distance::none(); end as usize]?;
+        for place in 0..vertices.len() {
+            all[vertices[place] as usize] = self.of(place as u32);
+        }
+        Ok(Distances::from_vec(all))
     }
 
     /// The distance of v.

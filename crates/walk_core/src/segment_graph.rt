@@ -118,11 +118,26 @@ impl<'a> SegmentGraph<'a> {
         requires kept { StayLeast (SendsAcross self.now.segments) self.now.count kept.roots.now kept.walks.now }
         ensures { IfOk result (λ all. AreWalksBelow (SendsAcross self.now.segments) self.now.count self.now.count all.items) }
     {
-        let count = self.count();
-        let beyond = all_beyond(alloc, self.segments, rows.as_slice(), count)?;
-        let ways = Ways::new(count, self.segments, rows.as_slice(), beyond.as_slice());
-        let lists = self.all_hops(alloc, &ways, kept)?;
+        let lists = self.hops_by(alloc, rows.as_slice(), kept)?;
         self.joined(alloc, rows, lists)
+    }
+
+    /// The first hops from every vertex, by the distances from it, where some of them are kept.
+    pub fn hops_by(
+        &self,
+        alloc: Global,
+        rows: &[Distances],
+        kept: Kept<'_>,
+    ) -> Result<Vec<NumberLists>, OutOfMemory>
+        requires rows { AreDistanceRows (SendsAcross self.now.segments) self.now.count self.now.count rows.now }
+        requires kept { StayLeast (SendsAcross self.now.segments) self.now.count kept.roots.now kept.walks.now }
+        ensures { IfOk result (λ lists. AreAllHops (SendsAcross self.now.segments) self.now.count lists.items) }
+    {
+        let count = self.count();
+        let beyond = all_beyond(alloc, self.segments, rows, count)?;
+        let ways = Ways::new(count, self.segments, rows, beyond.as_slice());
+        let lists = self.all_hops(alloc, &ways, kept)?;
+        Ok(lists)
     }
 
     /// The least-cost walks from every vertex, by their distances and first hops.
@@ -206,7 +221,7 @@ impl<'a> SegmentGraph<'a> {
     }
 
     /// The distances from every vertex.
-    fn rows(&self, alloc: Global) -> Result<Vec<Distances>, OutOfMemory>
+    pub fn rows(&self, alloc: Global) -> Result<Vec<Distances>, OutOfMemory>
         ensures { IfOk result (λ rows. AreDistanceRows (SendsAcross self.now.segments) self.now.count self.now.count rows.items) }
     {
         let count = self.count();

@@ -39,3 +39,9 @@ IsLongListKept long numbers = (place : ℕ) → numbers ≡ More place → place
 pub record Grows (old new : List (List ℕ)) : Type 0 where
   pub within : length old ≤ length new
   pub same : (place : ℕ) → place < length old → slice_index_or new place [] ≡ slice_index_or old place []
+
+-- the numbers that stand at these places; those of a long list stay
+abbrev pub renumbered : List ℕ → Numbers → Numbers
+renumbered vertices Nothing = Nothing
+renumbered vertices (One place) = One (slice_index_or vertices place 0)
+renumbered vertices (More place) = More place
