@@ -23,3 +23,5 @@ mod FloodSteps
 mod EndLaws
 mod MemberSteps
 mod MemberLists
+mod MemberLaws
+mod MemberFacts

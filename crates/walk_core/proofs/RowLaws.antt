@@ -38,10 +38,10 @@ no_arc segments root outlets are none v c arc =
     let listed : HasOutlet outlets at.0 at.2.near.cost = are.every at.0 at.1 at.2.near at.2.near_among at.2.from in
     omega (arith, none, listed.among.1)
 
--- a vertex without a port reaches itself alone
-pub row_of_lone : (segments : List (List Port)) (count root : ℕ) (outlets : List Outlet) → root < count → AreSegments count segments →
-    AreOutlets segments root (length segments) outlets → length outlets ≡ 0 → IsDistanceRow (SendsAcross segments) count root (lone_row root)
-row_of_lone segments count root outlets below are listed none = record {
+-- a vertex without an arc reaches itself alone
+pub row_alone : (segments : List (List Port)) (count root : ℕ) → root < count → AreSegments count segments → ((v c : ℕ) → SendsAcross segments root v c → ⊥) →
+    IsDistanceRow (SendsAcross segments) count root (lone_row root)
+row_alone segments count root below are alone = record {
   least = distances_from_tight arc count root (lone_row root) below (λ u v c in_range over. sends_below segments count u v c are over.over) tight walked;
   within = omega (arith, below, length-append (replicate {A = Option ℕ} root None) (Some 0 ∷ []), length-replicate {A = Option ℕ} root None);
   near = λ v d is. omega (arith, below, (lone_elsewhere root v d is).1);
@@ -53,13 +53,18 @@ row_of_lone segments count root outlets below are listed none = record {
     tight : (u : ℕ) → u < count → IsTightFrom arc u (lone_row root)
     tight u in_range v c d over is =
         let over_root : arc root v c = subst (λ (n : ℕ). arc n v c) (lone_elsewhere root u d is).0 over in
-        absurd (no_arc segments root outlets listed none v c over_root)
+        absurd (alone v c over_root)
 
     walked : AreWalked arc root (lone_row root)
     walked = record {
       start = lone_at_root root;
       walked = λ v d is. let at = lone_elsewhere root v d is in record { legs = []; leads = sym at.0; costs = sym at.1 };
     }
+
+-- so does one without a port
+pub row_of_lone : (segments : List (List Port)) (count root : ℕ) (outlets : List Outlet) → root < count → AreSegments count segments →
+    AreOutlets segments root (length segments) outlets → length outlets ≡ 0 → IsDistanceRow (SendsAcross segments) count root (lone_row root)
+row_of_lone segments count root outlets below are listed none = row_alone segments count root below are (no_arc segments root outlets listed none)
 
 pub short_row_of_lone : (segments : List (List Port)) (count root : ℕ) (outlets : List Outlet) → root < count → AreSegments count segments →
     AreOutlets segments root (length segments) outlets → length outlets ≡ 0 → IsShortRow (SendsAcross segments) count root (lone_row root)
@@ -101,11 +106,17 @@ joined_below segments count end all are listed is = record {
 }
 
 -- the walks from a vertex that reaches itself alone come behind others
+pub alone_more : (segments : List (List Port)) (count u : ℕ) (walks : List Reach) → AreSegments count segments → u < count →
+    ((v c : ℕ) → SendsAcross segments u v c → ⊥) → AreWalksBelow (SendsAcross segments) count u walks →
+    AreWalksBelow (SendsAcross segments) count (u + 1) (walks ++ record { distances = lone_row u; hops = [] } ∷ [])
+alone_more segments count u walks are below alone before =
+    let arc : Arcs = SendsAcross segments in
+    let row : IsDistanceRow arc count u (lone_row u) = row_alone segments count u below are alone in
+    walks_more arc count u walks (record { distances = lone_row u; hops = [] }) before row
+    (lists_of_all arc u count 0 (lone_row u) [] row (no_hops_listed arc u) (inr alone))
+
 pub lone_more : (segments : List (List Port)) (count u : ℕ) (outlets : List Outlet) (walks : List Reach) → AreSegments count segments → u < count →
     AreOutlets segments u (length segments) outlets → length outlets ≡ 0 → AreWalksBelow (SendsAcross segments) count u walks →
     AreWalksBelow (SendsAcross segments) count (u + 1) (walks ++ record { distances = lone_row u; hops = [] } ∷ [])
 lone_more segments count u outlets walks are below listed none before =
-    let arc : Arcs = SendsAcross segments in
-    let row : IsDistanceRow arc count u (lone_row u) = row_of_lone segments count u outlets below are listed none in
-    walks_more arc count u walks (record { distances = lone_row u; hops = [] }) before row
-    (lists_of_all arc u count 0 (lone_row u) [] row (no_hops_listed arc u) (inr (no_arc segments u outlets listed none)))
+    alone_more segments count u walks are below (no_arc segments u outlets listed none) before

@@ -29,7 +29,7 @@ impl Model for Members {
 }
 
 impl Members {
-    ghost use Rattle.std.specs.Prelude.{◌≡◌, ◌<◌, IfOk, OnOk, length};
+    ghost use Rattle.std.specs.Prelude.{◌≡◌, ◌↔◌, ◌/◌, ◌<◌, ◌≤◌, IfOk, IsTrue, OnOk, length};
     ghost use Rattle.walk_core.specs.steps.Members.{AreNumbered, HavePorts, Numbers, place_in, placed};
 
     /// The members of so many vertices, which have these ports.
@@ -80,6 +80,13 @@ impl Members {
         // no more than there are vertices
         let _count = self.count;
         self.vertices.len() as u32
+    }
+
+    /// Whether at most half of the vertices are members.
+    pub fn are_few(&self) -> bool
+        ensures { IsTrue result ↔ (length self.now.vertices ≤ self.now.count / 2) }
+    {
+        self.vertices.len() <= self.count as usize / 2
     }
 
     /// How many vertices there are.

@@ -1,34 +1,15 @@
-use Rattle.std.proofs.lemmas.Grind.{common_steps}
-use Rattle.std.proofs.Common.{ℕ, ◌≤◌, ◌+◌, ◌++◌, ◌∷◌, [], List, ap, get_or, sym, subst, ◌∙◌, arith, take}
-use Rattle.walk_core.specs.Reach.{Reach, AreWalksBelow}
-use Rattle.walk_core.specs.Segments.{SendsAcross}
-use Rattle.walk_core.specs.Walks.{Arcs}
+use Rattle.std.proofs.Common.{ℕ, List, sym, subst, ◌∙◌}
+use Rattle.walk_core.specs.Segments.{AreSegments}
 use Rattle.walk_core.specs.declared.outlets.Outlet.{Outlet}
-use Rattle.walk_core.specs.steps.SegmentWalks.{IsJoined, IsJoinedEnd}
-use Rattle.walk_core.proofs.RowLaws.{joined_below, lone_more}
+use Rattle.walk_core.specs.steps.Members.{HavePorts, Numbering}
+use Rattle.walk_core.specs.steps.SegmentWalks.{AreAllOutlets}
+use Rattle.walk_core.proofs.MemberFacts.{members_of_outlets}
 use Rattle.walk_core.proofs.over_segments.segment_walks.Goals as goal
 
-pub new-graph-requires : goal.new-graph-requires
-new-graph-requires c =
-    let end : ℕ = c.joined_end-end.result in
-    subst (λ (l : List (List Outlet)). IsJoined (record { count = end; segments = c.args.segments.now; outlets = take end l })) (sym c.deref.ensures.value)
-    (joined_below c.args.segments.now c.args.count end c.in_ok-outlets.outlets.items c.requires c.in_ok-outlets.ensures
-    (subst (λ (l : List (List Outlet)). IsJoinedEnd l end) c.as_slice.ensures.value c.joined_end-end.ensures))
-
-pub loop-root-init : goal.loop-root-init
-loop-root-init c = grind (arith, common_steps)
-
-pub loop-root-preserved : goal.loop-root-preserved
-loop-root-preserved c =
-    let arc : Arcs = SendsAcross c.args.segments.now in
-    let u : ℕ = c.loop-root.root in
-    let all : List (List Outlet) = c.in_ok-outlets.outlets.items in
-    let walks : List Reach = c.loop-root.all.items in
-    let is : IsJoinedEnd all c.joined_end-end.result =
-    subst (λ (l : List (List Outlet)). IsJoinedEnd l c.joined_end-end.result) c.as_slice.ensures.value c.joined_end-end.ensures in
-    let past : c.joined_end-end.result ≤ u = omega (arith, c.loop-root.auto.root) in
-    subst (λ (l : List Reach). AreWalksBelow arc c.args.count (u + 1) l)
-    (sym (c.in_ok-push.ensures.items ∙ ap (λ (r : Reach). walks ++ r ∷ []) c.of_lone.ensures))
-    (lone_more c.args.segments.now c.args.count u (get_or all u []) walks c.requires c.loop-root-test.true
-    (c.in_ok-outlets.ensures.each u c.loop-root-test.true) (is.lone u past (omega (arith, c.in_ok-outlets.ensures.long, c.loop-root-test.true)))
-    c.loop-root.invariant)
+pub member_walks-requires : goal.member_walks-requires
+member_walks-requires c =
+    let m : Numbering = c.in_ok-members.members in
+    let is = c.in_ok-members.ensures in
+    members_of_outlets c.args.segments.now c.in_ok-outlets.outlets.items m (subst (λ (n : ℕ). AreSegments n c.args.segments.now) (sym is.count) c.requires)
+    (subst (λ (n : ℕ). AreAllOutlets c.args.segments.now n c.in_ok-outlets.outlets.items) (sym is.count) c.in_ok-outlets.ensures) is.numbered
+    (subst (λ (l : List (List Outlet)). HavePorts l m) c.as_slice.ensures.value is.ports) (is.long ∙ sym is.count)
