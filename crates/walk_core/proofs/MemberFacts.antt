@@ -1,21 +1,19 @@
 -- Over segments: the members, their graph, and the walks from every vertex by it.
 use Rattle.std.proofs.lemmas.Grind.{common_steps}
-use Rattle.std.proofs.Common.{◌≡◌, ◌≢◌, ℕ, ◌+◌, ◌<◌, ◌≤◌, ◌⊎◌, List, [], ◌∷◌, ◌++◌, Option, None, Contains, length, map, get_or, refl}
+use Rattle.std.proofs.Common.{◌≡◌, ◌≢◌, ℕ, ◌+◌, ◌<◌, ◌≤◌, ◌⊎◌, List, [], ◌∷◌, ◌++◌, Option, None, Contains, Bool, length, map, get_or}
 use Rattle.std.proofs.Common.{arith, inl, inr, sym, ◌∙◌, subst, ap}
 use Rattle.std.proofs.lemmas.List.{get_or_default}
 use Rattle.walk_core.specs.KeptWalks.{lone_row}
 use Rattle.walk_core.specs.Reach.{Reach, AreWalksBelow}
 use Rattle.walk_core.specs.Segments.{AreSegments, IsPort, Sends, SendsAcross, SendsOn}
 use Rattle.walk_core.specs.Walks.{Arcs}
-use Rattle.walk_core.specs.declared.outlets.Outlet.{Outlet}
 use Rattle.walk_core.specs.declared.segment.Port.{Port}
 use Rattle.walk_core.specs.steps.Ascending.{AreAscending}
 use Rattle.walk_core.specs.steps.Flooding.{segment_at}
 use Rattle.walk_core.specs.steps.FirstHops.{AreAllHops, ListFirstHops}
-use Rattle.walk_core.specs.steps.Members.{AreMemberLists, AreMembers, AreMemberWalks, AreNumbered, HavePorts, IsSpread, IsSpreadReach, MemberWalks}
+use Rattle.walk_core.specs.steps.Members.{AreMarked, AreMemberLists, AreMembers, AreMemberWalks, AreNumbered, HaveMarked, IsSpread, IsSpreadReach, MemberWalks}
 use Rattle.walk_core.specs.steps.Members.{far, lone, Numbering, member_at, members_at, place_in, placed, placed_port, placed_ports}
 use Rattle.walk_core.specs.steps.Rows.{IsDistanceRow}
-use Rattle.walk_core.specs.steps.SegmentWalks.{AreAllOutlets, HasOutlet}
 use Rattle.walk_core.proofs.FloodLaws.{sends_below}
 use Rattle.walk_core.proofs.MemberLaws.{IsPlacing, Renumbers, contains_map, contains_map_back, ascending_spread, hops_spread, row_spread}
 use Rattle.walk_core.proofs.ReachLaws.{walks_more}
@@ -26,25 +24,22 @@ use Rattle.walk_core.proofs.WalkLaws.{first_hop_is_arc}
 member_back : (m : Numbering) → AreNumbered m → (v : ℕ) → place_in m v < length m.vertices → member_at m.vertices (place_in m v) ≡ v
 member_back m are v below = elim (are.others v) [
   | inl is ↦ is.back
-  | inr none ↦ absurd (omega (arith, none, below, are.few, are.most))
+  | inr none ↦ absurd (omega (arith, none, below, are.few, are.end))
 ]
 
 pub placing_of : (m : Numbering) → AreNumbered m → IsPlacing (length m.vertices) (place_in m) (member_at m.vertices)
 placing_of m are = record { places = are.places; members = member_back m are }
 
--- where each vertex that has an outlet is a member, each vertex of a port is one
-pub members_of_outlets : (segments : List (List Port)) (outlets : List (List Outlet)) (m : Numbering) → AreSegments m.count segments →
-    AreAllOutlets segments m.count outlets → AreNumbered m → HavePorts outlets m → length m.places ≡ m.count → AreMembers segments m
-members_of_outlets segments outlets m fit listed numbered have long = record {
+-- where each marked vertex is a member, and the vertices of all ports are marked, these are members
+pub members_of_marks : (segments : List (List Port)) (marks : List Bool) (m : Numbering) → AreSegments m.count segments →
+    AreMarked segments (length segments) marks → AreNumbered m → HaveMarked marks m.count m → AreMembers segments m
+members_of_marks segments marks m fit marked numbered have = record {
   fit = fit;
   numbered = numbered;
   ports = λ segment among port at.
-      let is : IsPort m.count port = fit segment among port at in
-      let within : among.0 < length segments = among.1 in
-      let here : segment_at segments among.0 ≡ segment = get_or_default segments among.0 [] segment within ∙ among.2 in
+      let here : segment_at segments among.0 ≡ segment = get_or_default segments among.0 [] segment among.1 ∙ among.2 in
       let on : Contains (segment_at segments among.0) port = subst (λ (s : List Port). Contains s port) (sym here) at in
-      let of : HasOutlet (get_or outlets port.vertex []) among.0 port.cost = (listed.each port.vertex is.vertex).every among.0 within port on refl in
-      have port.vertex (omega (arith, is.vertex, long)) (λ none. omega (arith, of.among.1, none));
+      have port.vertex (fit segment among port at).vertex (marked among.0 among.1 port on);
 }
 
 -- the segments of places are of as many vertices as there are members
@@ -173,7 +168,7 @@ spread_walks_more segments m walks root reach all are known below (far inside wi
     let p : ℕ = place_in m root in
     let back : member_at m.vertices p ≡ root = member_back m are.numbered root inside in
     let renumber = members_renumber segments m are in
-    let few : length m.vertices ≤ m.count = omega (arith, are.numbered.few, are.numbered.most) in
+    let few : length m.vertices ≤ m.count = omega (arith, are.numbered.few, are.numbered.end) in
     let row : IsDistanceRow arc m.count (member_at m.vertices p) reach.distances =
     row_spread arc (SendsAcross (placed m segments)) m.count (place_in m) m.vertices p (get_or walks.rows p []) reach.distances renumber few inside
     (known.rows.each p inside) distances within in

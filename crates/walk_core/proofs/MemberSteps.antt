@@ -1,87 +1,125 @@
 -- One more vertex is numbered, and what is known at places is spread to their vertices.
 use Rattle.std.proofs.lemmas.Grind.{common_steps}
-use Rattle.std.proofs.Common.{◌≡◌, ◌≢◌, ℕ, zero, suc, ◌+◌, ◌<◌, ◌≤◌, ◌⊎◌, List, [], ◌∷◌, ◌++◌, length, length-append, get_or, get_or-set_same, get_or-set_other, set}
+use Rattle.std.proofs.Common.{◌≡◌, ◌≢◌, ℕ, zero, suc, ◌+◌, ◌<◌, ◌≤◌, ◌⊎◌, List, [], ◌∷◌, ◌++◌, Bool, true, false, length, length-append, length-set, replicate, get_or, get_or-set_same, get_or-set_other, set}
 use Rattle.std.proofs.Common.{arith, inl, inr, sym, ◌∙◌, subst, ap}
 use Rattle.std.proofs.lemmas.Bool.{cases_lt, cases_eq}
-use Rattle.std.proofs.lemmas.List.{get_or_append_left, get_or_push, get_or_past}
-use Rattle.walk_core.specs.steps.Members.{Numbering, AreNumbered, AreVertices, IsMember, IsSpread, member_at, place_in}
+use Rattle.std.proofs.lemmas.List.{get_or_append_left, get_or_push, get_or_past, get_or-replicate, length-replicate}
+use Rattle.walk_core.specs.steps.Members.{Numbering, AreNumbered, AreVertices, HaveMarked, IsMember, IsSpread, Numbers, member_at, place_in}
 
--- one more vertex behind the others that is a member
-abbrev pub with_member : Numbering → Numbering
-with_member members = record {
+-- one more vertex, behind the others, is a member
+abbrev pub with_member : Numbering → ℕ → Numbering
+with_member members vertex = record {
   count = members.count;
-  places = members.places ++ length members.vertices ∷ [];
-  vertices = members.vertices ++ length members.places ∷ [];
-  end = length members.places + 1;
+  places = set members.places vertex (length members.vertices);
+  vertices = members.vertices ++ vertex ∷ [];
+  end = vertex + 1;
 }
 
-place_before : (m : Numbering) (v : ℕ) → v < length m.places → place_in (with_member m) v ≡ place_in m v
-place_before m v below = get_or_append_left m.places (length m.vertices ∷ []) m.count v below
+pub place_other : (m : Numbering) (vertex v : ℕ) → v ≢ vertex → place_in (with_member m vertex) v ≡ place_in m v
+place_other m vertex v apart = get_or-set_other m.places vertex v (length m.vertices) m.count apart
 
-place_here : (m : Numbering) (v : ℕ) → v ≡ length m.places → place_in (with_member m) v ≡ length m.vertices
-place_here m v is = get_or_push m.places (length m.vertices) m.count v (sym is)
+pub place_here : (m : Numbering) (vertex : ℕ) → vertex < length m.places → place_in (with_member m vertex) vertex ≡ length m.vertices
+place_here m vertex below = get_or-set_same m.places vertex (length m.vertices) m.count below
 
-place_past : (m : Numbering) (v : ℕ) → length m.places + 1 ≤ v → place_in (with_member m) v ≡ m.count
-place_past m v past = get_or_past (with_member m).places v m.count (omega (arith, past, length-append m.places (length m.vertices ∷ [])))
+member_before : (m : Numbering) (vertex p : ℕ) → p < length m.vertices → member_at (with_member m vertex).vertices p ≡ member_at m.vertices p
+member_before m vertex p below = get_or_append_left m.vertices (vertex ∷ []) 0 p below
 
-member_before : (m : Numbering) (p : ℕ) → p < length m.vertices → member_at (with_member m).vertices p ≡ member_at m.vertices p
-member_before m p below = get_or_append_left m.vertices (length m.places ∷ []) 0 p below
+member_here : (m : Numbering) (vertex p : ℕ) → p ≡ length m.vertices → member_at (with_member m vertex).vertices p ≡ vertex
+member_here m vertex p is = get_or_push m.vertices vertex 0 p (sym is)
 
-member_here : (m : Numbering) (p : ℕ) → p ≡ length m.vertices → member_at (with_member m).vertices p ≡ length m.places
-member_here m p is = get_or_push m.vertices (length m.places) 0 p (sym is)
+long : (m : Numbering) (vertex : ℕ) → length (with_member m vertex).vertices ≡ length m.vertices + 1
+long m vertex = omega (arith, length-append m.vertices (vertex ∷ []))
 
-long : (m : Numbering) → length (with_member m).vertices ≡ length m.vertices + 1
-long m = omega (arith, length-append m.vertices (length m.places ∷ []))
-
-vertices_more : (m : Numbering) → AreNumbered m → AreVertices (with_member m).vertices (length m.places + 1)
-vertices_more m are = record {
+vertices_more : (m : Numbering) (vertex : ℕ) → AreNumbered m → m.end ≤ vertex → AreVertices (with_member m vertex).vertices (vertex + 1)
+vertices_more m vertex are next = record {
   within = λ p below. elim (cases_lt p (length m.vertices)) [
-    | inl less ↦ omega (arith, member_before m p less, are.vertices.within p less, are.end)
-    | inr not ↦ omega (arith, member_here m p (omega (arith, not, below, long m)))
+    | inl less ↦ omega (arith, member_before m vertex p less, are.vertices.within p less, next)
+    | inr not ↦ omega (arith, member_here m vertex p (omega (arith, not, below, long m vertex)))
   ];
   ascending = λ p q less below. elim (cases_lt q (length m.vertices)) [
-    | inl earlier ↦ omega (arith, member_before m p (omega (arith, less, earlier)), member_before m q earlier, are.vertices.ascending p q less earlier)
+    | inl earlier ↦
+        omega (arith, member_before m vertex p (omega (arith, less, earlier)), member_before m vertex q earlier, are.vertices.ascending p q less earlier)
     | inr not ↦
-        let last : q ≡ length m.vertices = omega (arith, not, below, long m) in
+        let last : q ≡ length m.vertices = omega (arith, not, below, long m vertex) in
         let before : p < length m.vertices = omega (arith, less, last) in
-        omega (arith, member_here m q last, member_before m p before, are.vertices.within p before, are.end)
+        omega (arith, member_here m vertex q last, member_before m vertex p before, are.vertices.within p before, next)
   ];
 }
 
-others_more : (m : Numbering) → AreNumbered m → (v : ℕ) → IsMember (with_member m) v ⊎ (place_in (with_member m) v ≡ m.count)
-others_more m are v = elim (cases_lt v (length m.places)) [
-  | inl below ↦ elim (are.others v) [
+others_more : (m : Numbering) (vertex : ℕ) → AreNumbered m → vertex < m.count → (v : ℕ) →
+    IsMember (with_member m vertex) v ⊎ (place_in (with_member m vertex) v ≡ m.count)
+others_more m vertex are within v = elim (cases_eq v vertex) [
+  | inl same ↦
+      let here : place_in (with_member m vertex) v ≡ length m.vertices =
+      ap (λ (w : ℕ). place_in (with_member m vertex) w) same ∙ place_here m vertex (omega (arith, within, are.long)) in
+      inl (record { place = omega (arith, here, long m vertex); back = member_here m vertex (place_in (with_member m vertex) v) here ∙ sym same })
+  | inr apart ↦ elim (are.others v) [
     | inl is ↦ inl (record {
-      place = omega (arith, place_before m v below, is.place, long m);
-      back = ap (λ (p : ℕ). member_at (with_member m).vertices p) (place_before m v below) ∙ member_before m (place_in m v) is.place ∙ is.back;
+      place = omega (arith, place_other m vertex v apart, is.place, long m vertex);
+      back = ap (λ (p : ℕ). member_at (with_member m vertex).vertices p) (place_other m vertex v apart) ∙ member_before m vertex (place_in m v) is.place ∙ is.back;
     })
-    | inr none ↦ inr (place_before m v below ∙ none)
-  ]
-  | inr not ↦ elim (cases_eq v (length m.places)) [
-    | inl here ↦ inl (record {
-      place = omega (arith, place_here m v here, long m);
-      back = member_here m (place_in (with_member m) v) (place_here m v here) ∙ sym here;
-    })
-    | inr apart ↦ inr (place_past m v (omega (arith, not, apart)))
+    | inr none ↦ inr (place_other m vertex v apart ∙ none)
   ]
 ]
 
-pub numbered_more : (m : Numbering) → AreNumbered m → length m.places < m.count → AreNumbered (with_member m)
-numbered_more m are room = record {
-  few = omega (arith, are.few, long m, length-append m.places (length m.vertices ∷ []));
-  most = omega (arith, room, length-append m.places (length m.vertices ∷ []));
-  end = omega (arith, length-append m.places (length m.vertices ∷ []));
-  vertices = vertices_more m are;
+pub numbered_more : (m : Numbering) (vertex : ℕ) → AreNumbered m → m.end ≤ vertex → vertex < m.count → AreNumbered (with_member m vertex)
+numbered_more m vertex are next within = record {
+  long = length-set m.places vertex (length m.vertices) ∙ are.long;
+  few = omega (arith, are.few, long m vertex, next);
+  end = omega (arith, within);
+  vertices = vertices_more m vertex are next;
   places = λ p below. elim (cases_lt p (length m.vertices)) [
     | inl less ↦
-        let within : member_at m.vertices p < length m.places = omega (arith, are.vertices.within p less, are.end) in
-        ap (λ (v : ℕ). place_in (with_member m) v) (member_before m p less) ∙ place_before m (member_at m.vertices p) within ∙ are.places p less
+        let apart : member_at m.vertices p ≢ vertex = λ same. omega (arith, same, are.vertices.within p less, next) in
+        ap (λ (v : ℕ). place_in (with_member m vertex) v) (member_before m vertex p less) ∙ place_other m vertex (member_at m.vertices p) apart ∙ are.places p less
     | inr not ↦
-        let last : p ≡ length m.vertices = omega (arith, not, below, long m) in
-        place_here m (member_at (with_member m).vertices p) (member_here m p last) ∙ sym last
+        let last : p ≡ length m.vertices = omega (arith, not, below, long m vertex) in
+        ap (λ (v : ℕ). place_in (with_member m vertex) v) (member_here m vertex p last) ∙ place_here m vertex (omega (arith, within, are.long)) ∙ sym last
   ];
-  others = others_more m are;
+  others = others_more m vertex are within;
 }
+
+pub numbered_as : (m : Numbering) (vertex : ℕ) (after : Numbering) → AreNumbered m → m.end ≤ vertex → vertex < m.count → after.count ≡ m.count →
+    after.places ≡ set m.places vertex (length m.vertices) → after.vertices ≡ m.vertices ++ vertex ∷ [] → after.end ≡ vertex + 1 → AreNumbered after
+numbered_as m vertex after are next within count places vertices end =
+    subst (λ (n : ℕ). AreNumbered (record { count = n; places = after.places; vertices = after.vertices; end = after.end })) (sym count)
+    (subst (λ (l : List ℕ). AreNumbered (record { count = m.count; places = l; vertices = after.vertices; end = after.end })) (sym places)
+    (subst (λ (l : List ℕ). AreNumbered (record { count = m.count; places = (with_member m vertex).places; vertices = l; end = after.end })) (sym vertices)
+    (subst (λ (n : ℕ). AreNumbered (record {
+      count = m.count; places = (with_member m vertex).places; vertices = (with_member m vertex).vertices; end = n;
+    })) (sym end) (numbered_more m vertex are next within))))
+
+-- before the first vertex there is no member
+pub none_numbered : (count : ℕ) → AreNumbered (record { count = count; places = replicate count count; vertices = []; end = 0 })
+none_numbered count = record {
+  long = length-replicate count count;
+  few = omega arith;
+  end = omega arith;
+  vertices = record { within = λ p below. absurd (omega (arith, below)); ascending = λ p q less below. absurd (omega (arith, below)) };
+  places = λ p below. absurd (omega (arith, below));
+  others = λ v. inr (elim (cases_lt v count) [
+    | inl below ↦ get_or-replicate count v count count below
+    | inr past ↦ get_or_past (replicate count count) v count (omega (arith, past, length-replicate count count))
+  ]);
+}
+
+-- marks stay where one more is put
+pub still_marked : (marks : List Bool) (i v : ℕ) → i < length marks → get_or marks v false ≡ true → get_or (set marks i true) v false ≡ true
+still_marked marks i v below is = elim (cases_eq v i) [
+  | inl same ↦ ap (λ (w : ℕ). get_or (set marks i true) w false) same ∙ get_or-set_same marks i true false below
+  | inr apart ↦ get_or-set_other marks i v true false apart ∙ is
+]
+
+-- the marked vertices so far, and one more
+pub marked_more : (marks : List Bool) (vertex : ℕ) (before after : Numbering) → Numbers vertex (get_or marks vertex false) before after →
+    HaveMarked marks vertex before → HaveMarked marks (vertex + 1) after
+marked_more marks vertex before after numbers have v below marked = elim (cases_lt v vertex) [
+  | inl less ↦ omega (arith, numbers.kept v less, have v less marked, numbers.more)
+  | inr not ↦
+      let here : v ≡ vertex = omega (arith, not, below) in
+      subst (λ (w : ℕ). place_in after w < length after.vertices) (sym here)
+      (numbers.member (subst (λ (w : ℕ). get_or marks w false ≡ true) here marked))
+]
 
 -- what stands at one more place is put at its vertex
 pub spread_more : {X : Type 0} (none : X) (vertices : List ℕ) (end n : ℕ) (part whole : List X) (x : X) → AreVertices vertices end →

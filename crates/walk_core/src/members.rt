@@ -1,9 +1,10 @@
-ghost use Rattle.std.specs.Prelude.{◌≡◌, IfOk};
-ghost use Rattle.walk_core.specs.steps.Members.{placed_ports};
+ghost use Rattle.std.specs.Prelude.{◌≡◌, ◌<◌, Contains, IfOk, length};
+ghost use Rattle.walk_core.specs.Segments.{AreSegments};
+ghost use Rattle.walk_core.specs.declared.segment.Port.{Port as PortValue};
+ghost use Rattle.walk_core.specs.steps.Members.{placed_ports, AreMarked, Marks};
 
 use crate::OutOfMemory;
-use crate::outlets::{Outlets, is_lone};
-use crate::segment::{Port, Segment};
+use crate::segment::{Port, Segment, ports_at};
 use std::alloc::Global;
 use std::marker::Model;
 
@@ -29,19 +30,19 @@ impl Model for Members {
 }
 
 impl Members {
-    ghost use Rattle.std.specs.Prelude.{◌≡◌, ◌↔◌, ◌/◌, ◌<◌, ◌≤◌, IfOk, IsTrue, OnOk, length};
-    ghost use Rattle.walk_core.specs.steps.Members.{AreNumbered, HavePorts, Numbers, place_in, placed};
+    ghost use Rattle.std.specs.Prelude.{◌≡◌, ◌↔◌, ◌+◌, ◌/◌, ◌^◌, ◌<◌, ◌≤◌, IfOk, IsTrue, OnOk, length};
+    ghost use Rattle.walk_core.specs.Segments.{AreSegments};
+    ghost use Rattle.walk_core.specs.steps.Members.{AreMembers, AreNumbered, Numbers, place_in, placed};
 
-    /// The members of so many vertices, which have these ports.
-    pub fn of(alloc: Global, outlets: &[Outlets], count: u32) -> Result<Members, OutOfMemory>
-        requires { length outlets.now ≡ count }
-        ensures numbered { IfOk result AreNumbered }
-        ensures ports { IfOk result (HavePorts outlets.now) }
-        ensures long { IfOk result (λ members. length members.places ≡ count) }
+    /// The members of so many vertices, which these segments join.
+    pub fn of(alloc: Global, segments: &[Segment], count: u32) -> Result<Members, OutOfMemory>
+        requires { AreSegments count segments.now }
+        ensures members { IfOk result (AreMembers segments.now) }
         ensures count { IfOk result (λ members. members.count ≡ count) }
     {
-        let places = Vec::with_capacity(alloc, count as usize)?;
-        let vertices = Vec::new(alloc);
+        let marks = marked(alloc, segments, count)?;
+        let places = vec![in alloc; count; count as usize]?;
+        let vertices = Vec::with_capacity(alloc, count as usize)?;
         let mut members = Members {
             count,
             places,
@@ -49,24 +50,25 @@ impl Members {
             end: 0,
         };
         for vertex in 0..count {
-            members.number(vertex, is_lone(outlets[vertex as usize].as_slice()))?;
+            members.number(vertex, marks[vertex as usize])?;
         }
         Ok(members)
     }
 
-    /// Numbers the next vertex, if it has a port.
-    fn number(&mut self, vertex: u32, lone: bool) -> Result<(), OutOfMemory>
+    /// Numbers the next vertex, if it is marked.
+    #[inline(always)]
+    fn number(&mut self, vertex: u32, marked: bool) -> Result<(), OutOfMemory>
         requires numbered { AreNumbered self.old }
-        requires next { length self.old.places ≡ vertex }
+        requires next { self.old.end ≤ vertex }
         requires within { vertex < self.old.count }
+        requires fits { vertex + 1 < 2 ^ 32 }
         ensures numbered { OnOk result (AreNumbered self.new) }
-        ensures next { OnOk result (Numbers vertex lone self.old self.new) }
+        ensures next { OnOk result (Numbers vertex marked self.old self.new) }
     {
-        if lone {
-            self.places.push(self.count)?;
+        if !marked {
             return Ok(());
         }
-        self.places.push(self.vertices.len() as u32)?;
+        self.places[vertex as usize] = self.vertices.len() as u32;
         self.vertices.push(vertex)?;
         self.end = vertex + 1;
         Ok(())
@@ -77,8 +79,8 @@ impl Members {
         requires { AreNumbered self.now }
         ensures { result ≡ length self.now.vertices }
     {
-        // no more than there are vertices
-        let _count = self.count;
+        // no more than the last of them
+        let _end = self.end;
         self.vertices.len() as u32
     }
 
@@ -153,4 +155,27 @@ fn placed_ports(
         })?;
     }
     Ok(all)
+}
+
+/// Which of so many vertices have a port.
+fn marked(alloc: Global, segments: &[Segment], count: u32) -> Result<Vec<bool>, OutOfMemory>
+    requires { AreSegments count segments.now }
+    ensures marked { IfOk result (λ marks. AreMarked segments.now (length segments.now) marks.items) }
+    ensures long { IfOk result (λ marks. length marks.items ≡ count) }
+{
+    let mut marks = vec![in alloc; false; count as usize]?;
+    for place in 0..segments.len() {
+        mark(&mut marks, ports_at(segments, place));
+    }
+    Ok(marks)
+}
+
+/// Marks the vertices of some ports.
+fn mark(marks: &mut Vec<bool>, ports: &[Port])
+    requires { (port : PortValue) → Contains ports.now port → port.vertex < length marks.old.items }
+    ensures { Marks ports.now marks.old.items marks.new.items }
+{
+    for place in 0..ports.len() {
+        marks[ports[place].vertex as usize] = true;
+    }
 }

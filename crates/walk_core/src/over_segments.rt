@@ -25,11 +25,11 @@ pub fn segment_walks(
     requires { AreSegments count segments.now }
     ensures { IfOk result (λ all. AreWalksBelow (SendsAcross segments.now) count count all.items) }
 {
-    let outlets = all_outlets(alloc, segments, count)?;
-    let members = Members::of(alloc, outlets.as_slice(), count)?;
+    let members = Members::of(alloc, segments, count)?;
     if members.are_few() {
         return member_walks(alloc, segments, &members);
     }
+    let outlets = all_outlets(alloc, segments, count)?;
     whole_walks(alloc, segments, outlets.as_slice(), count)
 }
 

@@ -1,12 +1,12 @@
 -- Some vertices of many, numbered anew among themselves, and what is known of them as known of all.
-use Rattle.std.specs.Prelude.{◌≡◌, ◌≢◌, ℕ, ◌+◌, ◌<◌, ◌≤◌, ◌⊎◌, Bool, false, List, [], Option, None, Contains, length, map, slice_index_or}
+use Rattle.std.specs.Prelude.{◌≡◌, ◌≢◌, ℕ, ◌+◌, ◌<◌, ◌≤◌, ◌⊎◌, Bool, false, true, List, [], Option, None, Contains, length, map, slice_index_or}
 use Rattle.walk_core.specs.KeptWalks.{lone_row}
 use Rattle.walk_core.specs.Reach.{Reach}
 use Rattle.walk_core.specs.Segments.{AreSegments, SendsAcross}
-use Rattle.walk_core.specs.declared.outlets.Outlet.{Outlet}
 use Rattle.walk_core.specs.declared.segment.Port.{Port}
 use Rattle.walk_core.specs.steps.Ascending.{AreAscending}
 use Rattle.walk_core.specs.steps.FirstHops.{AreAllHops}
+use Rattle.walk_core.specs.steps.Flooding.{segment_at}
 use Rattle.walk_core.specs.steps.Rows.{AreDistanceRows}
 
 -- the members of so many vertices: the place of each vertex, the vertex of each place, and one past the last of these
@@ -36,25 +36,34 @@ pub record IsMember (members : Numbering) (v : ℕ) : Type 0 where
 
 -- places and vertices fit each other
 pub record AreNumbered (members : Numbering) : Type 0 where
-  pub few : length members.vertices ≤ length members.places
-  pub most : length members.places ≤ members.count
-  pub end : members.end ≤ length members.places
+  pub long : length members.places ≡ members.count
+  pub few : length members.vertices ≤ members.end
+  pub end : members.end ≤ members.count
   pub vertices : AreVertices members.vertices members.end
   pub places : (p : ℕ) → p < length members.vertices → place_in members (member_at members.vertices p) ≡ p
   pub others : (v : ℕ) → IsMember members v ⊎ (place_in members v ≡ members.count)
 
--- one more vertex gets a place, which is a member's unless it is lone, and all others keep theirs
-pub record Numbers (vertex : ℕ) (lone : Bool) (before after : Numbering) : Type 0 where
+-- where it is marked, one more vertex becomes a member, behind those that are
+pub record Numbers (vertex : ℕ) (marked : Bool) (before after : Numbering) : Type 0 where
   pub count : after.count ≡ before.count
-  pub long : length after.places ≡ vertex + 1
   pub more : length before.vertices ≤ length after.vertices
+  pub end : after.end ≤ vertex + 1
   pub kept : (v : ℕ) → v < vertex → place_in after v ≡ place_in before v
-  pub member : lone ≡ false → place_in after vertex < length after.vertices
+  pub member : marked ≡ true → place_in after vertex < length after.vertices
 
--- so far each vertex that has an outlet is a member
-abbrev pub HavePorts : List (List Outlet) → Numbering → Type 0
-HavePorts outlets members = (v : ℕ) → v < length members.places → length (slice_index_or outlets v []) ≢ 0 →
-    place_in members v < length members.vertices
+-- each marked vertex below n is a member
+abbrev pub HaveMarked : List Bool → ℕ → Numbering → Type 0
+HaveMarked marks n members = (v : ℕ) → v < n → slice_index_or marks v false ≡ true → place_in members v < length members.vertices
+
+-- the vertices of the ports of the first n segments are marked
+abbrev pub AreMarked : List (List Port) → ℕ → List Bool → Type 0
+AreMarked segments n marks = (i : ℕ) → i < n → (port : Port) → Contains (segment_at segments i) port → slice_index_or marks port.vertex false ≡ true
+
+-- those of some ports are, and what was so before
+pub record Marks (ports : List Port) (before after : List Bool) : Type 0 where
+  pub long : length after ≡ length before
+  pub kept : (v : ℕ) → slice_index_or before v false ≡ true → slice_index_or after v false ≡ true
+  pub each : (port : Port) → Contains ports port → slice_index_or after port.vertex false ≡ true
 
 -- each vertex of a port is a member
 pub record AreMembers (segments : List (List Port)) (members : Numbering) : Type 0 where
