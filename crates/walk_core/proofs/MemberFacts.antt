@@ -1,11 +1,9 @@
 -- Over segments: the members, their graph, and the walks from every vertex by it.
-use Rattle.std.proofs.lemmas.Grind.{common_steps}
-use Rattle.std.proofs.Common.{◌≡◌, ◌≢◌, ℕ, ◌+◌, ◌<◌, ◌≤◌, ◌⊎◌, List, [], ◌∷◌, ◌++◌, Option, None, Contains, Bool, length, map, get_or}
+use Rattle.std.proofs.Common.{◌≡◌, ℕ, ◌+◌, ◌<◌, ◌≤◌, List, [], ◌∷◌, ◌++◌, Contains, Bool, length, map, get_or}
 use Rattle.std.proofs.Common.{arith, inl, inr, sym, ◌∙◌, subst, ap}
 use Rattle.std.proofs.lemmas.List.{get_or_default}
-use Rattle.walk_core.specs.KeptWalks.{lone_row}
 use Rattle.walk_core.specs.Reach.{Reach, AreWalksBelow}
-use Rattle.walk_core.specs.Segments.{AreSegments, IsPort, Sends, SendsAcross, SendsOn}
+use Rattle.walk_core.specs.Segments.{AreSegments, IsPort, SendsAcross, SendsOn}
 use Rattle.walk_core.specs.Walks.{Arcs}
 use Rattle.walk_core.specs.declared.segment.Port.{Port}
 use Rattle.walk_core.specs.steps.Ascending.{AreAscending}
@@ -88,23 +86,26 @@ members_renumber segments m are = record { there = there; back = back; placing =
         let ports : List Port = arc.over.segment in
         let on : SendsOn ports u v c = arc.over.over in
         let near : place_in m u < n = subst (λ (w : ℕ). place_in m w < n) on.from (are.ports ports arc.over.among on.near on.near_among) in
-        let reached : place_in m v < n = subst (λ (w : ℕ). place_in m w < n) on.to (are.ports ports arc.over.among on.far on.far_among) in
-        (near, reached, record {
-          apart = λ same. arc.apart (sym (member_back m are.numbered u near) ∙ ap (member_at m.vertices) same ∙ member_back m are.numbered v reached);
-          over = record {
-            segment = placed_ports m ports;
-            among = contains_map (placed_ports m) segments ports arc.over.among;
+        let reached : place_in m v < n = subst (λ (w : ℕ). place_in m w < n) on.to (are.ports ports arc.over.among on.far on.far_among) in (
+          near,
+          reached,
+          record {
+            apart = λ same. arc.apart (sym (member_back m are.numbered u near) ∙ ap (member_at m.vertices) same ∙ member_back m are.numbered v reached);
             over = record {
-              near = placed_port m on.near;
-              far = placed_port m on.far;
-              near_among = contains_map (placed_port m) ports on.near on.near_among;
-              far_among = contains_map (placed_port m) ports on.far on.far_among;
-              from = ap (place_in m) on.from;
-              to = ap (place_in m) on.to;
-              costs = on.costs;
+              segment = placed_ports m ports;
+              among = contains_map (placed_ports m) segments ports arc.over.among;
+              over = record {
+                near = placed_port m on.near;
+                far = placed_port m on.far;
+                near_among = contains_map (placed_port m) ports on.near on.near_among;
+                far_among = contains_map (placed_port m) ports on.far on.far_among;
+                from = ap (place_in m) on.from;
+                to = ap (place_in m) on.to;
+                costs = on.costs;
+              };
             };
-          };
-        })
+          },
+        )
 
     back : (p q c : ℕ) → SendsAcross (placed m segments) p q c → (p < n) × (q < n) × SendsAcross segments (member_at m.vertices p) (member_at m.vertices q) c
     back p q c arc =
@@ -115,23 +116,26 @@ members_renumber segments m are = record { there = there; back = back; placing =
         let end : IsPlaced m old.0 on.far.vertex on.far.cost = port_back segments m are old.0 old.1 on.far
         (subst (λ (s : List Port). Contains s on.far) (sym old.2) on.far_among) in
         let first : p < n = subst (λ (w : ℕ). w < n) on.from near.within in
-        let last : q < n = subst (λ (w : ℕ). w < n) on.to end.within in
-        (first, last, record {
-          apart = λ same. arc.apart (sym (are.numbered.places p first) ∙ ap (place_in m) same ∙ are.numbered.places q last);
-          over = record {
-            segment = old.0;
-            among = old.1;
+        let last : q < n = subst (λ (w : ℕ). w < n) on.to end.within in (
+          first,
+          last,
+          record {
+            apart = λ same. arc.apart (sym (are.numbered.places p first) ∙ ap (place_in m) same ∙ are.numbered.places q last);
             over = record {
-              near = near.port;
-              far = end.port;
-              near_among = near.among;
-              far_among = end.among;
-              from = near.is ∙ ap (member_at m.vertices) on.from;
-              to = end.is ∙ ap (member_at m.vertices) on.to;
-              costs = near.costs ∙ on.costs;
+              segment = old.0;
+              among = old.1;
+              over = record {
+                near = near.port;
+                far = end.port;
+                near_among = near.among;
+                far_among = end.among;
+                from = near.is ∙ ap (member_at m.vertices) on.from;
+                to = end.is ∙ ap (member_at m.vertices) on.to;
+                costs = near.costs ∙ on.costs;
+              };
             };
-          };
-        })
+          },
+        )
 
 -- first hops over segments of so many vertices are among these
 pub member_lists : (segments : List (List Port)) (n : ℕ) (lists : List (List (List ℕ))) → AreSegments n segments → AreAllHops (SendsAcross segments) n lists →

@@ -1,6 +1,5 @@
 -- The walks over some vertices, numbered anew, are those over all.
-use Rattle.std.proofs.lemmas.Grind.{common_steps}
-use Rattle.std.proofs.Common.{◌≡◌, ◌≢◌, ℕ, ◌+◌, ◌*◌, ◌^◌, ◌<◌, ◌≤◌, ◌↔◌, ◌⊎◌, List, [], ◌∷◌, Option, Some, None, Contains, length, map, get_or, refl}
+use Rattle.std.proofs.Common.{◌≡◌, ℕ, ◌+◌, ◌<◌, ◌≤◌, ◌↔◌, List, [], ◌∷◌, Option, None, Contains, length, map, get_or, refl}
 use Rattle.std.proofs.Common.{arith, inl, inr, sym, ◌∙◌, subst, ap}
 use Rattle.std.proofs.Math.ListN.{get_or-map}
 use Rattle.std.proofs.lemmas.Bool.{cases_lt}
@@ -13,7 +12,7 @@ use Rattle.std.specs.List.Sorted.{IsStrictlyIncreasing}
 use Rattle.walk_core.specs.steps.Ascending.{AreAscending}
 use Rattle.walk_core.specs.steps.FirstHops.{ListFirstHops}
 use Rattle.walk_core.specs.steps.Members.{AreVertices, IsSpread, member_at, members_at}
-use Rattle.walk_core.specs.steps.Rows.{AreLeastDistances, IsDistanceRow}
+use Rattle.walk_core.specs.steps.Rows.{IsDistanceRow}
 
 -- each place below n is that of its vertex, and each vertex of such a place stands there
 pub record IsPlacing (n : ℕ) (place mem : ℕ → ℕ) : Type 0 where
@@ -72,8 +71,12 @@ least_there : (arc small : Arcs) (n : ℕ) (place mem : ℕ → ℕ) → Renumbe
 least_there arc small n place mem are p legs q near far walk = record {
   leads = walks_to_places arc small n place mem are p legs q near far walk.leads;
   least = λ others other.
-      omega (arith, cost_renamed place legs, cost_renamed mem others,
-      walk.least (renamed mem others) (walks_back arc small n place mem are p others q other));
+      omega (
+        arith,
+        cost_renamed place legs,
+        cost_renamed mem others,
+        walk.least (renamed mem others) (walks_back arc small n place mem are p others q other),
+      );
 }
 
 least_back : (arc small : Arcs) (n : ℕ) (place mem : ℕ → ℕ) → Renumbers arc small n place mem → (p : ℕ) (legs : List Leg) (q : ℕ) → p < n → q < n →
@@ -81,8 +84,12 @@ least_back : (arc small : Arcs) (n : ℕ) (place mem : ℕ → ℕ) → Renumber
 least_back arc small n place mem are p legs q near far walk = record {
   leads = walks_back arc small n place mem are p legs q walk.leads;
   least = λ others other.
-      omega (arith, cost_renamed mem legs, cost_renamed place others,
-      walk.least (renamed place others) (walks_to_places arc small n place mem are p others q near far other));
+      omega (
+        arith,
+        cost_renamed mem legs,
+        cost_renamed place others,
+        walk.least (renamed place others) (walks_to_places arc small n place mem are p others q near far other),
+      );
 }
 
 -- least costs between places are those between their vertices
@@ -212,7 +219,7 @@ hops_spread arc small place vertices p lists whole are below known is v h = elim
         (hop_back arc small n place mem are p (place v) old.0 below inside ((known (place v) old.0).0 old.1))),
     λ first.
         let there = hop_there arc small n place mem are p (place v) h below inside
-            (subst (λ (w : ℕ). FirstHop arc (mem p) w h) (sym (are.placing.members v inside)) first) in
+        (subst (λ (w : ℕ). FirstHop arc (mem p) w h) (sym (are.placing.members v inside)) first) in
         subst (λ (l : List ℕ). Contains l h) (sym (here v inside))
         (subst (λ (x : ℕ). Contains (members_at vertices (list v)) x) (are.placing.members h there.0)
         (contains_map mem (list v) (place h) ((known (place v) (place h)).1 there.1))),
@@ -220,7 +227,7 @@ hops_spread arc small place vertices p lists whole are below known is v h = elim
   | inr not ↦ (
     λ has.
         let none : Contains [] h = subst (λ (l : List ℕ). Contains l h)
-            (spread_out place vertices [] (map (members_at vertices) lists) whole are.placing is v (omega (arith, not))) has in
+        (spread_out place vertices [] (map (members_at vertices) lists) whole are.placing is v (omega (arith, not))) has in
         absurd (omega (arith, none.1)),
     λ first. absurd (no_walk_out arc small n place mem are p (first.leg ∷ first.legs) v below (omega (arith, not)) first.walk.leads),
   )
@@ -247,8 +254,12 @@ increasing_members vertices end list are small is k below =
     get_or_within (member_at vertices) list k 0 0 (omega (arith, later)) in
     let far : get_or (members_at vertices list) (k + 1) 0 ≡ member_at vertices (get_or list (k + 1) 0) =
     get_or_within (member_at vertices) list (k + 1) 0 0 later in
-    omega (arith, near, far,
-    are.ascending (get_or list k 0) (get_or list (k + 1) 0) (is k later) (small (get_or list (k + 1) 0) (Contains-get_or list (k + 1) 0 later)))
+    omega (
+      arith,
+      near,
+      far,
+      are.ascending (get_or list k 0) (get_or list (k + 1) 0) (is k later) (small (get_or list (k + 1) 0) (Contains-get_or list (k + 1) 0 later)),
+    )
 
 pub ascending_spread : (place : ℕ → ℕ) (vertices : List ℕ) (end : ℕ) (lists whole : List (List ℕ)) → IsPlacing (length vertices) place (member_at vertices) →
     AreVertices vertices end → ((v h : ℕ) → Contains (get_or lists v []) h → h < length vertices) → AreAscending lists →

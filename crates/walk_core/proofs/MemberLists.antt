@@ -1,5 +1,4 @@
 -- Lists of numbers, each in place of another one.
-use Rattle.std.proofs.lemmas.Grind.{common_steps}
 use Rattle.std.proofs.Common.{◌≡◌, ℕ, ◌-◌, ◌<◌, ◌≤◌, List, [], ◌∷◌, length, map, get_or, take, drop, refl, ap, sym, subst, ◌∙◌, arith, All, inl, inr}
 use Rattle.std.proofs.lemmas.Bool.{cases_lt}
 use Rattle.std.proofs.Math.ListN.{get_or-map}
@@ -8,7 +7,7 @@ use Rattle.walk_core.specs.declared.long_lists.Span.{Span}
 use Rattle.walk_core.specs.steps.NumberLists.{Numbers}
 use Rattle.walk_core.specs.steps.NumberLists.Numbers.{Nothing, One, More}
 use Rattle.walk_core.specs.steps.Members.{IsSpread, member_at, members_at}
-use Rattle.walk_core.specs.steps.NumberLists.{part_of, lists_of, list_of, renumbered, AreSpansWithin, IsLongListKept, IsWithin}
+use Rattle.walk_core.specs.steps.NumberLists.{part_of, lists_of, list_of, renumbered, AreSpansWithin, IsLongListKept}
 
 -- a span of other numbers is that of the numbers, in place of each its other one
 part_renumbered : (f : ℕ → ℕ) (numbers : List ℕ) (span : Span) → part_of (map f numbers) span ≡ map f (part_of numbers span)

@@ -1,5 +1,4 @@
 -- One more vertex is numbered, and what is known at places is spread to their vertices.
-use Rattle.std.proofs.lemmas.Grind.{common_steps}
 use Rattle.std.proofs.Common.{◌≡◌, ◌≢◌, ℕ, zero, suc, ◌+◌, ◌<◌, ◌≤◌, ◌⊎◌, List, [], ◌∷◌, ◌++◌, Bool, true, false, length, length-append, length-set, replicate, get_or, get_or-set_same, get_or-set_other, set}
 use Rattle.std.proofs.Common.{arith, inl, inr, sym, ◌∙◌, subst, ap}
 use Rattle.std.proofs.lemmas.Bool.{cases_lt, cases_eq}
@@ -86,7 +85,10 @@ numbered_as m vertex after are next within count places vertices end =
     (subst (λ (l : List ℕ). AreNumbered (record { count = m.count; places = l; vertices = after.vertices; end = after.end })) (sym places)
     (subst (λ (l : List ℕ). AreNumbered (record { count = m.count; places = (with_member m vertex).places; vertices = l; end = after.end })) (sym vertices)
     (subst (λ (n : ℕ). AreNumbered (record {
-      count = m.count; places = (with_member m vertex).places; vertices = (with_member m vertex).vertices; end = n;
+      count = m.count;
+      places = (with_member m vertex).places;
+      vertices = (with_member m vertex).vertices;
+      end = n;
     })) (sym end) (numbered_more m vertex are next within))))
 
 -- before the first vertex there is no member

@@ -13,6 +13,7 @@
 //! | `distance`, `rows` | a distance in 8 bytes, and a row of those from one vertex |
 //! | `relax`, `hops` | over arcs: distances by relaxing, and first hops by the distances from where arcs lead |
 //! | `over_segments`, `segment_graph`, `outlets` | over segments: the walks from all vertices, and a graph of segments with its ports |
+//! | `members` | the vertices that have a port, numbered anew where they are few, so that rows are as long as they are many |
 //! | `flood` | distances over segments, from stale vertices, and onto a LAN at once |
 //! | `ends` | the distances from a root of one or two links, by those from the far ends |
 //! | `beyond`, `ways` | the walks that begin on a LAN, once for all roots, and first hops by these and by the distances from the ends of links |
@@ -27,7 +28,9 @@
 //! read, not searched. Nor are the distances from every root searched: from one of one or two links they are the least of
 //! what each costs and how far it is from the far end, one pass over a row a link, where those rows were searched before.
 //! Along a chain every second root is such a one. A root without a port takes no
-//! time of its own and no row, and the rows of the others end with the last vertex that has a port. Where the walks over
+//! time of its own and no row, and the rows of the others end with the last vertex that has a port. Where at most half of the
+//! vertices have one, as the routers of an area in a network of many, the walks are found over these alone, so that n is their
+//! number, and the rows are spread to whole ones at the end. Where the walks over
 //! more segments are known, roots keep those that take none of the segments that went (`segment_walks_without`). A caller that is
 //! proved: `KnownWalks::walks_over` of `zone_graph`.
 #![tactic(auto)]

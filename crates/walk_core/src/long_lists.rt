@@ -94,11 +94,7 @@ impl LongLists {
 }
 
 /// The vertices that stand at some numbers.
-fn renumbered(
-    alloc: Global,
-    numbers: &[u32],
-    vertices: &[u32],
-) -> Result<Vec<u32>, OutOfMemory>
+fn renumbered(alloc: Global, numbers: &[u32], vertices: &[u32]) -> Result<Vec<u32>, OutOfMemory>
     ensures { IfOk result (λ all. all.items ≡ members_at vertices.now numbers.now) }
 {
     let mut all = Vec::with_capacity(alloc, numbers.len())?;

@@ -140,11 +140,7 @@ impl Members {
 }
 
 /// The ports of a segment with places in place of vertices.
-fn placed_ports(
-    alloc: Global,
-    members: &Members,
-    ports: &[Port],
-) -> Result<Vec<Port>, OutOfMemory>
+fn placed_ports(alloc: Global, members: &Members, ports: &[Port]) -> Result<Vec<Port>, OutOfMemory>
     ensures { IfOk result (λ all. all.items ≡ placed_ports members.now ports.now) }
 {
     let mut all = Vec::with_capacity(alloc, ports.len())?;

@@ -1,5 +1,4 @@
-use Rattle.std.proofs.lemmas.Grind.{common_steps}
-use Rattle.std.proofs.Common.{ℕ, List, arith, get_or, length-set, map, sym, subst, ◌∙◌}
+use Rattle.std.proofs.Common.{ℕ, List, get_or, length-set, map, sym, subst, ◌∙◌}
 use Rattle.std.proofs.lemmas.List.Elements.{All-set}
 use Rattle.std.proofs.Math.ListN.{get_or-map}
 use Rattle.walk_core.specs.steps.NumberLists.{Numbers}

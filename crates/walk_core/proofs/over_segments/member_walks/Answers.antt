@@ -3,7 +3,7 @@ use Rattle.walk_core.specs.Segments.{AreSegments, SendsAcross}
 use Rattle.walk_core.specs.declared.outlets.Outlet.{Outlet}
 use Rattle.walk_core.specs.declared.segment.Port.{Port}
 use Rattle.walk_core.specs.steps.FirstHops.{AreAllHops}
-use Rattle.walk_core.specs.steps.Members.{AreMemberLists, AreMemberWalks, Numbering, placed}
+use Rattle.walk_core.specs.steps.Members.{AreMemberLists, Numbering, placed}
 use Rattle.walk_core.specs.steps.Rows.{AreDistanceRows}
 use Rattle.walk_core.specs.steps.SegmentWalks.{AreAllOutlets, Joined}
 use Rattle.walk_core.proofs.MemberFacts.{member_lists, placed_fit}

@@ -1,5 +1,5 @@
 use Rattle.std.proofs.lemmas.Grind.{common_steps}
-use Rattle.std.proofs.Common.{None, length-set, get_or, sym, ◌∙◌, arith, None}
+use Rattle.std.proofs.Common.{arith}
 use Rattle.walk_core.proofs.MemberSteps.{place_at_most, spread_more}
 use Rattle.walk_core.proofs.rows.Distances.spread.Goals as goal
 
