@@ -3,7 +3,7 @@ use Rattle.std.proofs.Common.{◌≡◌, ◌≢◌, ℕ, zero, suc, ◌+◌, ◌
 use Rattle.std.proofs.Common.{arith, inl, inr, sym, ◌∙◌, subst, ap}
 use Rattle.std.proofs.lemmas.Bool.{cases_lt, cases_eq}
 use Rattle.std.proofs.lemmas.List.{get_or_append_left, get_or_push, get_or_past, get_or-replicate, length-replicate}
-use Rattle.walk_core.specs.steps.Members.{Numbering, AreNumbered, AreVertices, HaveMarked, IsMember, IsSpread, Numbers, member_at, place_in}
+use Rattle.walk_core.specs.steps.Members.{Numbering, AreNumbered, AreVertices, HaveMarked, IsMember, IsSpread, NumbersVertex, member_at, place_in}
 
 -- one more vertex, behind the others, is a member
 abbrev pub with_member : Numbering → ℕ → Numbering
@@ -113,7 +113,7 @@ still_marked marks i v below is = elim (cases_eq v i) [
 ]
 
 -- the marked vertices so far, and one more
-pub marked_more : (marks : List Bool) (vertex : ℕ) (before after : Numbering) → Numbers vertex (get_or marks vertex false) before after →
+pub marked_more : (marks : List Bool) (vertex : ℕ) (before after : Numbering) → NumbersVertex vertex (get_or marks vertex false) before after →
     HaveMarked marks vertex before → HaveMarked marks (vertex + 1) after
 marked_more marks vertex before after numbers have v below marked = elim (cases_lt v vertex) [
   | inl less ↦ omega (arith, numbers.kept v less, have v less marked, numbers.more)

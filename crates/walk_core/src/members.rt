@@ -32,7 +32,7 @@ impl Model for Members {
 impl Members {
     ghost use Rattle.std.specs.Prelude.{◌≡◌, ◌↔◌, ◌+◌, ◌/◌, ◌^◌, ◌<◌, ◌≤◌, IfOk, IsTrue, OnOk, length};
     ghost use Rattle.walk_core.specs.Segments.{AreSegments};
-    ghost use Rattle.walk_core.specs.steps.Members.{AreMembers, AreNumbered, Numbers, place_in, placed};
+    ghost use Rattle.walk_core.specs.steps.Members.{AreMembers, AreNumbered, NumbersVertex, place_in, placed};
 
     /// The members of so many vertices, which these segments join.
     pub fn of(alloc: Global, segments: &[Segment], count: u32) -> Result<Members, OutOfMemory>
@@ -63,7 +63,7 @@ impl Members {
         requires within { vertex < self.old.count }
         requires fits { vertex + 1 < 2 ^ 32 }
         ensures numbered { OnOk result (AreNumbered self.new) }
-        ensures next { OnOk result (Numbers vertex marked self.old self.new) }
+        ensures next { OnOk result (NumbersVertex vertex marked self.old self.new) }
     {
         if !marked {
             return Ok(());

@@ -44,7 +44,7 @@ pub record AreNumbered (members : Numbering) : Type 0 where
   pub others : (v : ℕ) → IsMember members v ⊎ (place_in members v ≡ members.count)
 
 -- where it is marked, one more vertex becomes a member, behind those that are
-pub record Numbers (vertex : ℕ) (marked : Bool) (before after : Numbering) : Type 0 where
+pub record NumbersVertex (vertex : ℕ) (marked : Bool) (before after : Numbering) : Type 0 where
   pub count : after.count ≡ before.count
   pub more : length before.vertices ≤ length after.vertices
   pub end : after.end ≤ vertex + 1
