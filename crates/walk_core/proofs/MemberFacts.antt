@@ -9,17 +9,21 @@ use Rattle.walk_core.specs.declared.segment.Port.{Port}
 use Rattle.walk_core.specs.steps.Ascending.{AreAscending}
 use Rattle.walk_core.specs.steps.Flooding.{segment_at}
 use Rattle.walk_core.specs.steps.FirstHops.{AreAllHops, ListFirstHops}
-use Rattle.walk_core.specs.steps.Members.{AreMarked, AreMemberLists, AreMembers, AreMemberWalks, AreNumbered, HaveMarked, IsSpread, IsSpreadReach, MemberWalks}
-use Rattle.walk_core.specs.steps.Members.{far, lone, Numbering, member_at, members_at, place_in, placed, placed_port, placed_ports}
+use Rattle.walk_core.specs.steps.Members.{AreMarked, AreMemberLists, AreMembers, AreMemberWalks, AreNumbered, HaveMarked}
+use Rattle.walk_core.specs.steps.Members.{IsSpread, IsSpreadReach, MemberWalks}
+use Rattle.walk_core.specs.steps.Members.{far, lone, Numbering, member_at, members_at, place_in, placed, placed_port}
+use Rattle.walk_core.specs.steps.Members.{placed_ports}
 use Rattle.walk_core.specs.steps.Rows.{IsDistanceRow}
 use Rattle.walk_core.proofs.FloodLaws.{sends_below}
-use Rattle.walk_core.proofs.MemberLaws.{IsPlacing, Renumbers, contains_map, contains_map_back, ascending_spread, hops_spread, row_spread}
+use Rattle.walk_core.proofs.MemberLaws.{IsPlacing, Renumbers, contains_map, contains_map_back, ascending_spread, hops_spread}
+use Rattle.walk_core.proofs.MemberLaws.{row_spread}
 use Rattle.walk_core.proofs.ReachLaws.{walks_more}
 use Rattle.walk_core.proofs.RowLaws.{alone_more}
 use Rattle.walk_core.proofs.WalkLaws.{first_hop_is_arc}
 
 -- the vertex of a member's place is the member
-member_back : (m : Numbering) → AreNumbered m → (v : ℕ) → place_in m v < length m.vertices → member_at m.vertices (place_in m v) ≡ v
+member_back : (m : Numbering) → AreNumbered m → (v : ℕ) → place_in m v < length m.vertices →
+    member_at m.vertices (place_in m v) ≡ v
 member_back m are v below = elim (are.others v) [
   | inl is ↦ is.back
   | inr none ↦ absurd (omega (arith, none, below, are.few, are.end))
@@ -41,14 +45,16 @@ members_of_marks segments marks m fit marked numbered have = record {
 }
 
 -- the segments of places are of as many vertices as there are members
-pub placed_fit : (segments : List (List Port)) (m : Numbering) → AreMembers segments m → AreSegments (length m.vertices) (placed m segments)
+pub placed_fit : (segments : List (List Port)) (m : Numbering) → AreMembers segments m →
+    AreSegments (length m.vertices) (placed m segments)
 placed_fit segments m are segment among port at =
     let old = contains_map_back (placed_ports m) [] segments segment among in
     let one : Port = record { vertex = 0; cost = 0 } in
     let on : Contains (placed_ports m old.0) port = subst (λ (s : List Port). Contains s port) (sym old.2) at in
     let near = contains_map_back (placed_port m) one old.0 port on in
     let is : IsPort m.count near.0 = are.fit old.0 old.1 near.0 near.1 in
-    subst (IsPort (length m.vertices)) near.2 (record { vertex = are.ports old.0 old.1 near.0 near.1; cost = is.cost; most = is.most })
+    subst (IsPort (length m.vertices)) near.2
+    (record { vertex = are.ports old.0 old.1 near.0 near.1; cost = is.cost; most = is.most })
 
 -- a port of a segment of places is that of a member
 record IsPlaced (m : Numbering) (ports : List Port) (place cost : ℕ) : Type 0 where
@@ -58,7 +64,8 @@ record IsPlaced (m : Numbering) (ports : List Port) (place cost : ℕ) : Type 0 
   within : place < length m.vertices
   is : port.vertex ≡ member_at m.vertices place
 
-port_back : (segments : List (List Port)) (m : Numbering) → AreMembers segments m → (ports : List Port) → Contains segments ports →
+port_back : (segments : List (List Port)) (m : Numbering) → AreMembers segments m → (ports : List Port) →
+    Contains segments ports →
     (port : Port) → Contains (placed_ports m ports) port → IsPlaced m ports port.vertex port.cost
 port_back segments m are ports among port at =
     let one : Port = record { vertex = 0; cost = 0 } in
@@ -81,16 +88,20 @@ members_renumber segments m are = record { there = there; back = back; placing =
     n : ℕ
     n = length m.vertices
 
-    there : (u v c : ℕ) → SendsAcross segments u v c → (place_in m u < n) × (place_in m v < n) × SendsAcross (placed m segments) (place_in m u) (place_in m v) c
+    there : (u v c : ℕ) → SendsAcross segments u v c →
+        (place_in m u < n) × (place_in m v < n) × SendsAcross (placed m segments) (place_in m u) (place_in m v) c
     there u v c arc =
         let ports : List Port = arc.over.segment in
         let on : SendsOn ports u v c = arc.over.over in
-        let near : place_in m u < n = subst (λ (w : ℕ). place_in m w < n) on.from (are.ports ports arc.over.among on.near on.near_among) in
-        let reached : place_in m v < n = subst (λ (w : ℕ). place_in m w < n) on.to (are.ports ports arc.over.among on.far on.far_among) in (
+        let near : place_in m u < n = subst (λ (w : ℕ). place_in m w < n) on.from
+        (are.ports ports arc.over.among on.near on.near_among) in
+        let reached : place_in m v < n = subst (λ (w : ℕ). place_in m w < n) on.to
+        (are.ports ports arc.over.among on.far on.far_among) in (
           near,
           reached,
           record {
-            apart = λ same. arc.apart (sym (member_back m are.numbered u near) ∙ ap (member_at m.vertices) same ∙ member_back m are.numbered v reached);
+            apart = λ same. arc.apart
+                (sym (member_back m are.numbered u near) ∙ ap (member_at m.vertices) same ∙ member_back m are.numbered v reached);
             over = record {
               segment = placed_ports m ports;
               among = contains_map (placed_ports m) segments ports arc.over.among;
@@ -107,7 +118,8 @@ members_renumber segments m are = record { there = there; back = back; placing =
           },
         )
 
-    back : (p q c : ℕ) → SendsAcross (placed m segments) p q c → (p < n) × (q < n) × SendsAcross segments (member_at m.vertices p) (member_at m.vertices q) c
+    back : (p q c : ℕ) → SendsAcross (placed m segments) p q c →
+        (p < n) × (q < n) × SendsAcross segments (member_at m.vertices p) (member_at m.vertices q) c
     back p q c arc =
         let on : SendsOn arc.over.segment p q c = arc.over.over in
         let old = contains_map_back (placed_ports m) [] segments arc.over.segment arc.over.among in
@@ -138,7 +150,8 @@ members_renumber segments m are = record { there = there; back = back; placing =
         )
 
 -- first hops over segments of so many vertices are among these
-pub member_lists : (segments : List (List Port)) (n : ℕ) (lists : List (List (List ℕ))) → AreSegments n segments → AreAllHops (SendsAcross segments) n lists →
+pub member_lists : (segments : List (List Port)) (n : ℕ) (lists : List (List (List ℕ))) → AreSegments n segments →
+    AreAllHops (SendsAcross segments) n lists →
     AreMemberLists n lists
 member_lists segments n lists fit are = record {
   long = are.long;
@@ -149,20 +162,24 @@ member_lists segments n lists fit are = record {
 }
 
 -- the lists that stand at the vertices of places ascend
-pub ascending_from : (m : Numbering) (lists : List (List (List ℕ))) (p : ℕ) (vertices : List ℕ) (part whole : List (List ℕ)) → AreNumbered m →
+pub ascending_from : (m : Numbering) (lists : List (List (List ℕ))) (p : ℕ) (vertices : List ℕ) (part whole : List (List ℕ)) →
+    AreNumbered m →
     AreMemberLists (length m.vertices) lists → p < length m.vertices → part ≡ get_or lists p [] → vertices ≡ m.vertices →
     IsSpread [] vertices (length vertices) (map (members_at vertices) part) whole → AreAscending whole
 ascending_from m lists p vertices part whole numbered are below is same spread =
     let at : IsSpread [] m.vertices (length m.vertices) (map (members_at m.vertices) (get_or lists p [])) whole =
     subst (λ (l : List (List ℕ)). IsSpread [] m.vertices (length m.vertices) (map (members_at m.vertices) l) whole) is
     (subst (λ (l : List ℕ). IsSpread [] l (length l) (map (members_at l) part) whole) same spread) in
-    ascending_spread (place_in m) m.vertices m.end (get_or lists p []) whole (placing_of m numbered) numbered.vertices (are.below p below)
+    ascending_spread (place_in m) m.vertices m.end (get_or lists p []) whole (placing_of m numbered) numbered.vertices
+    (are.below p below)
     (are.ascending p below) at
 
 -- the walks from one more vertex
-pub spread_walks_more : (segments : List (List Port)) (m : Numbering) (walks : MemberWalks) (root : ℕ) (reach : Reach) (all : List Reach) →
+pub spread_walks_more : (segments : List (List Port)) (m : Numbering) (walks : MemberWalks) (root : ℕ) (reach : Reach)
+    (all : List Reach) →
     AreMembers segments m → AreMemberWalks segments m walks → root < m.count → IsSpreadReach m walks root reach →
-    AreWalksBelow (SendsAcross segments) m.count root all → AreWalksBelow (SendsAcross segments) m.count (root + 1) (all ++ reach ∷ [])
+    AreWalksBelow (SendsAcross segments) m.count root all →
+    AreWalksBelow (SendsAcross segments) m.count (root + 1) (all ++ reach ∷ [])
 spread_walks_more segments m walks root reach all are known below (lone out is) before =
     subst (λ (r : Reach). AreWalksBelow (SendsAcross segments) m.count (root + 1) (all ++ r ∷ [])) (sym is)
     (alone_more segments m.count root all are.fit below
@@ -174,10 +191,12 @@ spread_walks_more segments m walks root reach all are known below (far inside wi
     let renumber = members_renumber segments m are in
     let few : length m.vertices ≤ m.count = omega (arith, are.numbered.few, are.numbered.end) in
     let row : IsDistanceRow arc m.count (member_at m.vertices p) reach.distances =
-    row_spread arc (SendsAcross (placed m segments)) m.count (place_in m) m.vertices p (get_or walks.rows p []) reach.distances renumber few inside
+    row_spread arc (SendsAcross (placed m segments)) m.count (place_in m) m.vertices p
+    (get_or walks.rows p []) reach.distances renumber few inside
     (known.rows.each p inside) distances within in
     let first : ListFirstHops arc (member_at m.vertices p) reach.hops =
-    hops_spread arc (SendsAcross (placed m segments)) (place_in m) m.vertices p (get_or walks.lists p []) reach.hops renumber inside
+    hops_spread arc (SendsAcross (placed m segments)) (place_in m) m.vertices p
+    (get_or walks.lists p []) reach.hops renumber inside
     (known.lists.exact p inside) hops in
     walks_more arc m.count root all reach before (subst (λ (u : ℕ). IsDistanceRow arc m.count u reach.distances) back row)
     (subst (λ (u : ℕ). ListFirstHops arc u reach.hops) back first)

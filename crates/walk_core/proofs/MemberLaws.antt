@@ -35,7 +35,8 @@ cost_renamed f [] = refl
 cost_renamed f (leg ∷ legs) = ap (λ (c : ℕ). leg.cost + c) (cost_renamed f legs)
 
 -- a walk from a member is one between places
-walks_there : (arc small : Arcs) (n : ℕ) (place mem : ℕ → ℕ) → Renumbers arc small n place mem → (u : ℕ) (legs : List Leg) (v : ℕ) → place u < n →
+walks_there : (arc small : Arcs) (n : ℕ) (place mem : ℕ → ℕ) → Renumbers arc small n place mem →
+    (u : ℕ) (legs : List Leg) (v : ℕ) → place u < n →
     Walks arc u legs v → (place v < n) × Walks small (place u) (renamed place legs) (place v)
 walks_there arc small n place mem are u [] v within leads = (subst (λ (w : ℕ). place w < n) leads within, ap place leads)
 walks_there arc small n place mem are u (leg ∷ legs) v within leads =
@@ -44,29 +45,35 @@ walks_there arc small n place mem are u (leg ∷ legs) v within leads =
     (rest.0, (over.2, rest.1))
 
 -- a walk between places is one between their vertices
-walks_back : (arc small : Arcs) (n : ℕ) (place mem : ℕ → ℕ) → Renumbers arc small n place mem → (p : ℕ) (legs : List Leg) (q : ℕ) →
+walks_back : (arc small : Arcs) (n : ℕ) (place mem : ℕ → ℕ) → Renumbers arc small n place mem →
+    (p : ℕ) (legs : List Leg) (q : ℕ) →
     Walks small p legs q → Walks arc (mem p) (renamed mem legs) (mem q)
 walks_back arc small n place mem are p [] q leads = ap mem leads
 walks_back arc small n place mem are p (leg ∷ legs) q leads =
     ((are.back p leg.to leg.cost leads.0).2, walks_back arc small n place mem are leg.to legs q leads.1)
 
 -- from the vertex of a place to that of another one
-walks_to_places : (arc small : Arcs) (n : ℕ) (place mem : ℕ → ℕ) → Renumbers arc small n place mem → (p : ℕ) (legs : List Leg) (q : ℕ) → p < n → q < n →
+walks_to_places : (arc small : Arcs) (n : ℕ) (place mem : ℕ → ℕ) → Renumbers arc small n place mem →
+    (p : ℕ) (legs : List Leg) (q : ℕ) → p < n → q < n →
     Walks arc (mem p) legs (mem q) → Walks small p (renamed place legs) q
 walks_to_places arc small n place mem are p legs q near far leads =
     subst (λ (b : ℕ). Walks small p (renamed place legs) b) (are.placing.places q far)
     (subst (λ (a : ℕ). Walks small a (renamed place legs) (place (mem q))) (are.placing.places p near)
-    (walks_there arc small n place mem are (mem p) legs (mem q) (subst (λ (a : ℕ). a < n) (sym (are.placing.places p near)) near) leads).1)
+    (walks_there arc small n place mem are (mem p) legs (mem q)
+    (subst (λ (a : ℕ). a < n) (sym (are.placing.places p near)) near) leads).1)
 
 -- no walk leads from a member to a vertex that is none
-no_walk_out : (arc small : Arcs) (n : ℕ) (place mem : ℕ → ℕ) → Renumbers arc small n place mem → (p : ℕ) (legs : List Leg) (v : ℕ) → p < n → n ≤ place v →
+no_walk_out : (arc small : Arcs) (n : ℕ) (place mem : ℕ → ℕ) → Renumbers arc small n place mem →
+    (p : ℕ) (legs : List Leg) (v : ℕ) → p < n → n ≤ place v →
     Walks arc (mem p) legs v → ⊥
 no_walk_out arc small n place mem are p legs v near out leads =
-    let there = walks_there arc small n place mem are (mem p) legs v (subst (λ (a : ℕ). a < n) (sym (are.placing.places p near)) near) leads in
+    let there = walks_there arc small n place mem are (mem p) legs v
+    (subst (λ (a : ℕ). a < n) (sym (are.placing.places p near)) near) leads in
     omega (arith, there.0, out)
 
 -- least walks are least over the others
-least_there : (arc small : Arcs) (n : ℕ) (place mem : ℕ → ℕ) → Renumbers arc small n place mem → (p : ℕ) (legs : List Leg) (q : ℕ) → p < n → q < n →
+least_there : (arc small : Arcs) (n : ℕ) (place mem : ℕ → ℕ) → Renumbers arc small n place mem →
+    (p : ℕ) (legs : List Leg) (q : ℕ) → p < n → q < n →
     LeastWalk arc (mem p) legs (mem q) → LeastWalk small p (renamed place legs) q
 least_there arc small n place mem are p legs q near far walk = record {
   leads = walks_to_places arc small n place mem are p legs q near far walk.leads;
@@ -79,7 +86,8 @@ least_there arc small n place mem are p legs q near far walk = record {
       );
 }
 
-least_back : (arc small : Arcs) (n : ℕ) (place mem : ℕ → ℕ) → Renumbers arc small n place mem → (p : ℕ) (legs : List Leg) (q : ℕ) → p < n → q < n →
+least_back : (arc small : Arcs) (n : ℕ) (place mem : ℕ → ℕ) → Renumbers arc small n place mem →
+    (p : ℕ) (legs : List Leg) (q : ℕ) → p < n → q < n →
     LeastWalk small p legs q → LeastWalk arc (mem p) (renamed mem legs) (mem q)
 least_back arc small n place mem are p legs q near far walk = record {
   leads = walks_back arc small n place mem are p legs q walk.leads;
@@ -93,7 +101,8 @@ least_back arc small n place mem are p legs q near far walk = record {
 }
 
 -- least costs between places are those between their vertices
-least_cost_members : (arc small : Arcs) (n : ℕ) (place mem : ℕ → ℕ) → Renumbers arc small n place mem → (p q d : ℕ) → p < n → q < n →
+least_cost_members : (arc small : Arcs) (n : ℕ) (place mem : ℕ → ℕ) → Renumbers arc small n place mem → (p q d : ℕ) → p < n →
+    q < n →
     LeastCost small p q d ↔ LeastCost arc (mem p) (mem q) d
 least_cost_members arc small n place mem are p q d near far = (
   λ least. record {
@@ -131,13 +140,16 @@ hop_there arc small n place mem are p q h near far hop = (
 )
 
 -- what stands at a member's vertex
-spread_at : {X : Type 0} (place : ℕ → ℕ) (vertices : List ℕ) (none : X) (part whole : List X) → IsPlacing (length vertices) place (member_at vertices) →
-    IsSpread none vertices (length vertices) part whole → (v : ℕ) → place v < length vertices → get_or whole v none ≡ get_or part (place v) none
+spread_at : {X : Type 0} (place : ℕ → ℕ) (vertices : List ℕ) (none : X) (part whole : List X) →
+    IsPlacing (length vertices) place (member_at vertices) →
+    IsSpread none vertices (length vertices) part whole → (v : ℕ) → place v < length vertices →
+    get_or whole v none ≡ get_or part (place v) none
 spread_at place vertices none part whole are is v within =
     ap (λ (w : ℕ). get_or whole w none) (sym (are.members v within)) ∙ is.at (place v) within
 
 -- and at the others nothing
-spread_out : {X : Type 0} (place : ℕ → ℕ) (vertices : List ℕ) (none : X) (part whole : List X) → IsPlacing (length vertices) place (member_at vertices) →
+spread_out : {X : Type 0} (place : ℕ → ℕ) (vertices : List ℕ) (none : X) (part whole : List X) →
+    IsPlacing (length vertices) place (member_at vertices) →
     IsSpread none vertices (length vertices) part whole → (v : ℕ) → length vertices ≤ place v → get_or whole v none ≡ none
 spread_out place vertices none part whole are is v out =
     is.others v (λ p below same. omega (arith, below, out, are.places p below, ap place same))
@@ -146,7 +158,8 @@ spread_out place vertices none part whole are is v out =
 pub contains_map : {X Y : Type 0} (f : X → Y) (xs : List X) (x : X) → Contains xs x → Contains (map f xs) (f x)
 contains_map f xs x at = (at.0, omega (arith, at.1, length-map xs f), get_or-map f xs at.0 x ∙ ap f at.2)
 
-pub contains_map_back : {X Y : Type 0} (f : X → Y) (d : X) (xs : List X) (y : Y) → Contains (map f xs) y → (x : X) × Contains xs x × (f x ≡ y)
+pub contains_map_back : {X Y : Type 0} (f : X → Y) (d : X) (xs : List X) (y : Y) → Contains (map f xs) y →
+    (x : X) × Contains xs x × (f x ≡ y)
 contains_map_back f d xs y at =
     let below : at.0 < length xs = omega (arith, at.1, length-map xs f) in
     (get_or xs at.0 d, Contains-get_or xs at.0 d below, sym (get_or_within f xs at.0 d y below) ∙ at.2)
@@ -209,7 +222,8 @@ row_spread arc small count place vertices p row whole are few below known is wit
 -- and so are the first hops
 pub hops_spread : (arc small : Arcs) (place : ℕ → ℕ) (vertices : List ℕ) (p : ℕ) (lists whole : List (List ℕ)) →
     Renumbers arc small (length vertices) place (member_at vertices) → p < length vertices → ListFirstHops small p lists →
-    IsSpread [] vertices (length vertices) (map (members_at vertices) lists) whole → ListFirstHops arc (member_at vertices p) whole
+    IsSpread [] vertices (length vertices) (map (members_at vertices) lists) whole →
+    ListFirstHops arc (member_at vertices p) whole
 hops_spread arc small place vertices p lists whole are below known is v h = elim (cases_lt (place v) n) [
   | inl inside ↦ (
     λ has.
@@ -229,7 +243,8 @@ hops_spread arc small place vertices p lists whole are below known is v h = elim
         let none : Contains [] h = subst (λ (l : List ℕ). Contains l h)
         (spread_out place vertices [] (map (members_at vertices) lists) whole are.placing is v (omega (arith, not))) has in
         absurd (omega (arith, none.1)),
-    λ first. absurd (no_walk_out arc small n place mem are p (first.leg ∷ first.legs) v below (omega (arith, not)) first.walk.leads),
+    λ first. absurd
+        (no_walk_out arc small n place mem are p (first.leg ∷ first.legs) v below (omega (arith, not)) first.walk.leads),
   )
 ]
   where
@@ -243,10 +258,12 @@ hops_spread arc small place vertices p lists whole are below known is v h = elim
     list v = get_or lists (place v) []
 
     here : (v : ℕ) → place v < n → get_or whole v [] ≡ members_at vertices (list v)
-    here v inside = spread_at place vertices [] (map (members_at vertices) lists) whole are.placing is v inside ∙ get_or-map (members_at vertices) lists (place v) []
+    here v inside = spread_at place vertices [] (map (members_at vertices) lists) whole are.placing is v inside
+        ∙ get_or-map (members_at vertices) lists (place v) []
 
 -- the vertices of places that ascend do so too
-increasing_members : (vertices : List ℕ) (end : ℕ) (list : List ℕ) → AreVertices vertices end → ((h : ℕ) → Contains list h → h < length vertices) →
+increasing_members : (vertices : List ℕ) (end : ℕ) (list : List ℕ) → AreVertices vertices end →
+    ((h : ℕ) → Contains list h → h < length vertices) →
     IsStrictlyIncreasing list → IsStrictlyIncreasing (members_at vertices list)
 increasing_members vertices end list are small is k below =
     let later : k + 1 < length list = omega (arith, below, length-map list (member_at vertices)) in
@@ -258,16 +275,20 @@ increasing_members vertices end list are small is k below =
       arith,
       near,
       far,
-      are.ascending (get_or list k 0) (get_or list (k + 1) 0) (is k later) (small (get_or list (k + 1) 0) (Contains-get_or list (k + 1) 0 later)),
+      are.ascending (get_or list k 0) (get_or list (k + 1) 0) (is k later)
+          (small (get_or list (k + 1) 0) (Contains-get_or list (k + 1) 0 later)),
     )
 
-pub ascending_spread : (place : ℕ → ℕ) (vertices : List ℕ) (end : ℕ) (lists whole : List (List ℕ)) → IsPlacing (length vertices) place (member_at vertices) →
+pub ascending_spread : (place : ℕ → ℕ) (vertices : List ℕ) (end : ℕ) (lists whole : List (List ℕ)) →
+    IsPlacing (length vertices) place (member_at vertices) →
     AreVertices vertices end → ((v h : ℕ) → Contains (get_or lists v []) h → h < length vertices) → AreAscending lists →
     IsSpread [] vertices (length vertices) (map (members_at vertices) lists) whole → AreAscending whole
 ascending_spread place vertices end lists whole fits are small is spread v = elim (cases_lt (place v) (length vertices)) [
   | inl inside ↦ subst IsStrictlyIncreasing
-      (sym (spread_at place vertices [] (map (members_at vertices) lists) whole fits spread v inside ∙ get_or-map (members_at vertices) lists (place v) []))
+      (sym (spread_at place vertices [] (map (members_at vertices) lists) whole fits spread v inside
+      ∙ get_or-map (members_at vertices) lists (place v) []))
       (increasing_members vertices end (get_or lists (place v) []) are (small (place v)) (is (place v)))
-  | inr not ↦ subst IsStrictlyIncreasing (sym (spread_out place vertices [] (map (members_at vertices) lists) whole fits spread v (omega (arith, not))))
+  | inr not ↦ subst IsStrictlyIncreasing
+      (sym (spread_out place vertices [] (map (members_at vertices) lists) whole fits spread v (omega (arith, not))))
       (λ k below. absurd (omega (arith, below)))
 ]

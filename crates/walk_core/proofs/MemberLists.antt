@@ -1,5 +1,6 @@
 -- Lists of numbers, each in place of another one.
-use Rattle.std.proofs.Common.{◌≡◌, ℕ, ◌-◌, ◌<◌, ◌≤◌, List, [], ◌∷◌, length, map, get_or, take, drop, refl, ap, sym, subst, ◌∙◌, arith, All, inl, inr}
+use Rattle.std.proofs.Common.{◌≡◌, ℕ, ◌-◌, ◌<◌, ◌≤◌, List, [], ◌∷◌, length, map, get_or, take, drop, refl, ap, sym, subst, ◌∙◌}
+use Rattle.std.proofs.Common.{arith, All, inl, inr}
 use Rattle.std.proofs.lemmas.Bool.{cases_lt}
 use Rattle.std.proofs.Math.ListN.{get_or-map}
 use Rattle.std.proofs.lemmas.List.{drop-map, take-map, length-map, get_or_past}
@@ -12,15 +13,18 @@ use Rattle.walk_core.specs.steps.NumberLists.{part_of, lists_of, list_of, renumb
 -- a span of other numbers is that of the numbers, in place of each its other one
 part_renumbered : (f : ℕ → ℕ) (numbers : List ℕ) (span : Span) → part_of (map f numbers) span ≡ map f (part_of numbers span)
 part_renumbered f numbers span =
-    ap (λ (l : List ℕ). take (span.end - span.start) l) (drop-map f span.start numbers) ∙ take-map f (span.end - span.start) (drop span.start numbers)
+    ap (λ (l : List ℕ). take (span.end - span.start) l) (drop-map f span.start numbers)
+    ∙ take-map f (span.end - span.start) (drop span.start numbers)
 
-pub lists_renumbered : (f : ℕ → ℕ) (numbers : List ℕ) (spans : List Span) → lists_of (map f numbers) spans ≡ map (map f) (lists_of numbers spans)
+pub lists_renumbered : (f : ℕ → ℕ) (numbers : List ℕ) (spans : List Span) →
+    lists_of (map f numbers) spans ≡ map (map f) (lists_of numbers spans)
 lists_renumbered f numbers [] = refl
 lists_renumbered f numbers (span ∷ spans) =
     ap (λ (l : List ℕ). l ∷ lists_of (map f numbers) spans) (part_renumbered f numbers span)
     ∙ ap (λ (l : List (List ℕ)). map f (part_of numbers span) ∷ l) (lists_renumbered f numbers spans)
 
-pub spans_renumbered : (f : ℕ → ℕ) (numbers : List ℕ) (spans : List Span) → AreSpansWithin numbers spans → AreSpansWithin (map f numbers) spans
+pub spans_renumbered : (f : ℕ → ℕ) (numbers : List ℕ) (spans : List Span) → AreSpansWithin numbers spans →
+    AreSpansWithin (map f numbers) spans
 spans_renumbered f numbers spans are k d below = record {
   ordered = (are k d below).ordered;
   within = subst (λ (n : ℕ). (get_or spans k d).end ≤ n) (sym (length-map numbers f)) (are k d below).within;
@@ -41,7 +45,8 @@ kept_renumbered vertices long (One number) kept place is = absurd (cc is)
 kept_renumbered vertices long (More other) kept place is = kept place is
 
 -- it is so at each place, and past the last
-pub kept_at : (long : List (List ℕ)) (all : List Numbers) (place : ℕ) → All (IsLongListKept long) all → IsLongListKept long (get_or all place Nothing)
+pub kept_at : (long : List (List ℕ)) (all : List Numbers) (place : ℕ) → All (IsLongListKept long) all →
+    IsLongListKept long (get_or all place Nothing)
 kept_at long all place kept = elim (cases_lt place (length all)) [
   | inl below ↦ kept place Nothing below
   | inr past ↦ λ other is. absurd (cc (is, get_or_past all place Nothing (omega (arith, past))))
@@ -55,7 +60,8 @@ all_renumbered vertices long all f kept k d below place is =
 -- the lists that stand at the vertices of places
 pub lists_spread : (vertices : List ℕ) (n : ℕ) (long : List (List ℕ)) (all whole : List Numbers) →
     IsSpread Nothing vertices n (map (renumbered vertices) all) whole →
-    IsSpread [] vertices n (map (members_at vertices) (map (list_of long) all)) (map (list_of (map (members_at vertices) long)) whole)
+    IsSpread [] vertices n (map (members_at vertices) (map (list_of long) all))
+    (map (list_of (map (members_at vertices) long)) whole)
 lists_spread vertices n long all whole is = record {
   at = λ p below.
       get_or-map other whole (member_at vertices p) Nothing
@@ -71,9 +77,11 @@ lists_spread vertices n long all whole is = record {
 
 pub lists_spread_as : (vertices : List ℕ) (n : ℕ) (long after lists : List (List ℕ)) (all numbers whole : List Numbers) →
     after ≡ map (members_at vertices) long → numbers ≡ all → lists ≡ map (list_of long) all →
-    IsSpread Nothing vertices n (map (renumbered vertices) numbers) whole → IsSpread [] vertices n (map (members_at vertices) lists) (map (list_of after) whole)
+    IsSpread Nothing vertices n (map (renumbered vertices) numbers) whole →
+    IsSpread [] vertices n (map (members_at vertices) lists) (map (list_of after) whole)
 lists_spread_as vertices n long after lists all numbers whole renamed same is spread =
     subst (λ (l : List (List ℕ)). IsSpread [] vertices n (map (members_at vertices) lists) (map (list_of l) whole)) (sym renamed)
-    (subst (λ (l : List (List ℕ)). IsSpread [] vertices n (map (members_at vertices) l) (map (list_of (map (members_at vertices) long)) whole)) (sym is)
+    (subst (λ (l : List (List ℕ)). IsSpread [] vertices n (map (members_at vertices) l)
+    (map (list_of (map (members_at vertices) long)) whole)) (sym is)
     (lists_spread vertices n long all whole
     (subst (λ (l : List Numbers). IsSpread Nothing vertices n (map (renumbered vertices) l) whole) same spread)))

@@ -1,9 +1,11 @@
 -- One more vertex is numbered, and what is known at places is spread to their vertices.
-use Rattle.std.proofs.Common.{◌≡◌, ◌≢◌, ℕ, zero, suc, ◌+◌, ◌<◌, ◌≤◌, ◌⊎◌, List, [], ◌∷◌, ◌++◌, Bool, true, false, length, length-append, length-set, replicate, get_or, get_or-set_same, get_or-set_other, set}
+use Rattle.std.proofs.Common.{◌≡◌, ◌≢◌, ℕ, zero, suc, ◌+◌, ◌<◌, ◌≤◌, ◌⊎◌, List, [], ◌∷◌, ◌++◌, Bool, true, false, length}
+use Rattle.std.proofs.Common.{length-append, length-set, replicate, get_or, get_or-set_same, get_or-set_other, set}
 use Rattle.std.proofs.Common.{arith, inl, inr, sym, ◌∙◌, subst, ap}
 use Rattle.std.proofs.lemmas.Bool.{cases_lt, cases_eq}
 use Rattle.std.proofs.lemmas.List.{get_or_append_left, get_or_push, get_or_past, get_or-replicate, length-replicate}
-use Rattle.walk_core.specs.steps.Members.{Numbering, AreNumbered, AreVertices, HaveMarked, IsMember, IsSpread, NumbersVertex, member_at, place_in}
+use Rattle.walk_core.specs.steps.Members.{Numbering, AreNumbered, AreVertices, HaveMarked, IsMember, IsSpread, NumbersVertex, member_at}
+use Rattle.walk_core.specs.steps.Members.{place_in}
 
 -- one more vertex, behind the others, is a member
 abbrev pub with_member : Numbering → ℕ → Numbering
@@ -17,10 +19,12 @@ with_member members vertex = record {
 pub place_other : (m : Numbering) (vertex v : ℕ) → v ≢ vertex → place_in (with_member m vertex) v ≡ place_in m v
 place_other m vertex v apart = get_or-set_other m.places vertex v (length m.vertices) m.count apart
 
-pub place_here : (m : Numbering) (vertex : ℕ) → vertex < length m.places → place_in (with_member m vertex) vertex ≡ length m.vertices
+pub place_here : (m : Numbering) (vertex : ℕ) → vertex < length m.places →
+    place_in (with_member m vertex) vertex ≡ length m.vertices
 place_here m vertex below = get_or-set_same m.places vertex (length m.vertices) m.count below
 
-member_before : (m : Numbering) (vertex p : ℕ) → p < length m.vertices → member_at (with_member m vertex).vertices p ≡ member_at m.vertices p
+member_before : (m : Numbering) (vertex p : ℕ) → p < length m.vertices →
+    member_at (with_member m vertex).vertices p ≡ member_at m.vertices p
 member_before m vertex p below = get_or_append_left m.vertices (vertex ∷ []) 0 p below
 
 member_here : (m : Numbering) (vertex p : ℕ) → p ≡ length m.vertices → member_at (with_member m vertex).vertices p ≡ vertex
@@ -29,7 +33,8 @@ member_here m vertex p is = get_or_push m.vertices vertex 0 p (sym is)
 long : (m : Numbering) (vertex : ℕ) → length (with_member m vertex).vertices ≡ length m.vertices + 1
 long m vertex = omega (arith, length-append m.vertices (vertex ∷ []))
 
-vertices_more : (m : Numbering) (vertex : ℕ) → AreNumbered m → m.end ≤ vertex → AreVertices (with_member m vertex).vertices (vertex + 1)
+vertices_more : (m : Numbering) (vertex : ℕ) → AreNumbered m → m.end ≤ vertex →
+    AreVertices (with_member m vertex).vertices (vertex + 1)
 vertices_more m vertex are next = record {
   within = λ p below. elim (cases_lt p (length m.vertices)) [
     | inl less ↦ omega (arith, member_before m vertex p less, are.vertices.within p less, next)
@@ -37,7 +42,13 @@ vertices_more m vertex are next = record {
   ];
   ascending = λ p q less below. elim (cases_lt q (length m.vertices)) [
     | inl earlier ↦
-        omega (arith, member_before m vertex p (omega (arith, less, earlier)), member_before m vertex q earlier, are.vertices.ascending p q less earlier)
+        omega (
+          arith,
+          member_before m vertex p
+              (omega (arith, less, earlier)),
+          member_before m vertex q earlier,
+          are.vertices.ascending p q less earlier,
+        )
     | inr not ↦
         let last : q ≡ length m.vertices = omega (arith, not, below, long m vertex) in
         let before : p < length m.vertices = omega (arith, less, last) in
@@ -51,17 +62,23 @@ others_more m vertex are within v = elim (cases_eq v vertex) [
   | inl same ↦
       let here : place_in (with_member m vertex) v ≡ length m.vertices =
       ap (λ (w : ℕ). place_in (with_member m vertex) w) same ∙ place_here m vertex (omega (arith, within, are.long)) in
-      inl (record { place = omega (arith, here, long m vertex); back = member_here m vertex (place_in (with_member m vertex) v) here ∙ sym same })
+      inl (record {
+        place = omega (arith, here, long m vertex);
+        back = member_here m vertex
+            (place_in (with_member m vertex) v) here ∙ sym same;
+      })
   | inr apart ↦ elim (are.others v) [
     | inl is ↦ inl (record {
       place = omega (arith, place_other m vertex v apart, is.place, long m vertex);
-      back = ap (λ (p : ℕ). member_at (with_member m vertex).vertices p) (place_other m vertex v apart) ∙ member_before m vertex (place_in m v) is.place ∙ is.back;
+      back = ap (λ (p : ℕ). member_at (with_member m vertex).vertices p) (place_other m vertex v apart)
+          ∙ member_before m vertex (place_in m v) is.place ∙ is.back;
     })
     | inr none ↦ inr (place_other m vertex v apart ∙ none)
   ]
 ]
 
-pub numbered_more : (m : Numbering) (vertex : ℕ) → AreNumbered m → m.end ≤ vertex → vertex < m.count → AreNumbered (with_member m vertex)
+pub numbered_more : (m : Numbering) (vertex : ℕ) → AreNumbered m → m.end ≤ vertex → vertex < m.count →
+    AreNumbered (with_member m vertex)
 numbered_more m vertex are next within = record {
   long = length-set m.places vertex (length m.vertices) ∙ are.long;
   few = omega (arith, are.few, long m vertex, next);
@@ -70,20 +87,27 @@ numbered_more m vertex are next within = record {
   places = λ p below. elim (cases_lt p (length m.vertices)) [
     | inl less ↦
         let apart : member_at m.vertices p ≢ vertex = λ same. omega (arith, same, are.vertices.within p less, next) in
-        ap (λ (v : ℕ). place_in (with_member m vertex) v) (member_before m vertex p less) ∙ place_other m vertex (member_at m.vertices p) apart ∙ are.places p less
+        ap (λ (v : ℕ). place_in (with_member m vertex) v) (member_before m vertex p less)
+        ∙ place_other m vertex (member_at m.vertices p) apart ∙ are.places p less
     | inr not ↦
         let last : p ≡ length m.vertices = omega (arith, not, below, long m vertex) in
-        ap (λ (v : ℕ). place_in (with_member m vertex) v) (member_here m vertex p last) ∙ place_here m vertex (omega (arith, within, are.long)) ∙ sym last
+        ap (λ (v : ℕ). place_in (with_member m vertex) v) (member_here m vertex p last)
+        ∙ place_here m vertex (omega (arith, within, are.long)) ∙ sym last
   ];
   others = others_more m vertex are within;
 }
 
-pub numbered_as : (m : Numbering) (vertex : ℕ) (after : Numbering) → AreNumbered m → m.end ≤ vertex → vertex < m.count → after.count ≡ m.count →
-    after.places ≡ set m.places vertex (length m.vertices) → after.vertices ≡ m.vertices ++ vertex ∷ [] → after.end ≡ vertex + 1 → AreNumbered after
+pub numbered_as : (m : Numbering) (vertex : ℕ) (after : Numbering) → AreNumbered m → m.end ≤ vertex → vertex < m.count →
+    after.count ≡ m.count →
+    after.places ≡ set m.places vertex (length m.vertices) → after.vertices ≡ m.vertices ++ vertex ∷ [] →
+    after.end ≡ vertex + 1 → AreNumbered after
 numbered_as m vertex after are next within count places vertices end =
-    subst (λ (n : ℕ). AreNumbered (record { count = n; places = after.places; vertices = after.vertices; end = after.end })) (sym count)
-    (subst (λ (l : List ℕ). AreNumbered (record { count = m.count; places = l; vertices = after.vertices; end = after.end })) (sym places)
-    (subst (λ (l : List ℕ). AreNumbered (record { count = m.count; places = (with_member m vertex).places; vertices = l; end = after.end })) (sym vertices)
+    subst (λ (n : ℕ). AreNumbered (record { count = n; places = after.places; vertices = after.vertices; end = after.end }))
+    (sym count)
+    (subst (λ (l : List ℕ). AreNumbered (record { count = m.count; places = l; vertices = after.vertices; end = after.end }))
+    (sym places)
+    (subst (λ (l : List ℕ). AreNumbered
+    (record { count = m.count; places = (with_member m vertex).places; vertices = l; end = after.end })) (sym vertices)
     (subst (λ (n : ℕ). AreNumbered (record {
       count = m.count;
       places = (with_member m vertex).places;
@@ -97,7 +121,11 @@ none_numbered count = record {
   long = length-replicate count count;
   few = omega arith;
   end = omega arith;
-  vertices = record { within = λ p below. absurd (omega (arith, below)); ascending = λ p q less below. absurd (omega (arith, below)) };
+  vertices = record {
+    within = λ p below. absurd (omega (arith, below));
+    ascending = λ p q less below. absurd
+        (omega (arith, below));
+  };
   places = λ p below. absurd (omega (arith, below));
   others = λ v. inr (elim (cases_lt v count) [
     | inl below ↦ get_or-replicate count v count count below
@@ -106,14 +134,16 @@ none_numbered count = record {
 }
 
 -- marks stay where one more is put
-pub still_marked : (marks : List Bool) (i v : ℕ) → i < length marks → get_or marks v false ≡ true → get_or (set marks i true) v false ≡ true
+pub still_marked : (marks : List Bool) (i v : ℕ) → i < length marks → get_or marks v false ≡ true →
+    get_or (set marks i true) v false ≡ true
 still_marked marks i v below is = elim (cases_eq v i) [
   | inl same ↦ ap (λ (w : ℕ). get_or (set marks i true) w false) same ∙ get_or-set_same marks i true false below
   | inr apart ↦ get_or-set_other marks i v true false apart ∙ is
 ]
 
 -- the marked vertices so far, and one more
-pub marked_more : (marks : List Bool) (vertex : ℕ) (before after : Numbering) → NumbersVertex vertex (get_or marks vertex false) before after →
+pub marked_more : (marks : List Bool) (vertex : ℕ) (before after : Numbering) →
+    NumbersVertex vertex (get_or marks vertex false) before after →
     HaveMarked marks vertex before → HaveMarked marks (vertex + 1) after
 marked_more marks vertex before after numbers have v below marked = elim (cases_lt v vertex) [
   | inl less ↦ omega (arith, numbers.kept v less, have v less marked, numbers.more)
@@ -124,7 +154,8 @@ marked_more marks vertex before after numbers have v below marked = elim (cases_
 ]
 
 -- what stands at one more place is put at its vertex
-pub spread_more : {X : Type 0} (none : X) (vertices : List ℕ) (end n : ℕ) (part whole : List X) (x : X) → AreVertices vertices end →
+pub spread_more : {X : Type 0} (none : X) (vertices : List ℕ) (end n : ℕ) (part whole : List X) (x : X) →
+    AreVertices vertices end →
     n < length vertices → length whole ≡ end → x ≡ get_or part n none → IsSpread none vertices n part whole →
     IsSpread none vertices (n + 1) part (set whole (member_at vertices n) x)
 spread_more {X} none vertices end n part whole x are below long is before = record {
@@ -142,7 +173,8 @@ spread_more {X} none vertices end n part whole x are below long is before = reco
 }
 
 -- no place is past its vertex
-pub place_at_most : (vertices : List ℕ) (end : ℕ) → AreVertices vertices end → (p : ℕ) → p < length vertices → p ≤ member_at vertices p
+pub place_at_most : (vertices : List ℕ) (end : ℕ) → AreVertices vertices end → (p : ℕ) → p < length vertices →
+    p ≤ member_at vertices p
 place_at_most vertices end are zero below = omega arith
 place_at_most vertices end are (suc p) below =
     omega (arith, place_at_most vertices end are p (omega (arith, below)), are.ascending p (suc p) (omega arith) below)

@@ -238,8 +238,10 @@ fn spread_numbers(
     end: u32,
 ) -> Result<Vec<PackedNumbers>, OutOfMemory>
     requires { AreVertices vertices.now end }
-    ensures spread { IfOk result (λ all. IsSpread Nothing vertices.now (length vertices.now) (map (renumbered vertices.now) numbers.now) all.items) }
-    ensures kept { IfOk result (λ all. (long : List (List ℕ)) → All (IsLongListKept long) numbers.now → All (IsLongListKept long) all.items) }
+    ensures spread { IfOk result (λ all. IsSpread Nothing vertices.now (length vertices.now)
+        (map (renumbered vertices.now) numbers.now) all.items) }
+    ensures kept { IfOk result (λ all. (long : List (List ℕ)) → All (IsLongListKept long) numbers.now →
+        All (IsLongListKept long) all.items) }
 {
     let mut all = vec![in alloc; PackedNumbers::nothing(); end as usize]?;
     for place in 0..vertices.len() {

@@ -1,5 +1,6 @@
 -- Some vertices of many, numbered anew among themselves, and what is known of them as known of all.
-use Rattle.std.specs.Prelude.{◌≡◌, ◌≢◌, ℕ, ◌+◌, ◌<◌, ◌≤◌, ◌⊎◌, Bool, false, true, List, [], Option, None, Contains, length, map, slice_index_or}
+use Rattle.std.specs.Prelude.{◌≡◌, ◌≢◌, ℕ, ◌+◌, ◌<◌, ◌≤◌, ◌⊎◌, Bool, false, true, List, [], Option, None, Contains, length, map}
+use Rattle.std.specs.Prelude.{slice_index_or}
 use Rattle.walk_core.specs.KeptWalks.{lone_row}
 use Rattle.walk_core.specs.Reach.{Reach}
 use Rattle.walk_core.specs.Segments.{AreSegments, SendsAcross}
@@ -57,7 +58,8 @@ HaveMarked marks n members = (v : ℕ) → v < n → slice_index_or marks v fals
 
 -- the vertices of the ports of the first n segments are marked
 abbrev pub AreMarked : List (List Port) → ℕ → List Bool → Type 0
-AreMarked segments n marks = (i : ℕ) → i < n → (port : Port) → Contains (segment_at segments i) port → slice_index_or marks port.vertex false ≡ true
+AreMarked segments n marks = (i : ℕ) → i < n → (port : Port) → Contains (segment_at segments i) port →
+    slice_index_or marks port.vertex false ≡ true
 
 -- those of some ports are, and what was so before
 pub record Marks (ports : List Port) (before after : List Bool) : Type 0 where
@@ -109,12 +111,14 @@ pub data IsSpreadReach (members : Numbering) (walks : MemberWalks) (root : ℕ) 
   lone : length members.vertices ≤ place_in members root → reach ≡ (record { distances = lone_row root; hops = [] }) →
       IsSpreadReach members walks root reach
   far : place_in members root < length members.vertices → length reach.distances ≤ members.count →
-      IsSpread None members.vertices (length members.vertices) (slice_index_or walks.rows (place_in members root) []) reach.distances →
+      IsSpread None members.vertices (length members.vertices)
+      (slice_index_or walks.rows (place_in members root) []) reach.distances →
       IsSpread [] members.vertices (length members.vertices)
       (map (members_at members.vertices) (slice_index_or walks.lists (place_in members root) [])) reach.hops →
       IsSpreadReach members walks root reach
 
 -- the distances and first hops are those of the members over segments
 pub record AreMemberWalks (segments : List (List Port)) (members : Numbering) (walks : MemberWalks) : Type 0 where
-  pub rows : AreDistanceRows (SendsAcross (placed members segments)) (length members.vertices) (length members.vertices) walks.rows
+  pub rows : AreDistanceRows (SendsAcross (placed members segments)) (length members.vertices)
+      (length members.vertices) walks.rows
   pub lists : AreAllHops (SendsAcross (placed members segments)) (length members.vertices) walks.lists

@@ -1,5 +1,6 @@
 use Rattle.std.proofs.lemmas.Grind.{common_steps}
-use Rattle.std.proofs.Common.{◌≡◌, ◌∙◌, ◌<◌, ℕ, List, Bool, true, false, ap, arith, get_or, get_or-set_same, inl, inr, length, length-set, set, subst}
+use Rattle.std.proofs.Common.{◌≡◌, ◌∙◌, ◌<◌, ℕ, List, Bool, true, false, ap, arith, get_or, get_or-set_same, inl, inr, length}
+use Rattle.std.proofs.Common.{length-set, set, subst}
 use Rattle.std.proofs.lemmas.Bool.{cases_lt}
 use Rattle.std.proofs.lemmas.List.{get_or_default}
 use Rattle.std.proofs.lemmas.List.Elements.{Contains-get_or}
@@ -33,7 +34,8 @@ loop-place-preserved c =
     let place : ℕ = c.loop-place.place in
     let one : Port = record { vertex = 0; cost = 0 } in
     let port : Port = get_or ports place one in
-    let within : port.vertex < length c.args.marks.now.items = c.requires port (Contains-get_or ports place one c.loop-place-test.true) in
+    let within : port.vertex < length c.args.marks.now.items = c.requires port
+    (Contains-get_or ports place one c.loop-place-test.true) in
     let below : port.vertex < length marks = omega (arith, within, is.long) in
     record {
       long = length-set marks port.vertex true ∙ is.long;
@@ -43,7 +45,8 @@ loop-place-preserved c =
         | inr not ↦
             let here : k ≡ place = omega (arith, not, less) in
             ap (λ (n : ℕ). get_or (set marks port.vertex true) (get_or ports n none).vertex false) here
-            ∙ ap (λ (p : Port). get_or (set marks port.vertex true) p.vertex false) (get_or_default ports place none one c.loop-place-test.true)
+            ∙ ap (λ (p : Port). get_or (set marks port.vertex true) p.vertex false)
+            (get_or_default ports place none one c.loop-place-test.true)
             ∙ get_or-set_same marks port.vertex true false below
       ];
     }

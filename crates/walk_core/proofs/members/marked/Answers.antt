@@ -10,7 +10,8 @@ pub mark-requires : goal.mark-requires
 mark-requires c port among =
     let segments : List (List Port) = c.args.segments.now in
     let place : ℕ = c.loop-place.place in
-    let is : IsPort c.args.count port = c.requires (segment_at segments place) (Contains-get_or segments place [] c.loop-place-test.true) port
+    let is : IsPort c.args.count port = c.requires (segment_at segments place)
+    (Contains-get_or segments place [] c.loop-place-test.true) port
     (subst (λ (l : List Port). Contains l port) c.ports_at.ensures among) in
     omega (arith, is.vertex, c.loop-place.invariant.long)
 
@@ -24,10 +25,12 @@ loop-place-preserved c =
         | inl less ↦ c.mark.ensures.kept port.vertex (is.marked i less port among)
         | inr not ↦
             let here : i ≡ place = omega (arith, not, below) in
-            c.mark.ensures.each port (subst (λ (l : List Port). Contains l port) (ap (segment_at segments) here ∙ sym c.ports_at.ensures) among)
+            c.mark.ensures.each port
+            (subst (λ (l : List Port). Contains l port) (ap (segment_at segments) here ∙ sym c.ports_at.ensures) among)
       ];
       long = c.mark.ensures.long ∙ is.long;
     }
 
 pub returns-clause-marked : goal.returns-clause-marked
-returns-clause-marked c i below port among = c.loop-place.invariant.marked i (omega (arith, below, c.loop-place-test.false)) port among
+returns-clause-marked c i below port among = c.loop-place.invariant.marked i
+    (omega (arith, below, c.loop-place-test.false)) port among

@@ -17,8 +17,10 @@ loop-place-preserved c =
     let all : List Numbers = c.loop-place.all.items in
     let is = c.loop-place.invariant in
     record {
-      spread = spread_more Nothing vertices c.args.end place (map (renumbered vertices) numbers) all c.in_ok-own.own c.requires
-          c.loop-place-test.true is.long (c.in_ok-own.ensures ∙ sym (get_or-map (renumbered vertices) numbers place Nothing)) is.spread;
+      spread = spread_more Nothing vertices c.args.end place
+          (map (renumbered vertices) numbers) all c.in_ok-own.own c.requires
+          c.loop-place-test.true is.long
+          (c.in_ok-own.ensures ∙ sym (get_or-map (renumbered vertices) numbers place Nothing)) is.spread;
       kept = λ long kept. All-set (IsLongListKept long) all (member_at vertices place) c.in_ok-own.own
           (subst (IsLongListKept long) (sym c.in_ok-own.ensures)
           (kept_renumbered vertices long (get_or numbers place Nothing) (kept_at long numbers place kept))) (is.kept long kept);

@@ -21,11 +21,13 @@ new-graph-requires c =
     let m : Numbering = c.args.members.now in
     record {
       segments = subst (λ (n : ℕ). AreSegments n c.as_slice-2.result.now) (sym c.len-count.ensures)
-          (subst (λ (l : List (List Port)). AreSegments (length m.vertices) l) (sym (c.as_slice-2.ensures.value ∙ c.in_ok-placed.ensures))
+          (subst (λ (l : List (List Port)). AreSegments (length m.vertices) l)
+          (sym (c.as_slice-2.ensures.value ∙ c.in_ok-placed.ensures))
           (placed_fit c.args.segments.now m c.requires));
       outlets = subst (λ (l : List (List Port)). AreAllOutlets l c.len-count.result c.as_slice-3.result.now)
           (c.as_slice.ensures.value ∙ sym c.as_slice-2.ensures.value)
-          (subst (λ (l : List (List Outlet)). AreAllOutlets c.as_slice.result.now c.len-count.result l) (sym c.as_slice-3.ensures.value)
+          (subst (λ (l : List (List Outlet)). AreAllOutlets c.as_slice.result.now c.len-count.result l)
+          (sym c.as_slice-3.ensures.value)
           c.in_ok-outlets.ensures);
     }
 
@@ -34,12 +36,15 @@ spread_all-requires-clause-lists c =
     let m : Numbering = c.args.members.now in
     let same : c.new-graph.result.segments ≡ placed m c.args.segments.now =
     ap (λ (j : Joined). j.segments) c.new-graph.ensures ∙ c.as_slice-2.ensures.value ∙ c.in_ok-placed.ensures in
-    let count : c.new-graph.result.count ≡ length m.vertices = ap (λ (j : Joined). j.count) c.new-graph.ensures ∙ c.len-count.ensures in
+    let count : c.new-graph.result.count ≡ length m.vertices = ap (λ (j : Joined). j.count) c.new-graph.ensures
+    ∙ c.len-count.ensures in
     let hops : AreAllHops (SendsAcross (placed m c.args.segments.now)) (length m.vertices) c.in_ok-lists.lists.items =
     subst (λ (n : ℕ). AreAllHops (SendsAcross (placed m c.args.segments.now)) n c.in_ok-lists.lists.items) count
-    (subst (λ (l : List (List Port)). AreAllHops (SendsAcross l) c.new-graph.result.count c.in_ok-lists.lists.items) same c.in_ok-lists.ensures) in
+    (subst (λ (l : List (List Port)). AreAllHops
+    (SendsAcross l) c.new-graph.result.count c.in_ok-lists.lists.items) same c.in_ok-lists.ensures) in
     subst (λ (l : List (List (List ℕ))). AreMemberLists (length m.vertices) l) (sym c.as_slice-6.ensures.value)
-    (member_lists (placed m c.args.segments.now) (length m.vertices) c.in_ok-lists.lists.items (placed_fit c.args.segments.now m c.requires) hops)
+    (member_lists (placed m c.args.segments.now) (length m.vertices) c.in_ok-lists.lists.items
+    (placed_fit c.args.segments.now m c.requires) hops)
 
 pub returns : goal.returns
 returns c =
@@ -52,9 +57,11 @@ returns c =
     c.in_ok-all.ensures c.args.segments.now c.requires (record {
       rows = subst (λ (l : List (List (Option ℕ))). AreDistanceRows (SendsAcross segments) n n l) (sym c.as_slice-5.ensures.value)
           (subst (λ (k : ℕ). AreDistanceRows (SendsAcross segments) k k c.in_ok-rows.rows.items) count
-          (subst (λ (l : List (List Port)). AreDistanceRows (SendsAcross l) c.new-graph.result.count c.new-graph.result.count c.in_ok-rows.rows.items)
+          (subst (λ (l : List (List Port)). AreDistanceRows
+          (SendsAcross l) c.new-graph.result.count c.new-graph.result.count c.in_ok-rows.rows.items)
           same c.in_ok-rows.ensures));
       lists = subst (λ (l : List (List (List ℕ))). AreAllHops (SendsAcross segments) n l) (sym c.as_slice-6.ensures.value)
           (subst (λ (k : ℕ). AreAllHops (SendsAcross segments) k c.in_ok-lists.lists.items) count
-          (subst (λ (l : List (List Port)). AreAllHops (SendsAcross l) c.new-graph.result.count c.in_ok-lists.lists.items) same c.in_ok-lists.ensures));
+          (subst (λ (l : List (List Port)). AreAllHops
+          (SendsAcross l) c.new-graph.result.count c.in_ok-lists.lists.items) same c.in_ok-lists.ensures));
     })

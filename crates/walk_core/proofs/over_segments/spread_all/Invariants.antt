@@ -7,5 +7,6 @@ use Rattle.walk_core.proofs.over_segments.spread_all.Given as goal
 
 abbrev pub invariant-loop-root : goal.invariant-loop-root
 invariant-loop-root l =
-    (segments : List (List Port)) → AreMembers segments l.members → AreMemberWalks segments l.members (record { rows = l.rows; lists = l.lists }) →
+    (segments : List (List Port)) → AreMembers segments l.members →
+    AreMemberWalks segments l.members (record { rows = l.rows; lists = l.lists }) →
     AreWalksBelow (SendsAcross segments) l.members.count l.root l.all.items

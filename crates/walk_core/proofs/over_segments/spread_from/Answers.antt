@@ -9,5 +9,6 @@ of-requires c =
     let within : c.place-place.result < length c.args.lists.now = omega (arith, below, c.requires.lists.long) in
     ascending_from c.args.members.now c.args.lists.now c.place-place.result c.vertices-2.result.now c.index-lists-place.result c.in_ok-hops.hops
     c.requires.numbered c.requires.lists below
-    (c.index-lists-place.is ∙ get_or_default c.args.lists.now c.place-place.result c.index-lists-place.result [] within) c.vertices-2.ensures
+    (c.index-lists-place.is
+    ∙ get_or_default c.args.lists.now c.place-place.result c.index-lists-place.result [] within) c.vertices-2.ensures
     c.in_ok-hops.ensures
