@@ -15,7 +15,7 @@
 //! | `layers`, `chains`, `level_marks` | where a walk may return, by one search for strongly connected components, chains at once |
 //! | `making` | what is known of the two latest classes, from the nearer of which a class is read |
 //! | `still` | the routers without a hop in one of the networks |
-//! | `parts`, `part`, `rows`, `row` | the parts, with a row for each router |
+//! | `parts`, `part`, `rows`, `row`, `shared_row` | the parts, with a row for each router, which parts share |
 //! | `pieces`, `cutting`, `cut_check` | their pieces: a walk that returns stays in one of them, and parts share them |
 //! | `watch`, `known` | which parts a change of a router concerns, and what is known of the latest order |
 //! | `order_fault`, `change`, `follow`, `returns` | orders: after a change only walks through the router changed |
@@ -52,6 +52,7 @@ mod part;
 mod parts;
 mod row;
 mod rows;
+mod shared_row;
 mod still;
 mod watch;
 

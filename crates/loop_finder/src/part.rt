@@ -17,7 +17,7 @@ use crate::class_hops::{ClassTarget, next_hops};
 use crate::ends::Ends;
 use crate::live::is_marked;
 use crate::row::Row;
-use crate::rows::Rows;
+use crate::rows::{RowRoom, Rows};
 use rib_mix::{Mixed, OutOfMemory, Phase};
 use route_core::RouteSource;
 use std::alloc::Global;
@@ -55,7 +55,7 @@ impl<'m> Part<'m> {
     /// The part of a class, where it's known to which routers a walk over its steps may return, and whether every router
     /// that has to pass packets on has a step in both networks.
     pub fn build<O: RouteSource, N: RouteSource>(
-        alloc: Global,
+        room: &RowRoom<'_, 'm>,
         mixed: &'m Mixed<'_, O, N>,
         class: &ClassTarget,
         marks: &[bool],
@@ -69,14 +69,14 @@ impl<'m> Part<'m> {
         ensures part { IfOk result (IsPart (mix_of O.table N.table mixed.now)) }
         ensures class { IfOk result (λ part. part.atom ≡ class.now.atom) }
     {
-        let rows = rows_of(alloc, mixed, class, marks)?;
-        let steppers = steppers_of(alloc, &rows, mixed.net().routers())?;
+        let rows = rows_of(room, mixed, class, marks)?;
+        let steppers = steppers_of(room.alloc, &rows, mixed.net().routers())?;
         Ok(Part {
             atom: class.atom,
             moves,
             digest: digest_of(marks),
-            rows: Rc::new(alloc, rows)?,
-            steppers: Rc::new(alloc, steppers)?,
+            rows: Rc::new(room.alloc, rows)?,
+            steppers: Rc::new(room.alloc, steppers)?,
         })
     }
 
@@ -99,6 +99,11 @@ impl<'m> Part<'m> {
         ensures { AreSteppers self.now.rows result.now }
     {
         self.steppers.as_slice()
+    }
+
+    /// The rows of its routers.
+    pub fn rows(&self) -> &Rows<'m> {
+        &self.rows
     }
 
     /// The hops of a router in a phase.
@@ -249,10 +254,14 @@ fn rows_in<'m>(
 ) -> Result<Rows<'m>, OutOfMemory>
     ensures { IfOk result (λ own. AreRowsIn layers.now layer rows.now (length rows.now) own) }
 {
+    let room = RowRoom {
+        alloc,
+        before: Some(rows),
+    };
     let mut own = Rows::with_room(alloc, rows.len(), count)?;
     for router in 0..rows.len() {
         let row = row_in(rows.at(router), layer_at(layers, router), layer);
-        own.push(row)?;
+        own.push(row, &room)?;
     }
     Ok(own)
 }
@@ -445,7 +454,7 @@ fn add_stepper(rows: &Rows<'_>, router: u32, steppers: &mut Vec<u32>) -> Result<
 
 /// The hops between marked routers, for each router and the addresses of a class.
 fn rows_of<'m, O: RouteSource, N: RouteSource>(
-    alloc: Global,
+    room: &RowRoom<'_, 'm>,
     mixed: &'m Mixed<'_, O, N>,
     class: &ClassTarget,
     marks: &[bool],
@@ -455,10 +464,10 @@ fn rows_of<'m, O: RouteSource, N: RouteSource>(
     requires marks { length marks.now ≡ length mixed.now.net }
     ensures { IfOk result (λ rows. AreRowsOf (class_in (mix_of O.table N.table mixed.now) class.now.atom) marks.now rows) }
 {
-    let mut rows = Rows::with_room(alloc, marks.len(), count_marked(marks))?;
+    let mut rows = Rows::with_room(room.alloc, marks.len(), count_marked(marks))?;
     for router in 0..mixed.net().routers() {
         let row = row_of(mixed, class, router, marks);
-        rows.push(row)?;
+        rows.push(row, room)?;
     }
     Ok(rows)
 }

@@ -12,6 +12,7 @@ use crate::class_hops::{ClassTarget, class_target};
 use crate::live::none_marked;
 use crate::making::{Making, Makings};
 use crate::part::{Part, digest_of};
+use crate::rows::RowRoom;
 use net_addr::Prefix;
 use rib_mix::{Mixed, OutOfMemory};
 use route_core::RouteSource;
@@ -102,9 +103,19 @@ fn add_known<'m, O: RouteSource, N: RouteSource>(
     if moves && is_covered(mixed, class.atom, making, parts) {
         return Ok(());
     }
-    let part = Part::build(alloc, mixed, class, making.marks.as_slice(), moves)?;
+    let room = next_room(alloc, parts.as_slice());
+    let part = Part::build(&room, mixed, class, making.marks.as_slice(), moves)?;
     parts.push(part)?;
     Ok(())
+}
+
+/// Room for the rows of the next part, which shares rows with the last one: neighboring classes often go by the same hops.
+fn next_room<'r, 'm>(alloc: Global, parts: &'r [Part<'m>]) -> RowRoom<'r, 'm> {
+    let before = match parts.last() {
+        Some(part) => Some(part.rows()),
+        None => None,
+    };
+    RowRoom { alloc, before }
 }
 
 /// Whether every router that has to pass the class's packets on has a step in both networks.

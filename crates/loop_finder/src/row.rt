@@ -61,6 +61,13 @@ impl<'m> Row<'m> {
         }
     }
 
+    /// Whether another row has the same hops in the same order.
+    pub fn is_same(&self, other: &Row<'_>) -> bool
+        ensures { OnTrue result (self.now ≡ other.now) }
+    {
+        self.old == other.old && self.middle == other.middle && self.new == other.new
+    }
+
     /// Whether there is no hop in any phase.
     pub fn is_bare(&self) -> bool
         ensures { OnTrue result (self.now ≡ no_hops) }

@@ -1,21 +1,32 @@
-ghost use Rattle.std.specs.Prelude.{◌≡◌, ◌∷◌, ◌++◌, ◌<◌, [], ℕ, Contains, IfOk, OnOk, length, slice_index_or};
+ghost use Rattle.std.specs.Prelude.{◌≡◌, ◌∷◌, ◌++◌, ◌<◌, [], ℕ, Contains, IfOk, IfSome, OnOk, length, slice_index_or};
 ghost use Rattle.std.specs.Bool.{OnTrue};
 ghost use Rattle.igp_theory.specs.declared.phase.Phase.{Phase};
 ghost use Rattle.loop_finder.specs.Parts.{hops_of, no_hops};
 ghost use Rattle.loop_finder.specs.steps.PartRows.{HasMarked, HasRowHop};
 
 use crate::row::Row;
+use crate::shared_row::SharedRow;
 use rib_mix::OutOfMemory;
 use std::alloc::Global;
 use std::marker::Model;
 
-/// A row for each router. Those without hops share one, so that they take 4 bytes each.
+/// A row for each router. Those without hops share one, so that they take 4 bytes each. The others share those of an earlier part
+/// where a router has the same hops in both.
 #[derive(Drop)]
 pub(crate) struct Rows<'m> {
     /// Of each router the place of its row.
     places: Vec<u32>,
     /// The rows, first one without hops.
-    own: Vec<Row<'m>>,
+    own: Vec<SharedRow<'m>>,
+}
+
+/// With what rows are made.
+#[derive(Clone, Copy)]
+pub(crate) struct RowRoom<'r, 'm> {
+    /// Where they are allocated.
+    pub alloc: Global,
+    /// Those of an earlier part, where there is one.
+    pub before: Option<&'r Rows<'m>>,
 }
 
 impl<'m> Model for Rows<'m> {
@@ -37,13 +48,13 @@ impl<'m> Rows<'m> {
     {
         let places = Vec::with_capacity(alloc, all)?;
         let mut own = Vec::with_capacity(alloc, own.saturating_add(1))?;
-        own.push(Row::empty())?;
+        own.push(SharedRow::of(alloc, Row::empty())?)?;
         Ok(Rows { places, own })
     }
 
     /// Adds the row of the next router.
     #[inline(always)]
-    pub fn push(&mut self, row: Row<'m>) -> Result<(), OutOfMemory>
+    pub fn push(&mut self, row: Row<'m>, room: &RowRoom<'_, 'm>) -> Result<(), OutOfMemory>
         ensures { OnOk result (self.new ≡ self.old ++ row.entry ∷ []) }
     {
         if row.is_bare() {
@@ -53,6 +64,7 @@ impl<'m> Rows<'m> {
         let Ok(place) = u32::try_from(self.own.len()) else {
             return Err(OutOfMemory);
         };
+        let row = shared_row(row, self.places.len(), room)?;
         self.own.push(row)?;
         self.places.push(place)?;
         Ok(())
@@ -76,7 +88,7 @@ impl<'m> Rows<'m> {
         requires { router < length self.now }
         ensures { result.now ≡ slice_index_or self.now router no_hops }
     {
-        &self.own[self.places[router] as usize]
+        self.own[self.places[router] as usize].as_row()
     }
 
     /// Whether a router is known to have no hops.
@@ -86,5 +98,37 @@ impl<'m> Rows<'m> {
         ensures { OnTrue result (slice_index_or self.now router no_hops ≡ no_hops) }
     {
         self.places[router] == 0
+    }
+}
+
+/// A row of a router, and that of the earlier part where it's the same.
+fn shared_row<'m>(
+    row: Row<'m>,
+    router: usize,
+    room: &RowRoom<'_, 'm>,
+) -> Result<SharedRow<'m>, OutOfMemory>
+    ensures { IfOk result (λ shared. shared ≡ row.entry) }
+{
+    match same_before(&row, router, room.before) {
+        Some(same) => same.shared(),
+        None => SharedRow::of(room.alloc, row),
+    }
+}
+
+/// The row of a router among those of an earlier part, where it's the same.
+fn same_before<'r, 'm>(
+    row: &Row<'m>,
+    router: usize,
+    before: Option<&'r Rows<'m>>,
+) -> Option<&'r SharedRow<'m>>
+    ensures { IfSome result (λ same. same.now ≡ row.now) }
+{
+    let rows = before?;
+    let place = *rows.places.get(router)?;
+    let same = rows.own.get(place as usize)?;
+    if same.as_row().is_same(row) {
+        Some(same)
+    } else {
+        None
     }
 }

@@ -12,8 +12,8 @@ returns-then-is_covered g c =
 
 pub build-requires-clause-returns : goal.build-requires-clause-returns
 build-requires-clause-returns g c =
-    returns_known (class_in (mix_of g.O.RouteSource.table g.N.RouteSource.table c.args.mixed.now) c.args.class.now.atom) c.args.making.now c.as_slice.result.now
-    c.requires.making c.requires.read c.as_slice.ensures.value
+    returns_known (class_in (mix_of g.O.RouteSource.table g.N.RouteSource.table c.args.mixed.now) c.args.class.now.atom)
+    c.args.making.now c.as_slice-2.result.now c.requires.making c.requires.read c.as_slice-2.ensures.value
 
 pub returns : goal.returns
 returns g c = subst (λ (xs : List ClassPart). AreParts (mix_of g.O.RouteSource.table g.N.RouteSource.table c.args.mixed.now) xs (c.args.class.now.atom + 1))
