@@ -9,7 +9,7 @@ use Rattle.walk_core.specs.declared.segment.Port.{Port}
 use Rattle.walk_core.specs.steps.Ascending.{AreAscending}
 use Rattle.walk_core.specs.steps.Flooding.{segment_at}
 use Rattle.walk_core.specs.steps.FirstHops.{AreAllHops, ListFirstHops}
-use Rattle.walk_core.specs.steps.Members.{AreMarked, AreMemberLists, AreMembers, AreMemberWalks, AreNumbered, HaveMarked}
+use Rattle.walk_core.specs.steps.Members.{AreMarked, AreMemberLists, AreMembers, AreMemberWalks, PlacesFit, HaveMarked}
 use Rattle.walk_core.specs.steps.Members.{IsSpread, IsSpreadReach, MemberWalks}
 use Rattle.walk_core.specs.steps.Members.{far, lone, Numbering, member_at, members_at, place_in, placed, placed_port}
 use Rattle.walk_core.specs.steps.Members.{placed_ports}
@@ -22,19 +22,19 @@ use Rattle.walk_core.proofs.RowLaws.{alone_more}
 use Rattle.walk_core.proofs.WalkLaws.{first_hop_is_arc}
 
 -- the vertex of a member's place is the member
-member_back : (m : Numbering) → AreNumbered m → (v : ℕ) → place_in m v < length m.vertices →
+member_back : (m : Numbering) → PlacesFit m → (v : ℕ) → place_in m v < length m.vertices →
     member_at m.vertices (place_in m v) ≡ v
 member_back m are v below = elim (are.others v) [
   | inl is ↦ is.back
   | inr none ↦ absurd (omega (arith, none, below, are.few, are.end))
 ]
 
-pub placing_of : (m : Numbering) → AreNumbered m → IsPlacing (length m.vertices) (place_in m) (member_at m.vertices)
+pub placing_of : (m : Numbering) → PlacesFit m → IsPlacing (length m.vertices) (place_in m) (member_at m.vertices)
 placing_of m are = record { places = are.places; members = member_back m are }
 
 -- where each marked vertex is a member, and the vertices of all ports are marked, these are members
 pub members_of_marks : (segments : List (List Port)) (marks : List Bool) (m : Numbering) → AreSegments m.count segments →
-    AreMarked segments (length segments) marks → AreNumbered m → HaveMarked marks m.count m → AreMembers segments m
+    AreMarked segments (length segments) marks → PlacesFit m → HaveMarked marks m.count m → AreMembers segments m
 members_of_marks segments marks m fit marked numbered have = record {
   fit = fit;
   numbered = numbered;
@@ -163,7 +163,7 @@ member_lists segments n lists fit are = record {
 
 -- the lists that stand at the vertices of places ascend
 pub ascending_from : (m : Numbering) (lists : List (List (List ℕ))) (p : ℕ) (vertices : List ℕ) (part whole : List (List ℕ)) →
-    AreNumbered m →
+    PlacesFit m →
     AreMemberLists (length m.vertices) lists → p < length m.vertices → part ≡ get_or lists p [] → vertices ≡ m.vertices →
     IsSpread [] vertices (length vertices) (map (members_at vertices) part) whole → AreAscending whole
 ascending_from m lists p vertices part whole numbered are below is same spread =

@@ -4,7 +4,7 @@ use Rattle.std.proofs.Common.{length-append, length-set, replicate, get_or, get_
 use Rattle.std.proofs.Common.{arith, inl, inr, sym, ◌∙◌, subst, ap}
 use Rattle.std.proofs.lemmas.Bool.{cases_lt, cases_eq}
 use Rattle.std.proofs.lemmas.List.{get_or_append_left, get_or_push, get_or_past, get_or-replicate, length-replicate}
-use Rattle.walk_core.specs.steps.Members.{Numbering, AreNumbered, AreVertices, HaveMarked, IsMember, IsSpread, NumbersVertex, member_at}
+use Rattle.walk_core.specs.steps.Members.{Numbering, PlacesFit, AreVertices, HaveMarked, HasPlace, IsSpread, NumbersVertex, member_at}
 use Rattle.walk_core.specs.steps.Members.{place_in}
 
 -- one more vertex, behind the others, is a member
@@ -33,7 +33,7 @@ member_here m vertex p is = get_or_push m.vertices vertex 0 p (sym is)
 long : (m : Numbering) (vertex : ℕ) → length (with_member m vertex).vertices ≡ length m.vertices + 1
 long m vertex = omega (arith, length-append m.vertices (vertex ∷ []))
 
-vertices_more : (m : Numbering) (vertex : ℕ) → AreNumbered m → m.end ≤ vertex →
+vertices_more : (m : Numbering) (vertex : ℕ) → PlacesFit m → m.end ≤ vertex →
     AreVertices (with_member m vertex).vertices (vertex + 1)
 vertices_more m vertex are next = record {
   within = λ p below. elim (cases_lt p (length m.vertices)) [
@@ -56,8 +56,8 @@ vertices_more m vertex are next = record {
   ];
 }
 
-others_more : (m : Numbering) (vertex : ℕ) → AreNumbered m → vertex < m.count → (v : ℕ) →
-    IsMember (with_member m vertex) v ⊎ (place_in (with_member m vertex) v ≡ m.count)
+others_more : (m : Numbering) (vertex : ℕ) → PlacesFit m → vertex < m.count → (v : ℕ) →
+    HasPlace (with_member m vertex) v ⊎ (place_in (with_member m vertex) v ≡ m.count)
 others_more m vertex are within v = elim (cases_eq v vertex) [
   | inl same ↦
       let here : place_in (with_member m vertex) v ≡ length m.vertices =
@@ -77,8 +77,8 @@ others_more m vertex are within v = elim (cases_eq v vertex) [
   ]
 ]
 
-pub numbered_more : (m : Numbering) (vertex : ℕ) → AreNumbered m → m.end ≤ vertex → vertex < m.count →
-    AreNumbered (with_member m vertex)
+pub numbered_more : (m : Numbering) (vertex : ℕ) → PlacesFit m → m.end ≤ vertex → vertex < m.count →
+    PlacesFit (with_member m vertex)
 numbered_more m vertex are next within = record {
   long = length-set m.places vertex (length m.vertices) ∙ are.long;
   few = omega (arith, are.few, long m vertex, next);
@@ -97,18 +97,18 @@ numbered_more m vertex are next within = record {
   others = others_more m vertex are within;
 }
 
-pub numbered_as : (m : Numbering) (vertex : ℕ) (after : Numbering) → AreNumbered m → m.end ≤ vertex → vertex < m.count →
+pub numbered_as : (m : Numbering) (vertex : ℕ) (after : Numbering) → PlacesFit m → m.end ≤ vertex → vertex < m.count →
     after.count ≡ m.count →
     after.places ≡ set m.places vertex (length m.vertices) → after.vertices ≡ m.vertices ++ vertex ∷ [] →
-    after.end ≡ vertex + 1 → AreNumbered after
+    after.end ≡ vertex + 1 → PlacesFit after
 numbered_as m vertex after are next within count places vertices end =
-    subst (λ (n : ℕ). AreNumbered (record { count = n; places = after.places; vertices = after.vertices; end = after.end }))
+    subst (λ (n : ℕ). PlacesFit (record { count = n; places = after.places; vertices = after.vertices; end = after.end }))
     (sym count)
-    (subst (λ (l : List ℕ). AreNumbered (record { count = m.count; places = l; vertices = after.vertices; end = after.end }))
+    (subst (λ (l : List ℕ). PlacesFit (record { count = m.count; places = l; vertices = after.vertices; end = after.end }))
     (sym places)
-    (subst (λ (l : List ℕ). AreNumbered
+    (subst (λ (l : List ℕ). PlacesFit
     (record { count = m.count; places = (with_member m vertex).places; vertices = l; end = after.end })) (sym vertices)
-    (subst (λ (n : ℕ). AreNumbered (record {
+    (subst (λ (n : ℕ). PlacesFit (record {
       count = m.count;
       places = (with_member m vertex).places;
       vertices = (with_member m vertex).vertices;
@@ -116,7 +116,7 @@ numbered_as m vertex after are next within count places vertices end =
     })) (sym end) (numbered_more m vertex are next within))))
 
 -- before the first vertex there is no member
-pub none_numbered : (count : ℕ) → AreNumbered (record { count = count; places = replicate count count; vertices = []; end = 0 })
+pub none_numbered : (count : ℕ) → PlacesFit (record { count = count; places = replicate count count; vertices = []; end = 0 })
 none_numbered count = record {
   long = length-replicate count count;
   few = omega arith;

@@ -32,7 +32,7 @@ impl Model for Members {
 impl Members {
     ghost use Rattle.std.specs.Prelude.{◌≡◌, ◌↔◌, ◌+◌, ◌/◌, ◌^◌, ◌<◌, ◌≤◌, IfOk, IsTrue, OnOk, length};
     ghost use Rattle.walk_core.specs.Segments.{AreSegments};
-    ghost use Rattle.walk_core.specs.steps.Members.{AreMembers, AreNumbered, NumbersVertex, place_in, placed};
+    ghost use Rattle.walk_core.specs.steps.Members.{AreMembers, PlacesFit, NumbersVertex, place_in, placed};
 
     /// The members of so many vertices, which these segments join.
     pub fn of(alloc: Global, segments: &[Segment], count: u32) -> Result<Members, OutOfMemory>
@@ -58,11 +58,11 @@ impl Members {
     /// Numbers the next vertex, if it is marked.
     #[inline(always)]
     fn number(&mut self, vertex: u32, marked: bool) -> Result<(), OutOfMemory>
-        requires numbered { AreNumbered self.old }
+        requires numbered { PlacesFit self.old }
         requires next { self.old.end ≤ vertex }
         requires within { vertex < self.old.count }
         requires fits { vertex + 1 < 2 ^ 32 }
-        ensures numbered { OnOk result (AreNumbered self.new) }
+        ensures numbered { OnOk result (PlacesFit self.new) }
         ensures next { OnOk result (NumbersVertex vertex marked self.old self.new) }
     {
         if !marked {
@@ -76,7 +76,7 @@ impl Members {
 
     /// How many members there are.
     pub fn len(&self) -> u32
-        requires { AreNumbered self.now }
+        requires { PlacesFit self.now }
         ensures { result ≡ length self.now.vertices }
     {
         // no more than the last of them

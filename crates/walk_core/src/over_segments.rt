@@ -2,7 +2,7 @@ ghost use Rattle.std.specs.Prelude.{◌≡◌, ◌<◌, List, length, IfOk};
 ghost use Rattle.walk_core.specs.Reach.{AreWalksBelow};
 ghost use Rattle.walk_core.specs.Segments.{AreSegments, SendsAcross};
 ghost use Rattle.walk_core.specs.declared.segment.Port.{Port};
-ghost use Rattle.walk_core.specs.steps.Members.{AreMembers, AreMemberLists, AreMemberWalks, AreNumbered, IsSpreadReach};
+ghost use Rattle.walk_core.specs.steps.Members.{AreMembers, AreMemberLists, AreMemberWalks, PlacesFit, IsSpreadReach};
 ghost use Rattle.walk_core.specs.steps.SegmentWalks.{AreAllOutlets, IsJoinedEnd};
 
 use crate::kept::Kept;
@@ -59,7 +59,7 @@ fn spread_all(
     rows: &[Distances],
     lists: &[NumberLists],
 ) -> Result<Vec<LeastWalks>, OutOfMemory>
-    requires numbered { AreNumbered members.now }
+    requires numbered { PlacesFit members.now }
     requires rows { length rows.now ≡ length members.now.vertices }
     requires lists { AreMemberLists (length members.now.vertices) lists.now }
     ensures { IfOk result (λ all. (segments : List (List Port)) → AreMembers segments members.now →
@@ -83,7 +83,7 @@ fn spread_from(
     lists: &[NumberLists],
     root: u32,
 ) -> Result<LeastWalks, OutOfMemory>
-    requires numbered { AreNumbered members.now }
+    requires numbered { PlacesFit members.now }
     requires rows { length rows.now ≡ length members.now.vertices }
     requires lists { AreMemberLists (length members.now.vertices) lists.now }
     ensures { IfOk result (IsSpreadReach members.now (record { rows = rows.now; lists = lists.now }) root) }

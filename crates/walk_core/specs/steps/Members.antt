@@ -31,18 +31,18 @@ pub record AreVertices (vertices : List ℕ) (end : ℕ) : Type 0 where
   pub ascending : (p q : ℕ) → p < q → q < length vertices → member_at vertices p < member_at vertices q
 
 -- the vertex has the place of a member, whose vertex it is
-pub record IsMember (members : Numbering) (v : ℕ) : Type 0 where
+pub record HasPlace (members : Numbering) (v : ℕ) : Type 0 where
   pub place : place_in members v < length members.vertices
   pub back : member_at members.vertices (place_in members v) ≡ v
 
 -- places and vertices fit each other
-pub record AreNumbered (members : Numbering) : Type 0 where
+pub record PlacesFit (members : Numbering) : Type 0 where
   pub long : length members.places ≡ members.count
   pub few : length members.vertices ≤ members.end
   pub end : members.end ≤ members.count
   pub vertices : AreVertices members.vertices members.end
   pub places : (p : ℕ) → p < length members.vertices → place_in members (member_at members.vertices p) ≡ p
-  pub others : (v : ℕ) → IsMember members v ⊎ (place_in members v ≡ members.count)
+  pub others : (v : ℕ) → HasPlace members v ⊎ (place_in members v ≡ members.count)
 
 -- where it is marked, one more vertex becomes a member, behind those that are
 pub record NumbersVertex (vertex : ℕ) (marked : Bool) (before after : Numbering) : Type 0 where
@@ -70,7 +70,7 @@ pub record Marks (ports : List Port) (before after : List Bool) : Type 0 where
 -- each vertex of a port is a member
 pub record AreMembers (segments : List (List Port)) (members : Numbering) : Type 0 where
   pub fit : AreSegments members.count segments
-  pub numbered : AreNumbered members
+  pub numbered : PlacesFit members
   pub ports : (segment : List Port) → Contains segments segment → (port : Port) → Contains segment port →
       place_in members port.vertex < length members.vertices
 
