@@ -262,7 +262,7 @@ level_number reach zones zone n u entry entries after leads decision makers numb
     let to : IsEntryToEither r (record { one = one.at; other = other.at }) n (get_or after number Discard) =
     subst (λ (m : TwoMakers). IsEntryToEither r m n (get_or after number Discard)) level.makers_are has.is in
     let towards = level_hops r one other n cost to.hops reached other_reached to.are in
-        let route = lead.through to.hops (record { cost = cost; best = here.best_total; towards = towards }) in
+    let route = lead.through to.hops (record { cost = cost; best = here.best_total; towards = towards }) in
     record { below = has.below; is = route.makes (get_or after number Discard) to.is }
 
 -- the same by the walks that are known
