@@ -40,6 +40,7 @@ use Rattle.migrate_cli.specs.declared.reading.Stop.{Stop}
 use Rattle.migrate_cli.specs.declared.reading.Stop.TheVariants.{Fault, Long, Total, OutOfMemory}
 use Rattle.migrate_cli.specs.steps.Answering.{HasAnswer, ReadsEnd, RefusesSo, StopsSo}
 use Rattle.migrate_cli.specs.ObserveDecision.{ConfigTexts, IsNightOutcome, NightTexts, RefusesTexts}
+use Rattle.migrate_cli.specs.steps.FilesRead.{AreSplit}
 use Rattle.migrate_cli.specs.steps.Stops.{MayRead, HasRead, StopReads}
 use Rattle.migrate_cli.specs.steps.Stops.MayRead.{none_yet, so_far}
 use Rattle.migrate_cli.specs.steps.Unread.{IsUnread, RefusesUnread}
@@ -204,6 +205,13 @@ pub refused_network : (command : Command) (texts : GivenTexts) (all : List Confi
 refused_network command texts all refusal (Ok outcome) read refuses told so =
     subst (IsOutcome command texts) (sym so) (no_network all refusal read refuses told)
 refused_network command texts all refusal (Err e) read refuses told so = tt
+
+-- what a command comes to on its own texts and those of configurations, into which its texts are split, it comes to on these
+pub split_outcome : (command : Command) {texts own configs : List (List ℕ)} (r : Result Outcome AllocError) → AreSplit command texts own configs →
+    IfOk r (IsOutcome command (given_texts own configs)) → IfOk r (IsOutcome command (given_texts (own_texts command texts) (config_texts command texts)))
+split_outcome command {texts} {own} {configs} r split is =
+    subst (λ (some : List (List ℕ)). IfOk r (IsOutcome command (given_texts (own_texts command texts) some))) split.configs_are
+    (subst (λ (some : List (List ℕ)). IfOk r (IsOutcome command (given_texts some configs))) split.own_are is)
 
 -- that a router is off the start is the outcome
 pub start_refused : (command : Command) (texts : GivenTexts) (net : Network) (others : List Network) (router : ℕ) (r : Result Outcome AllocError) →

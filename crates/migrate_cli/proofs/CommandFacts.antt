@@ -7,8 +7,13 @@ use Rattle.migrate_words.specs.Asked.{IsInRange}
 use Rattle.migrate_words.specs.Usages.{usage_of}
 use Rattle.migrate_words.specs.declared.command.Command.{Command}
 use Rattle.migrate_words.specs.declared.command.CommandKind.{CommandKind}
-use Rattle.migrate_cli.specs.CommandFiles.{own_file, own_files, own_most}
+use Rattle.migrate_words.specs.declared.command.CommandKind.TheVariants.{Delta, Prepare}
+use Rattle.net_model.specs.Network.{Network}
+use Rattle.migration_report.specs.declared.decision.Decision.{Decision}
+use Rattle.migrate_cli.specs.CommandFiles.{given_texts, own_file, own_files, own_most}
+use Rattle.migrate_cli.specs.Decisions.{Input, IsDecision, input_of}
 use Rattle.migrate_cli.specs.Reading.{AreShort, named_text, named_texts}
+use Rattle.migrate_cli.specs.steps.FilesRead.{kept_texts}
 use Rattle.migrate_cli.proofs.FileFacts.{most_small, short_length}
 
 -- one name and one text are one file
@@ -38,6 +43,20 @@ place_short command own i text short within at = by_files command.own own i shor
         let same = ap length e in
         omega (arith, first, most, same)
     by_files (n ∷ names) (t ∷ texts) (suc k) s w e = by_files names texts k s.1 (omega (arith, w)) e
+
+-- what a command decides of the texts that it keeps it decides of all
+pub by_kept : (command : Command) (own texts : List (List ℕ)) (net : Network) (decision : Decision) →
+    IsDecision command.kind (input_of command (given_texts own (kept_texts command.kind texts)) net []) decision →
+    IsDecision command.kind (input_of command (given_texts own texts) net []) decision
+by_kept command own texts net decision is = by_kind command.kind is
+  where
+    input : List (List ℕ) → Input
+    input configs = input_of command (given_texts own configs) net []
+
+    by_kind : (kind : CommandKind) → IsDecision kind (input (kept_texts kind texts)) decision → IsDecision kind (input texts) decision
+    by_kind Prepare so = so
+    by_kind Delta so = so
+    by_kind _ so = so
 
 module _ (command : Command) (own : List (List ℕ)) (kind : CommandKind) (is : command.kind ≡ kind) (range : IsInRange command)
     (short : AreShort (own_files command) own) where

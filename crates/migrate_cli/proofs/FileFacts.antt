@@ -10,10 +10,10 @@ use Rattle.migrate_words.specs.Usages.{usage_of}
 use Rattle.migrate_words.specs.declared.command.TheConstants.{LEAST_SAMPLE, MOST_SAMPLE}
 use Rattle.migrate_words.specs.declared.command.Command.{Command}
 use Rattle.migrate_words.specs.declared.command.CommandKind.{CommandKind}
-use Rattle.migrate_words.specs.declared.command.CommandKind.TheVariants.{Sample, Survey}
+use Rattle.migrate_words.specs.declared.command.CommandKind.TheVariants.{Delta, Prepare, Sample, Survey}
 use Rattle.migrate_cli.specs.Reading.{File, AreShort}
 use Rattle.migrate_cli.specs.CommandFiles.{config_file, config_texts, files_of, given_texts, made_texts, names_for, own_file, own_files, own_most, own_texts, text_names}
-use Rattle.migrate_cli.specs.steps.FilesRead.{ReadsFiles}
+use Rattle.migrate_cli.specs.steps.FilesRead.{AreSplit, ReadsFiles, kept_texts}
 
 -- the file is none that may be longer than 16 MiB
 abbrev IsSmall : File → Type 0
@@ -82,14 +82,6 @@ names_read kind names reads = grind (arith, common_steps)
 texts_read : (kind : CommandKind) (number : ℕ) (texts : List (List ℕ)) → ReadsFiles kind → made_texts kind number texts ≡ texts
 texts_read kind number texts reads = grind (arith, common_steps)
 
--- the texts behind its own ones
-pub record AreSplit (command : Command) (texts own configs : List (List ℕ)) : Type 0 where
-  pub own_are : own ≡ own_texts command texts
-  pub configs_are : configs ≡ config_texts command texts
-  pub own_short : AreShort (own_files command) own
-  pub each : length (text_names command) ≡ length configs
-  pub configs_short : All (λ (text : List ℕ). length text ≤ 16777216) configs
-
 module _ (command : Command) (texts : List (List ℕ)) (reads : ReadsFiles command.kind) (short : AreShort (files_of command) texts) where
   pub split_count : length texts ≡ length command.own + length (text_names command)
   split_count =
@@ -135,6 +127,14 @@ module _ (command : Command) (texts : List (List ℕ)) (reads : ReadsFiles comma
       let count : length names ≡ length (text_names command) = sym (length-map names bytes) ∙ ap length are in
       let all = split_count in
       split_texts own configs (length texts - length names) (omega (arith, all, count)) front rest
+
+-- ---- those that it keeps are as short ----
+
+pub kept_short : (kind : CommandKind) (texts : List (List ℕ)) → All (λ (text : List ℕ). length text ≤ 16777216) texts →
+    All (λ (text : List ℕ). length text ≤ 16777216) (kept_texts kind texts)
+kept_short Prepare texts short = short
+kept_short Delta texts short = short
+kept_short _ texts short = λ k d within. absurd (omega arith)
 
 -- ---- `sample` names no file ----
 

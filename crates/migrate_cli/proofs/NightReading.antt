@@ -29,11 +29,11 @@ use Rattle.migrate_cli.specs.Outcomes.IsOutcome.{observed}
 use Rattle.migrate_cli.specs.Reading.{AreShort, named_text, named_texts}
 use Rattle.migrate_cli.specs.declared.configurations.Unread.{Unread}
 use Rattle.migrate_cli.specs.declared.configurations.Unread.TheVariants.{Bad, OutOfMemory as NoMemoryToRead}
-use Rattle.migrate_cli.specs.steps.FilesRead.{ReadsFiles}
+use Rattle.migrate_cli.specs.steps.FilesRead.{AreSplit, ReadsFiles}
 use Rattle.migrate_cli.specs.steps.NightFiles.{RefusesConfigs}
 use Rattle.migrate_cli.specs.steps.Unread.{IsUnread, IsUnreadText, RefusesUnread}
 use Rattle.migrate_cli.proofs.CommandFacts.{place_short, two_own}
-use Rattle.migrate_cli.proofs.FileFacts.{AreSplit, short_length, split_count, split_texts}
+use Rattle.migrate_cli.proofs.FileFacts.{short_length, split_count, split_texts}
 use Rattle.migrate_cli.proofs.GroupLaws.{one_read}
 use Rattle.migrate_cli.proofs.StopFacts.{element}
 

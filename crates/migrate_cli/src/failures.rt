@@ -21,7 +21,7 @@ use crate::check::{check_read, unsound_state, unsound_wave};
 use crate::commands::first_own;
 use crate::configurations::read_all;
 use crate::files::{FILE_MOST, bad_order, text_names};
-use crate::judging::{refuse_network, refuse_start, refuse_unread};
+use crate::judging::{refuse_network, refuse_start, refuse_unread, split_texts};
 use crate::moves::Move;
 use crate::picture::checked_line;
 use crate::progress::Progress;
@@ -49,22 +49,22 @@ use zone_graph::KnownWalks;
 pub(crate) fn judge_failures<P: Sink>(
     alloc: Global,
     command: &Command<'_>,
-    texts: &[Bytes],
+    texts: Vec<Bytes>,
     progress: &mut P,
 ) -> Result<Outcome, OutOfMemory>
     requires kind { command.now.kind ≡ CommandKind.Failures }
     requires range { IsInRange command.now }
-    requires short { AreShort (files_of command.now) texts.now }
-    ensures { IfOk result (IsOutcome command.now (given_texts (own_texts command.now texts.now) (config_texts command.now texts.now))) }
+    requires short { AreShort (files_of command.now) texts.items }
+    ensures { IfOk result (IsOutcome command.now (given_texts (own_texts command.now texts.items) (config_texts command.now texts.items))) }
 {
-    let names = text_names(command);
-    let (own, configs) = texts.split_at(texts.len() - names.len());
-    let read = match read_all(alloc, names, configs) {
+    let (own, configs) = split_texts(command, texts)?;
+    let read = match read_all(alloc, text_names(command), configs.as_slice()) {
         Ok(read) => read,
         Err(unread) => return refuse_unread(alloc, unread),
     };
+    drop(configs);
     match Net::build(alloc, read) {
-        Ok(net) => judge_standing(alloc, first_own(command, own), net, progress),
+        Ok(net) => judge_standing(alloc, first_own(command, own.as_slice()), net, progress),
         Err(refusal) => refuse_network(refusal),
     }
 }

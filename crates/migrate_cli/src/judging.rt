@@ -1,4 +1,4 @@
-ghost use Rattle.std.specs.Prelude.{◌≡◌, ◌≢◌, ◌<◌, ◌≤◌, ◌∷◌, [], All, IfOk, MatchOption, OnOk, length};
+ghost use Rattle.std.specs.Prelude.{◌≡◌, ◌≢◌, ◌<◌, ◌≤◌, ◌∷◌, ℕ, List, [], All, IfOk, MatchOption, OnOk, length};
 ghost use Rattle.net_model.specs.Configuration.{Configuration};
 ghost use Rattle.net_model.specs.Network.{HasConfiguration};
 ghost use Rattle.net_model.specs.OffStarts.{IsLowestOffStart};
@@ -7,7 +7,7 @@ ghost use Rattle.design_writer.specs.CostDesigns.{HaveTextNames};
 ghost use Rattle.migrate_words.specs.Asked.{IsInRange};
 ghost use Rattle.migrate_cli.specs.CommandFiles.{AsksNetworks, NeedsStart, OverNetworks, config_texts, files_of, given_texts, groups_of};
 ghost use Rattle.migrate_cli.specs.CommandFiles.{own_files, own_texts, text_names};
-ghost use Rattle.migrate_cli.specs.steps.FilesRead.{IsJudgedAtOnce, ReadsFiles};
+ghost use Rattle.migrate_cli.specs.steps.FilesRead.{AreSplit, IsJudgedAtOnce, ReadsFiles, kept_texts};
 ghost use Rattle.migrate_cli.specs.Configurations.{GiveNetwork, GiveNetworks, IsAtStart};
 ghost use Rattle.migrate_cli.specs.Reading.{AreShort};
 ghost use Rattle.migrate_cli.specs.steps.Unread.{RefusesUnread};
@@ -33,17 +33,17 @@ use store_edge::Sink;
 pub(crate) fn judge<P: Sink>(
     alloc: Global,
     command: &Command<'_>,
-    texts: &[Bytes],
+    texts: Vec<Bytes>,
     progress: &mut P,
 ) -> Result<Outcome, OutOfMemory>
     requires range { IsInRange command.now }
-    requires short { AreShort (files_of command.now) texts.now }
-    ensures { IfOk result (IsOutcome command.now (given_texts (own_texts command.now texts.now) (config_texts command.now texts.now))) }
+    requires short { AreShort (files_of command.now) texts.items }
+    ensures { IfOk result (IsOutcome command.now (given_texts (own_texts command.now texts.items) (config_texts command.now texts.items))) }
 {
     match command.kind {
         CommandKind::Sample => judge_made(alloc, command),
-        CommandKind::Survey => judge_survey(alloc, command, texts),
-        CommandKind::Observe => judge_observe(alloc, command, texts),
+        CommandKind::Survey => judge_survey(alloc, command, texts.as_slice()),
+        CommandKind::Observe => judge_observe(alloc, command, texts.as_slice()),
         CommandKind::Failures => judge_failures(alloc, command, texts, progress),
         _ => judge_read(alloc, command, texts),
     }
@@ -55,51 +55,82 @@ fn judge_made(alloc: Global, command: &Command<'_>) -> Result<Outcome, OutOfMemo
     requires range { IsInRange command.now }
     ensures { IfOk result (IsOutcome command.now (given_texts [] (sample_text command.now.number ∷ []))) }
 {
-    let text = sample_text(alloc, command.number)?;
-    judge_texts(alloc, command, &[], &[text])
+    let mut texts = Vec::new(alloc);
+    texts.push(sample_text(alloc, command.number)?)?;
+    judge_texts(alloc, command, &[], texts)
 }
 
 /// What a command that reads files comes to on their texts.
-fn judge_read(alloc: Global, command: &Command<'_>, texts: &[Bytes]) -> Result<Outcome, OutOfMemory>
+fn judge_read(
+    alloc: Global,
+    command: &Command<'_>,
+    texts: Vec<Bytes>,
+) -> Result<Outcome, OutOfMemory>
     requires reads { ReadsFiles command.now.kind }
     requires networks { AsksNetworks command.now.kind }
     requires at_once { IsJudgedAtOnce command.now.kind }
     requires range { IsInRange command.now }
-    requires short { AreShort (files_of command.now) texts.now }
-    ensures { IfOk result (IsOutcome command.now (given_texts (own_texts command.now texts.now) (config_texts command.now texts.now))) }
+    requires short { AreShort (files_of command.now) texts.items }
+    ensures { IfOk result (IsOutcome command.now (given_texts (own_texts command.now texts.items) (config_texts command.now texts.items))) }
 {
-    let number = text_names(command).len();
-    let (own, configs) = texts.split_at(texts.len() - number);
+    let (own, configs) = split_texts(command, texts)?;
     if over_networks(command.kind) {
-        judge_networks(alloc, command, own, configs)
+        judge_networks(alloc, command, own.as_slice(), configs)
     } else {
-        judge_texts(alloc, command, own, configs)
+        judge_texts(alloc, command, own.as_slice(), configs)
     }
 }
 
-/// What a command over one network comes to on the texts of its own files and those of configurations.
+/// The texts of a command's own files, and those of its configurations.
+pub(crate) fn split_texts(
+    command: &Command<'_>,
+    texts: Vec<Bytes>,
+) -> Result<(Vec<Bytes>, Vec<Bytes>), OutOfMemory>
+    requires reads { ReadsFiles command.now.kind }
+    requires short { AreShort (files_of command.now) texts.items }
+    ensures { IfOk result (λ parts. AreSplit command.now texts.items parts.0.items parts.1.items) }
+{
+    let mut own = texts;
+    let place = own.len() - text_names(command).len();
+    let configs = own.split_off(place)?;
+    Ok((own, configs))
+}
+
+/// What a command over one network comes to on the texts of its own files and those of configurations. Once these are read,
+/// the memory of their texts is free for the network and its tables, unless the command asks for them.
 fn judge_texts(
     alloc: Global,
     command: &Command<'_>,
     own: &[Bytes],
-    texts: &[Bytes],
+    texts: Vec<Bytes>,
 ) -> Result<Outcome, OutOfMemory>
     requires networks { AsksNetworks command.now.kind }
     requires one { OverNetworks command.now.kind → ⊥ }
     requires at_once { IsJudgedAtOnce command.now.kind }
     requires range { IsInRange command.now }
     requires own { AreShort (own_files command.now) own.now }
-    requires each { length (text_names command.now) ≡ length texts.now }
-    requires short { All (λ text. length text ≤ FILE_MOST) texts.now }
-    ensures { IfOk result (IsOutcome command.now (given_texts own.now texts.now)) }
+    requires each { length (text_names command.now) ≡ length texts.items }
+    requires short { All (λ text. length text ≤ FILE_MOST) texts.items }
+    ensures { IfOk result (IsOutcome command.now (given_texts own.now texts.items)) }
 {
-    let configs = match read_all(alloc, text_names(command), texts) {
+    let configs = match read_all(alloc, text_names(command), texts.as_slice()) {
         Ok(configs) => configs,
         Err(unread) => return refuse_unread(alloc, unread),
     };
+    let kept = kept_texts(alloc, command.kind, texts);
     match Net::build(alloc, configs) {
-        Ok(net) => judge_network(alloc, command, own, texts, net),
+        Ok(net) => judge_network(alloc, command, own, kept.as_slice(), net),
         Err(refusal) => refuse_network(refusal),
+    }
+}
+
+/// The texts of configurations for which a command asks once they are read. The memory of the others is free.
+fn kept_texts(alloc: Global, kind: CommandKind, texts: Vec<Bytes>) -> Vec<Bytes>
+    ensures { result.items ≡ kept_texts kind texts.items }
+{
+    match kind {
+        CommandKind::Prepare | CommandKind::Delta => texts,
+        _ => Vec::new(alloc),
     }
 }
 
@@ -108,25 +139,26 @@ fn judge_networks(
     alloc: Global,
     command: &Command<'_>,
     own: &[Bytes],
-    texts: &[Bytes],
+    texts: Vec<Bytes>,
 ) -> Result<Outcome, OutOfMemory>
     requires over { OverNetworks command.now.kind }
     requires range { IsInRange command.now }
     requires own { AreShort (own_files command.now) own.now }
-    requires each { length (text_names command.now) ≡ length texts.now }
-    requires short { All (λ text. length text ≤ FILE_MOST) texts.now }
-    ensures { IfOk result (IsOutcome command.now (given_texts own.now texts.now)) }
+    requires each { length (text_names command.now) ≡ length texts.items }
+    requires short { All (λ text. length text ≤ FILE_MOST) texts.items }
+    ensures { IfOk result (IsOutcome command.now (given_texts own.now texts.items)) }
 {
-    let (old, new) = match read_two(alloc, text_names(command), texts) {
+    let (old, new) = match read_two(alloc, text_names(command), texts.as_slice()) {
         Ok(both) => both,
         Err(unread) => return refuse_unread(alloc, unread),
     };
+    drop(texts);
     let old = match Net::build(alloc, old) {
         Ok(old) => old,
         Err(refusal) => return refuse_network(refusal),
     };
     match Net::build(alloc, new) {
-        Ok(new) => judge_two(alloc, command, own, texts, (old, new)),
+        Ok(new) => judge_two(alloc, command, own, (old, new)),
         Err(refusal) => refuse_network(refusal),
     }
 }
@@ -136,15 +168,14 @@ fn judge_two(
     alloc: Global,
     command: &Command<'_>,
     own: &[Bytes],
-    configs: &[Bytes],
     nets: (Net, Net),
 ) -> Result<Outcome, OutOfMemory>
     requires over { OverNetworks command.now.kind }
     requires range { IsInRange command.now }
     requires some { 0 < length nets.0 }
     requires own { AreShort (own_files command.now) own.now }
-    ensures { IfOk result (λ outcome. GiveNetworks (groups_of command.now.kind configs.now) (nets.0 ∷ nets.1 ∷ []) →
-        IsOutcome command.now (given_texts own.now configs.now) outcome) }
+    ensures { (texts : List (List ℕ)) → IfOk result (λ outcome. GiveNetworks (groups_of command.now.kind texts)
+        (nets.0 ∷ nets.1 ∷ []) → IsOutcome command.now (given_texts own.now texts) outcome) }
 {
     let (old, new) = nets;
     if let Some(router) = off_start(command, &old) {
@@ -214,7 +245,7 @@ pub(crate) fn refuse_unread(alloc: Global, unread: Unread<'_>) -> Result<Outcome
     }
 }
 
-/// What a command comes to on the texts of its own files, those of its configurations, and the network of these.
+/// What a command comes to on the texts of its own files, those of its configurations that it keeps, and the network of all these.
 fn judge_network(
     alloc: Global,
     command: &Command<'_>,
@@ -230,8 +261,8 @@ fn judge_network(
     requires at_once { IsJudgedAtOnce command.now.kind }
     requires configs { All (λ text. length text ≤ FILE_MOST) configs.now }
     requires names { HaveTextNames net }
-    ensures { IfOk result (λ outcome. GiveNetwork configs.now net →
-        IsOutcome command.now (given_texts own.now configs.now) outcome) }
+    ensures { (texts : List (List ℕ)) → configs.now ≡ kept_texts command.now.kind texts →
+        IfOk result (λ outcome. GiveNetwork texts net → IsOutcome command.now (given_texts own.now texts) outcome) }
 {
     if let Some(router) = off_start(command, &net) {
         return refuse_start(alloc, &net, router);

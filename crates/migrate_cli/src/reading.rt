@@ -52,10 +52,10 @@ impl Texts {
     }
 
     /// The texts, in the order in which they were read.
-    pub fn as_slice(&self) -> &[Bytes]
-        ensures { result.now ≡ self.now.all }
+    pub fn into_vec(self) -> Vec<Bytes>
+        ensures { result.items ≡ self.all }
     {
-        self.all.as_slice()
+        self.all
     }
 
     /// Reads the next file.

@@ -109,7 +109,7 @@ fn decide_command<F: Files, P: Sink>(
         return Err(AllocError);
     };
     match read_texts(alloc, wanted.as_slice(), files) {
-        Ok(texts) => judge(alloc, command, texts.as_slice(), progress),
+        Ok(texts) => judge(alloc, command, texts.into_vec(), progress),
         Err(stop) => refuse_stop(alloc, stop),
     }
 }

@@ -1,5 +1,5 @@
 use Rattle.std.proofs.lemmas.Grind.{common_steps}
-use Rattle.std.proofs.Common.{ap, arith, length}
+use Rattle.std.proofs.Common.{arith}
 use Rattle.std.proofs.lemmas.List.Elements.{All-cons}
 use Rattle.migrate_cli.proofs.FileFacts.{sample_names, sample_number, sample_own}
 use Rattle.sample_network.proofs.TextLengths.{sample_short}
@@ -12,7 +12,7 @@ pub judge_texts-requires-clause-own : goal.judge_texts-requires-clause-own
 judge_texts-requires-clause-own c = grind (arith, common_steps, sample_own)
 
 pub judge_texts-requires-clause-each : goal.judge_texts-requires-clause-each
-judge_texts-requires-clause-each c = ap length (sample_names c.args.command.now c.requires.kind c.requires.range)
+judge_texts-requires-clause-each c = grind (arith, common_steps, sample_names)
 
 pub judge_texts-requires-clause-short : goal.judge_texts-requires-clause-short
 judge_texts-requires-clause-short c = grind (arith, common_steps, All-cons, sample_number, sample_short)

@@ -53,8 +53,8 @@ returns-in-Ok-read_texts-clause-answer g c = λ words asks.
     let files : map file_of c.as_slice.result.now ≡ files_of command = ap (map file_of) c.as_slice.ensures.value ∙ c.in-Ok.ensures in
     let has : HasRead (to_read content (files_of command)) before after (Ok c.in-Ok-read_texts.texts) =
     subst (λ some. HasRead (to_read content some) before after (Ok c.in-Ok-read_texts.texts)) files c.in-Ok-read_texts.ensures.read in
-    let texts = c.as_slice-in-Ok-read_texts.result.now in
-    let same : texts ≡ c.in-Ok-read_texts.texts.all = c.as_slice-in-Ok-read_texts.ensures in
+    let texts = c.into_vec.result.items in
+    let same : texts ≡ c.in-Ok-read_texts.texts.all = c.into_vec.ensures in
     let read : AreRead content (files_of command) texts = subst (AreRead content (files_of command)) (sym same) has.reads.1 in
     let within : AreWithin (files_of command) texts = subst (AreWithin (files_of command)) (sym same) has.reads.2 in
     let r = c.judge.result in
