@@ -40,7 +40,7 @@ use Rattle.migrate_cli.specs.declared.reading.Stop.{Stop}
 use Rattle.migrate_cli.specs.declared.reading.Stop.TheVariants.{Fault, Long, Total, OutOfMemory}
 use Rattle.migrate_cli.specs.steps.Answering.{HasAnswer, ReadsEnd, RefusesSo, StopsSo}
 use Rattle.migrate_cli.specs.ObserveDecision.{ConfigTexts, IsNightOutcome, NightTexts, RefusesTexts}
-use Rattle.migrate_cli.specs.steps.FilesRead.{AreSplit}
+use Rattle.migrate_cli.specs.steps.FilesRead.{AreTextsApart}
 use Rattle.migrate_cli.specs.steps.Stops.{MayRead, HasRead, StopReads}
 use Rattle.migrate_cli.specs.steps.Stops.MayRead.{none_yet, so_far}
 use Rattle.migrate_cli.specs.steps.Unread.{IsUnread, RefusesUnread}
@@ -207,7 +207,7 @@ refused_network command texts all refusal (Ok outcome) read refuses told so =
 refused_network command texts all refusal (Err e) read refuses told so = tt
 
 -- what a command comes to on its own texts and those of configurations, into which its texts are split, it comes to on these
-pub split_outcome : (command : Command) {texts own configs : List (List ℕ)} (r : Result Outcome AllocError) → AreSplit command texts own configs →
+pub split_outcome : (command : Command) {texts own configs : List (List ℕ)} (r : Result Outcome AllocError) → AreTextsApart command texts own configs →
     IfOk r (IsOutcome command (given_texts own configs)) → IfOk r (IsOutcome command (given_texts (own_texts command texts) (config_texts command texts)))
 split_outcome command {texts} {own} {configs} r split is =
     subst (λ (some : List (List ℕ)). IfOk r (IsOutcome command (given_texts (own_texts command texts) some))) split.configs_are

@@ -13,7 +13,7 @@ use Rattle.migrate_words.specs.declared.command.CommandKind.{CommandKind}
 use Rattle.migrate_words.specs.declared.command.CommandKind.TheVariants.{Delta, Prepare, Sample, Survey}
 use Rattle.migrate_cli.specs.Reading.{File, AreShort}
 use Rattle.migrate_cli.specs.CommandFiles.{config_file, config_texts, files_of, given_texts, made_texts, names_for, own_file, own_files, own_most, own_texts, text_names}
-use Rattle.migrate_cli.specs.steps.FilesRead.{AreSplit, ReadsFiles, kept_texts}
+use Rattle.migrate_cli.specs.steps.FilesRead.{AreTextsApart, ReadsFiles, kept_texts}
 
 -- the file is none that may be longer than 16 MiB
 abbrev IsSmall : File → Type 0
@@ -92,7 +92,7 @@ module _ (command : Command) (texts : List (List ℕ)) (reads : ReadsFiles comma
       omega (arith, all, parts, own, same)
 
   pub split_texts : (own configs : List (List ℕ)) (place : ℕ) → place + length (text_names command) ≡ length texts → own ≡ take place texts →
-      configs ≡ drop place texts → AreSplit command texts own configs
+      configs ≡ drop place texts → AreTextsApart command texts own configs
   split_texts own configs place at front rest =
       let names = command.configs in
       let count = split_count in
@@ -121,7 +121,7 @@ module _ (command : Command) (texts : List (List ℕ)) (reads : ReadsFiles comma
 
   -- where they are split by the count of these names
   pub split_names : (names : List (Bor (List ℕ))) (own configs : List (List ℕ)) → map (λ (name : Bor (List ℕ)). name.now) names ≡ text_names command →
-      own ≡ take (length texts - length names) texts → configs ≡ drop (length texts - length names) texts → AreSplit command texts own configs
+      own ≡ take (length texts - length names) texts → configs ≡ drop (length texts - length names) texts → AreTextsApart command texts own configs
   split_names names own configs are front rest =
       let bytes : Bor (List ℕ) → List ℕ = λ name. name.now in
       let count : length names ≡ length (text_names command) = sym (length-map names bytes) ∙ ap length are in

@@ -29,7 +29,7 @@ use Rattle.migrate_cli.specs.Outcomes.IsOutcome.{observed}
 use Rattle.migrate_cli.specs.Reading.{AreShort, named_text, named_texts}
 use Rattle.migrate_cli.specs.declared.configurations.Unread.{Unread}
 use Rattle.migrate_cli.specs.declared.configurations.Unread.TheVariants.{Bad, OutOfMemory as NoMemoryToRead}
-use Rattle.migrate_cli.specs.steps.FilesRead.{AreSplit, ReadsFiles}
+use Rattle.migrate_cli.specs.steps.FilesRead.{AreTextsApart, ReadsFiles}
 use Rattle.migrate_cli.specs.steps.NightFiles.{RefusesConfigs}
 use Rattle.migrate_cli.specs.steps.Unread.{IsUnread, IsUnreadText, RefusesUnread}
 use Rattle.migrate_cli.proofs.CommandFacts.{place_short, two_own}
@@ -91,7 +91,7 @@ module _ (command : Command) (texts : List (List ℕ)) (is : command.kind ≡ Ob
       omega (arith, all, two)
 
   module _ (own configs : List (List ℕ)) (front : own ≡ take 2 texts) (rest : configs ≡ drop 2 texts) where
-    pub parts : AreSplit command texts own configs
+    pub parts : AreTextsApart command texts own configs
     parts = split_texts command texts reads short own configs 2 two_texts front rest
 
     pub own_two : length own ≡ 2

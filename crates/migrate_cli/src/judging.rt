@@ -7,7 +7,7 @@ ghost use Rattle.design_writer.specs.CostDesigns.{HaveTextNames};
 ghost use Rattle.migrate_words.specs.Asked.{IsInRange};
 ghost use Rattle.migrate_cli.specs.CommandFiles.{AsksNetworks, NeedsStart, OverNetworks, config_texts, files_of, given_texts, groups_of};
 ghost use Rattle.migrate_cli.specs.CommandFiles.{own_files, own_texts, text_names};
-ghost use Rattle.migrate_cli.specs.steps.FilesRead.{AreSplit, IsJudgedAtOnce, ReadsFiles, kept_texts};
+ghost use Rattle.migrate_cli.specs.steps.FilesRead.{AreTextsApart, IsJudgedAtOnce, ReadsFiles, kept_texts};
 ghost use Rattle.migrate_cli.specs.Configurations.{GiveNetwork, GiveNetworks, IsAtStart};
 ghost use Rattle.migrate_cli.specs.Reading.{AreShort};
 ghost use Rattle.migrate_cli.specs.steps.Unread.{RefusesUnread};
@@ -88,7 +88,7 @@ pub(crate) fn split_texts(
 ) -> Result<(Vec<Bytes>, Vec<Bytes>), OutOfMemory>
     requires reads { ReadsFiles command.now.kind }
     requires short { AreShort (files_of command.now) texts.items }
-    ensures { IfOk result (λ parts. AreSplit command.now texts.items parts.0.items parts.1.items) }
+    ensures { IfOk result (λ parts. AreTextsApart command.now texts.items parts.0.items parts.1.items) }
 {
     let mut own = texts;
     let place = own.len() - text_names(command).len();

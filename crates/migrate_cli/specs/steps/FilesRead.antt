@@ -23,7 +23,7 @@ abbrev pub file_of : Wanted → File
 file_of wanted = record { name = wanted.name.now; most = wanted.most; counts = wanted.counts }
 
 -- of the texts that a command reads, these are those of its own files, and these those of its configurations
-pub record AreSplit (command : Command) (texts own configs : List (List ℕ)) : Type 0 where
+pub record AreTextsApart (command : Command) (texts own configs : List (List ℕ)) : Type 0 where
   pub own_are : own ≡ own_texts command texts
   pub configs_are : configs ≡ config_texts command texts
   pub own_short : AreShort (own_files command) own
