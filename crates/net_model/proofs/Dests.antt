@@ -1,18 +1,25 @@
 -- The sorted list of prefixes without repeats is what the limit counts.
-use Rattle.std.proofs.Common.{◌≡◌, ℕ, Bool, true, false, if◌then◌else◌, List, length, map, Option, Some, None, IsTrue}
-use Rattle.std.proofs.Common.{Contains, IsPermutation, refl, subst, ⊎_elim, arith}
+use Rattle.std.proofs.Common.{◌≡◌, ◌≢◌, ◌↔◌, ◌≤◌, ℕ, Bool, true, false, if◌then◌else◌, List, [], ◌∷◌, length, map, Option, Some, None, IsTrue, AllPairs}
+use Rattle.std.proofs.Common.{Contains, IsPermutation, refl, sym, subst, ◌∙◌, ⊎_elim, arith}
+use Rattle.std.proofs.lemmas.Grind.{common_steps}
+use Rattle.std.proofs.lemmas.List.{get_or_default}
 use Rattle.std.specs.List.{dedup}
 use Rattle.std.specs.List.Sorted.{IsSorted}
 use Rattle.std.proofs.lemmas.List.Sorted.{Contains-permutation, IsPermutation-sym, length_permutation, sum_by-IsPermutation}
 use Rattle.std.proofs.lemmas.List.Elements.{Contains-append_left, Contains-append_right, Contains-append_cases}
 use Rattle.net_addr.specs.Addresses.{Block}
-use Rattle.net_addr.proofs.BlockOrder.{apart_once, block_cmp, block_eq, same_prefixes}
+use Rattle.net_addr.proofs.BlockOrder.{apart_once, block_cmp, block_eq, block_same, same_prefixes}
 use Rattle.net_model.specs.Configuration.{Configuration}
-use Rattle.net_model.specs.Limits.{up_interfaces, NamesDest, IsDest, CountsDests, IsWithinLimits}
+use Rattle.std.specs.Bool.{Decides}
+use Rattle.std.specs.Set.{is_member}
+use Rattle.std.proofs.lemmas.Map.Made.{is_member-Decides}
+use Rattle.std.proofs.lemmas.List.Kept.{AllPairs-cons}
+use Rattle.net_model.specs.declared.bounds.TheConstants.{MOST_DESTS, MOST_ROUTERS, MOST_UP_INTERFACES}
+use Rattle.net_model.specs.Limits.{all_up_interfaces, up_interfaces, NamesDest, IsDest, CountsDests, IsWithinLimits}
 use Rattle.net_model.specs.Limits.NamesDest.{by_interface, by_range}
 use Rattle.net_model.specs.DestLists.{subnet_if_up, own_dests, all_dests}
 use Rattle.net_model.specs.declared.area.Range.{Range}
-use Rattle.net_model.proofs.Members.{Contains-flat_map, Contains-in_flat_map, Contains-map, Contains-in_map, Contains-filter_map, Contains-in_filter_map}
+use Rattle.net_model.proofs.Members.{Contains-first, Contains-rest, Contains-cases, Contains-flat_map, Contains-in_flat_map, Contains-map, Contains-in_map, Contains-filter_map, Contains-in_filter_map}
 
 if_up : (up : Bool) (subnet : Option Block) (p : Block) → (if up then subnet else None) ≡ Some p → IsTrue up × (subnet ≡ Some p)
 if_up true subnet p e = (refl, e)
@@ -57,6 +64,64 @@ CountsDests-sorted configs ys zs moved up is = record {
       (λ c. IsDest-from_list configs p (same.0 c), λ d. same.1 (list-from_IsDest configs p d));
   count_is = refl;
 }
+
+block_Decides : (x y : Block) → Decides (block_eq x y) (x ≡ y)
+block_Decides x y = (block_same x y, λ e. grind (arith, common_steps))
+
+-- a list with the prefixes of another, each once, and no longer
+record Once (xs : List Block) : Type 0 where
+  ys : List Block
+  apart : AllPairs (λ (p q : Block). p ≢ q) ys
+  same : (p : Block) → Contains ys p ↔ Contains xs p
+  few : length ys ≤ length xs
+
+once : (xs : List Block) → Once xs
+once [] = record { ys = []; apart = λ i j d l h. absurd (omega (arith, l, h)); same = λ p. (λ c. c, λ c. c); few = omega arith }
+once (x ∷ xs) = let rest = once xs in cases rest (is_member block_eq rest.ys x) refl
+  where
+    cases : (rest : Once xs) (t : Bool) → is_member block_eq rest.ys x ≡ t → Once (x ∷ xs)
+    cases rest true e = record {
+      ys = rest.ys;
+      apart = rest.apart;
+      same = λ p. (
+        λ c. Contains-rest x xs p ((rest.same p).0 c),
+        λ c. ⊎_elim (λ i. subst (Contains rest.ys) i ((is_member-Decides block_Decides rest.ys x).0 e)) (λ r. (rest.same p).1 r)
+            (Contains-cases x xs p c),
+      );
+      few = omega (arith, rest.few);
+    }
+    cases rest false e = record {
+      ys = x ∷ rest.ys;
+      apart = AllPairs-cons (λ (p q : Block). p ≢ q) x rest.ys
+          (λ i d l here.
+          let found = (is_member-Decides block_Decides rest.ys x).1 (i, l, get_or_default rest.ys i x d l ∙ sym here) in absurd cc)
+          rest.apart;
+      same = λ p. (
+        λ c. ⊎_elim (λ i. subst (Contains (x ∷ xs)) i (Contains-first x xs)) (λ r. Contains-rest x xs p ((rest.same p).0 r))
+            (Contains-cases x rest.ys p c),
+        λ c. ⊎_elim (λ i. subst (Contains (x ∷ rest.ys)) i (Contains-first x rest.ys)) (λ r. Contains-rest x rest.ys p ((rest.same p).1 r))
+            (Contains-cases x xs p c),
+      );
+      few = omega (arith, rest.few);
+    }
+
+-- configurations that name few prefixes with repeats name few
+pub IsWithinLimits-few : (configs : List Configuration) → length configs ≤ MOST_ROUTERS →
+    all_up_interfaces configs ≤ MOST_UP_INTERFACES → length (all_dests configs) ≤ MOST_DESTS → IsWithinLimits configs
+IsWithinLimits-few configs routers interfaces few =
+    let once = once (all_dests configs) in
+    record {
+      routers = routers;
+      interfaces = interfaces;
+      dests = length once.ys;
+      counted = record {
+        dests = once.ys;
+        once = once.apart;
+        exact = λ p. (λ c. IsDest-from_list configs p ((once.same p).0 c), λ d. (once.same p).1 (list-from_IsDest configs p d));
+        count_is = refl;
+      };
+      few = omega (arith, once.few, few);
+    }
 
 IsDest-permutation : (xs ys : List Configuration) (p : Block) → IsPermutation xs ys → IsDest xs p → IsDest ys p
 IsDest-permutation xs ys p moves d = record { config = d.config; among = Contains-permutation xs ys d.config moves d.among; names = d.names }

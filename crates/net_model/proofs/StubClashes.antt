@@ -1,12 +1,15 @@
 -- Two routers differ on a stub area exactly where their lists of interfaces and stub lines do.
 use Rattle.std.proofs.Common.{arith}
 use Rattle.std.proofs.lemmas.Grind.{common_steps}
-use Rattle.std.proofs.Common.{ℕ, ◌<◌, ◌≤◌, length, Option, Any, inl, inr, ⊎_elim}
-use Rattle.net_model.specs.Conditions.{DifferOnStub}
+use Rattle.std.proofs.Common.{◌≡◌, ℕ, ◌<◌, ◌≤◌, List, [], length, Option, All, Any, Contains, subst, inl, inr, ⊎_elim}
+use Rattle.std.proofs.lemmas.Option.{get_or_from_slice_get, slice_get_within}
+use Rattle.net_model.specs.Conditions.{DifferOnStub, HasStubLine, StubsAgree}
 use Rattle.net_model.specs.Configuration.{Configuration}
 use Rattle.net_model.specs.Least.{IsBest}
 use Rattle.net_model.specs.Network.{Network, HasConfiguration, RunsArea}
 use Rattle.net_model.specs.steps.Scans.{IsMutual, ClashOnStub, OffersArea}
+use Rattle.net_model.specs.declared.area.Stub.{Stub}
+use Rattle.net_model.proofs.Members.{Contains-none}
 use Rattle.net_model.proofs.Adjacency.{UpInterface-among}
 use Rattle.net_addr.proofs.SomeElement.{any_of}
 use Rattle.net_model.proofs.Bests.{IsBest-same}
@@ -49,3 +52,13 @@ module _ (net : Network) (u v : ℕ) (c d : Configuration) (near : HasConfigurat
   pub DifferOnStub-best : (best : Option ℕ) → IsBest (λ a b. a ≤ b) (λ a. Any (OffersArea c d a) c.interfaces) best →
       IsBest (λ a b. a ≤ b) (DifferOnStub net u v) best
   DifferOnStub-best best h = IsBest-same (λ a b. a ≤ b) (λ a. Any (OffersArea c d a) c.interfaces) (DifferOnStub net u v) best from_list from_net h
+
+-- where no router has a stub line, none differ on one
+pub StubsAgree-none : (net : Network) → All (λ (c : Configuration). c.stubs ≡ []) net → StubsAgree net
+StubsAgree-none net none u v a h = ⊎_elim (λ l. lacks u l.0) (λ r. lacks v r.1) h.differ
+  where
+    lacks : (w : ℕ) → HasStubLine net w a → ⊥
+    lacks w line =
+        let empty = subst (λ (c : Configuration). c.stubs ≡ []) (get_or_from_slice_get net w line.config line.config line.router)
+        (none w line.config (slice_get_within net w line.config line.router)) in
+        Contains-none line.stub (subst (λ (l : List Stub). Contains l line.stub) empty line.among)

@@ -4,3 +4,4 @@ pub mod Scans
 pub mod Claims
 pub mod BestLinks
 pub mod Refused
+pub mod Systems

@@ -15,10 +15,11 @@
 //! | `pairs`, `claims` | the first two routers that clash; whether none can | |
 //! | `laws` | there is one network, or one refusal (`BuildLaws`) | |
 //!
-//! `Net::build` takes the time of sorting names, prefixes and addresses, of comparing the interfaces of each router with
-//! each other, and system ids and stub lines by pairs of routers; where an address or a subnet's area is refused, of
-//! comparing all pairs of interfaces. `Net::number_of` halves over the names, `Net::arc` compares the interfaces of two
-//! routers, `Net::off_start` goes over the routers; other questions go over one router's interfaces.
+//! `Net::build` takes the time of sorting names, addresses, subnets' areas and system ids, of comparing the interfaces of
+//! each router with each other, and of sorting prefixes where they are many even with repeats, and areas where there are stub
+//! lines; where one of these is refused, of comparing all pairs of interfaces or routers. `Net::number_of` halves over the
+//! names, `Net::arc` compares the interfaces of two routers, `Net::off_start` goes over the routers; other questions go over
+//! one router's interfaces.
 #![tactic(auto)]
 
 // What configurations say.

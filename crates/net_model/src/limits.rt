@@ -1,6 +1,6 @@
-ghost use Rattle.std.specs.Prelude.{◌≡◌, [], ◌∷◌, ◌++◌, All, IfErr, IfOk, OnOk, count_by, map};
+ghost use Rattle.std.specs.Prelude.{◌≡◌, ◌≤◌, List, [], ◌∷◌, ◌++◌, All, IfErr, IfOk, OnOk, count_by, length, map};
 ghost use Rattle.std.specs.List.{filter_map};
-ghost use Rattle.net_model.specs.Configuration.{IsConfiguration};
+ghost use Rattle.net_model.specs.Configuration.{Configuration, IsConfiguration};
 ghost use Rattle.net_model.specs.Limits.{CountsDests, IsWithinLimits, all_up_interfaces};
 ghost use Rattle.net_model.specs.DestLists.{all_dests, own_dests, subnet_if_up};
 ghost use Rattle.net_model.specs.Refusals.{Refuses, carried};
@@ -25,7 +25,22 @@ pub(crate) fn within_limits(alloc: Global, configs: &[Config]) -> Result<(), Net
     if interfaces > MOST_UP_INTERFACES as u64 {
         return Err(above(LimitWhat::Interfaces, interfaces));
     }
-    let dests = count_dests(alloc, configs)?;
+    within_dests(alloc, configs)
+}
+
+/// Whether configurations within the other limits name few enough prefixes; else the refusal is of their number. Where they
+/// are few even with repeats, nothing is sorted.
+fn within_dests(alloc: Global, configs: &[Config]) -> Result<(), NetRefusal>
+    requires routers { length configs.now ≤ MOST_ROUTERS }
+    requires interfaces { all_up_interfaces configs.now ≤ MOST_UP_INTERFACES }
+    ensures ok { OnOk result (IsWithinLimits configs.now) }
+    ensures err { IfErr result (λ e. Refuses e configs.now) }
+{
+    let named = list_dests(alloc, configs)?;
+    if named.len() <= MOST_DESTS {
+        return Ok(());
+    }
+    let dests = count_apart(named);
     if dests > MOST_DESTS {
         return Err(above(LimitWhat::Dests, dests as u64));
     }
@@ -62,10 +77,17 @@ fn count_up(interfaces: &[Interface]) -> usize
 pub fn count_dests(alloc: Global, configs: &[Config]) -> Result<usize, AllocError>
     ensures { IfOk result (λ count. CountsDests configs.now count) }
 {
-    let mut dests = list_dests(alloc, configs)?;
+    Ok(count_apart(list_dests(alloc, configs)?))
+}
+
+/// How many prefixes stand in a list with repeats.
+fn count_apart(dests: Vec<Prefix>) -> usize
+    ensures { (configs : List Configuration) → dests.items ≡ all_dests configs → CountsDests configs result }
+{
+    let mut dests = dests;
     dests.sort_unstable();
     dests.dedup();
-    Ok(dests.len())
+    dests.len()
 }
 
 /// The prefixes that the configurations name, with repeats.

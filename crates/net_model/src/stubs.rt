@@ -1,4 +1,5 @@
-ghost use Rattle.std.specs.Prelude.{◌≡◌, ◌≤◌, ◌↔◌, nat_eq, length, Any, IfErr, IsTrue, OnOk};
+ghost use Rattle.std.specs.Prelude.{◌≡◌, ◌≤◌, ◌↔◌, nat_eq, length, [], All, Any, IfErr, IsTrue, OnOk};
+ghost use Rattle.std.specs.Bool.{OnTrue};
 ghost use Rattle.std.specs.List.{list_any};
 ghost use Rattle.net_model.specs.Conditions.{DifferOnStub, StubsAgree};
 ghost use Rattle.net_model.specs.Least.{IsBest};
@@ -18,6 +19,9 @@ pub fn check_stubs(alloc: Global, configs: &[Config]) -> Result<(), NetRefusal>
     ensures ok { OnOk result (StubsAgree configs.now) }
     ensures err { IfErr result (λ e. MayStand 10 e configs.now) }
 {
+    if lack_stubs(configs) {
+        return Ok(());
+    }
     if claims_agree::<StubClaims>(alloc, configs)? {
         return Ok(());
     }
@@ -29,6 +33,18 @@ pub fn check_stubs(alloc: Global, configs: &[Config]) -> Result<(), NetRefusal>
         }),
         None => Ok(()),
     }
+}
+
+/// Whether no router has a stub line.
+fn lack_stubs(configs: &[Config]) -> bool
+    ensures { OnTrue result (All (λ c. c.stubs ≡ []) configs.now) }
+{
+    for config in configs {
+        if !config.stubs.as_slice().is_empty() {
+            return false;
+        }
+    }
+    true
 }
 
 /// An up interface that runs OSPF claims that its area is a stub area, or that it is none, as its router says.
