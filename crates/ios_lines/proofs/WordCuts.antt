@@ -1,9 +1,9 @@
 -- The words of some bytes, cut off one after the other.
 use Rattle.std.proofs.lemmas.Grind.{common_steps}
 use Rattle.std.proofs.Common.{◌≡◌, ℕ, zero, suc, ◌+◌, ◌-◌, ◌<◌, ◌≤◌, ◌⊎◌, inl, inr, ⊎_elim, Bool, true, false, not, cond, ◌&&◌, ◌||◌}
-use Rattle.std.proofs.Common.{eqb, Some, None, List, [], ◌∷◌, ◌++◌, get_or}
+use Rattle.std.proofs.Common.{eqb, List, [], ◌∷◌, ◌++◌, get_or}
 use Rattle.std.proofs.Common.{length, take, drop, filter, refl, sym, ap, subst, ◌∙◌, arith}
-use Rattle.std.specs.Prelude.{nat_lt, nat_eq, position, bytes_eq}
+use Rattle.std.specs.Prelude.{nat_lt, nat_eq, bytes_eq}
 use Rattle.std.specs.List.{list_any, slice_split, position_or_len, prefix_len, onto_first, starts_with}
 use Rattle.std.proofs.lemmas.Bool.{cases_lt, or_parts}
 use Rattle.std.proofs.lemmas.Bool.Decides.{nat_tests}
@@ -14,7 +14,6 @@ use Rattle.std.proofs.lemmas.List.Folds.{length-prefix_len}
 use Rattle.std.proofs.lemmas.List.Splits.{slice_split_first}
 use Rattle.net_addr.specs.Blanks.{is_blank, indent_of, words_in}
 use Rattle.net_addr.proofs.PieceFacts.{no_separator}
-use Rattle.ios_lines.proofs.Places.{some_place, no_place}
 use Rattle.ios_lines.specs.Words.{Word, word_at}
 use Rattle.ios_lines.specs.Blanks.{without_blanks}
 use Rattle.ios_lines.specs.steps.WordEnds.{is_low}
@@ -90,12 +89,12 @@ low_len (b ∷ bs) e = cases (is_low b) refl (low_len bs) e
     cases true low rest ends = grind (arith, common_steps)
     cases false high rest ends = grind (arith, common_steps, nat_tests)
 
-pub low_is_blank : (bytes : List ℕ) (n : ℕ) → position is_low bytes ≡ Some n → n < length bytes → get_or bytes n 0 ≡ 32 →
+pub low_is_blank : (bytes : List ℕ) (n : ℕ) → n ≡ position_or_len is_low bytes → n < length bytes → get_or bytes n 0 ≡ 32 →
     n ≡ position_or_len is_blank bytes
-low_is_blank bytes n e within space = grind (arith, common_steps, low_len, some_place)
+low_is_blank bytes n e within space = grind (arith, common_steps, low_len)
 
-pub none_is_blank : (bytes : List ℕ) → position is_low bytes ≡ None → length bytes ≡ position_or_len is_blank bytes
-none_is_blank bytes e = grind (arith, common_steps, low_len, no_place)
+pub none_is_blank : (bytes : List ℕ) (n : ℕ) → n ≡ position_or_len is_low bytes → n ≡ length bytes → n ≡ position_or_len is_blank bytes
+none_is_blank bytes n e all = grind (arith, common_steps, low_len)
 
 -- the first piece before a blank, and the words behind it
 words_first : (bytes : List ℕ) → words_in bytes ≡ filter holds (take (place bytes) bytes ∷ []) ++ words_in (drop (place bytes + 1) bytes)

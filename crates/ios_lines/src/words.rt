@@ -1,4 +1,4 @@
-ghost use Rattle.std.specs.Prelude.{◌≡◌, ◌+◌, ◌≤◌, false, drop, length, position, IfSome, IfOk, bytes_eq};
+ghost use Rattle.std.specs.Prelude.{◌≡◌, ◌+◌, ◌≤◌, false, drop, length, IfSome, IfOk, bytes_eq};
 ghost use Rattle.std.specs.List.{list_any, position_or_len, prefix_len};
 ghost use Rattle.net_addr.specs.Blanks.{is_blank, words_in};
 ghost use Rattle.ios_lines.specs.Words.{word_at, says, begins_with_two, begins_with_three, lacks, number_of, number_from};
@@ -132,20 +132,59 @@ fn blank_count(bytes: &[u8]) -> usize
     bytes.iter().take_while(|byte| is_blank(**byte)).count()
 }
 
-/// The bytes without the blanks that they begin with.
+/// The bytes without the blanks that they begin with. Most begin with none, and are told by their first byte.
 #[tactic(auto, using(crate::proofs::WordCuts::blanks_cut))]
 pub fn behind_blanks(bytes: &[u8]) -> &[u8]
     ensures { result.now ≡ without_blanks bytes.now }
 {
-    &bytes[blank_count(bytes)..]
+    match bytes {
+        [first, ..] if is_low(*first) => &bytes[blank_count(bytes)..],
+        _ => bytes,
+    }
 }
 
-/// The place of the first byte that is a space or a control character below it.
-#[inline(always)]
-fn low_place(bytes: &[u8]) -> Option<usize>
-    ensures { result ≡ position is_low bytes.now }
+/// Whether the byte is a space or a control character below it.
+fn is_low(byte: u8) -> bool
+    ensures { result ≡ is_low byte }
 {
-    bytes.iter().position(|byte| *byte <= b' ')
+    byte <= b' '
+}
+
+/// How many bytes stand before the first low one, one after the other.
+#[inline(always)]
+fn len_to_low(bytes: &[u8]) -> usize
+    ensures value { result ≡ position_or_len is_low bytes.now }
+    ensures bound { result ≤ length bytes.now }
+{
+    bytes.iter().take_while(|byte| !is_low(**byte)).count()
+}
+
+/// How many bytes stand before the first low one: all of them where there is none. Four are looked at for each test of what
+/// is left.
+#[inline(always)]
+fn low_len(bytes: &[u8]) -> usize
+    ensures value { result ≡ position_or_len is_low bytes.now }
+    ensures bound { result ≤ length bytes.now }
+{
+    let mut rest = bytes;
+    let mut len = 0;
+    while let [one, two, three, four, tail @ ..] = rest {
+        if is_low(*one) {
+            return len;
+        }
+        if is_low(*two) {
+            return len + 1;
+        }
+        if is_low(*three) {
+            return len + 2;
+        }
+        if is_low(*four) {
+            return len + 3;
+        }
+        len += 4;
+        rest = tail;
+    }
+    len + len_to_low(rest)
 }
 
 /// How many bytes stand before the first blank, where other control characters may stand before it.
@@ -163,15 +202,11 @@ fn word_len(bytes: &[u8]) -> usize
     ensures value { result ≡ position_or_len is_blank bytes.now }
     ensures bound { result ≤ length bytes.now }
 {
-    match low_place(bytes) {
-        None => bytes.len(),
-        Some(place) => {
-            if bytes[place] == b' ' {
-                place
-            } else {
-                len_to_blank(bytes)
-            }
-        }
+    let len = low_len(bytes);
+    match bytes.get(len) {
+        None => len,
+        Some(b' ') => len,
+        Some(_) => len_to_blank(bytes),
     }
 }
 

@@ -49,13 +49,6 @@ impl InterfaceStatements {
         let mut more = more.all;
         self.all.append(&mut more)
     }
-
-    /// The vector that the lines stand in.
-    pub fn into_vec(self) -> Vec<InterfaceStatement>
-        ensures { result.items ≡ self }
-    {
-        self.all
-    }
 }
 
 /// Lines of `router ospf`, in the order of the text.
@@ -86,13 +79,6 @@ impl OspfStatements {
         ensures { result.now ≡ self.now }
     {
         self.all.as_slice()
-    }
-
-    /// The vector that the lines stand in.
-    pub fn into_vec(self) -> Vec<OspfStatement>
-        ensures { result.items ≡ self }
-    {
-        self.all
     }
 
     /// Puts the lines behind some others. Where there are none they stay in their vector.
@@ -136,13 +122,6 @@ impl IsisStatements {
         ensures { result.now ≡ self.now }
     {
         self.all.as_slice()
-    }
-
-    /// The vector that the lines stand in.
-    pub fn into_vec(self) -> Vec<IsisStatement>
-        ensures { result.items ≡ self }
-    {
-        self.all
     }
 
     /// Puts the lines behind some others. Where there are none they stay in their vector.
