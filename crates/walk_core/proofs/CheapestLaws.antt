@@ -7,7 +7,6 @@ use Rattle.std.proofs.lemmas.List.{take_more, take_all}
 use Rattle.std.proofs.lemmas.List.Elements.{Contains-append_left, Contains-push, Contains-push_cases}
 use Rattle.walk_core.specs.steps.BestOver.{least_cost_of}
 use Rattle.walk_core.specs.steps.Cheapest.{HasCost, IsCheapestCost}
-use Rattle.walk_core.specs.steps.Relaxing.{IsAtMost}
 
 -- nothing has no cost
 pub nothing_costs : {X : Type 0} (cost_of : X → Option ℕ) → IsCheapestCost cost_of [] None
@@ -77,9 +76,3 @@ cheapest_step {X} cost_of things i x best found new within at found_is new_is so
 pub cheapest_end : {X : Type 0} (cost_of : X → Option ℕ) (things : List X) (i : ℕ) (best : Option ℕ) → length things ≤ i →
     IsCheapestCost cost_of (take i things) best → IsCheapestCost cost_of things best
 cheapest_end {X} cost_of things i best past so_far = subst (λ (l : List X). IsCheapestCost cost_of l best) (take_all i things past) so_far
-
--- the cheapest is at most what one of them costs
-pub cheapest_at_most : {X : Type 0} (cost_of : X → Option ℕ) (things : List X) (best : Option ℕ) (cost : ℕ) → IsCheapestCost cost_of things best →
-    HasCost cost_of things cost → IsAtMost best cost
-cheapest_at_most cost_of things None cost none has = absurd (none cost has)
-cheapest_at_most cost_of things (Some d) cost is has = record { value = d; is = refl; below = is.least cost has }

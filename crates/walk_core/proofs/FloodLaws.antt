@@ -8,7 +8,7 @@ use Rattle.walk_core.specs.declared.segment.Port.{Port}
 use Rattle.walk_core.specs.BestOffers.{total_with}
 use Rattle.walk_core.specs.steps.Cheapest.{HasCost}
 use Rattle.walk_core.specs.Distances.{distance_at}
-use Rattle.walk_core.specs.steps.Ends.{IsShortRow}
+use Rattle.walk_core.specs.steps.Rows.{IsDistanceRow}
 use Rattle.walk_core.specs.steps.Flooding.{cost_onto, segment_at, AreAllAtMost, IsLastAbove}
 use Rattle.walk_core.specs.steps.Relaxing.{AreWalked, HaveRoom, Fall, IsAtMost, IsTightFrom, weight_of}
 use Rattle.walk_core.specs.declared.outlets.Outlet.{Outlet}
@@ -109,16 +109,13 @@ sends_at_place segments u v c arc = grind (arith, common_steps, get_or_default)
 -- distances that are costs of walks and that no arc undercuts are a row
 pub row_of_tight : (segments : List (List Port)) (count root : ℕ) (ds : List (Option ℕ)) → root < count → AreSegments count segments → length ds ≡ count →
     HaveRoom ds → AreWalked (Sends segments) root ds → ((u : ℕ) → u < count → IsTightFrom (Sends segments) u ds) →
-    IsShortRow (SendsAcross segments) count root ds
+    IsDistanceRow (SendsAcross segments) count root ds
 row_of_tight segments count root ds below are long room walked tight = record {
-  row = record {
-    least = distances_loops (SendsAcross segments) (Sends segments) (sends_loops segments) root ds
-        (distances_from_tight (Sends segments) count root ds below
-        (λ u v cost in_range over. sends_below segments count u v cost are over) tight walked);
-    within = omega (arith, long);
-    near = λ v d is. let within = room.room v d is in omega (arith, within, long);
-  };
-  short = λ v d is. let within = room.room v d is in omega (arith, within, long);
+  least = distances_loops (SendsAcross segments) (Sends segments) (sends_loops segments) root ds
+      (distances_from_tight (Sends segments) count root ds below
+      (λ u v cost in_range over. sends_below segments count u v cost are over) tight walked);
+  within = omega (arith, long);
+  near = λ v d is. let within = room.room v d is in omega (arith, within, long);
 }
 
 -- the port of an outlet is one from which its segment is entered

@@ -20,7 +20,8 @@ mod OutletLaws
 pub mod RowLaws
 pub mod StaleLaws
 mod FloodSteps
-mod EndLaws
+mod BegunLaws
+pub mod StretchLaws
 mod MemberSteps
 mod MemberLists
 mod MemberLaws

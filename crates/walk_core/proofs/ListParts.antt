@@ -1,6 +1,6 @@
 -- Spans of one list of numbers as lists, and lists of one number or more.
 use Rattle.std.proofs.lemmas.Grind.{common_steps}
-use Rattle.std.proofs.Common.{◌≡◌, ℕ, List, [], ◌∷◌, ◌++◌, length, map, set, All, refl, ap, ◌∙◌, arith}
+use Rattle.std.proofs.Common.{◌≡◌, ℕ, zero, suc, List, [], ◌∷◌, ◌++◌, length, map, set, replicate, All, refl, ap, ◌∙◌, arith}
 use Rattle.std.proofs.lemmas.List.{drop-append-le, drop_at, take-append-le, take_all, map-append, map-set, length-drop}
 use Rattle.std.proofs.lemmas.List.Elements.{All-head, All-tail}
 use Rattle.walk_core.specs.steps.NumberLists.{part_of, lists_of, list_of, IsWithin, AreSpansWithin, IsLongListKept, Grows}
@@ -50,3 +50,16 @@ all_more old new all numbers list grows kept is =
 pub copied_without : (old new : List (List ℕ)) (all copy : List Numbers) (place : ℕ) → new ≡ old → copy ≡ set all place Nothing →
     map (list_of new) copy ≡ set (map (list_of old) all) place []
 copied_without old new all copy place long same = grind (arith, common_steps, map-set)
+
+-- no numbers in front of others are empty lists in front of theirs
+pub none_in_front : (long : List (List ℕ)) (all : List Numbers) (n : ℕ) →
+    map (list_of long) (replicate n Nothing ++ all) ≡ replicate n [] ++ map (list_of long) all
+none_in_front long all zero = refl
+none_in_front long all (suc n) = ap (λ (lists : List (List ℕ)). [] ∷ lists) (none_in_front long all n)
+
+-- a copy behind so many empty lists
+pub copied_behind : (old new : List (List ℕ)) (all copy : List Numbers) (n : ℕ) → new ≡ old → copy ≡ replicate n Nothing ++ all →
+    map (list_of new) copy ≡ replicate n [] ++ map (list_of old) all
+copied_behind old new all copy n long same =
+    ap (λ (l : List Numbers). map (list_of new) l) same ∙ none_in_front new all n
+    ∙ ap (λ (l : List (List ℕ)). replicate n [] ++ map (list_of l) all) long

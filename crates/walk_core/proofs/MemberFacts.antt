@@ -1,8 +1,10 @@
 -- Over segments: the members, their graph, and the walks from every vertex by it.
-use Rattle.std.proofs.Common.{◌≡◌, ℕ, ◌+◌, ◌<◌, ◌≤◌, List, [], ◌∷◌, ◌++◌, Contains, Bool, length, map, get_or}
+use Rattle.std.proofs.Common.{◌≡◌, ℕ, ◌+◌, ◌<◌, ◌≤◌, List, [], ◌∷◌, ◌++◌, Contains, Bool, Option, None, length, length-append, map, replicate, get_or}
 use Rattle.std.proofs.Common.{arith, inl, inr, sym, ◌∙◌, subst, ap}
-use Rattle.std.proofs.lemmas.List.{get_or_default}
+use Rattle.std.specs.List.Sorted.{IsStrictlyIncreasing}
+use Rattle.std.proofs.lemmas.List.{get_or_default, get_or-append-add, length-replicate}
 use Rattle.walk_core.specs.Reach.{Reach, AreWalksBelow}
+use Rattle.walk_core.specs.Stretches.{ReachFrom, reach_along}
 use Rattle.walk_core.specs.Segments.{AreSegments, IsPort, SendsAcross, SendsOn}
 use Rattle.walk_core.specs.Walks.{Arcs}
 use Rattle.walk_core.specs.declared.segment.Port.{Port}
@@ -173,6 +175,39 @@ ascending_from m lists p vertices part whole numbered are below is same spread =
     ascending_spread (place_in m) m.vertices m.end (get_or lists p []) whole (placing_of m numbered) numbered.vertices
     (are.below p below)
     (are.ascending p below) at
+
+-- they ascend without those in front of them
+pub ascending_behind : (lists : List (List ℕ)) (n : ℕ) → AreAscending (replicate n [] ++ lists) → AreAscending lists
+ascending_behind lists n are v =
+    subst IsStrictlyIncreasing (get_or-append-add (replicate n []) lists v []) (are (length (replicate n []) + v))
+
+-- what stands at these vertices stands at those that they are
+spread_as : {X : Type 0} (none : X) (vertices others : List ℕ) (part same whole : List X) → vertices ≡ others → part ≡ same →
+    IsSpread none vertices (length vertices) part whole → IsSpread none others (length others) same whole
+spread_as {X} none vertices others part same whole are is spread =
+    subst (λ (l : List ℕ). IsSpread none l (length l) same whole) are
+    (subst (λ (l : List X). IsSpread none vertices (length vertices) l whole) is spread)
+
+-- what is known along the members, of the walks from one of them
+pub spread_along : (m : Numbering) (walks : MemberWalks) (root : ℕ) (vertices : List ℕ) (row : List (Option ℕ))
+    (lists : List (List ℕ)) (along : ReachFrom) (reach : Reach) → place_in m root < length m.vertices → m.end ≤ m.count → vertices ≡ m.vertices →
+    row ≡ get_or walks.rows (place_in m root) [] → lists ≡ get_or walks.lists (place_in m root) [] →
+    along.first ≡ member_at vertices 0 → member_at vertices 0 + length along.distances ≡ m.end →
+    IsSpread None vertices (length vertices) row (replicate (member_at vertices 0) None ++ along.distances) →
+    IsSpread [] vertices (length vertices) (map (members_at vertices) lists) (replicate (member_at vertices 0) [] ++ along.hops) →
+    reach ≡ reach_along along → IsSpreadReach m walks root reach
+spread_along m walks root vertices row lists along reach inside end same row_is lists_is first long distances hops is =
+    let front : List (Option ℕ) = replicate along.first None in
+    subst (IsSpreadReach m walks root) (sym is)
+    (far inside
+    (omega (arith, length-append front along.distances, length-replicate {A = Option ℕ} along.first None, first, long, end))
+    (spread_as None vertices m.vertices row (get_or walks.rows (place_in m root) []) (front ++ along.distances) same row_is
+    (subst (λ (n : ℕ). IsSpread None vertices (length vertices) row (replicate n None ++ along.distances)) (sym first) distances))
+    (spread_as [] vertices m.vertices (map (members_at vertices) lists)
+    (map (members_at m.vertices) (get_or walks.lists (place_in m root) [])) (replicate along.first [] ++ along.hops) same
+    (ap (λ (l : List ℕ). map (members_at l) lists) same ∙ ap (map (members_at m.vertices)) lists_is)
+    (subst (λ (n : ℕ). IsSpread [] vertices (length vertices) (map (members_at vertices) lists) (replicate n [] ++ along.hops))
+    (sym first) hops)))
 
 -- the walks from one more vertex
 pub spread_walks_more : (segments : List (List Port)) (m : Numbering) (walks : MemberWalks) (root : ℕ) (reach : Reach)

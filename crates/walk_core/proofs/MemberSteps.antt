@@ -1,9 +1,9 @@
 -- One more vertex is numbered, and what is known at places is spread to their vertices.
-use Rattle.std.proofs.Common.{◌≡◌, ◌≢◌, ℕ, zero, suc, ◌+◌, ◌<◌, ◌≤◌, ◌⊎◌, List, [], ◌∷◌, ◌++◌, Bool, true, false, length}
+use Rattle.std.proofs.Common.{◌≡◌, ◌≢◌, ℕ, zero, suc, ◌+◌, ◌-◌, ◌<◌, ◌≤◌, ◌⊎◌, List, [], ◌∷◌, ◌++◌, Bool, true, false, length}
 use Rattle.std.proofs.Common.{length-append, length-set, replicate, get_or, get_or-set_same, get_or-set_other, set}
 use Rattle.std.proofs.Common.{arith, inl, inr, sym, ◌∙◌, subst, ap}
 use Rattle.std.proofs.lemmas.Bool.{cases_lt, cases_eq}
-use Rattle.std.proofs.lemmas.List.{get_or_append_left, get_or_push, get_or_past, get_or-replicate, length-replicate}
+use Rattle.std.proofs.lemmas.List.{get_or_append_left, get_or_push, get_or_past, get_or-replicate, length-replicate, set-append_right}
 use Rattle.walk_core.specs.steps.Members.{Numbering, PlacesFit, AreVertices, HaveMarked, HasPlace, IsSpread, NumbersVertex, member_at}
 use Rattle.walk_core.specs.steps.Members.{place_in}
 
@@ -171,6 +171,29 @@ spread_more {X} none vertices end n part whole x are below long is before = reco
   others = λ v apart. get_or-set_other whole (member_at vertices n) v x none (λ same. apart n (omega arith) (sym same))
       ∙ before.others v (λ p less. apart p (omega (arith, less)));
 }
+
+-- the first vertex is none behind another, nor behind their end
+pub first_before : (vertices : List ℕ) (end : ℕ) → AreVertices vertices end → (p : ℕ) → p < length vertices →
+    member_at vertices 0 ≤ member_at vertices p
+first_before vertices end are zero below = omega arith
+first_before vertices end are (suc p) below = omega (arith, are.ascending 0 (suc p) (omega arith) below)
+
+pub first_within : (vertices : List ℕ) (end : ℕ) → AreVertices vertices end → member_at vertices 0 ≤ end
+first_within [] end are = omega arith
+first_within (v ∷ vertices) end are = omega (arith, are.within 0 (omega arith))
+
+-- the same along the vertices from the first on
+pub along_more : {X : Type 0} (none : X) (vertices : List ℕ) (end n first : ℕ) (part whole : List X) (x : X) →
+    AreVertices vertices end → n < length vertices → member_at vertices 0 + length whole ≡ end → first ≡ member_at vertices 0 → x ≡ get_or part n none →
+    IsSpread none vertices n part (replicate (member_at vertices 0) none ++ whole) →
+    IsSpread none vertices (n + 1) part (replicate (member_at vertices 0) none ++ set whole (member_at vertices n - first) x)
+along_more {X} none vertices end n first part whole x are below long here is before =
+    let front : List X = replicate (member_at vertices 0) none in
+    let fills : length front ≡ first = length-replicate (member_at vertices 0) none ∙ sym here in
+    let behind : first ≤ member_at vertices n = omega (arith, here, first_before vertices end are n below) in
+    subst (IsSpread none vertices (n + 1) part) (set-append_right front whole first (member_at vertices n) x fills behind)
+    (spread_more none vertices end n part (front ++ whole) x are below
+    (omega (arith, length-append front whole, fills, here, long)) is before)
 
 -- no place is past its vertex
 pub place_at_most : (vertices : List ℕ) (end : ℕ) → AreVertices vertices end → (p : ℕ) → p < length vertices →

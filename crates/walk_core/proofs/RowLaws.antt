@@ -10,7 +10,6 @@ use Rattle.walk_core.specs.Distances.{distance_at}
 use Rattle.walk_core.specs.steps.Rows.{IsDistanceRow}
 use Rattle.walk_core.specs.Reach.{Reach, AreWalksBelow}
 use Rattle.walk_core.specs.Segments.{SendsAcross, AreSegments, IsPort}
-use Rattle.walk_core.specs.steps.Ends.{IsShortRow}
 use Rattle.walk_core.specs.steps.Flooding.{segment_at}
 use Rattle.walk_core.specs.Walks.{Arcs}
 use Rattle.walk_core.specs.steps.Relaxing.{AreWalked, IsTightFrom}
@@ -65,13 +64,6 @@ row_alone segments count root below are alone = record {
 pub row_of_lone : (segments : List (List Port)) (count root : ℕ) (outlets : List Outlet) → root < count → AreSegments count segments →
     AreOutlets segments root (length segments) outlets → length outlets ≡ 0 → IsDistanceRow (SendsAcross segments) count root (lone_row root)
 row_of_lone segments count root outlets below are listed none = row_alone segments count root below are (no_arc segments root outlets listed none)
-
-pub short_row_of_lone : (segments : List (List Port)) (count root : ℕ) (outlets : List Outlet) → root < count → AreSegments count segments →
-    AreOutlets segments root (length segments) outlets → length outlets ≡ 0 → IsShortRow (SendsAcross segments) count root (lone_row root)
-short_row_of_lone segments count root outlets below are listed none = record {
-  row = row_of_lone segments count root outlets below are listed none;
-  short = λ v d is. omega (arith, below, (lone_elsewhere root v d is).1);
-}
 
 -- the ports are of vertices before the last one that has one
 ports_below : (segments : List (List Port)) (count end : ℕ) (all : List (List Outlet)) → AreSegments count segments → AreAllOutlets segments count all →

@@ -1,15 +1,14 @@
 -- Vertices that are stale, since their distance fell after their arcs were relaxed.
 use Rattle.std.proofs.lemmas.Grind.{common_steps}
 use Rattle.std.proofs.Common.{◌≡◌, ◌≢◌, ℕ, ◌+◌, ◌<◌, ◌≤◌, zero, suc, Bool, true, false, cond, IsTrue, ◌↔◌, List, [], ◌∷◌, Option, Some, None, length}
-use Rattle.std.proofs.Common.{length-set, get_or, set, get_or-set_same, get_or-set_other, replicate, refl, sym, subst, ◌∙◌, arith, inl, inr}
+use Rattle.std.proofs.Common.{length-set, get_or, set, get_or-set_same, get_or-set_other, refl, sym, subst, ◌∙◌, arith, inl, inr}
 use Rattle.std.proofs.lemmas.Bool.{cases_eq}
-use Rattle.std.proofs.lemmas.List.{length-replicate}
 use Rattle.walk_core.specs.declared.segment.Port.{Port}
 use Rattle.walk_core.specs.Distances.{distance_at}
 use Rattle.walk_core.specs.steps.Flooding.{segment_at, AreAllAtMost, AreEntered, AreSettled, Lowers, Marked, stale_count}
 use Rattle.walk_core.specs.steps.Relaxing.{IsAtMost, IsTightFrom, weight_of}
 use Rattle.walk_core.specs.Segments.{Sends}
-use Rattle.walk_core.proofs.RelaxLaws.{total_weight_falls, only_at_root}
+use Rattle.walk_core.proofs.RelaxLaws.{total_weight_falls}
 
 -- a mark more
 one_mark_more : (stale : List Bool) (v : ℕ) → stale_count (set stale v true) ≤ 1 + stale_count stale
@@ -113,7 +112,14 @@ pub settled_there : (segments : List (List Port)) (u : ℕ) (distances : List (O
     IsTightFrom (Sends segments) u distances → AreSettled segments distances (set stale u false)
 settled_there segments u distances stale settled here = grind (arith, common_steps, cases_eq)
 
--- at first the root alone has a distance, and is marked
-pub settled_at_first : (segments : List (List Port)) (count root : ℕ) (stale : List Bool) → root < count → length stale ≡ count →
-    AreSettled segments (set (replicate count None) root (Some 0)) (set stale root true)
-settled_at_first segments count root stale below long = grind (arith, common_steps, length-replicate, only_at_root)
+-- where no arc from another vertex undercuts a distance, the root's mark is enough
+pub settled_begun : (segments : List (List Port)) (root : ℕ) (distances : List (Option ℕ)) (stale : List Bool) → root < length stale →
+    length stale ≡ length distances → ((u : ℕ) → u ≢ root → IsTightFrom (Sends segments) u distances) →
+    AreSettled segments distances (set stale root true)
+settled_begun segments root distances stale below long tight = record {
+  long = length-set stale root true ∙ long;
+  tight = λ u unmarked. tight u (λ same.
+      let no : get_or (set stale root true) root true ≡ false = rw same at unmarked in
+      let k : true ≡ false = sym (get_or-set_same stale root true true below) ∙ no in
+      cc);
+}

@@ -4,5 +4,6 @@ pub mod BestOffers
 pub mod Distances
 pub mod Reach
 pub mod KeptWalks
+pub mod Stretches
 pub mod Segments
 pub mod steps

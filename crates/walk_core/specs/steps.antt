@@ -11,7 +11,7 @@ pub mod FirstHops
 pub mod SegmentWalks
 pub mod Floods
 pub mod Exits
-pub mod Ends
+pub mod Begun
 pub mod Ascending
 pub mod BestOver
 pub mod Kept

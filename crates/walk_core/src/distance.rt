@@ -1,5 +1,5 @@
-ghost use Rattle.std.specs.Prelude.{◌≡◌, ◌↔◌, ◌+◌, ◌^◌, ◌<◌, ℕ, Some, IsTrue};
-ghost use Rattle.walk_core.specs.BestOffers.{total_with};
+ghost use Rattle.std.specs.Prelude.{◌≡◌, ◌↔◌, ◌+◌, ◌^◌, ◌<◌, ℕ, Some, IfSome, IsTrue};
+ghost use Rattle.walk_core.specs.steps.Begun.{IsNearOver};
 ghost use Rattle.walk_core.specs.steps.BestOver.{least_cost_of, IsTotal};
 
 use std::marker::Model;
@@ -54,20 +54,21 @@ impl Distance {
     }
 }
 
-/// The nearer of a distance that is known and of one over an arc of this cost, from whose end it is `far`.
+/// A distance of which the cost of one arc is far from 64 bits.
+const NEAR: u64 = 1 << 32;
+
+/// The distance over an arc of this cost, from whose end it is `far`, if that is at most 2^32.
 #[inline(always)]
-pub(crate) fn nearer_over(known: Distance, far: Distance, cost: u32) -> Distance
-    requires { (d : ℕ) → far ≡ Some d → d + 2 ^ 32 < 2 ^ 64 }
-    ensures { result ≡ least_cost_of known (total_with far cost) }
+pub(crate) fn near_over(far: Distance, cost: u32) -> Option<Distance>
+    ensures { IfSome result (IsNearOver far cost) }
 {
     let Some(rest) = far.get() else {
-        return known;
+        return Some(far);
     };
-    let found = rest + u64::from(cost);
-    match known.get() {
-        Some(distance) if distance <= found => known,
-        _ => Distance::of(found),
+    if rest > NEAR - u64::from(cost) {
+        return None;
     }
+    Some(Distance::of(rest + u64::from(cost)))
 }
 
 /// Whether a distance is that over an arc of this cost, from whose end it is `far`.

@@ -3,10 +3,11 @@ ghost use Rattle.std.specs.Prelude.{if◌then◌else◌, IfOk};
 ghost use Rattle.std.specs.Bool.{OnTrue};
 ghost use Rattle.walk_core.specs.steps.Cheapest.{HasCost};
 ghost use Rattle.walk_core.specs.Distances.{distance_at};
-ghost use Rattle.walk_core.specs.steps.Ends.{IsShortRow};
+ghost use Rattle.walk_core.specs.steps.Begun.{IsBegun};
 ghost use Rattle.walk_core.specs.steps.Flooding.{cost_onto, segment_at, what_is_left, AreAllAtMost, AreSettled, IsLastAbove, IsNextStale, Lowers};
 ghost use Rattle.walk_core.specs.steps.Floods.{marked_in, IsFlood, IsRoom};
 ghost use Rattle.walk_core.specs.steps.Relaxing.{AreWalked, Fall, IsAtMost, IsTightFrom, weight_of};
+ghost use Rattle.walk_core.specs.steps.Rows.{IsDistanceRow};
 ghost use Rattle.walk_core.specs.steps.SegmentWalks.{IsLan};
 ghost use Rattle.walk_core.specs.Segments.{Sends, SendsAcross};
 
@@ -48,26 +49,26 @@ impl Flood {
     }
 }
 
-/// The distances from a root of a graph of segments, by a flood in the room of an earlier one. What that entered is
-/// forgotten; it left no mark, and one that it had left would cost no more than time.
+/// The distances from a root of a graph of segments, by a flood in the room of an earlier one, which begins with these.
+/// What that entered is forgotten; it left no mark, and one that it had left would cost no more than time.
 pub(crate) fn distances_over(
     alloc: Global,
     graph: &SegmentGraph<'_>,
     root: u32,
+    begun: Vec<Distance>,
     flood: &mut Flood,
-) -> Result<Distances, OutOfMemory>
+) -> Distances
     requires root { root < graph.now.count }
+    requires begun { IsBegun graph.now root begun.items }
     requires room { IsRoom graph.now flood.old }
-    ensures row { IfOk result (IsShortRow (SendsAcross graph.now.segments) graph.now.count root) }
+    ensures row { IsDistanceRow (SendsAcross graph.now.segments) graph.now.count root result }
     ensures room { IsRoom graph.now flood.new }
 {
-    let mut distances = vec![in alloc; Distance::none(); graph.count() as usize]?;
-    distances[root as usize] = Distance::of(0);
-    flood.distances = distances;
+    flood.distances = begun;
     flood.stale[root as usize] = true;
     flood.entries.fill(None);
     settle(graph, flood);
-    Ok(Distances::from_vec(take_distances(alloc, flood)))
+    Distances::from_vec(take_distances(alloc, flood))
 }
 
 /// Takes the distances out of a flood that is done.

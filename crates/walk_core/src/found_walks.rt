@@ -52,21 +52,6 @@ impl FoundWalks {
         self.hops.copy_without(alloc, v as usize)
     }
 
-    /// The distances.
-    pub fn distances(&self) -> &Distances
-        ensures { result.now ≡ self.now.distances }
-    {
-        &self.distances
-    }
-
-    /// A copy of the lists of hops.
-    pub fn copy_hops(&self, alloc: Global) -> Result<NumberLists, OutOfMemory>
-        ensures lists { IfOk result (λ lists. lists ≡ self.now.hops) }
-        ensures ascending { AreAscending self.now.hops }
-    {
-        self.hops.copy(alloc)
-    }
-
     /// How far v is, and None where no walk leads there.
     #[inline(always)]
     pub fn distance(&self, v: u32) -> Option<u64>

@@ -10,12 +10,12 @@
 //! |---|---|
 //! | `graph`, `segment` | the two kinds of graphs |
 //! | `walks`, `offers`, `found_walks`, `number_lists`, `long_lists` | what is known of the walks from a root, and the best of offers |
+//! | `stretch`, `far_walks` | the walks from a root along the vertices that they may lead to, and these walks as they are kept |
 //! | `distance`, `rows` | a distance in 8 bytes, and a row of those from one vertex |
 //! | `relax`, `hops` | over arcs: distances by relaxing, and first hops by the distances from where arcs lead |
 //! | `over_segments`, `segment_graph`, `outlets` | over segments: the walks from all vertices, and a graph of segments with its ports |
 //! | `members` | the vertices that have a port, numbered anew where they are few, so that rows are as long as they are many |
-//! | `flood` | distances over segments, from stale vertices, and onto a LAN at once |
-//! | `ends` | the distances from a root of one or two links, by those from the far ends |
+//! | `begun`, `flood` | distances over segments: what a flood begins with, and how it goes on from stale vertices, and onto a LAN at once |
 //! | `beyond`, `ways` | the walks that begin on a LAN, once for all roots, and first hops by these and by the distances from the ends of links |
 //! | `exits` | first hops from a root of links, by the rows of their ends: of two, as most have, and of any number |
 //! | `kept`, `lost` | the walks that stay what they are without segments that went, and which went |
@@ -25,14 +25,13 @@
 //! distance fell. A LAN of n ports is entered in time n, and again only at a lower cost, so that its n(n - 1) arcs aren't
 //! relaxed one by one. So all roots of n vertices with p ports take time n p where distances spread along the vertices in
 //! order, and n p once for the vertices of each LAN that are nearest to each vertex; the first hops of a root are then
-//! read, not searched. Nor are the distances from every root searched: from one of one or two links they are the least of
-//! what each costs and how far it is from the far end, one pass over a row a link, where those rows were searched before.
-//! Along a chain every second root is such a one. A root without a port takes no
+//! read, not searched. A flood begins with the distances of a neighbor before the root over the link there, one pass over a
+//! row, so that it goes only where the other ways are nearer. A root without a port takes no
 //! time of its own and no row, and the rows of the others end with the last vertex that has a port. Where at most half of the
 //! vertices have one, as the routers of an area in a network of many, the walks are found over these alone, so that n is their
-//! number, and the rows are spread to whole ones at the end. Where the walks over
-//! more segments are known, roots keep those that take none of the segments that went (`segment_walks_without`). A caller that is
-//! proved: `KnownWalks::walks_over` of `zone_graph`.
+//! number, and the rows are spread at the end, from the first of them on to the last: no walk leads elsewhere.
+//! Where the walks over more segments are known, roots keep those that take none of the segments that went
+//! (`segment_walks_without`). A caller that is proved: `KnownWalks::walks_over` of `zone_graph`.
 #![tactic(auto)]
 
 // graphs
@@ -41,10 +40,12 @@ mod segment;
 
 // what is known of the walks from a root
 mod distance;
+mod far_walks;
 mod found_walks;
 mod long_lists;
 mod number_lists;
 mod offers;
+mod stretch;
 mod walks;
 
 // walks over arcs
@@ -53,8 +54,8 @@ mod relax;
 mod rows;
 
 // walks over segments
+mod begun;
 mod beyond;
-mod ends;
 mod exits;
 mod flood;
 mod kept;
@@ -74,5 +75,6 @@ pub use offers::Offer;
 pub use over_segments::segment_walks;
 pub use segment::{Port, Segment};
 pub use std::alloc::AllocError as OutOfMemory;
+pub use stretch::{Extent, OnlyHop, WalkStretch};
 pub use union::{push_below, put_in_order};
 pub use walks::{LeastWalks, least_walks};

@@ -1,7 +1,7 @@
 ghost use Rattle.std.specs.Prelude.{◌≡◌, ◌<◌, Contains, IfOk, length};
 ghost use Rattle.walk_core.specs.Segments.{AreSegments};
 ghost use Rattle.walk_core.specs.declared.segment.Port.{Port as PortValue};
-ghost use Rattle.walk_core.specs.steps.Members.{placed_ports, AreMarked, Marks};
+ghost use Rattle.walk_core.specs.steps.Members.{member_at, placed_ports, AreMarked, Marks};
 
 use crate::OutOfMemory;
 use crate::segment::{Port, Segment, ports_at};
@@ -136,6 +136,16 @@ impl Members {
             all.push(Segment::from_vec(ports))?;
         }
         Ok(all)
+    }
+}
+
+/// The first of some vertices in ascending order, and 0 where there is none.
+pub(crate) fn first_of(vertices: &[u32]) -> u32
+    ensures { result ≡ member_at vertices.now 0 }
+{
+    match vertices.first() {
+        Some(first) => *first,
+        None => 0,
     }
 }
 

@@ -1,10 +1,13 @@
-ghost use Rattle.std.specs.Prelude.{◌≡◌, All, List, ℕ, IfOk, length, map, slice_index_or, slice_set};
-ghost use Rattle.walk_core.specs.steps.Members.{AreVertices, IsSpread};
+ghost use Rattle.std.specs.Prelude.{◌≡◌, ◌++◌, All, List, ℕ, IfOk, length, map, replicate, slice_index_or, slice_set};
+ghost use Rattle.walk_core.specs.Stretches.{IsOnlyHop};
+ghost use Rattle.walk_core.specs.steps.Members.{AreVertices, IsSpread, member_at};
 ghost use Rattle.walk_core.specs.steps.NumberLists.Numbers.{Nothing};
 ghost use Rattle.walk_core.specs.steps.NumberLists.{list_of, renumbered, Grows, IsLongListKept};
 
 use crate::OutOfMemory;
 use crate::long_lists::{LongLists, vertex_at};
+use crate::members::first_of;
+use crate::stretch::OnlyHop;
 use std::alloc::Global;
 use std::marker::Model;
 use std::slice;
@@ -80,6 +83,17 @@ impl PackedNumbers {
         Ok(PackedNumbers::one(vertex))
     }
 
+    /// The one number of them, where they are one at most.
+    #[inline(always)]
+    fn only(self, long: &LongLists) -> OnlyHop
+        ensures { IsOnlyHop (list_of long.now self) result }
+    {
+        if self.code < LONG_LISTS {
+            return OnlyHop::One(self.code);
+        }
+        only_of(self.list(long))
+    }
+
     /// The list of these, by the long lists.
     #[inline(always)]
     fn list<'a>(&'a self, long: &'a LongLists) -> &'a [u32]
@@ -120,8 +134,8 @@ impl Model for NumberLists {
 }
 
 impl NumberLists {
-    ghost use Rattle.std.specs.Prelude.{◌≡◌, ◌↔◌, ◌++◌, ◌∷◌, [], IfOk, IsTrue, OnOk, length, map, slice_index_or, slice_set};
-    ghost use Rattle.walk_core.specs.steps.Members.{AreVertices, IsSpread, members_at};
+    ghost use Rattle.std.specs.Prelude.{◌≡◌, ◌↔◌, ◌++◌, ◌∷◌, [], IfOk, IsTrue, OnOk, length, map, replicate, slice_index_or, slice_set};
+    ghost use Rattle.walk_core.specs.steps.Members.{AreVertices, IsSpread, member_at, members_at};
 
     /// No lists.
     pub fn none(alloc: Global) -> NumberLists
@@ -160,11 +174,12 @@ impl NumberLists {
         Ok(())
     }
 
-    /// A copy of these lists.
-    pub fn copy(&self, alloc: Global) -> Result<NumberLists, OutOfMemory>
-        ensures { IfOk result (λ lists. lists ≡ self.now) }
+    /// A copy of these lists behind so many empty ones.
+    pub fn copy_behind(&self, alloc: Global, first: u32) -> Result<NumberLists, OutOfMemory>
+        ensures { IfOk result (λ lists. lists ≡ replicate first [] ++ self.now) }
     {
-        let all = Vec::from_slice(alloc, self.all.as_slice())?;
+        let mut all = vec![in alloc; PackedNumbers::nothing(); first as usize]?;
+        all.extend_from_slice(self.all.as_slice())?;
         let long = self.long.copy(alloc)?;
         Ok(NumberLists { all, long })
     }
@@ -180,7 +195,8 @@ impl NumberLists {
         Ok(NumberLists { all, long })
     }
 
-    /// The lists of the vertices of places, which are all below `end`, by those of the places: of the vertices of their numbers.
+    /// The lists of the vertices of places, which are all below `end`, from the first of them on, by those of the places: of
+    /// the vertices of their numbers.
     pub fn spread(
         &self,
         alloc: Global,
@@ -188,11 +204,23 @@ impl NumberLists {
         end: u32,
     ) -> Result<NumberLists, OutOfMemory>
         requires { AreVertices vertices.now end }
-        ensures { IfOk result (IsSpread [] vertices.now (length vertices.now) (map (members_at vertices.now) self.now)) }
+        ensures { IfOk result (λ lists. IsSpread [] vertices.now (length vertices.now) (map (members_at vertices.now) self.now)
+            (replicate (member_at vertices.now 0) [] ++ lists)) }
     {
         let all = spread_numbers(alloc, self.all.as_slice(), vertices, end)?;
         let long = self.long.renumbered(alloc, vertices)?;
         Ok(NumberLists { all, long })
+    }
+
+    /// The one number of the list of this place, where they are one at most; past the last there is none.
+    #[inline(always)]
+    pub fn only_at(&self, place: usize) -> OnlyHop
+        ensures { IsOnlyHop (slice_index_or self.now place []) result }
+    {
+        match self.all.get(place) {
+            Some(numbers) => numbers.only(&self.long),
+            None => OnlyHop::Nothing,
+        }
     }
 
     /// The list of this place, and an empty one past the last.
@@ -204,6 +232,17 @@ impl NumberLists {
             Some(numbers) => numbers.list(&self.long),
             None => &[],
         }
+    }
+}
+
+/// The one number of a list, where they are one at most.
+fn only_of(list: &[u32]) -> OnlyHop
+    ensures { IsOnlyHop list.now result }
+{
+    match list {
+        [] => OnlyHop::Nothing,
+        [number] => OnlyHop::One(*number),
+        _ => OnlyHop::Several,
     }
 }
 
@@ -230,7 +269,7 @@ fn numbers_of(long: &mut LongLists, list: &[u32]) -> Result<PackedNumbers, OutOf
     }
 }
 
-/// The numbers of the vertices of places, by those of the places.
+/// The numbers of the vertices of places, from the first of them on, by those of the places.
 fn spread_numbers(
     alloc: Global,
     numbers: &[PackedNumbers],
@@ -239,14 +278,15 @@ fn spread_numbers(
 ) -> Result<Vec<PackedNumbers>, OutOfMemory>
     requires { AreVertices vertices.now end }
     ensures spread { IfOk result (λ all. IsSpread Nothing vertices.now (length vertices.now)
-        (map (renumbered vertices.now) numbers.now) all.items) }
+        (map (renumbered vertices.now) numbers.now) (replicate (member_at vertices.now 0) Nothing ++ all.items)) }
     ensures kept { IfOk result (λ all. (long : List (List ℕ)) → All (IsLongListKept long) numbers.now →
         All (IsLongListKept long) all.items) }
 {
-    let mut all = vec![in alloc; PackedNumbers::nothing(); end as usize]?;
+    let first = first_of(vertices);
+    let mut all = vec![in alloc; PackedNumbers::nothing(); (end - first) as usize]?;
     for place in 0..vertices.len() {
         let own = renumbered_at(numbers, place, vertices)?;
-        all[vertices[place] as usize] = own;
+        all[(vertices[place] - first) as usize] = own;
     }
     Ok(all)
 }

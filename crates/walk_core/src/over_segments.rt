@@ -6,7 +6,7 @@ ghost use Rattle.walk_core.specs.steps.Members.{AreMembers, AreMemberLists, AreM
 ghost use Rattle.walk_core.specs.steps.SegmentWalks.{AreAllOutlets, IsJoinedEnd};
 
 use crate::kept::Kept;
-use crate::members::Members;
+use crate::members::{Members, first_of};
 use crate::number_lists::NumberLists;
 use crate::outlets::{Outlets, all_outlets, is_lone};
 use crate::rows::Distances;
@@ -92,9 +92,11 @@ fn spread_from(
     if place >= members.len() {
         return Ok(LeastWalks::of_lone(root));
     }
-    let distances = rows[place as usize].spread(alloc, members.vertices(), members.end())?;
-    let hops = lists[place as usize].spread(alloc, members.vertices(), members.end())?;
-    LeastWalks::of(alloc, distances, hops)
+    let vertices = members.vertices();
+    let distances = rows[place as usize].spread(alloc, vertices, members.end())?;
+    let hops = lists[place as usize].spread(alloc, vertices, members.end())?;
+    let walks = LeastWalks::along(alloc, first_of(vertices), distances, hops)?;
+    Ok(walks)
 }
 
 /// The walks over all vertices up to the last one that has a port.

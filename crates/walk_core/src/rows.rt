@@ -4,6 +4,7 @@ ghost use Rattle.walk_core.specs.steps.Rows.{distance_between, KnowsEnds};
 ghost use Rattle.walk_core.specs.KeptWalks.{lone_row};
 
 use crate::distance::Distance;
+use crate::members::first_of;
 use crate::relax::{distance_in, distances_from};
 use crate::{CostGraph, OutOfMemory};
 use std::alloc::Global;
@@ -35,11 +36,10 @@ impl Model for Distances {
 }
 
 impl Distances {
-    ghost use Rattle.std.specs.Prelude.{◌≡◌, ◌≤◌, [], None, length, IfOk, IfSome};
-    ghost use Rattle.std.specs.Bool.{OnTrue};
+    ghost use Rattle.std.specs.Prelude.{◌≡◌, ◌+◌, ◌++◌, [], None, length, replicate, IfOk, IfSome};
     ghost use Rattle.walk_core.specs.Distances.{distance_at};
     ghost use Rattle.walk_core.specs.KeptWalks.{lone_row};
-    ghost use Rattle.walk_core.specs.steps.Members.{AreVertices, IsSpread};
+    ghost use Rattle.walk_core.specs.steps.Members.{AreVertices, IsSpread, member_at};
 
     /// No distances.
     pub fn none(alloc: Global) -> Distances
@@ -86,42 +86,38 @@ impl Distances {
         }
     }
 
-    /// A copy of these distances.
-    pub fn copy(&self, alloc: Global) -> Result<Distances, OutOfMemory>
-        ensures { IfOk result (λ copy. copy ≡ self.now) }
+    /// The distances as a vector.
+    pub fn into_vec(self, alloc: Global) -> Result<Vec<Distance>, OutOfMemory>
+        ensures { IfOk result (λ all. all.items ≡ self) }
     {
-        match &self.kept {
-            Kept::Lone(root) => Ok(Distances::of_lone(*root)),
-            Kept::Row(all) => Ok(Distances::from_vec(Vec::from_slice(alloc, all.as_slice())?)),
+        match self.kept {
+            Kept::Lone(root) => {
+                let mut all = vec![in alloc; Distance::none(); root as usize]?;
+                all.push(Distance::of(0))?;
+                Ok(all)
+            }
+            Kept::Row(all) => Ok(all),
         }
     }
 
-    /// Whether they are those of so many vertices at most.
-    pub fn are_within(&self, count: u32) -> bool
-        ensures { OnTrue result (length self.now ≤ count) }
-    {
-        match &self.kept {
-            Kept::Lone(root) => *root < count,
-            Kept::Row(all) => all.len() <= count as usize,
-        }
-    }
-
-    /// The distances of the vertices of places, which are all below `end`, by those of the places.
+    /// The distances of the vertices of places, which are all below `end`, from the first of them on, by those of the places.
     pub fn spread(
         &self,
         alloc: Global,
         vertices: &[u32],
         end: u32,
-    ) -> Result<Distances, OutOfMemory>
+    ) -> Result<Vec<Distance>, OutOfMemory>
         requires { AreVertices vertices.now end }
-        ensures spread { IfOk result (IsSpread None vertices.now (length vertices.now) self.now) }
-        ensures long { IfOk result (λ whole. length whole ≡ end) }
+        ensures spread { IfOk result (λ all. IsSpread None vertices.now (length vertices.now) self.now
+            (replicate (member_at vertices.now 0) None ++ all.items)) }
+        ensures long { IfOk result (λ all. member_at vertices.now 0 + length all.items ≡ end) }
     {
-        let mut all = vec![in alloc; Distance::none(); end as usize]?;
+        let first = first_of(vertices);
+        let mut all = vec![in alloc; Distance::none(); (end - first) as usize]?;
         for place in 0..vertices.len() {
-            all[vertices[place] as usize] = self.of(place as u32);
+            all[(vertices[place] - first) as usize] = self.of(place as u32);
         }
-        Ok(Distances::from_vec(all))
+        Ok(all)
     }
 
     /// The distance of v.

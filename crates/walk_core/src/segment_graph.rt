@@ -5,8 +5,8 @@ ghost use Rattle.walk_core.specs.steps.FirstHops.{ListFirstHops};
 ghost use Rattle.walk_core.specs.steps.Kept.{StayLeast};
 ghost use Rattle.walk_core.specs.steps.SegmentWalks.{AreOutlets};
 
+use crate::begun::begun_row;
 use crate::beyond::all_beyond;
-use crate::ends::{roots_by_ends, row_by_ends};
 use crate::flood::{Flood, distances_over};
 use crate::kept::Kept;
 use crate::number_lists::NumberLists;
@@ -41,7 +41,6 @@ impl<'a> SegmentGraph<'a> {
     ghost use Rattle.std.specs.Prelude.{◌≡◌, ◌+◌, ◌^◌, ◌<◌, false, true, length, slice_index_or, IfOk, OnOk};
     ghost use Rattle.walk_core.specs.Reach.{AreWalksBelow};
     ghost use Rattle.walk_core.specs.Segments.{SendsAcross};
-    ghost use Rattle.walk_core.specs.steps.Ends.{AreRowsFound, AreSearched, IsShortRow};
     ghost use Rattle.walk_core.specs.steps.FirstHops.{AreAllHops};
     ghost use Rattle.walk_core.specs.steps.Floods.{IsRoom};
     ghost use Rattle.walk_core.specs.steps.Kept.{StayLeast};
@@ -90,8 +89,7 @@ impl<'a> SegmentGraph<'a> {
     pub fn walks(&self, alloc: Global) -> Result<Vec<LeastWalks>, OutOfMemory>
         ensures { IfOk result (λ all. AreWalksBelow (SendsAcross self.now.segments) self.now.count self.now.count all.items) }
     {
-        let rows = self.rows(alloc)?;
-        self.walks_by(alloc, rows, Kept::none())
+        self.walks_keeping(alloc, Kept::none())
     }
 
     /// The least-cost walks from every vertex, where some of them are kept.
@@ -104,20 +102,6 @@ impl<'a> SegmentGraph<'a> {
         ensures { IfOk result (λ all. AreWalksBelow (SendsAcross self.now.segments) self.now.count self.now.count all.items) }
     {
         let rows = self.rows_keeping(alloc, kept)?;
-        self.walks_by(alloc, rows, kept)
-    }
-
-    /// The least-cost walks from every vertex, by the distances from it, where some of them are kept.
-    fn walks_by(
-        &self,
-        alloc: Global,
-        rows: Vec<Distances>,
-        kept: Kept<'_>,
-    ) -> Result<Vec<LeastWalks>, OutOfMemory>
-        requires rows { AreDistanceRows (SendsAcross self.now.segments) self.now.count self.now.count rows.items }
-        requires kept { StayLeast (SendsAcross self.now.segments) self.now.count kept.roots.now kept.walks.now }
-        ensures { IfOk result (λ all. AreWalksBelow (SendsAcross self.now.segments) self.now.count self.now.count all.items) }
-    {
         let lists = self.hops_by(alloc, rows.as_slice(), kept)?;
         self.joined(alloc, rows, lists)
     }
@@ -172,31 +156,13 @@ impl<'a> SegmentGraph<'a> {
         let mut flood = Flood::new(alloc, self)?;
         let mut rows = Vec::with_capacity(alloc, count as usize)?;
         for root in 0..count {
-            let row = self.row_keeping(alloc, kept, root, &mut flood)?;
+            let row = match kept.walks_from(root) {
+                Some(walks) => walks.copy_distances(alloc)?,
+                None => self.row_from(alloc, rows.as_slice(), root, &mut flood)?,
+            };
             rows.push(row)?;
         }
         Ok(rows)
-    }
-
-    /// The distances from a root, copied where its walks are kept.
-    fn row_keeping(
-        &self,
-        alloc: Global,
-        kept: Kept<'_>,
-        root: u32,
-        flood: &mut Flood,
-    ) -> Result<Distances, OutOfMemory>
-        requires root { root < self.now.count }
-        requires kept { StayLeast (SendsAcross self.now.segments) self.now.count kept.roots.now kept.walks.now }
-        requires room { IsRoom self.now flood.old }
-        ensures row { IfOk result (IsDistanceRow (SendsAcross self.now.segments) self.now.count root) }
-        ensures room { IsRoom self.now flood.new }
-    {
-        let Some(walks) = kept.walks_from(root) else {
-            return self.searched_row(alloc, root, flood);
-        };
-        let row = walks.copy_distances(alloc)?;
-        Ok(row)
     }
 
     /// The first hops from every vertex, those of kept walks copied, and the others by the ways over the segments.
@@ -224,92 +190,28 @@ impl<'a> SegmentGraph<'a> {
     pub fn rows(&self, alloc: Global) -> Result<Vec<Distances>, OutOfMemory>
         ensures { IfOk result (λ rows. AreDistanceRows (SendsAcross self.now.segments) self.now.count self.now.count rows.items) }
     {
-        let count = self.count();
-        let by_ends = roots_by_ends(alloc, self.outlets)?;
-        let mut rows = self.searched_rows(alloc, by_ends.as_slice())?;
-        for root in 0..count {
-            self.complete_row(alloc, by_ends.as_slice(), &mut rows, root)?;
-        }
-        Ok(rows)
+        self.rows_keeping(alloc, Kept::none())
     }
 
-    /// The distances from every vertex but those whose distances are to be found by the ends of their links.
-    fn searched_rows(&self, alloc: Global, by_ends: &[bool]) -> Result<Vec<Distances>, OutOfMemory>
-        requires { length by_ends.now ≡ self.now.count }
-        ensures { IfOk result (λ rows. AreSearched (SendsAcross self.now.segments) self.now.count by_ends.now self.now.count rows.items) }
-    {
-        let count = self.count();
-        let mut flood = Flood::new(alloc, self)?;
-        let mut rows = Vec::with_capacity(alloc, count as usize)?;
-        for root in 0..count {
-            let row = if by_ends[root as usize] {
-                Distances::none(alloc)
-            } else {
-                self.searched_row(alloc, root, &mut flood)?
-            };
-            rows.push(row)?;
-        }
-        Ok(rows)
-    }
-
-    /// Finds the distances from a root by the ends of its links, if they are still to be found.
-    fn complete_row(
+    /// The distances from the root, by those from the vertices before it.
+    fn row_from(
         &self,
         alloc: Global,
-        by_ends: &[bool],
-        rows: &mut Vec<Distances>,
-        root: u32,
-    ) -> Result<(), OutOfMemory>
-        requires root { root < self.now.count }
-        requires rows { AreRowsFound (SendsAcross self.now.segments) self.now.count by_ends.now root rows.old.items }
-        ensures { OnOk result (AreRowsFound (SendsAcross self.now.segments) self.now.count by_ends.now (root + 1) rows.new.items) }
-    {
-        if !by_ends[root as usize] {
-            return Ok(());
-        }
-        let row = self.found_row(alloc, by_ends, rows.as_slice(), root)?;
-        put_row(rows, root, row);
-        Ok(())
-    }
-
-    /// The distances from a root by the ends of its links, where their rows are there, and else as from the others.
-    fn found_row(
-        &self,
-        alloc: Global,
-        by_ends: &[bool],
         rows: &[Distances],
-        root: u32,
-    ) -> Result<Distances, OutOfMemory>
-        requires root { root < self.now.count }
-        requires taken { slice_index_or by_ends.now root false ≡ true }
-        requires rows { AreSearched (SendsAcross self.now.segments) self.now.count by_ends.now self.now.count rows.now }
-        ensures { IfOk result (IsDistanceRow (SendsAcross self.now.segments) self.now.count root) }
-    {
-        match row_by_ends(alloc, self, rows, by_ends, root)? {
-            Some(row) => Ok(row),
-            None => {
-                let mut flood = Flood::new(alloc, self)?;
-                distances_over(alloc, self, root, &mut flood)
-            }
-        }
-    }
-
-    /// The distances from the root.
-    fn searched_row(
-        &self,
-        alloc: Global,
         root: u32,
         flood: &mut Flood,
     ) -> Result<Distances, OutOfMemory>
         requires root { root < self.now.count }
+        requires rows { AreDistanceRows (SendsAcross self.now.segments) self.now.count root rows.now }
         requires room { IsRoom self.now flood.old }
-        ensures row { IfOk result (IsShortRow (SendsAcross self.now.segments) self.now.count root) }
+        ensures row { IfOk result (IsDistanceRow (SendsAcross self.now.segments) self.now.count root) }
         ensures room { IsRoom self.now flood.new }
     {
         if is_lone(self.ports(root as usize)) {
             return Ok(Distances::of_lone(root));
         }
-        distances_over(alloc, self, root, flood)
+        let begun = begun_row(alloc, self, rows, root)?;
+        Ok(distances_over(alloc, self, root, begun, flood))
     }
 }
 
@@ -332,14 +234,6 @@ fn hops_keeping(
     };
     let hops = walks.copy_hops(alloc)?;
     Ok(hops)
-}
-
-/// Puts the distances from a vertex among those of all.
-fn put_row(rows: &mut Vec<Distances>, root: u32, row: Distances)
-    requires { root < length rows.old.items }
-    ensures { rows.new.items ≡ slice_set rows.old.items root row }
-{
-    rows[root as usize] = row;
 }
 
 /// Takes the first hops from a vertex out of those of all.

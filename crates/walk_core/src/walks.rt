@@ -2,11 +2,13 @@ ghost use Rattle.std.specs.Prelude.{◌≡◌, ◌<◌, ◌⊎◌, length, IfOk}
 ghost use Rattle.walk_core.specs.steps.Rows.{IsDistanceRow, KnowsEnds};
 ghost use Rattle.walk_core.specs.Reach.{AreLeastWalks, AreNear};
 
-use crate::found_walks::FoundWalks;
+use crate::distance::Distance;
+use crate::far_walks::FarWalks;
 use crate::hops::{Departure, departures_from, find_first_hops};
 use crate::number_lists::NumberLists;
 use crate::relax::distances_from;
 use crate::rows::{Distances, distance_to_lone, rows_beyond};
+use crate::stretch::Extent;
 use crate::{CostGraph, OutOfMemory};
 use std::alloc::Global;
 use std::marker::Model;
@@ -24,7 +26,7 @@ pub(crate) enum KeptWalks {
     /// This is the root, which reaches itself alone.
     Lone(u32),
     /// How far the vertices are, and their first hops.
-    Far(Box<FoundWalks>),
+    Far(Box<FarWalks>),
 }
 
 impl Model for LeastWalks {
@@ -99,7 +101,8 @@ impl LeastWalks {
     ghost use Rattle.std.specs.List.Sorted.{IsStrictlyIncreasing};
     ghost use Rattle.walk_core.specs.Reach.{distance_of, listed_hops_of, HasHop};
     ghost use Rattle.walk_core.specs.steps.Ascending.{AreAscending};
-    ghost use Rattle.walk_core.specs.KeptWalks.{lone_row};
+    ghost use Rattle.walk_core.specs.KeptWalks.{lone_row, reach_over};
+    ghost use Rattle.walk_core.specs.Stretches.{reach_along};
 
     /// These distances, and these lists of first hops.
     pub(crate) fn of(
@@ -115,10 +118,35 @@ impl LeastWalks {
                 return Ok(LeastWalks::of_lone(root));
             }
         }
-        let found = Box::new(alloc, FoundWalks::of(distances, hops))?;
+        let distances = distances.into_vec(alloc)?;
+        LeastWalks::along(alloc, 0, distances, hops)
+    }
+
+    /// These distances, and these lists of first hops, from a vertex on.
+    pub(crate) fn along(
+        alloc: Global,
+        first: u32,
+        distances: Vec<Distance>,
+        hops: NumberLists,
+    ) -> Result<LeastWalks, OutOfMemory>
+        requires { AreAscending hops }
+        ensures { IfOk result (λ walks. walks ≡
+            reach_along (record { first = first; distances = distances.items; hops = hops })) }
+    {
+        let far = Box::new(alloc, FarWalks::from(first, distances, hops))?;
         Ok(LeastWalks {
-            known: KeptWalks::Far(found),
+            known: KeptWalks::Far(far),
         })
+    }
+
+    /// How far the walks lead. Route tables read a router's first hops along it, and no others.
+    pub fn extent(&self) -> Extent<'_>
+        ensures { reach_over result ≡ self.now }
+    {
+        match &self.known {
+            KeptWalks::Lone(root) => Extent::Alone(*root),
+            KeptWalks::Far(far) => Extent::Along(far.stretch()),
+        }
     }
 
     /// Those from a vertex that reaches itself alone.
@@ -136,7 +164,7 @@ impl LeastWalks {
     {
         match &self.known {
             KeptWalks::Lone(root) => Ok(Distances::of_lone(*root)),
-            KeptWalks::Far(found) => found.distances().copy(alloc),
+            KeptWalks::Far(far) => far.copy_distances(alloc),
         }
     }
 
@@ -147,7 +175,7 @@ impl LeastWalks {
     {
         match &self.known {
             KeptWalks::Lone(_) => Ok(NumberLists::none(alloc)),
-            KeptWalks::Far(found) => found.copy_hops(alloc),
+            KeptWalks::Far(far) => far.copy_hops(alloc),
         }
     }
 
@@ -157,7 +185,7 @@ impl LeastWalks {
     {
         match &self.known {
             KeptWalks::Lone(root) => *root < count,
-            KeptWalks::Far(found) => found.distances().are_within(count),
+            KeptWalks::Far(far) => far.are_within(count),
         }
     }
 
@@ -168,7 +196,7 @@ impl LeastWalks {
     {
         match &self.known {
             KeptWalks::Lone(root) => distance_to_lone(*root, v).get(),
-            KeptWalks::Far(found) => found.distance(v),
+            KeptWalks::Far(far) => far.distance(v),
         }
     }
 
@@ -189,7 +217,7 @@ impl LeastWalks {
     {
         match &self.known {
             KeptWalks::Lone(_) => &[],
-            KeptWalks::Far(found) => found.hops_to(v),
+            KeptWalks::Far(far) => far.hops_to(v),
         }
     }
 }
