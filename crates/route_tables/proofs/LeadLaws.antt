@@ -1,14 +1,17 @@
 -- How a router reaches each vertex, and what that tells of its entries.
 use Rattle.std.proofs.lemmas.Grind.{common_steps}
 use Rattle.std.proofs.Common.{◌≡◌, ◌≢◌, ℕ, ◌+◌, ◌<◌, ◌≤◌, inl, inr, List, [], ◌∷◌, ◌++◌, Option, Some, IfSome, MatchOption, length, get_or, refl, sym, ap}
-use Rattle.std.proofs.Common.{subst, ◌∙◌, arith, true, false, set, None}
+use Rattle.std.proofs.Common.{subst, ◌∙◌, arith, true, false, set, None, replicate, ◌⊎◌}
 use Rattle.std.specs.List.{Contains}
 use Rattle.std.proofs.lemmas.Bool.{cases_eq, cases_lt, false≢true}
-use Rattle.std.proofs.lemmas.List.{get_or-set_other, get_or-set_same, length-set}
+use Rattle.std.proofs.lemmas.List.{get_or-replicate, get_or-set_other, get_or-set_same, length-replicate, length-set}
 use Rattle.std.proofs.lemmas.List.Elements.{Contains-append_left, Contains-push, Contains-push_cases}
 use Rattle.std.proofs.lemmas.Option.{none-some, same_Some}
 use Rattle.net_addr.specs.Addresses.{Block}
-use Rattle.walk_core.specs.Reach.{Reach, HasHop}
+use Rattle.walk_core.specs.KeptWalks.{lone_row}
+use Rattle.walk_core.specs.Reach.{Reach, HasHop, distance_of, listed_hops_of}
+use Rattle.walk_core.specs.Stretches.{ReachFrom, reach_along}
+use Rattle.walk_core.proofs.StretchLaws.{back_is_far, front_is_far, lone_is_far}
 use Rattle.walk_core.specs.BestOffers.{AreHopsTowards, total_towards, total_with}
 use Rattle.walk_core.specs.declared.offers.Offer.{Offer}
 use Rattle.route_core.specs.declared.entry.Entry.{Entry}
@@ -20,13 +23,14 @@ use Rattle.route_tables.specs.Protocols.{ProtocolRoutes}
 use Rattle.route_tables.specs.declared.lane.Behind.{Behind}
 use Rattle.route_tables.specs.declared.lane.Decision.{Decision}
 use Rattle.route_tables.specs.declared.leads.Lead.{Lead}
+use Rattle.route_tables.specs.declared.pool.Pool.{Pool}
 use Rattle.route_tables.specs.declared.sharing.TwoMakers.{TwoMakers}
 use Rattle.route_tables.specs.steps.BestSoFar.{IsBestAt, IsBetterOf, lower, kept, both}
-use Rattle.route_tables.specs.steps.Leads.{AreLeads, AreLeadsTo, AreLevelMakers, AreMissed, IsFarAt, IsLead, IsLeadAt, IsNumberToBest, IsTold, IsLeadTo}
+use Rattle.route_tables.specs.steps.Leads.{AreLeads, AreLeadsBelow, AreLeadsTo, AreLevelMakers, AreMissed, IsFarAt, IsLead, IsLeadAt, IsNumberToBest, IsTold, IsLeadTo}
 use Rattle.route_tables.specs.steps.Leads.{told_best, told_nothing, told_nothing_but, told_one}
 use Rattle.route_tables.specs.steps.Leads.{IsToldBeyond, far_lead, no_lead}
-use Rattle.route_tables.specs.steps.Sharing.{AreHopsToEither, HasNumber, HasSomeNumber, IsEntryToEither, IsNumberOf}
-use Rattle.route_tables.proofs.ListFacts.{each_more, the_one}
+use Rattle.route_tables.specs.steps.Sharing.{AreHopsToEither, AreOverOne, HasNumber, HasSomeNumber, IsEntryToEither, IsNumberOf}
+use Rattle.route_tables.proofs.ListFacts.{the_one}
 use Rattle.route_tables.proofs.SharingLaws.{number_kept}
 use Rattle.route_tables.proofs.BestSteps.{LeadBelow, below_hops, best_is_reached, best_of_none, better_more, first_more}
 
@@ -45,17 +49,114 @@ leads_kept : (reach : Reach) (u n : ℕ) (entries more : List Entry) (leads : Li
     AreLeads reach u n (entries ++ more) leads
 leads_kept reach u n entries more leads are = record { each = leads_to_kept reach n entries more leads are.each; own = are.own }
 
--- one more lead, by which there may be more entries
-pub leads_more : (reach : Reach) (n at : ℕ) (entries more : List Entry) (leads : List Lead) (next : Lead) → length leads ≡ at →
-    AreLeadsTo reach n entries leads → IsLead reach n (entries ++ more) at next → (i : ℕ) → i < at + 1 →
-    IsLead reach n (entries ++ more) i (get_or (leads ++ next ∷ []) i no_lead)
-leads_more reach n at entries more leads next long are here =
-    each_more (IsLead reach n (entries ++ more)) leads at next no_lead long
-    (λ i within. leads_to_kept reach n entries more leads are i (omega (arith, long, within))) here
-
 -- a lead to nothing says nothing
 no_lead_is : (reach : Reach) (n : ℕ) (entries : List Entry) (at : ℕ) → IsLead reach n entries at no_lead
 no_lead_is reach n entries at = record { to = tt; far = λ same. let here = ap (λ (l : Lead). l.distance) same in absurd (omega (arith, here)) }
+
+-- a lead to what isn't reached says that it isn't
+far_lead_is : (reach : Reach) (n : ℕ) (entries : List Entry) (at : ℕ) → distance_of reach at ≡ None →
+    IsLead reach n entries at far_lead
+far_lead_is reach n entries at none = record { to = tt; far = λ same. none }
+
+far_lead_at : (count at : ℕ) → at < length (replicate count far_lead) → get_or (replicate count far_lead) at no_lead ≡ far_lead
+far_lead_at count at within = get_or-replicate count at far_lead no_lead (omega (arith, within, length-replicate count far_lead))
+
+-- a lead with the number of the entry towards a vertex
+pub lead_with : (reach : Reach) (n : ℕ) (entries : List Entry) (at distance : ℕ) (number : Option ℕ) →
+    distance_of reach at ≡ Some distance → HasSomeNumber (IsEntryTo reach at n) entries number →
+    IsLead reach n entries at (record { distance = distance; number = number })
+lead_with reach n entries at distance None far has = absurd has
+lead_with reach n entries at distance (Some number) far has = record {
+  to = record { far = far; entry = has };
+  far = λ same. absurd (none-some number (sym (ap (λ (l : Lead). l.number) same)));
+}
+
+-- where one hop below n alone leads there, the entry over it has its number
+pub only_number : (reach : Reach) (at n : ℕ) (entries : List Entry) (hop : ℕ) → listed_hops_of reach at ≡ hop ∷ [] → hop < n →
+    AreOverOne n entries → HasNumber (IsEntryTo reach at n) entries hop
+only_number reach at n entries hop only less over =
+    let has : HasNumber (λ entry. entry ≡ Via (hop ∷ [])) entries hop = over hop less in
+    record {
+      below = has.below;
+      is = record {
+        hops = hop ∷ [];
+        is = has.is;
+        are = record {
+          ascending = λ k below. absurd (omega (arith, below));
+          exact = λ h. (
+            λ among. (omega (arith, less, the_one hop h among), subst (λ (hops : List ℕ). Contains hops h) (sym only) among),
+            λ has. subst (λ (hops : List ℕ). Contains hops h) only has.1,
+          );
+        };
+      };
+    }
+
+-- a number that is there, of entries that these are
+pub number_as : (wanted : Entry → Type 0) (old new : Pool) (number : Option ℕ) (own : ℕ) → number ≡ Some own → new ≡ old →
+    HasNumber wanted old.entries.items own → HasSomeNumber wanted new.entries.items number
+number_as wanted old new number own is same has =
+    subst (HasSomeNumber wanted new.entries.items) (sym is)
+    (subst (λ (pool : Pool). HasNumber wanted pool.entries.items own) (sym same) has)
+
+-- before the first vertex of a stretch all are such
+pub leads_begun : (s : ReachFrom) (reach : Reach) (n count : ℕ) (entries : List Entry) → reach_along s ≡ reach →
+    AreLeadsBelow reach n s.first entries (replicate count far_lead)
+leads_begun s reach n count entries same = record {
+  below = λ at before within. subst (IsLead reach n entries at) (sym (far_lead_at count at within))
+      (far_lead_is reach n entries at (subst (λ (r : Reach). distance_of r at ≡ None) same (front_is_far s at before)));
+  others = λ at past within. far_lead_at count at within;
+}
+
+-- one more lead, by which there may be more entries
+pub leads_more : (reach : Reach) (n next : ℕ) (entries more : List Entry) (leads : List Lead) (lead : Lead) →
+    AreLeadsBelow reach n next entries leads → IsLead reach n (entries ++ more) next lead →
+    AreLeadsBelow reach n (next + 1) (entries ++ more) (set leads next lead)
+leads_more reach n next entries more leads lead are here = record {
+  below = λ at less within. elim (cases_eq at next) [
+    | inl same ↦ subst (IsLead reach n (entries ++ more) at)
+        (sym (ap (λ (i : ℕ). get_or (set leads next lead) i no_lead) same
+        ∙ get_or-set_same leads next lead no_lead (inside (subst (λ (i : ℕ). i < length (set leads next lead)) same within))))
+        (subst (λ (i : ℕ). IsLead reach n (entries ++ more) i lead) (sym same) here)
+    | inr other ↦ subst (IsLead reach n (entries ++ more) at) (sym (get_or-set_other leads next at lead no_lead other))
+        (lead_kept reach n entries more at (get_or leads at no_lead) (are.below at (omega (arith, less, other)) (inside within)))
+  ];
+  others = λ at past within. get_or-set_other leads next at lead no_lead (λ same. omega (arith, same, past))
+      ∙ are.others at (omega (arith, past)) (inside within);
+}
+  where
+    inside : {at : ℕ} → at < length (set leads next lead) → at < length leads
+    inside within = omega (arith, within, length-set leads next lead)
+
+-- they are leads to all vertices where none is reached that is left
+pub leads_whole : (s : ReachFrom) (reach : Reach) (n next : ℕ) (entries : List Entry) (leads : List Lead) → reach_along s ≡ reach →
+    AreLeadsBelow reach n next entries leads → (length leads ≤ next) ⊎ (s.first + length s.distances ≤ next) →
+    AreLeadsTo reach n entries leads
+leads_whole s reach n next entries leads same are past at within = elim (cases_lt at next) [
+  | inl before ↦ are.below at before within
+  | inr behind ↦ subst (IsLead reach n entries at) (sym (are.others at (omega (arith, behind)) within))
+      (far_lead_is reach n entries at (subst (λ (r : Reach). distance_of r at ≡ None) same (back_is_far s at (elim past [
+        | inl all ↦ absurd (omega (arith, all, behind, within))
+        | inr end ↦ omega (arith, end, behind)
+      ]))))
+]
+
+-- those from a root that reaches itself alone
+pub leads_apart : (root n count : ℕ) (entries : List Entry) (reach : Reach) →
+    reach ≡ (record { distances = lone_row root; hops = [] }) → AreLeadsTo reach n entries (set (replicate count far_lead) root no_lead)
+leads_apart root n count entries reach is at within = elim (cases_eq at root) [
+  | inl same ↦ subst (IsLead reach n entries at) (sym (ap (λ (i : ℕ). get_or (set all root no_lead) i no_lead) same
+      ∙ get_or-set_same all root no_lead no_lead (inside (subst (λ (i : ℕ). i < length (set all root no_lead)) same within))))
+      (no_lead_is reach n entries at)
+  | inr other ↦ subst (IsLead reach n entries at)
+      (sym (get_or-set_other all root at no_lead no_lead other ∙ far_lead_at count at (inside within)))
+      (far_lead_is reach n entries at (ap (λ (r : Reach). distance_of r at) is ∙ lone_is_far root at other))
+]
+  where
+    all : List Lead
+    all = replicate count far_lead
+
+    inside : {at : ℕ} → at < length (set all root no_lead) → at < length all
+    inside within = omega (arith, within, length-set all root no_lead)
 
 -- leads to the vertices, but for one to router u itself
 pub leads_but : (reach : Reach) (u n : ℕ) (entries : List Entry) (leads : List Lead) → AreLeadsTo reach n entries leads →

@@ -1,15 +1,16 @@
-ghost use Rattle.std.specs.Prelude.{◌≡◌, ◌+◌, [], IfOk, IfSome, IsTrue, MatchOption, OnOk, slice_set};
-ghost use Rattle.route_tables.specs.steps.Leads.{AreLeads, AreLevelMakers, AreMissed, CostTheSame, IsFarAt, IsLead, IsLeadAt, IsNumberOfBest, IsNumberToBest};
+ghost use Rattle.std.specs.Prelude.{◌≡◌, ◌+◌, ◌^◌, ◌<◌, [], IfOk, IfSome, IsTrue, MatchOption, OnOk, replicate, slice_set};
+ghost use Rattle.walk_core.specs.Stretches.{reach_along};
+ghost use Rattle.route_tables.specs.steps.Leads.{AreLeads, AreLeadsTo, AreLevelMakers, AreMissed, CostTheSame, IsFarAt, IsLead, IsLeadAt, IsNumberOfBest, IsNumberToBest};
 ghost use Rattle.route_tables.specs.steps.Leads.{IsTold, IsToldBeyond, far_lead, no_lead};
 ghost use Rattle.route_tables.specs.steps.Sharing.{AreOverOne, KeepsMore};
 
 use crate::OutOfMemory;
 use crate::lane::{Behind, Decision};
 use crate::pool::Pool;
-use crate::sharing::{TwoMakers, number_towards};
+use crate::sharing::{TwoMakers, number_over};
 use route_core::Number;
 use std::alloc::Global;
-use walk_core::{LeastWalks, Offer};
+use walk_core::{Extent, LeastWalks, Offer, OnlyHop, WalkStretch};
 
 /// How a router reaches a vertex by its least walks of a zone.
 #[derive(Clone, Copy, Debug)]
@@ -19,6 +20,15 @@ pub(crate) struct Lead {
     /// The number of the entry towards it. There is none towards what isn't reached, nor towards the router itself, to which
     /// there is a lead to nothing.
     number: Number,
+}
+
+/// The least walks of a router, with the vertices that they lead to, one after another.
+#[derive(Debug, Drop)]
+struct Walked<'a> {
+    walks: &'a LeastWalks,
+    stretch: WalkStretch<'a>,
+    /// Below this hops are taken.
+    count: u32,
 }
 
 /// The leads of a router to the vertices below `count`, and none where the walks aren't known.
@@ -35,31 +45,100 @@ pub(crate) fn leads_of(
         (λ walks. AreLeads walks.now router count pool.new.entries.items leads.items)) }
 {
     match walks {
-        Some(walks) => leads_over(alloc, walks, router, count, pool),
+        Some(walks) => {
+            let mut all = leads_over(alloc, walks, count, pool)?;
+            leave_out(&mut all, router);
+            Ok(all)
+        }
         None => Ok(Vec::new(alloc)),
     }
 }
 
-/// The leads of a router to the vertices below `count` by these walks.
+/// The leads to the vertices below `count` by these walks.
 #[inline(never)]
 fn leads_over(
     alloc: Global,
     walks: &LeastWalks,
-    router: u32,
     count: u32,
     pool: &mut Pool,
 ) -> Result<Vec<Lead>, OutOfMemory>
     requires { AreOverOne count pool.old.entries.items }
     ensures kept { OnOk result (KeepsMore pool.old pool.new) }
-    ensures leads { IfOk result (λ leads. AreLeads walks.now router count pool.new.entries.items leads.items) }
+    ensures leads { IfOk result (λ leads. AreLeadsTo walks.now count pool.new.entries.items leads.items) }
 {
-    let mut all = Vec::with_capacity(alloc, count as usize)?;
-    for at in 0..count {
-        let lead = lead_to(alloc, walks, at, count, pool)?;
-        all.push_reserved(lead);
+    match walks.extent() {
+        Extent::Alone(root) => leads_alone(alloc, root, count),
+        Extent::Along(stretch) => {
+            let walked = Walked {
+                walks,
+                stretch,
+                count,
+            };
+            leads_along(alloc, &walked, pool)
+        }
     }
-    leave_out(&mut all, router);
+}
+
+/// The leads to the vertices below `count` from a root that reaches itself alone.
+fn leads_alone(alloc: Global, root: u32, count: u32) -> Result<Vec<Lead>, OutOfMemory>
+    ensures { IfOk result (λ leads. leads.items ≡ slice_set (replicate count far_lead) root no_lead) }
+{
+    let mut all = vec![in alloc; far_lead(); count as usize]?;
+    leave_out(&mut all, root);
     Ok(all)
+}
+
+/// The leads to the vertices below the count, in time of those of the stretch.
+fn leads_along(
+    alloc: Global,
+    walked: &Walked<'_>,
+    pool: &mut Pool,
+) -> Result<Vec<Lead>, OutOfMemory>
+    requires along { reach_along walked.now.stretch ≡ walked.now.walks.now }
+    requires single { AreOverOne walked.now.count pool.old.entries.items }
+    ensures kept { OnOk result (KeepsMore pool.old pool.new) }
+    ensures leads { IfOk result (λ leads. AreLeadsTo walked.now.walks.now walked.now.count pool.new.entries.items leads.items) }
+{
+    let mut all = vec![in alloc; far_lead(); walked.count as usize]?;
+    let first = walked.stretch.first() as usize;
+    let steps = walked
+        .stretch
+        .len()
+        .min((walked.count as usize).saturating_sub(first));
+    for step in 0..steps {
+        let lead = lead_on(alloc, walked, step, pool)?;
+        all[first + step] = lead;
+    }
+    Ok(all)
+}
+
+/// The lead to the vertex that stands so many behind the first of the stretch, with hops below the count.
+#[inline(always)]
+fn lead_on(
+    alloc: Global,
+    walked: &Walked<'_>,
+    step: usize,
+    pool: &mut Pool,
+) -> Result<Lead, OutOfMemory>
+    requires along { reach_along walked.now.stretch ≡ walked.now.walks.now }
+    requires fits { walked.now.stretch.first + step < 2 ^ 32 }
+    requires single { AreOverOne walked.now.count pool.old.entries.items }
+    ensures kept { OnOk result (KeepsMore pool.old pool.new) }
+    ensures lead { IfOk result (IsLead walked.now.walks.now walked.now.count pool.new.entries.items
+        (walked.now.stretch.first + step)) }
+{
+    let Some(distance) = walked.stretch.distance(step) else {
+        return Ok(far_lead());
+    };
+    let number = match walked.stretch.only_hop(step) {
+        OnlyHop::Nothing => return Ok(no_lead()),
+        OnlyHop::One(hop) if hop < walked.count => Number::of(hop)?,
+        _ => {
+            let at = walked.stretch.first() + step as u32;
+            Number::of(number_over(alloc, walked.walks, at, walked.count, pool)?)?
+        }
+    };
+    Ok(Lead { distance, number })
 }
 
 /// Puts a lead to nothing in place of that to a vertex, if there is one.
@@ -69,29 +148,6 @@ fn leave_out(leads: &mut Vec<Lead>, at: u32)
     if (at as usize) < leads.len() {
         leads[at as usize] = no_lead();
     }
-}
-
-/// The lead to a vertex, with hops below `count`.
-#[inline(always)]
-fn lead_to(
-    alloc: Global,
-    walks: &LeastWalks,
-    at: u32,
-    count: u32,
-    pool: &mut Pool,
-) -> Result<Lead, OutOfMemory>
-    requires { AreOverOne count pool.old.entries.items }
-    ensures kept { OnOk result (KeepsMore pool.old pool.new) }
-    ensures lead { IfOk result (IsLead walks.now count pool.new.entries.items at) }
-{
-    let Some(distance) = walks.distance(at) else {
-        return Ok(far_lead());
-    };
-    if walks.hops_to(at).is_empty() {
-        return Ok(no_lead());
-    }
-    let number = number_towards(alloc, walks, at, count, pool)?;
-    Ok(Lead { distance, number })
 }
 
 /// A lead to what isn't reached.
@@ -118,19 +174,19 @@ fn no_lead() -> Lead
 
 /// The number of a router's entry, or that it has none, by what decides its route, where the leads tell it.
 #[inline(always)]
-pub(crate) fn told(leads: &[Lead], router: u32, decision: Decision) -> Option<Number>
-    ensures { IfSome result (IsTold leads.now router decision) }
+pub(crate) fn told(leads: &[Lead], router: u32, decision: &Decision) -> Option<Number>
+    ensures { IfSome result (IsTold leads.now router decision.now) }
 {
     match decision {
         Decision::Nothing => Some(Number::none()),
-        Decision::NothingBut(one, other) if one != router && other != router => {
+        Decision::NothingBut(one, other) if *one != router && *other != router => {
             Some(Number::none())
         }
         Decision::One(at) => {
-            let lead = lead_at(leads, at)?;
+            let lead = lead_at(leads, *at)?;
             Some(lead.number)
         }
-        Decision::Two(one, other) => number_to_best(leads, one, other),
+        Decision::Two(one, other) => number_to_best(leads, *one, *other),
         _ => None,
     }
 }
@@ -203,12 +259,12 @@ pub(crate) fn told_behind(
     first: &[Lead],
     behind: &[Lead],
     router: u32,
-    decisions: Behind,
+    decisions: &Behind,
 ) -> Option<Number>
-    ensures { IfSome result (IsToldBeyond first.now behind.now router decisions) }
+    ensures { IfSome result (IsToldBeyond first.now behind.now router decisions.now) }
 {
-    if are_missed(first, decisions.first) {
-        told(behind, router, decisions.second)
+    if are_missed(first, &decisions.first) {
+        told(behind, router, &decisions.second)
     } else {
         None
     }
@@ -216,12 +272,12 @@ pub(crate) fn told_behind(
 
 /// Whether the router of the leads makes and reaches none of the offers of a decision.
 #[inline(always)]
-fn are_missed(leads: &[Lead], decision: Decision) -> bool
-    ensures { IsTrue result → AreMissed leads.now decision }
+fn are_missed(leads: &[Lead], decision: &Decision) -> bool
+    ensures { IsTrue result → AreMissed leads.now decision.now }
 {
     match decision {
         Decision::Nothing => true,
-        Decision::One(at) => is_far_at(leads, at),
+        Decision::One(at) => is_far_at(leads, *at),
         Decision::Two(one, other) => is_far_at(leads, one.at) && is_far_at(leads, other.at),
         Decision::NothingBut(_, _) | Decision::Unknown => false,
     }

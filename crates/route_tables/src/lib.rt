@@ -8,7 +8,7 @@
 //!   that router and takes no memory.
 //! - `lane.rt`, `leads.rt`: what decides the routes of all routers that know the same offers for a prefix, and what does
 //!   behind that, where these offers aren't reached; how far a router is from each vertex and the number of its entry
-//!   towards it, which are looked up once, and what they tell of its entries.
+//!   towards it, which are looked up once along the stretch of its walks, and what they tell of its entries.
 //! - `alike.rt`: whether offers differ by a constant alone, by which prefixes have the same routes.
 //! - `pool.rt`: the entries that the tables of all routers share: those over one hop alone, which are made once and need no
 //!   search, and those that each table adds, among which it looks for a list of several hops, in time of these.

@@ -122,7 +122,7 @@ fn number_of<P: Protocol>(
 /// The number of the entry towards a router: that of its one first hop, where it has one alone, else that over all of them
 /// below `count`.
 #[inline(always)]
-pub(crate) fn number_towards(
+fn number_towards(
     alloc: Global,
     walks: &LeastWalks,
     at: u32,
@@ -152,7 +152,7 @@ fn only_hop(walks: &LeastWalks, at: u32) -> Option<u32>
 
 /// The number of the entry over the first hops below `count` towards a router.
 #[inline(never)]
-fn number_over(
+pub(crate) fn number_over(
     alloc: Global,
     walks: &LeastWalks,
     at: u32,

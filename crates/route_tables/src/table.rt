@@ -195,9 +195,9 @@ fn number_told(led: LedLane<'_>, kind: usize) -> Option<Number>
     requires long { length led.lane.decisions.now ≡ length led.lane.firsts.now }
     ensures { IfSome result (IsToldOfKind led.entry kind) }
 {
-    if let Some(number) = told(led.leads, led.lane.router, led.lane.decisions[kind]) {
+    if let Some(number) = told(led.leads, led.lane.router, &led.lane.decisions[kind]) {
         return Some(number);
     }
-    let decisions = led.lane.behind.get(kind).copied()?;
+    let decisions = led.lane.behind.get(kind)?;
     told_behind(led.leads, led.behind, led.lane.router, decisions)
 }

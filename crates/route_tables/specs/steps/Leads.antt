@@ -34,6 +34,11 @@ pub record IsLead (reach : Reach) (n : ℕ) (entries : List Entry) (at : ℕ) (l
 abbrev pub AreLeadsTo : Reach → ℕ → List Entry → List Lead → Type 0
 AreLeadsTo reach n entries leads = (at : ℕ) → at < length leads → IsLead reach n entries at (slice_index_or leads at no_lead)
 
+-- the leads to the vertices below `next` are there, and from it on each lead is one to what isn't reached
+pub record AreLeadsBelow (reach : Reach) (n next : ℕ) (entries : List Entry) (leads : List Lead) : Type 0 where
+  pub below : (at : ℕ) → at < next → at < length leads → IsLead reach n entries at (slice_index_or leads at no_lead)
+  pub others : (at : ℕ) → next ≤ at → at < length leads → slice_index_or leads at no_lead ≡ far_lead
+
 -- these are the leads of router u, which has none to itself
 pub record AreLeads (reach : Reach) (u n : ℕ) (entries : List Entry) (leads : List Lead) : Type 0 where
   pub each : AreLeadsTo reach n entries leads

@@ -6,12 +6,12 @@ use Rattle.route_tables.proofs.leads.told.Goals as goal
 
 pub returns-in-Nothing : goal.returns-in-Nothing
 returns-in-Nothing c =
-    subst (IsTold c.args.leads.now c.args.router c.args.decision) (sym c.none.ensures)
+    subst (IsTold c.args.leads.now c.args.router c.args.decision.now) (sym c.none.ensures)
     (subst (λ (d : Decision). IsTold c.args.leads.now c.args.router d None) (sym c.in-Nothing.is) told_nothing)
 
 pub returns-in-NothingBut : goal.returns-in-NothingBut
 returns-in-NothingBut c =
-    subst (IsTold c.args.leads.now c.args.router c.args.decision) (sym c.none-in-NothingBut.ensures)
+    subst (IsTold c.args.leads.now c.args.router c.args.decision.now) (sym c.none-in-NothingBut.ensures)
     (subst (λ (d : Decision). IsTold c.args.leads.now c.args.router d None) (sym c.in-NothingBut.is)
     (told_nothing_but c.in-NothingBut.one c.in-NothingBut.other (λ same. c.if-one-router.true (sym same)) (λ same. c.if-other-router.true (sym same))))
 
