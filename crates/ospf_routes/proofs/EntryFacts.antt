@@ -12,7 +12,7 @@ use Rattle.walk_core.specs.BestOffers.{AreInRange, NoneTotals}
 use Rattle.walk_core.specs.declared.offers.Offer.{Offer}
 use Rattle.ospf_routes.specs.steps.Areas.{AreAreas, IsListenedPlace, IsReach}
 use Rattle.ospf_routes.specs.steps.Domain.{OspfDomain}
-use Rattle.ospf_routes.specs.steps.Offered.{AreOffers}
+use Rattle.ospf_routes.specs.steps.Heard.{AreHeardLike}
 use Rattle.ospf_routes.specs.steps.Summarized.{IsHeard}
 use Rattle.ospf_routes.proofs.CostBounds.{in_range, summary_is_small}
 use Rattle.ospf_routes.proofs.RouteFacts.{listened_route_is}
@@ -46,13 +46,13 @@ inter_cost_of net u p cost no_intra no_range costs = grind (arith, common_steps)
 
 -- what is announced into an area is in range over the walks there
 pub heard_in_range : (net : Network) (areas : List AreaWalks) (n : ℕ) (p : Block) (reach : Reach) (offers given : List Offer) → AreAreas net areas →
-    {u : ℕ} → IsReach net n u reach → AreOffers (IsHeard net p n) offers → given ≡ offers → AreInRange reach given
+    {u : ℕ} → IsReach net n u reach → AreHeardLike net p n offers → given ≡ offers → AreInRange reach given
 heard_in_range net areas n p reach offers given are walks heard same =
-    in_range reach (IsHeard net p n) offers given walks.near heard same (λ at asks r. summary_is_small net areas n p at asks are r.summary)
+    in_range reach (IsHeard net heard.of n) offers given walks.near heard.offers_are same (λ at asks r. summary_is_small net areas n heard.of at asks are r.summary)
 
 -- the hops towards the best of the summaries that a router listens to make its entry
 pub listened_entry : (net : Network) (n : ℕ) (p : Block) (u : ℕ) (reach : Reach) (offers given : List Offer) → (IsIntraArea net p u → ⊥) →
-    (IsActiveRange net p u → ⊥) → ListensTo net u n → IsReach net n u reach → AreOffers (IsHeard net p n) offers → given ≡ offers →
+    (IsActiveRange net p u → ⊥) → ListensTo net u n → IsReach net n u reach → AreHeardLike net p n offers → given ≡ offers →
     (Connected net u p → ⊥) → (hops : List ℕ) → AreBestHops reach given (length net) hops → OspfEntry net u p (Via hops)
 listened_entry net n p u reach offers given no_intra no_range listens walks heard same away hops best =
     let route : IsListenedRoute net p u hops =

@@ -16,7 +16,7 @@ use Rattle.route_tables.proofs.DestinationLists.{prefix_is}
 use Rattle.walk_core.specs.declared.offers.Offer.{Offer}
 use Rattle.igp_theory.specs.Ospf.{ListensTo}
 use Rattle.ospf_routes.specs.steps.Areas.{AreListeners, IsListenedPlace, IsListenerAt}
-use Rattle.ospf_routes.specs.steps.Heard.{AddsRow, IsSummaryRow, AreHeardAt, AreHeardBelow, AreSummaries}
+use Rattle.ospf_routes.specs.steps.Heard.{AddsRow, IsSummaryRow, AreHeardAt, AreHeardLike, AreHeardBelow, AreSummaries}
 use Rattle.ospf_routes.specs.steps.Offered.{AreOffers}
 use Rattle.ospf_routes.specs.steps.OfferLists.{offers_of, offer_lists_of, AreOfferSpans, AreSummariesOf, HeardLists, heard_into}
 use Rattle.ospf_routes.specs.steps.Summarized.{IsHeard}
@@ -25,6 +25,7 @@ use Rattle.ospf_routes.specs.steps.Domain.{OspfDomain}
 use Rattle.ospf_routes.specs.declared.intra_area.Destination.{Destination}
 use Rattle.ospf_routes.specs.declared.summaries.OfferSpan.{OfferSpan}
 use Rattle.ospf_routes.proofs.AreaFacts.{number_at}
+use Rattle.ospf_routes.proofs.ShiftLaws.{heard_itself}
 use Rattle.ospf_routes.proofs.PlaceFacts.{place_read}
 use Rattle.route_tables.proofs.ListFacts.{each_more}
 
@@ -113,7 +114,8 @@ announced_within domain ds heard place zone are within inside = grind (arith, co
 -- what an area's routers announce into it is that of its place
 pub heard_here : (domain : OspfDomain) (p : Block) (zone : ℕ) (a : AreaWalks) (offers : List Offer) → a ≡ get_or domain.areas zone a →
     AreOffers (IsHeard domain.net p a.number) offers → AreHeardAt domain p zone offers
-heard_here domain p zone a offers here are n at = grind (arith, common_steps, number_at)
+heard_here domain p zone a offers here are n at =
+    subst (λ (m : ℕ). AreHeardLike domain.net p m offers) (number_at domain.areas n zone a at here) (heard_itself are)
 
 -- an area that a router listens to is at a place within
 pub listened_inside : (net : Network) (areas : List AreaWalks) (all : List (Option ℕ)) (u zone : ℕ) (here : Option ℕ) →

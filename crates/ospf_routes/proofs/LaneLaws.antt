@@ -24,9 +24,7 @@ use Rattle.route_tables.proofs.ListFacts.{any_in_one, any_in_two, the_one}
 use Rattle.ospf_routes.specs.steps.AreaReach.{area_reach}
 use Rattle.ospf_routes.specs.steps.Areas.{AreAreas, AreListeners, IsAreaAt, IsListenedPlace, IsListenerAt, IsReach}
 use Rattle.ospf_routes.specs.steps.Destinations.{HasAreaPart, IsDestination, IsDestinationIn}
-use Rattle.ospf_routes.specs.steps.Offered.{AreOffers}
-use Rattle.ospf_routes.specs.steps.Heard.{AreHeardAt}
-use Rattle.ospf_routes.specs.steps.Summarized.{IsHeard}
+use Rattle.ospf_routes.specs.steps.Heard.{AreHeardAt, AreHeardLike}
 use Rattle.ospf_routes.specs.steps.Lanes.{IsInner, IsOfFew, LaneOf, LeadsLane}
 use Rattle.ospf_routes.specs.declared.areas.AreaWalks.{AreaWalks}
 use Rattle.ospf_routes.specs.declared.intra_area.AreaOffers.{AreaOffers}
@@ -185,7 +183,7 @@ pub record IsOutside (l : LaneOf) (u : ℕ) (p : Block) (offers : List Offer) : 
   pub place : IsListenedPlace l.domain.net l.domain.areas u l.zone
   pub no_range : IsActiveRange l.domain.net p u → ⊥
   pub no_intra : IsIntraArea l.domain.net p u → ⊥
-  pub heard : AreOffers (IsHeard l.domain.net p place.area) offers
+  pub heard : AreHeardLike l.domain.net p place.area offers
 
 -- which is so where nothing is offered in its area
 pub outside_where : (l : LaneOf) (d : Destination) (offers : List Offer) (u : ℕ) → AreListeners l.domain.net l.domain.areas (length l.domain.net) l.listens →

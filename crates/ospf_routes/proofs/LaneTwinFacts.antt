@@ -1,6 +1,6 @@
 -- Prefixes outside an area that are announced alike into it have the same entries at the routers that are in it alone.
 use Rattle.std.proofs.lemmas.Grind.{common_steps}
-use Rattle.std.proofs.Common.{◌≡◌, ⊎_elim, ℕ, ◌+◌, ◌<◌, List, [], length, get_or, set, Option, None, Some, refl, sym, subst, arith}
+use Rattle.std.proofs.Common.{◌≡◌, ⊎_elim, ℕ, ◌+◌, ◌<◌, List, [], length, get_or, set, Option, None, Some, sym, subst, arith}
 use Rattle.std.specs.Option.{IfSome}
 use Rattle.std.proofs.lemmas.List.{length-map}
 use Rattle.std.proofs.lemmas.Option.{none-some, same_Some}
@@ -12,22 +12,19 @@ use Rattle.igp_theory.proofs.TableLaws.{listens_to_one_area}
 use Rattle.route_tables.specs.AlikeOffers.{AreAlikeOffers}
 use Rattle.route_tables.specs.Entries.{AreAlikeFor}
 use Rattle.route_tables.specs.Prefixes.{prefix_at}
-use Rattle.route_tables.proofs.AlikeRoutes.{alike_lists}
 use Rattle.ospf_routes.specs.steps.Areas.{AreListeners}
 use Rattle.ospf_routes.specs.steps.Destinations.{AreOspfDestinations, IsDestination, ospf_prefixes}
 use Rattle.ospf_routes.specs.steps.Lanes.{IsOfOspfLane, LaneOf}
 use Rattle.ospf_routes.specs.steps.LaneTwins.{AreAllLaneTwins, AreTwinsAlone, AreLaneAlike, AreOutsideBelow, IsEarlierOutside, IsOutsideLane}
-use Rattle.ospf_routes.specs.steps.Offered.{AreOffers}
-use Rattle.ospf_routes.specs.steps.Heard.{AreHeardAt, AreSummaries}
+use Rattle.ospf_routes.specs.steps.Heard.{AreHeardAt, AreHeardLike, AreSummaries}
 use Rattle.ospf_routes.specs.steps.OfferLists.{HeardLists, heard_into}
-use Rattle.ospf_routes.specs.steps.Summarized.{IsHeard}
 use Rattle.ospf_routes.specs.steps.Twins.{AreEarlierBy, IsEarlierBy}
 use Rattle.ospf_routes.specs.steps.Domain.{OspfDomain}
 use Rattle.ospf_routes.specs.declared.intra_area.Destination.{Destination}
-use Rattle.ospf_routes.proofs.CostBounds.{lists_from}
 use Rattle.ospf_routes.proofs.PlaceFacts.{noted_or_before, place_read}
 use Rattle.ospf_routes.proofs.LaneLaws.{IsOutside, outside_where}
 use Rattle.ospf_routes.proofs.HeardFacts.{heard_of}
+use Rattle.ospf_routes.proofs.ShiftLaws.{heard_alike}
 use Rattle.ospf_routes.proofs.TwinFacts.{IsDestinationAt, destination_read}
 use Rattle.ospf_routes.proofs.TwinLaws.{IsTwinFor, alike_offers_back, twin_entries}
 
@@ -46,14 +43,12 @@ outside_twins l u p q ones others one other away alike = record {
   other_no_range = other.no_range;
   offered = λ n cost costs. absurd (one.no_intra (record { area = n; cost = cost; costs = costs }));
   announced = λ n at asks listens is.
-      alike_lists (IsHeard l.domain.net p n) (IsHeard l.domain.net q n) ones others
-      (lists_from (IsHeard l.domain.net p n) ones ones (into p ones one n listens) refl)
-      (lists_from (IsHeard l.domain.net q n) others others (into q others other n listens) refl) alike;
+      heard_alike l.domain.net p q n ones others (into p ones one n listens) (into q others other n listens) alike;
 }
   where
-    into : (r : Block) (offers : List Offer) → IsOutside l u r offers → (n : ℕ) → ListensTo l.domain.net u n → AreOffers (IsHeard l.domain.net r n) offers
+    into : (r : Block) (offers : List Offer) → IsOutside l u r offers → (n : ℕ) → ListensTo l.domain.net u n → AreHeardLike l.domain.net r n offers
     into r offers out n listens =
-        subst (λ (m : ℕ). AreOffers (IsHeard l.domain.net r m) offers) (listens_to_one_area out.place.listens listens) out.heard
+        subst (λ (m : ℕ). AreHeardLike l.domain.net r m offers) (listens_to_one_area out.place.listens listens) out.heard
 
 -- so they have the same entries
 lane_alike : (l : LaneOf) (d e : Destination) (ones others : List Offer) → AreListeners l.domain.net l.domain.areas (length l.domain.net) l.listens →

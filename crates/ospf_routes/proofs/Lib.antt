@@ -16,7 +16,8 @@ mod DestinationFacts
 mod ZoneRoutes
 mod TwinLaws
 mod TwinFacts
-mod RepeatLaws
+mod ShiftLaws
+mod SiblingLaws
 mod BorderLists
 mod LaneLaws
 mod ListenerLaws

@@ -30,7 +30,10 @@ use Rattle.ospf_routes.specs.steps.Destinations.{HasAreaPart, IsDestination}
 use Rattle.ospf_routes.specs.declared.intra_area.Destination.{Destination}
 use Rattle.ospf_routes.specs.steps.Summarized.{IsHeard}
 use Rattle.ospf_routes.specs.declared.intra_area.AreaOffers.{AreaOffers}
+use Rattle.route_tables.proofs.AlikeRoutes.{AskAlike, alike_cost, alike_hop, alike_turned}
+use Rattle.ospf_routes.specs.steps.Heard.{AreHeardLike}
 use Rattle.ospf_routes.proofs.CostBounds.{lists_from}
+use Rattle.ospf_routes.proofs.ShiftLaws.{shifted_alike}
 use Rattle.ospf_routes.proofs.IntraFacts.{reaches_inside}
 use Rattle.ospf_routes.proofs.SummaryFacts.{listened_cost, listened_hop}
 use Rattle.net_addr.proofs.SomeElement.{any_of, any_in, any_left, any_cases, one_more}
@@ -190,29 +193,36 @@ intra_route_is net p u lists given count are same counted (Some hops) some =
 -- Between areas
 
 pub listened_route_is : (net : Network) (n : ℕ) (p : Block) (u : ℕ) (reach : Reach) (offers given : List Offer) → (IsIntraArea net p u → ⊥) →
-    (IsActiveRange net p u → ⊥) → ListensTo net u n → IsReach net n u reach → AreOffers (IsHeard net p n) offers → given ≡ offers → (count : ℕ) →
+    (IsActiveRange net p u → ⊥) → ListensTo net u n → IsReach net n u reach → AreHeardLike net p n offers → given ≡ offers → (count : ℕ) →
     count ≡ length net → (found : Option (List ℕ)) → MatchOption found (NoneTotals reach given) (AreBestHops reach given count) →
     MatchOption found ((cost : ℕ) → ListenedCost net p u cost → ⊥) (IsListenedRoute net p u)
 listened_route_is net n p u reach offers given no_intra no_range listens is are same count counted None none = λ cost costs.
     let arc : Arcs = Adjacent net (Area n) in
-    let offer : Offers = IsHeard net p n in
+    let offer : Offers = IsHeard net are.of n in
     let here : BestCost arc (OfOthers (Summary net p n) u) u cost = subst (λ (m : ℕ). BestCost (Adjacent net (Area m)) (OfOthers (Summary net p m) u) u cost)
     (listens_to_one_area costs.listens listens) costs.best in
-    none_totals_no_best arc u reach offer given is.least (lists_from offer offers given are same) none cost
-    ((listened_cost net p n u cost no_intra no_range listens).0 here)
+    let best = alike_cost arc u (IsHeard net p n) offer (alike_turned (shifted_alike are.shift)) cost ((listened_cost net p n u cost no_intra no_range listens).0 here) in
+    none_totals_no_best arc u reach offer given is.least (lists_from offer offers given are.offers_are same) none best.0 best.1
 listened_route_is net n p u reach offers given no_intra no_range listens is are same count counted (Some hops) best =
     let arc : Arcs = Adjacent net (Area n) in
-    let offer : Offers = IsHeard net p n in
-    let listed = lists_from offer offers given are same in
-    let costs : BestCost arc offer u best.cost = (best_total_is_best_cost arc u reach offer given best.cost is.least listed).0 best.best in
+    let offer : Offers = IsHeard net are.of n in
+    let heard : Offers = IsHeard net p n in
+    let alike : AskAlike offer heard = shifted_alike are.shift in
+    let listed = lists_from offer offers given are.offers_are same in
+    let costs = alike_cost arc u offer heard alike best.cost
+    ((best_total_is_best_cost arc u reach offer given best.cost is.least listed).0 best.best) in
     record {
-      cost = best.cost;
-      costs = record { area = n; listens = listens; best = (listened_cost net p n u best.cost no_intra no_range listens).1 costs };
+      cost = costs.0;
+      costs = record { area = n; listens = listens; best = (listened_cost net p n u costs.0 no_intra no_range listens).1 costs.1 };
       hops_are = hops_same (BestHop arc offer u) (InterAreaHop net p u) hops
           (λ h. (
-            λ hop. record { area = n; listens = listens; best = (listened_hop net p n u h no_intra no_range listens).1 hop },
-            λ hop. (listened_hop net p n u h no_intra no_range listens).0
-                (subst (λ (m : ℕ). BestHop (Adjacent net (Area m)) (OfOthers (Summary net p m) u) u h) (listens_to_one_area hop.listens listens) hop.best),
+            λ hop. record {
+              area = n;
+              listens = listens;
+              best = (listened_hop net p n u h no_intra no_range listens).1 (alike_hop arc u offer heard alike h hop);
+            },
+            λ hop. alike_hop arc u heard offer (alike_turned alike) h ((listened_hop net p n u h no_intra no_range listens).0
+                (subst (λ (m : ℕ). BestHop (Adjacent net (Area m)) (OfOthers (Summary net p m) u) u h) (listens_to_one_area hop.listens listens) hop.best)),
           ))
           (best_hops_are arc u reach offer given count hops is.least listed
           (λ h c over. subst (λ (m : ℕ). h < m) (sym counted) (Adjacent-to_within net (Area n) u h c over)) best);

@@ -31,6 +31,7 @@ use Rattle.ospf_routes.specs.declared.intra_area.Destination.{Destination}
 use Rattle.ospf_routes.proofs.AreaFacts.{listened_area}
 use Rattle.ospf_routes.proofs.CostBounds.{lists_from}
 use Rattle.ospf_routes.proofs.HeardFacts.{heard_of}
+use Rattle.ospf_routes.proofs.ShiftLaws.{heard_alike}
 use Rattle.ospf_routes.proofs.SummaryFacts.{listened_cost, listened_hop}
 
 -- at router u: the second prefix is connected where the first one is alone, no active range is of either, and where the first
@@ -181,9 +182,7 @@ is_twin_for domain ds ranged heard one other d e u known is hold are within_one 
         let zone : ℕ = has.among.0 in
         let here : IsAreaAt domain.areas n zone =
         record { within = has.among.1; area = has.area; here = sym has.among.2; number = has.number } in
-        let xs : List Offer = heard_into heard one zone in
-        let ys : List Offer = heard_into heard other zone in
-        alike_lists (IsHeard domain.net d.dest n) (IsHeard domain.net e.dest n) xs ys
-        (lists_from (IsHeard domain.net d.dest n) xs xs (heard_of domain ds heard one d are within_one d_at zone here.within n here) refl)
-        (lists_from (IsHeard domain.net e.dest n) ys ys (heard_of domain ds heard other e are within_other e_at zone here.within n here) refl)
+        heard_alike domain.net d.dest e.dest n (heard_into heard one zone) (heard_into heard other zone)
+        (heard_of domain ds heard one d are within_one d_at zone here.within n here)
+        (heard_of domain ds heard other e are within_other e_at zone here.within n here)
         (alike zone (subst (λ (m : ℕ). zone < m) (sym are.areas_are) here.within))

@@ -42,7 +42,7 @@ one_element : {X : Type 0} (xs : List X) (x y : X) → length xs ≡ 1 → Conta
 one_element xs x y one a b = grind (arith, common_steps, get_or_default)
 
 -- where one area has offers, all offers are of this area
-only_area : (net : Network) (d : Destination) (part : AreaOffers) (n w cost : ℕ) → IsDestination net d → length d.parts.items ≡ 1 →
+pub only_area : (net : Network) (d : Destination) (part : AreaOffers) (n w cost : ℕ) → IsDestination net d → length d.parts.items ≡ 1 →
     Contains d.parts.items part → OffersSubnet net n d.dest w cost → n ≡ part.area
 only_area net d part n w cost is one among offers =
     let has = is.every n w cost offers in

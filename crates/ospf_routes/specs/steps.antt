@@ -11,7 +11,7 @@ pub mod Summarized
 pub mod OfferLists
 pub mod Heard
 pub mod Twins
-pub mod Repeats
+pub mod Siblings
 pub mod Networks
 pub mod Routing
 pub mod AreaReach

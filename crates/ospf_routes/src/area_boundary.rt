@@ -15,11 +15,13 @@ use net_addr::Prefix;
 use route_tables::push_option;
 use walk_core::Offer;
 
-/// The border routers of a network, and the active ranges of all its routers.
+/// The prefixes and the border routers of a network, and the active ranges of all its routers.
 #[derive(Clone, Copy)]
 pub(crate) struct Boundary<'a> {
     /// The network and its areas.
     pub domain: &'a Domain<'a>,
+    /// The prefixes.
+    pub destinations: &'a [Destination],
     /// The border routers.
     pub borders: &'a [u32],
     /// The active ranges of each router.

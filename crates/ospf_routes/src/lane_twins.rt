@@ -9,12 +9,11 @@ use crate::OutOfMemory;
 use crate::domain::Domain;
 use crate::intra_area::{Destination, part_of};
 use crate::lanes::are_told;
-use crate::latest::Latest;
+use crate::latest::{Latest, number_of_announcer};
 use crate::summaries::Summaries;
 use route_tables::are_alike;
 use std::alloc::Global;
 use std::marker::Model;
-use walk_core::Offer;
 
 /// The prefixes of a network, whom its routers listen to, and what is announced of each prefix into each area.
 #[derive(Clone, Copy)]
@@ -149,14 +148,6 @@ fn outside_twin(heard: Heard<'_>, zone: usize, latest: &mut Latest, place: usize
         Some(earlier)
     } else {
         None
-    }
-}
-
-/// The number of the router that makes the first announcement and one, or 0 where there is none.
-fn number_of_announcer(announced: &[Offer]) -> usize {
-    match announced.first() {
-        Some(first) => 1 + first.at as usize,
-        None => 0,
     }
 }
 

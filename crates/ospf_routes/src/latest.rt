@@ -1,6 +1,7 @@
 use crate::OutOfMemory;
 use std::alloc::Global;
 use std::marker::Model;
+use walk_core::Offer;
 
 /// For each of so many numbers the place of the latest prefix that was noted for it.
 #[derive(Debug, Drop)]
@@ -28,6 +29,11 @@ impl Latest {
         Ok(Latest { places })
     }
 
+    /// The place that was noted for a number, where one was.
+    pub fn noted(&self, number: usize) -> Option<usize> {
+        self.places.get(number).copied()?
+    }
+
     /// The place that was noted for a number below the count, where one was. From now on it is this one.
     pub fn replace(&mut self, number: usize, place: usize) -> Option<usize>
         ensures earlier { result ≡ slice_index_or self.old number None }
@@ -39,5 +45,13 @@ impl Latest {
         let earlier = self.places[number];
         self.places[number] = Some(place);
         earlier
+    }
+}
+
+/// The number of the router that makes the first of some announcements and one, or 0 where there is none.
+pub(crate) fn number_of_announcer(announced: &[Offer]) -> usize {
+    match announced.first() {
+        Some(first) => 1 + first.at as usize,
+        None => 0,
     }
 }

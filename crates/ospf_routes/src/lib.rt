@@ -17,7 +17,8 @@
 //!    backbone: `offers_outside` makes them for what border routers reach over the backbone (`backbone_routes.rt`, costs alone,
 //!    16.2), `push_announced` for the backbone's own list. Into every other area there go the routes of other areas, what its
 //!    border routers reach over the backbone, and the defaults of stub areas (`stub_areas.rt`, 3.6). Without active ranges what
-//!    is announced of a prefix is that of an earlier one of which the same is offered (`repeats.rt`), and isn't made again.
+//!    is announced of a prefix of one area, other than the backbone, is that of an earlier sibling but for constants, and isn't
+//!    made again: one of the same area that is announced into the backbone alike (`siblings.rt`). Constants decide nothing.
 //! 4. `entry.rt`: the intra-area route, else a discard, else the inter-area route (16, 11.1), by what is announced into the area
 //!    that the router listens to, which `Ospf::asked` reads; `united.rt`: several areas' hops together. `lanes.rt`: for
 //!    routers in one area alone the deciding offers are the same, so one or two are found once for each area and kind of
@@ -48,7 +49,7 @@ mod area_boundary;
 mod backbone_routes;
 mod originating;
 mod ranges;
-mod repeats;
+mod siblings;
 mod stub_areas;
 mod summaries;
 

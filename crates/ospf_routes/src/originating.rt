@@ -1,14 +1,15 @@
-ghost use Rattle.std.specs.Prelude.{◌≡◌, ◌<◌, ◌↔◌, ℕ, [], length, Some, All, Any, IfOk, IsTrue, OnOk};
+ghost use Rattle.std.specs.Prelude.{◌≡◌, ◌+◌, ◌<◌, ◌↔◌, ℕ, [], length, Some, All, Any, IfOk, IsTrue, OnOk};
 ghost use Rattle.walk_core.specs.declared.offers.Offer.{Offer as OfferValue};
 ghost use Rattle.ospf_routes.specs.steps.Areas.{IsArea};
-ghost use Rattle.ospf_routes.specs.steps.Destinations.{AreOspfDestinations, IsDestinationIn};
+ghost use Rattle.ospf_routes.specs.steps.Destinations.{AreOspfDestinations, ospf_prefixes};
 ghost use Rattle.net_model.specs.Network.{IsBorderRouter};
 ghost use Rattle.ospf_routes.specs.Lists.{Adds, Exactly};
 ghost use Rattle.ospf_routes.specs.steps.Offered.{AreOffers};
 ghost use Rattle.ospf_routes.specs.steps.Ranges.{AreRangesBelow, HoldRanges};
 ghost use Rattle.net_addr.specs.Addresses.{Block};
-ghost use Rattle.ospf_routes.specs.steps.Heard.{AddsRow, AreSummaries, IsLeaving, IsQuiet, IsRowAgain, IsSummaryRow};
+ghost use Rattle.ospf_routes.specs.steps.Heard.{AddsRow, AreHeardBelow, AreSummaries, IsLeaving, IsQuiet, IsRowAgain, IsSummaryRow};
 ghost use Rattle.ospf_routes.specs.steps.OfferLists.{IsPlaceIn};
+ghost use Rattle.ospf_routes.specs.steps.Siblings.{AreKnownSiblings};
 ghost use Rattle.ospf_routes.specs.steps.Summarized.{Announces, IsHeard, IsOutgoing};
 
 use crate::OutOfMemory;
@@ -18,9 +19,8 @@ use crate::areas::AreaWalks;
 use crate::backbone_routes::push_reached;
 use crate::domain::Domain;
 use crate::intra_area::Destination;
-use crate::latest::Latest;
 use crate::ranges::{ActiveRanges, RangePrefixes};
-use crate::repeats::repeated;
+use crate::siblings::Siblings;
 use crate::stub_areas::{is_totally_stubby, push_defaults};
 use crate::summaries::Summaries;
 use net_addr::Prefix;
@@ -28,7 +28,8 @@ use route_tables::{is_all_addresses, push_option};
 use std::alloc::Global;
 use walk_core::Offer;
 
-/// What of a prefix is at hand while its announcements are made, in room that is taken again for the next one.
+/// What of a prefix is at hand while its announcements are made, in room that is taken again for the next one; and the prefixes
+/// that others are announced alike.
 #[derive(Debug, Drop)]
 struct Room {
     /// What is summarized of it.
@@ -37,16 +38,22 @@ struct Room {
     backbone: Vec<Offer>,
     /// What is announced of it into an area.
     offers: Vec<Offer>,
+    /// The prefixes that later ones may be announced like.
+    siblings: Siblings,
 }
 
 impl Room {
-    /// Nothing yet.
-    fn none(alloc: Global) -> Room {
-        Room {
+    /// Nothing yet, in a network of so many routers.
+    fn none(alloc: Global, routers: usize) -> Result<Room, OutOfMemory>
+        ensures { IfOk result (λ room. room.siblings ≡ []) }
+    {
+        let siblings = Siblings::none(alloc, routers)?;
+        Ok(Room {
             routes: Vec::new(alloc),
             backbone: Vec::new(alloc),
             offers: Vec::new(alloc),
-        }
+            siblings,
+        })
     }
 }
 
@@ -66,40 +73,42 @@ pub(crate) fn all_summaries(
 {
     let borders = domain.borders(alloc)?;
     let mut summaries = Summaries::none(alloc, domain.zones());
-    let mut room = Room::none(alloc);
-    let mut latest = Latest::none(alloc, domain.routers() as usize)?;
+    let mut room = Room::none(alloc, 1 + domain.routers() as usize)?;
     let boundary = Boundary {
         domain,
+        destinations,
         borders: borders.as_slice(),
         ranges,
         ranged,
     };
     for place in 0..destinations.len() {
-        match repeated(destinations, boundary.ranged, &mut latest, place) {
-            Some(earlier) => keep_again(&mut summaries, boundary.domain, earlier)?,
-            None => {
-                let destination = &destinations[place];
-                keep_summaries(&mut summaries, &mut room, boundary, destination)?;
-            }
-        }
+        keep_summaries(alloc, &mut summaries, &mut room, boundary, place)?;
     }
     Ok(summaries)
 }
 
-/// Keeps what is announced of a prefix into each area, area by area. Each is made in the same room.
+/// Keeps what is announced of the prefix at a place into each area, area by area: what is of an earlier sibling, else what is
+/// made of it in the same room.
 fn keep_summaries(
+    alloc: Global,
     summaries: &mut Summaries,
     room: &mut Room,
     boundary: Boundary<'_>,
-    destination: &Destination,
+    place: usize,
 ) -> Result<(), OutOfMemory>
     requires borders { Exactly (IsBorderRouter boundary.domain.now.net) boundary.borders.now }
     requires ranges { AreRangesBelow boundary.domain.now.net (length boundary.domain.now.net) boundary.ranges.now }
     requires ranged { HoldRanges boundary.domain.now.net boundary.ranged.now }
-    requires destination { IsDestinationIn boundary.domain.now destination.now }
-    ensures { OnOk result (AddsRow (IsSummaryRow boundary.entry.domain.now destination.now.dest
-        (length boundary.entry.domain.now.areas)) summaries.old summaries.new) }
+    requires destinations { AreOspfDestinations boundary.domain.now boundary.destinations.now }
+    requires place { place < length boundary.destinations.now }
+    requires known { AreKnownSiblings boundary.domain.now.net (ospf_prefixes boundary.destinations.now) place room.old.siblings }
+    requires heard { AreHeardBelow boundary.domain.now (ospf_prefixes boundary.destinations.now) place summaries.old }
+    ensures known { OnOk result (AreKnownSiblings boundary.entry.domain.now.net (ospf_prefixes boundary.entry.destinations.now)
+        (place + 1) room.new.siblings) }
+    ensures heard { OnOk result (AreHeardBelow boundary.entry.domain.now (ospf_prefixes boundary.entry.destinations.now)
+        (place + 1) summaries.new) }
 {
+    let destination = &boundary.destinations[place];
     put_summarized(&mut room.routes, boundary, destination)?;
     put_outside(&mut room.backbone, room.routes.as_slice(), 0)?;
     let leaving = Leaving {
@@ -108,7 +117,10 @@ fn keep_summaries(
         backbone: room.backbone.as_slice(),
         is_ranged: boundary.ranged.has(destination.dest),
     };
-    keep_into_areas(summaries, &mut room.offers, boundary, leaving)
+    match room.siblings.earlier(alloc, boundary, leaving, place)? {
+        Some(earlier) => keep_again(summaries, boundary.domain, earlier),
+        None => keep_into_areas(summaries, &mut room.offers, boundary, leaving),
+    }
 }
 
 /// Keeps what is announced of a prefix into each area, by what is summarized of it and what goes into the backbone.

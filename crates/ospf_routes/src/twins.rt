@@ -93,11 +93,7 @@ fn are_twins(
 }
 
 /// The latest destination before that at a place that is connected at the same one router. From now on the latest is this one.
-pub(crate) fn latest_at_home(
-    destinations: &[Destination],
-    latest: &mut Latest,
-    place: usize,
-) -> Option<usize>
+fn latest_at_home(destinations: &[Destination], latest: &mut Latest, place: usize) -> Option<usize>
     requires place { place < length destinations.now }
     requires latest { AreKnownBelow place latest.old }
     ensures latest { AreKnownBelow (place + 1) latest.new }

@@ -2,6 +2,7 @@
 use Rattle.std.specs.Prelude.{◌≡◌, ◌≢◌, ◌<◌, ◌*◌, ◌++◌, ℕ, List, [], length, slice_index_or, IsTrue}
 use Rattle.net_addr.specs.Addresses.{Block, default_prefix}
 use Rattle.route_tables.specs.Prefixes.{prefix_at}
+use Rattle.net_model.specs.Network.{Network}
 use Rattle.walk_core.specs.declared.offers.Offer.{Offer}
 use Rattle.igp_theory.specs.Ospf.{BackboneSummary, IsActiveRange}
 use Rattle.ospf_routes.specs.steps.Areas.{IsAreaAt}
@@ -9,13 +10,22 @@ use Rattle.ospf_routes.specs.steps.Destinations.{IsDestinationIn, ospf_prefixes}
 use Rattle.ospf_routes.specs.steps.Domain.{OspfDomain}
 use Rattle.ospf_routes.specs.steps.Offered.{AreOffers}
 use Rattle.ospf_routes.specs.steps.OfferLists.{HeardLists, heard_into}
+use Rattle.ospf_routes.specs.steps.Siblings.{AskShifted}
 use Rattle.ospf_routes.specs.steps.Summarized.{AreSummarized, IsHeard}
 use Rattle.ospf_routes.specs.declared.intra_area.Destination.{Destination}
 use Rattle.ospf_routes.specs.declared.area_boundary.Leaving.{Leaving}
 
--- the offers are what is announced of p into the area at this place
+-- these are the offers of a prefix of which the same is announced into area n as of p but for constants
+pub record AreHeardLike (net : Network) (p : Block) (n : ℕ) (offers : List Offer) : Type 0 where
+  pub of : Block
+  pub x : ℕ
+  pub y : ℕ
+  pub shift : AskShifted x y (IsHeard net of n) (IsHeard net p n)
+  pub offers_are : AreOffers (IsHeard net of n) offers
+
+-- the offers are announced into the area at this place as p is, but for constants
 abbrev pub AreHeardAt : OspfDomain → Block → ℕ → List Offer → Type 0
-AreHeardAt domain p zone offers = (n : ℕ) → IsAreaAt domain.areas n zone → AreOffers (IsHeard domain.net p n) offers
+AreHeardAt domain p zone offers = (n : ℕ) → IsAreaAt domain.areas n zone → AreHeardLike domain.net p n offers
 
 -- these are the lists of what is announced of p into each of the first m areas
 pub record IsSummaryRow (domain : OspfDomain) (p : Block) (m : ℕ) (row : List (List Offer)) : Type 0 where

@@ -1,5 +1,5 @@
 use Rattle.std.proofs.Common.{arith}
-use Rattle.ospf_routes.proofs.RepeatLaws.{again_more, again_none, again_within}
+use Rattle.ospf_routes.proofs.SiblingLaws.{again_more, again_none, again_within}
 use Rattle.ospf_routes.proofs.originating.keep_again.Goals as goal
 
 pub loop-zone-init : goal.loop-zone-init
