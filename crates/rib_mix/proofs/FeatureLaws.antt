@@ -1,16 +1,17 @@
 -- Prefixes with the same features are alike at every router.
-use Rattle.std.proofs.Common.{◌≡◌, ℕ, List, Option, Some, None, get_or, ap, refl}
-use Rattle.std.proofs.Common.{subst, ◌∙◌}
-use Rattle.std.specs.Option.{option_map}
-use Rattle.std.proofs.lemmas.Option.{slice_get-map}
-use Rattle.net_addr.specs.Addresses.{Block}
-use Rattle.rib_mix.specs.steps.Features.{AreFeatures, AreOneKind, HaveSameFeatures, HaveSameNumbers, IsOneAt, new_lane, old_lane}
+use Rattle.std.proofs.Common.{◌≡◌, ◌<◌, ℕ, Bool, true, false, List, Option, Some, None, get_or, ap, arith, length, not, refl}
+use Rattle.std.proofs.Common.{slice_get, subst}
+use Rattle.std.specs.Bool.{OnFalse, OnTrue}
+use Rattle.std.proofs.lemmas.Option.{slice_get_within}
+use Rattle.rib_mix.specs.steps.Features.{AreLanesOf, AreOneKind, HasKindsBefore, HasLane, HaveLanesOf, HaveSameFeatures}
+use Rattle.rib_mix.specs.steps.Features.{HaveSameNumbers, IsOneAt}
 use Rattle.rib_mix.specs.steps.Likeness.{AreLike}
 use Rattle.rib_mix.specs.steps.Spots.{number_at_spot}
 use Rattle.route_core.specs.Rows.{kept_in}
 use Rattle.rib_mix.specs.declared.both_tables.BothTables.{BothTables}
 use Rattle.rib_mix.specs.declared.features.Features.{Features}
 use Rattle.rib_mix.specs.declared.lanes.Lane.{Lane}
+use Rattle.rib_mix.specs.declared.lanes.Lanes.{Lanes}
 use Rattle.rib_mix.specs.declared.spots.Spots.{Spots}
 
 -- each prefix has the features that it has
@@ -30,17 +31,37 @@ one_kind_numbers lanes (Some one) (Some other) are parts lane =
     ap (λ (kind : ℕ). get_or parts.numbers.now kind None) same
 
 -- prefixes with the same features are alike at every router
-pub features_alike : (prefixes : List Block) (subnets : List (List Block)) (tables : List BothTables) (features : Features)
-    (spots : Spots) (i j : ℕ) → AreFeatures prefixes subnets tables features → features.spots.now ≡ spots
+pub features_alike : (tables : List BothTables) (features : Features) (spots : Spots) (i j : ℕ)
+    → AreLanesOf tables (length tables) features.lanes.now → features.spots.now ≡ spots
     → HaveSameFeatures features i j → AreLike (record { spots = spots; homes = features.homes.items }) tables i j
-features_alike prefixes subnets tables features spots i j are is same u both at_both = record {
-  olds = subst
-      (λ (ss : Spots). number_at_spot (kept_in both.old) (get_or ss.olds.items i None) ≡ number_at_spot (kept_in both.old)
-      (get_or ss.olds.items j None)) is
-      (same.olds both.old (are.olds u (old_lane both) (slice_get-map old_lane tables u ∙ ap (option_map old_lane) at_both)));
-  news = subst
-      (λ (ss : Spots). number_at_spot (kept_in both.new) (get_or ss.news.items i None) ≡ number_at_spot (kept_in both.new)
-      (get_or ss.news.items j None)) is
-      (same.news both.new (are.news u (new_lane both) (slice_get-map new_lane tables u ∙ ap (option_map new_lane) at_both)));
-  homes = same.homes;
-}
+features_alike tables features spots i j are is same u both at =
+    let lanes : HaveLanesOf features.lanes.now both = are.have u both (slice_get_within tables u both at) at in
+    record {
+      olds = subst
+          (λ (ss : Spots). number_at_spot (kept_in both.old) (get_or ss.olds.items i None)
+          ≡ number_at_spot (kept_in both.old) (get_or ss.olds.items j None)) is
+          (same.olds both.old lanes.olds);
+      news = subst
+          (λ (ss : Spots). number_at_spot (kept_in both.new) (get_or ss.news.items i None)
+          ≡ number_at_spot (kept_in both.new) (get_or ss.news.items j None)) is
+          (same.news both.new lanes.news);
+      homes = same.homes;
+    }
+
+-- the next router has lanes among those that are known then
+pub next_lanes : (tables : List BothTables) (n : ℕ) (old new : Lanes) (both : BothTables) (goes : Bool)
+    → ((one : BothTables) → HaveLanesOf old one → HaveLanesOf new one) → OnTrue goes (HasKindsBefore tables n both)
+    → OnFalse goes (HaveLanesOf new both)
+    → ((u : ℕ) (one : BothTables) → u < n → slice_get tables u ≡ Some one → HaveLanesOf old one) → HaveLanesOf new both
+next_lanes tables n old new both false kept on has have = has
+next_lanes tables n old new both true kept on has have =
+    let was : HaveLanesOf new on.one = kept on.one (have on.before on.one (omega (arith, on.next)) on.at) in
+    record {
+      olds = subst (HasLane new.olds.items) on.same.olds was.olds;
+      news = subst (HasLane new.news.items) on.same.news was.news;
+    }
+
+-- a router that wasn't found to go on begins other kinds
+pub begins_next : (goes : Bool) (A : Type 0) → OnTrue goes A → OnFalse (not goes) A
+begins_next true A holds = holds
+begins_next false A holds = tt

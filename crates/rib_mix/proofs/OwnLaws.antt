@@ -1,14 +1,13 @@
 -- What routers use for the first prefix of a sort, router by router.
 use Rattle.std.proofs.Common.{◌≡◌, ◌≢◌, ◌∙◌, ℕ, ◌<◌, ◌+◌, ◌==◌, inl, inr, [], ◌∷◌, ◌++◌}
 use Rattle.std.proofs.Common.{Bool, true, false, List, Option, None, Some}
-use Rattle.std.proofs.Common.{if◌then◌else◌, not, Contains, ap, arith, get_or, length, refl, set, slice_get, subst, sym, IfSome}
-use Rattle.std.specs.Bool.{OnFalse, OnTrue}
+use Rattle.std.proofs.Common.{if◌then◌else◌, Contains, ap, arith, get_or, length, refl, set, slice_get, subst, sym, IfSome}
+use Rattle.std.specs.Bool.{OnFalse}
 use Rattle.std.proofs.lemmas.Bool.{cases_eq, false≢true}
 use Rattle.std.proofs.lemmas.List.{get_or-set_other, get_or-set_same, length-set}
 use Rattle.std.proofs.lemmas.List.Elements.{Contains-append_left, Contains-push, Contains-push_cases}
 use Rattle.std.proofs.lemmas.Option.{none-some, same_Some, slice_get_within}
-use Rattle.net_addr.proofs.LongestMatchLaws.{slice_get-push_old}
-use Rattle.prefix_atoms.proofs.Pushed.{at_place, each_more}
+use Rattle.prefix_atoms.proofs.Pushed.{at_place}
 use Rattle.net_model.specs.Network.{Network}
 use Rattle.route_core.specs.Rows.{IsTable, KeptTable, kept_in}
 use Rattle.rib_mix.specs.Cells.{no_cell}
@@ -18,60 +17,42 @@ use Rattle.rib_mix.specs.declared.kinds.Kinds.{Kinds}
 use Rattle.rib_mix.specs.declared.own.OfRouter.{OfRouter}
 use Rattle.rib_mix.specs.declared.sorts.Sorts.{Sorts}
 use Rattle.rib_mix.specs.declared.spots.BothSpots.{BothSpots}
+use Rattle.rib_mix.specs.steps.Features.{AreBegins, HasKindsBefore}
 use Rattle.rib_mix.specs.steps.Homes.{is_home}
 use Rattle.rib_mix.specs.steps.Likeness.{PlacedPrefixes}
-use Rattle.rib_mix.specs.steps.OwnCells.{AreAllOwn, AreByLanes, AreColumnCells, AreEntryCells, AreKindRows, Connects, GoesOn}
-use Rattle.rib_mix.specs.steps.OwnCells.{HasCodes, HasFew, HaveCodes}
+use Rattle.rib_mix.specs.steps.OwnCells.{AreAllOwn, AreByLanes, AreColumnCells, AreEachOwn, AreEntryCells, AreKindRows, Connects}
+use Rattle.rib_mix.specs.steps.OwnCells.{GoesOn, HasCodes, HasFew, HaveCodes, IsOwnAt}
 use Rattle.rib_mix.specs.steps.OwnCells.{HaveAllCodes, TellsOfRouter, entry_cell, has_in, kind_at_spot, kinds_of}
 use Rattle.rib_mix.specs.steps.Sites.{AreTablesInParts}
 use Rattle.rib_mix.specs.steps.Unlike.{HaveCells}
 use Rattle.rib_mix.specs.steps.Uses.{cell_of_two, connected_cell}
 use Rattle.rib_mix.proofs.HomeLaws.{home_listed}
 
--- one router goes on among more of them
-goes_on_more : (old : List OfRouter) (own : OfRouter) (place : ℕ) (olds news : List ℕ) → GoesOn old place olds news
-    → GoesOn (old ++ own ∷ []) place olds news
-goes_on_more old own place olds news on = record {
-  before = on.before;
-  next = on.next;
-  one = on.one;
-  at = slice_get-push_old old own on.before on.one on.at;
-  olds_are = on.olds_are;
-  news_are = on.news_are;
-}
-
 -- what follows where a test fails
 fails_along : (test : Bool) (A B : Type 0) → (A → B) → OnFalse test A → OnFalse test B
 fails_along true A B along fails = fails
 fails_along false A B along fails = along fails
 
--- one router more begins other kinds, or has those of the one before
-pub lanes_more : (old new : List OfRouter) (own : OfRouter) → new ≡ old ++ own ∷ []
-    → OnFalse own.begins (GoesOn old (length old) own.old_kinds.now own.new_kinds.now) → AreByLanes old → AreByLanes new
-lanes_more old new own is goes lanes = subst AreByLanes (sym is)
-    (each_more (λ u one. OnFalse one.begins (GoesOn (old ++ own ∷ []) u one.old_kinds.now one.new_kinds.now))
-    old (old ++ own ∷ []) own (length old) refl
-    (λ u one at. fails_along one.begins (GoesOn old u one.old_kinds.now one.new_kinds.now)
-    (GoesOn (old ++ own ∷ []) u one.old_kinds.now one.new_kinds.now)
-    (goes_on_more old own u one.old_kinds.now one.new_kinds.now) (lanes u one at))
-    refl
-    (fails_along own.begins (GoesOn old (length old) own.old_kinds.now own.new_kinds.now)
-    (GoesOn (old ++ own ∷ []) (length old) own.old_kinds.now own.new_kinds.now)
-    (goes_on_more old own (length old) own.old_kinds.now own.new_kinds.now) goes))
-
--- a router that was found to go on, or begins other kinds
-begins_or_goes : (found : Bool) (begins : Bool) (A : Type 0) → OnTrue found A → begins ≡ not found → OnFalse begins A
-begins_or_goes true begins A holds is = subst (λ (b : Bool). OnFalse b A) (sym is) holds
-begins_or_goes false begins A holds is = subst (λ (b : Bool). OnFalse b A) (sym is) tt
-
-pub goes_or_begins : (all shown : List OfRouter) (both : BothTables) (ospf : ℕ) (own : OfRouter) (found : Bool) → shown ≡ all
-    → TellsOfRouter both ospf own → OnTrue found (GoesOn shown (length shown) both.old.kinds.now both.new.kinds.now)
-    → own.begins ≡ not found → OnFalse own.begins (GoesOn all (length all) own.old_kinds.now own.new_kinds.now)
-goes_or_begins all shown both ospf own found same tells goes is =
-    subst (λ (xs : List OfRouter). OnFalse own.begins (GoesOn xs (length xs) own.old_kinds.now own.new_kinds.now)) same
-    (subst (λ (ks : List ℕ). OnFalse own.begins (GoesOn shown (length shown) ks own.new_kinds.now)) (sym tells.old_kinds_are)
-    (subst (λ (ks : List ℕ). OnFalse own.begins (GoesOn shown (length shown) both.old.kinds.now ks)) (sym tells.new_kinds_are)
-    (begins_or_goes found own.begins (GoesOn shown (length shown) both.old.kinds.now both.new.kinds.now) goes is)))
+-- each router begins other kinds, or has those of the one before, where it is said so of their tables
+pub by_lanes : (net : Network) (tables : List BothTables) (begins : List Bool) (all : List OfRouter)
+    → AreBegins tables (length tables) begins → length all ≡ length tables → AreEachOwn net tables all
+    → ((u : ℕ) (own : OfRouter) → slice_get all u ≡ Some own → slice_get begins u ≡ Some own.begins) → AreByLanes all
+by_lanes net tables begins all are count each flags u own at =
+    let both = at_place tables u (omega (arith, slice_get_within all u own at, count)) in
+    let told : IsOwnAt net u both.0 own = each u own at both.0 both.1 in
+    fails_along own.begins (HasKindsBefore tables u both.0) (GoesOn all u own.old_kinds.now own.new_kinds.now)
+    (λ on.
+    let before = at_place all on.before (omega (arith, slice_get_within tables on.before on.one on.at, count)) in
+    let was : IsOwnAt net on.before on.one before.0 = each on.before before.0 before.1 on.one on.at in
+    record {
+      before = on.before;
+      next = on.next;
+      one = before.0;
+      at = before.1;
+      olds_are = was.tells.old_kinds_are ∙ on.same.olds ∙ sym told.tells.old_kinds_are;
+      news_are = was.tells.new_kinds_are ∙ on.same.news ∙ sym told.tells.new_kinds_are;
+    })
+    (are.each u own.begins (flags u own at) both.0 both.1)
 
 -- the kinds that are known are those of the router before a place
 abbrev pub AreKindsBefore : List OfRouter → BothSpots → ℕ → Kinds → Type 0

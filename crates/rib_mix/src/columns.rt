@@ -119,5 +119,5 @@ pub(crate) fn cell_of(columns: &Columns, sorts: &[Option<u32>], router: u32, ato
 pub(crate) fn is_same(one: Cell, other: Cell) -> bool
     ensures { OnTrue result (one ≡ other) }
 {
-    one == other
+    one.number() == other.number()
 }

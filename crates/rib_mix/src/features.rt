@@ -1,12 +1,12 @@
 ghost use Rattle.std.specs.Prelude.{◌≡◌, ◌<◌, IfOk, length};
 ghost use Rattle.std.specs.Bool.{OnTrue};
 ghost use Rattle.prefix_atoms.specs.Nested.{AreAscendingPrefixes};
-ghost use Rattle.rib_mix.specs.steps.Features.{AreFeatures, HaveFeatures, HaveSameFeatures};
+ghost use Rattle.rib_mix.specs.steps.Features.{HaveFeatures, HaveSameFeatures};
+ghost use Rattle.rib_mix.specs.steps.Homes.{ArePrefixHomes};
 ghost use Rattle.rib_mix.specs.steps.Spots.{HaveSpots};
 
-use crate::both_tables::BothTables;
 use crate::homes::{Homes, are_same, homes_of};
-use crate::lanes::{Lane, are_one_kind, distinct_lanes, new_lanes, old_lanes};
+use crate::lanes::{Lane, Lanes, are_one_kind};
 use crate::spots::Spots;
 use crate::subnets::Subnets;
 use net_addr::Prefix;
@@ -15,13 +15,11 @@ use std::alloc::Global;
 
 /// What tells prefixes apart: the kinds that tables have of them, and the routers at which they are connected.
 #[derive(Drop)]
-pub(crate) struct Features<'a> {
+pub(crate) struct Features<'a, 'b> {
     /// Where they stand among the prefixes of the tables.
     pub spots: &'a Spots,
-    /// The lanes of the old tables.
-    pub olds: Vec<Lane<'a>>,
-    /// The lanes of the new tables.
-    pub news: Vec<Lane<'a>>,
+    /// The lanes of the tables.
+    pub lanes: &'a Lanes<'b>,
     /// Of each prefix the routers at which it is connected.
     pub homes: Vec<Homes>,
 }
@@ -29,27 +27,25 @@ pub(crate) struct Features<'a> {
 /// What one feature changes in a number made of all.
 const DIGEST_FACTOR: u64 = 0x9E37_79B9_7F4A_7C15;
 
-impl<'a> Features<'a> {
+impl<'a, 'b> Features<'a, 'b> {
     /// The features of ascending prefixes.
     pub fn of_prefixes(
         alloc: Global,
         prefixes: &[Prefix],
         subnets: &[Subnets],
-        tables: &[BothTables<'a>],
+        lanes: &'a Lanes<'b>,
         spots: &'a Spots,
-    ) -> Result<Features<'a>, OutOfMemory>
+    ) -> Result<Features<'a, 'b>, OutOfMemory>
         requires ascending { AreAscendingPrefixes prefixes.now }
         requires spots { HaveSpots (length prefixes.now) spots.now }
         ensures places { IfOk result (HaveFeatures (length prefixes.now)) }
-        ensures are { IfOk result (AreFeatures prefixes.now subnets.now tables.now) }
+        ensures homes { IfOk result (λ features. ArePrefixHomes prefixes.now subnets.now features.homes.items) }
+        ensures lanes { IfOk result (λ features. features.lanes.now ≡ lanes.now) }
         ensures spots { IfOk result (λ features. features.spots.now ≡ spots.now) }
     {
-        let olds = old_lanes(alloc, tables)?;
-        let news = new_lanes(alloc, tables)?;
         Ok(Features {
             spots,
-            olds: distinct_lanes(alloc, olds.as_slice())?,
-            news: distinct_lanes(alloc, news.as_slice())?,
+            lanes,
             homes: homes_of(alloc, prefixes, subnets)?,
         })
     }
@@ -62,10 +58,18 @@ impl<'a> Features<'a> {
         ensures { OnTrue result (HaveSameFeatures self.now one other) }
     {
         let spots = self.spots;
-        if !are_one_kind(self.olds.as_slice(), spots.olds[one], spots.olds[other]) {
+        if !are_one_kind(
+            self.lanes.olds.as_slice(),
+            spots.olds[one],
+            spots.olds[other],
+        ) {
             return false;
         }
-        if !are_one_kind(self.news.as_slice(), spots.news[one], spots.news[other]) {
+        if !are_one_kind(
+            self.lanes.news.as_slice(),
+            spots.news[one],
+            spots.news[other],
+        ) {
             return false;
         }
         are_same(self.homes[one].as_slice(), self.homes[other].as_slice())
@@ -77,8 +81,7 @@ impl<'a> Features<'a> {
     {
         let Features {
             spots: _spots,
-            olds: _olds,
-            news: _news,
+            lanes: _lanes,
             homes,
         } = self;
         homes
@@ -90,8 +93,16 @@ impl<'a> Features<'a> {
             Some(homes) => digest_of(homes.as_slice(), parent),
             None => parent,
         };
-        let digest = lanes_digest(self.olds.as_slice(), self.spots.olds.get(place), digest);
-        lanes_digest(self.news.as_slice(), self.spots.news.get(place), digest)
+        let digest = lanes_digest(
+            self.lanes.olds.as_slice(),
+            self.spots.olds.get(place),
+            digest,
+        );
+        lanes_digest(
+            self.lanes.news.as_slice(),
+            self.spots.news.get(place),
+            digest,
+        )
     }
 }
 

@@ -7,17 +7,17 @@ use route_core::Number;
 #[derive(Clone, Copy, Debug)]
 pub(crate) struct Kinds {
     /// The kind in the old table, and `NO_KIND` where that doesn't have the prefix.
-    pub old: u32,
+    pub old: usize,
     /// That in the new table.
-    pub new: u32,
+    pub new: usize,
 }
 
 /// What stands for a kind where there is none.
-pub(crate) const NO_KIND: u32 = 0xFFFF_FFFF;
+pub(crate) const NO_KIND: usize = 0xFFFF_FFFF;
 
 /// The kind of the prefix at a spot.
 #[inline(always)]
-pub(crate) fn kind_at_spot(kinds: &[u32], spot: Number) -> u32
+pub(crate) fn kind_at_spot(kinds: &[u32], spot: Number) -> usize
     ensures { result ≡ kind_at_spot kinds.now spot }
 {
     match spot.get() {
@@ -28,11 +28,11 @@ pub(crate) fn kind_at_spot(kinds: &[u32], spot: Number) -> u32
 
 /// The kind at a place, and `NO_KIND` beyond.
 #[inline(always)]
-fn kind_or_none(kinds: &[u32], place: usize) -> u32
+fn kind_or_none(kinds: &[u32], place: usize) -> usize
     ensures { result ≡ slice_index_or kinds.now place NO_KIND }
 {
     match kinds.get(place) {
-        Some(kind) => *kind,
+        Some(kind) => *kind as usize,
         None => NO_KIND,
     }
 }

@@ -1,6 +1,8 @@
-ghost use Rattle.std.specs.Prelude.{◌≡◌, ℕ, List, All, IfOk, OnOk, map, slice_index_or};
-ghost use Rattle.std.specs.Bool.{OnTrue};
-ghost use Rattle.rib_mix.specs.steps.Features.{AreOneKind, HasLane, HaveLanes, IsOneAt, new_lane, old_lane};
+ghost use Rattle.std.specs.Prelude.{◌≡◌, ◌<◌, ◌++◌, ◌∷◌, [], ℕ, List, All, IfOk, OnOk, length, not, slice_index_or};
+ghost use Rattle.std.specs.Bool.{OnFalse, OnTrue};
+ghost use Rattle.rib_mix.specs.declared.both_tables.BothTables.{BothTables};
+ghost use Rattle.rib_mix.specs.steps.Features.{AreLanesOf, AreOneKind, HasKindsBefore, HasLane, HaveLanesOf};
+ghost use Rattle.rib_mix.specs.steps.Features.{HaveSameKinds, IsOneAt};
 
 use crate::both_tables::BothTables;
 use route_core::{Number, OutOfMemory};
@@ -13,56 +15,66 @@ pub(crate) struct Lane<'a> {
     pub kinds: &'a [u32],
 }
 
-/// The lane of each router's old table.
-pub(crate) fn old_lanes<'a>(
-    alloc: Global,
-    tables: &[BothTables<'a>],
-) -> Result<Vec<Lane<'a>>, OutOfMemory>
-    ensures { IfOk result (λ lanes. lanes.items ≡ map old_lane tables.now) }
-{
-    tables.iter().map(|both| old_lane(both)).collect(alloc)
+/// The lanes of all routers' tables, each once.
+#[derive(Drop)]
+pub(crate) struct Lanes<'a> {
+    /// Those of the old tables.
+    pub olds: Vec<Lane<'a>>,
+    /// Those of the new tables.
+    pub news: Vec<Lane<'a>>,
+    /// Of each router whether its lanes may be others than those of the router before.
+    pub begins: Vec<bool>,
 }
 
-/// The lane of each router's new table.
-pub(crate) fn new_lanes<'a>(
-    alloc: Global,
-    tables: &[BothTables<'a>],
-) -> Result<Vec<Lane<'a>>, OutOfMemory>
-    ensures { IfOk result (λ lanes. lanes.items ≡ map new_lane tables.now) }
-{
-    tables.iter().map(|both| new_lane(both)).collect(alloc)
-}
+impl<'a> Lanes<'a> {
+    /// The lanes of some tables. Each is compared with those of the router before, which mostly has the same.
+    pub fn of_tables(alloc: Global, tables: &[BothTables<'a>]) -> Result<Lanes<'a>, OutOfMemory>
+        ensures { IfOk result (AreLanesOf tables.now (length tables.now)) }
+    {
+        let mut lanes = Lanes {
+            olds: Vec::new(alloc),
+            news: Vec::new(alloc),
+            begins: Vec::with_capacity(alloc, tables.len())?,
+        };
+        for router in 0..tables.len() {
+            let both = &tables[router];
+            lanes.add(both, goes_on(tables, router, both))?;
+        }
+        Ok(lanes)
+    }
 
-/// The lane of a router's old table.
-fn old_lane<'a>(both: &BothTables<'a>) -> Lane<'a>
-    ensures { result ≡ old_lane both.now }
-{
-    Lane {
-        kinds: both.old.kinds,
+    /// Adds the lanes of the next router, unless it has those of the router before.
+    fn add(&mut self, both: &BothTables<'a>, goes_on: bool) -> Result<(), OutOfMemory>
+        ensures kept { OnOk result ((one : BothTables) → HaveLanesOf self.old one → HaveLanesOf self.new one) }
+        ensures have { OnOk result (OnFalse goes_on (HaveLanesOf self.new both.now)) }
+        ensures begins { OnOk result (self.new.begins.items ≡ self.old.begins.items ++ not goes_on ∷ []) }
+    {
+        if !goes_on {
+            let old = both.old.kinds;
+            let new = both.new.kinds;
+            add_lane(&mut self.olds, Lane { kinds: old })?;
+            add_lane(&mut self.news, Lane { kinds: new })?;
+        }
+        Ok(self.begins.push(!goes_on)?)
     }
 }
 
-/// The lane of a router's new table.
-fn new_lane<'a>(both: &BothTables<'a>) -> Lane<'a>
-    ensures { result ≡ new_lane both.now }
+/// Whether these tables of a router have the same kinds as those of the router before.
+fn goes_on(tables: &[BothTables<'_>], router: usize, both: &BothTables<'_>) -> bool
+    requires { router < length tables.now }
+    ensures { OnTrue result (HasKindsBefore tables.now router both.now) }
 {
-    Lane {
-        kinds: both.new.kinds,
+    match router.checked_sub(1) {
+        Some(before) => have_same_kinds(&tables[before], both),
+        None => false,
     }
 }
 
-/// Of some lanes each once.
-pub(crate) fn distinct_lanes<'a>(
-    alloc: Global,
-    all: &[Lane<'a>],
-) -> Result<Vec<Lane<'a>>, OutOfMemory>
-    ensures { IfOk result (λ lanes. HaveLanes all.now lanes.items) }
+/// Whether the tables of two routers have the same kinds.
+fn have_same_kinds(one: &BothTables<'_>, other: &BothTables<'_>) -> bool
+    ensures { OnTrue result (HaveSameKinds one.now other.now) }
 {
-    let mut lanes = Vec::new(alloc);
-    for lane in all {
-        add_lane(&mut lanes, *lane)?;
-    }
-    Ok(lanes)
+    are_same_kinds(one.old.kinds, other.old.kinds) && are_same_kinds(one.new.kinds, other.new.kinds)
 }
 
 /// Adds a lane where it isn't among some.

@@ -8,6 +8,7 @@ ghost use Rattle.rib_mix.specs.Mixture.{migration_of};
 ghost use Rattle.rib_mix.specs.Cells.{IsKeptUse};
 ghost use Rattle.rib_mix.specs.steps.Uses.{ShowsUse};
 ghost use Rattle.rib_mix.specs.Rows.{AreAllSubnets, AreRows};
+ghost use Rattle.rib_mix.specs.steps.Features.{AreBegins};
 ghost use Rattle.rib_mix.specs.steps.Homes.{AreNetHomes, ArePrefixHomes};
 ghost use Rattle.rib_mix.specs.steps.Sorts.{AreSorts, sort_at};
 ghost use Rattle.rib_mix.specs.steps.Likeness.{AreLike, own_placed};
@@ -22,6 +23,7 @@ use crate::columns::{Columns, cell_of, is_same};
 use crate::earlier::earlier_classes;
 use crate::features::Features;
 use crate::homes::Homes;
+use crate::lanes::Lanes;
 use crate::next::Next;
 use crate::own::{OfRouter, Shared, all_own, connect, fill_column};
 use crate::sorts::{Sorts, sort_at};
@@ -100,6 +102,7 @@ impl<'a, O: RouteSource, N: RouteSource> Mixed<'a, O, N> {
             spots: &spots,
             homes: sorted.homes.as_slice(),
             sorts: &sorted.sorts,
+            begins: sorted.lanes.begins.as_slice(),
         };
         let columns = columns_of(alloc, net, tables.as_slice(), &shared)?;
         let class_sorts = class_sorts(alloc, &shared)?;
@@ -212,13 +215,15 @@ impl<'a, O: RouteSource, N: RouteSource> Mixed<'a, O, N> {
     }
 }
 
-/// The sorts of prefixes, and where these are connected.
+/// The sorts of prefixes, where these are connected, and the lanes of the tables.
 #[derive(Drop)]
-struct Sorted {
+struct Sorted<'a> {
     /// The sorts.
     sorts: Sorts,
     /// Of each prefix the routers at which it is connected.
     homes: Vec<Homes>,
+    /// The lanes of the tables.
+    lanes: Lanes<'a>,
 }
 
 /// The prefixes that are connected at each router of a network.
@@ -233,25 +238,28 @@ fn all_subnets(alloc: Global, net: &Net) -> Result<Vec<Subnets>, OutOfMemory>
     Ok(all)
 }
 
-/// The sorts of the prefixes that occur, and the routers at which each of these is connected.
-fn sorts_of(
+/// The sorts of the prefixes that occur, the routers at which each of these is connected, and the lanes of the tables.
+fn sorts_of<'a>(
     alloc: Global,
     atoms: &Atoms,
     subnets: &[Subnets],
-    tables: &[BothTables<'_>],
+    tables: &[BothTables<'a>],
     spots: &Spots,
-) -> Result<Sorted, OutOfMemory>
+) -> Result<Sorted<'a>, OutOfMemory>
     requires { HaveSpots (length atoms.now.prefixes) spots.now }
     ensures homes { IfOk result (λ sorted. ArePrefixHomes atoms.now.prefixes subnets.now sorted.homes.items) }
     ensures sorts { IfOk result (λ sorted. AreSorts
         (AreLike (record { spots = spots.now; homes = sorted.homes.items }) tables.now) atoms.now.parents
         (length atoms.now.parents) sorted.sorts) }
+    ensures begins { IfOk result (λ sorted. AreBegins tables.now (length tables.now) sorted.lanes.begins.items) }
 {
-    let features = Features::of_prefixes(alloc, atoms.prefixes(), subnets, tables, spots)?;
+    let lanes = Lanes::of_tables(alloc, tables)?;
+    let features = Features::of_prefixes(alloc, atoms.prefixes(), subnets, &lanes, spots)?;
     let sorts = Sorts::of_features(alloc, &features, atoms.parents())?;
     Ok(Sorted {
         sorts,
         homes: features.into_homes(),
+        lanes,
     })
 }
 
@@ -286,10 +294,11 @@ fn columns_of(
     requires homes { AreNetHomes net.now shared.now.atoms.now.prefixes shared.now.homes.now }
     requires sorts { AreSorts (AreLike (own_placed shared.now) tables.now) shared.now.atoms.now.parents
         (length shared.now.atoms.now.parents) shared.now.sorts.now }
+    requires begins { AreBegins tables.now (length tables.now) shared.now.begins.now }
     ensures { IfOk result (λ columns. AreRows (record { net = net.now; tables = tables.now }) shared.now.atoms.now.samples
         (map (sort_at shared.now.sorts.now.of_places.items) shared.now.atoms.now.tops) columns) }
 {
-    let all = all_own(alloc, net, tables)?;
+    let all = all_own(alloc, net, tables, shared.begins)?;
     let count = shared.sorts.firsts.len();
     let mut columns = Columns::none(alloc, net.routers(), count)?;
     for sort in 0..count {

@@ -1,8 +1,11 @@
-ghost use Rattle.std.specs.Prelude.{◌≡◌, ◌<◌, ◌==◌, if◌then◌else◌, [], IfOk, None, length, slice_index_or, slice_set};
+ghost use Rattle.std.specs.Prelude.{◌≡◌, ◌<◌, ◌==◌, if◌then◌else◌, [], IfOk, IfSome, None, Some};
+ghost use Rattle.std.specs.Prelude.{length, slice_index_or, slice_set};
 ghost use Rattle.std.specs.Bool.{OnTrue};
 ghost use Rattle.net_model.specs.Refusals.{IsNetwork};
 ghost use Rattle.route_core.specs.Rows.{kept_in};
-ghost use Rattle.rib_mix.specs.steps.OwnCells.{AreAllOwn, AreByLanes, AreEntryCells, Connects, GoesOn, HasCodes, HasFew};
+ghost use Rattle.rib_mix.specs.Cells.{no_cell};
+ghost use Rattle.rib_mix.specs.steps.Features.{AreBegins};
+ghost use Rattle.rib_mix.specs.steps.OwnCells.{AreAllOwn, AreByLanes, AreEntryCells, Connects, HasCodes, HasFew};
 ghost use Rattle.rib_mix.specs.steps.OwnCells.{HaveAllCodes, TellsOfRouter, kinds_of};
 ghost use Rattle.rib_mix.specs.steps.Sites.{HasOspfDistance};
 ghost use Rattle.rib_mix.specs.steps.Uses.{cell_of_two, connected_cell};
@@ -31,6 +34,8 @@ pub(crate) struct Shared<'a> {
     pub homes: &'a [Homes],
     /// The sorts of the prefixes.
     pub sorts: &'a Sorts,
+    /// Of each router whether its tables' kinds may be others than those of the router before.
+    pub begins: &'a [bool],
 }
 
 /// Of a router what tells what it uses.
@@ -55,15 +60,16 @@ pub(crate) fn all_own<'a>(
     alloc: Global,
     net: &Net,
     tables: &[BothTables<'a>],
+    begins: &[bool],
 ) -> Result<Vec<OfRouter<'a>>, OutOfMemory>
-    requires { length tables.now ≡ length net.now }
+    requires tables { length tables.now ≡ length net.now }
+    requires begins { AreBegins tables.now (length tables.now) begins.now }
     ensures { IfOk result (λ all. AreAllOwn net.now tables.now all.items) }
 {
     let mut all = Vec::with_capacity(alloc, tables.len())?;
     for router in 0..net.routers() {
         let both = &tables[router as usize];
-        let begins = !goes_on(all.as_slice(), both);
-        let own = of_router(both, ospf_distance(net, router), begins)?;
+        let own = of_router(both, ospf_distance(net, router), begins[router as usize])?;
         all.push(own)?;
     }
     Ok(all)
@@ -76,26 +82,6 @@ fn ospf_distance(net: &Net, router: u32) -> u8
     ensures network { IsNetwork net.now }
 {
     net.config(router).distances.ospf
-}
-
-/// Whether tables have the same kinds as those of the last of some routers.
-fn goes_on(all: &[OfRouter<'_>], both: &BothTables<'_>) -> bool
-    ensures { OnTrue result (GoesOn all.now (length all.now) both.now.old.kinds.now both.now.new.kinds.now) }
-{
-    match all.len().checked_sub(1) {
-        Some(last) => {
-            let before = &all[last];
-            are_same(before.old_kinds, both.old.kinds) && are_same(before.new_kinds, both.new.kinds)
-        }
-        None => false,
-    }
-}
-
-/// Whether two lists of kinds are the same.
-fn are_same(one: &[u32], other: &[u32]) -> bool
-    ensures { OnTrue result (one.now ≡ other.now) }
-{
-    one == other
 }
 
 /// What tells what a router uses that has these tables and this OSPF distance.
@@ -121,7 +107,7 @@ fn of_router<'a>(both: &BothTables<'a>, ospf: u8, begins: bool) -> Result<OfRout
 fn has_few(parts: TableParts<'_>) -> bool
     ensures { OnTrue result (HasFew (kept_in parts.entry)) }
 {
-    parts.numbers.len() <= NO_KIND as usize && parts.entries.len() < Use::MOST_NUMBERS as usize
+    parts.numbers.len() <= NO_KIND && parts.entries.len() < Use::MOST_NUMBERS as usize
 }
 
 /// The numbers of the kinds of a router's old table, and none where that doesn't count.
@@ -151,7 +137,7 @@ pub(crate) fn fill_column(column: &mut [Cell], all: &[OfRouter<'_>], spots: &Bot
     };
     for (router, own) in all.iter().enumerate() {
         kinds = own_kinds(own, spots, kinds);
-        column[router] = own_cell(own, kinds, column[router]);
+        column[router] = own_cell(own, kinds, column, router);
     }
 }
 
@@ -170,10 +156,35 @@ fn own_kinds(own: &OfRouter<'_>, spots: &BothSpots, before: Kinds) -> Kinds
     }
 }
 
+/// What a router uses for a prefix of these kinds. Mostly both tables have an entry: what is used for the parent isn't read then.
+#[inline(always)]
+fn own_cell(own: &OfRouter<'_>, kinds: Kinds, ups: &[Cell], router: usize) -> Cell
+    requires codes { HasCodes own.now }
+    requires router { router < length ups.now }
+    ensures { result ≡ cell_of_two (slice_index_or own.now.olds.now kinds.old None)
+        (slice_index_or own.now.news.now kinds.new None) own.now.old_first (slice_index_or ups.now router no_cell) }
+{
+    match both_numbers(own, kinds) {
+        Some((old, new)) => cell_between(Use::old(old), Use::new(new), own.old_first),
+        None => any_cell(own, kinds, ups[router]),
+    }
+}
+
+/// The numbers of both tables' entries for a prefix of these kinds, if there are both.
+#[inline(always)]
+fn both_numbers(own: &OfRouter<'_>, kinds: Kinds) -> Option<(u32, u32)>
+    ensures old { IfSome result (λ both. slice_index_or own.now.olds.now kinds.old None ≡ Some both.0) }
+    ensures new { IfSome result (λ both. slice_index_or own.now.news.now kinds.new None ≡ Some both.1) }
+{
+    let old = number_at(own.olds, kinds.old)?;
+    let new = number_at(own.news, kinds.new)?;
+    Some((old, new))
+}
+
 /// What a router uses for a prefix of these kinds, and at an end where it has nothing what it uses for the parent. Of entries of
 /// both tables that of lower distance comes first.
 #[inline(always)]
-fn own_cell(own: &OfRouter<'_>, kinds: Kinds, up: Cell) -> Cell
+fn any_cell(own: &OfRouter<'_>, kinds: Kinds, up: Cell) -> Cell
     requires { HasCodes own.now }
     ensures { result ≡ cell_of_two (slice_index_or own.now.olds.now kinds.old None)
         (slice_index_or own.now.news.now kinds.new None) own.now.old_first up }
@@ -198,10 +209,10 @@ fn own_cell(own: &OfRouter<'_>, kinds: Kinds, up: Cell) -> Cell
 
 /// The number of the entry for the prefixes of a kind, if there is one.
 #[inline(always)]
-fn number_at(numbers: &[Number], kind: u32) -> Option<u32>
+fn number_at(numbers: &[Number], kind: usize) -> Option<u32>
     ensures { result ≡ slice_index_or numbers.now kind None }
 {
-    match numbers.get(kind as usize) {
+    match numbers.get(kind) {
         Some(number) => number.get(),
         None => None,
     }

@@ -12,7 +12,7 @@ const MOST_STEPS: usize = 16;
 /// has to confirm it.
 pub(crate) fn proposals_of(
     alloc: Global,
-    features: &Features<'_>,
+    features: &Features<'_, '_>,
     parents: &[Option<u32>],
 ) -> Result<Vec<Option<u32>>, OutOfMemory> {
     let Ok(count) = u32::try_from(parents.len()) else {
@@ -66,7 +66,7 @@ fn put_first(firsts: &mut Vec<Option<u32>>, slot: usize, place: u32) {
 /// For each prefix a number made of its features and of those of its parent.
 fn digests_of(
     alloc: Global,
-    features: &Features<'_>,
+    features: &Features<'_, '_>,
     parents: &[Option<u32>],
 ) -> Result<Vec<u64>, OutOfMemory> {
     let mut digests: Vec<u64> = Vec::with_capacity(alloc, parents.len())?;

@@ -23,7 +23,7 @@ impl Sorts {
     /// The sorts of prefixes with these features and parents.
     pub fn of_features(
         alloc: Global,
-        features: &Features<'_>,
+        features: &Features<'_, '_>,
         parents: &[Option<u32>],
     ) -> Result<Sorts, OutOfMemory>
         requires features { HaveFeatures (length parents.now) features.now }
@@ -46,7 +46,7 @@ impl Sorts {
     /// Adds the next prefix.
     fn add(
         &mut self,
-        features: &Features<'_>,
+        features: &Features<'_, '_>,
         parents: &[Option<u32>],
         proposal: Option<u32>,
     ) -> Result<(), OutOfMemory>
@@ -64,7 +64,7 @@ impl Sorts {
     /// The sort of the next prefix: that of the proposal where the two are alike, and else a new one.
     fn next_sort(
         &mut self,
-        features: &Features<'_>,
+        features: &Features<'_, '_>,
         parents: &[Option<u32>],
         proposal: Option<u32>,
     ) -> Result<u32, OutOfMemory>
@@ -88,7 +88,7 @@ impl Sorts {
     /// The sort of the proposal, where the next prefix with a parent of this sort is of it too.
     fn alike_sort(
         &self,
-        features: &Features<'_>,
+        features: &Features<'_, '_>,
         places: usize,
         proposal: Option<u32>,
         parent: Option<u32>,

@@ -29,9 +29,10 @@ impl Subnets {
         requires { router < length net.now }
         ensures { IfOk result (AreSubnets net.now router) }
     {
-        let mut all = Vec::new(alloc);
         let config = net.config(router);
-        add_connected(&mut all, config.interfaces.as_slice())?;
+        let interfaces = config.interfaces.as_slice();
+        let mut all = Vec::with_capacity(alloc, interfaces.len())?;
+        add_connected(&mut all, interfaces)?;
         Ok(Subnets { all })
     }
 

@@ -17,7 +17,7 @@ pub(crate) enum Used {
 }
 
 /// The same in 4 bytes, since there are two for each router and sort of prefixes.
-#[derive(Clone, Copy, Debug, PartialEq, Eq)]
+#[derive(Clone, Copy, Debug)]
 pub(crate) struct Use {
     /// 0 for nothing, 2 for a connected prefix, 2 n + 4 for entry n of the old table and 2 n + 1 for entry n of the new one.
     code: u32,
@@ -40,6 +40,7 @@ impl Model for Use {
 
 impl Use {
     ghost use Rattle.std.specs.Prelude.{◌≡◌, ◌<◌, ◌+◌, ◌^◌, ◌↔◌, IsTrue};
+    ghost use Rattle.rib_mix.specs.steps.Codes.{use_of_code};
     ghost use Rattle.rib_mix.specs.steps.Uses.{IsOfNew};
     ghost use Rattle.rib_mix.specs.declared.used.Used.TheVariants.{Connected, New, Nothing, Old};
 
@@ -95,6 +96,14 @@ impl Use {
             2 => Used::Connected,
             code => Used::Old(code / 2 - 2),
         }
+    }
+
+    /// What stands for it.
+    #[inline(always)]
+    pub fn code(self) -> u32
+        ensures { use_of_code result ≡ self }
+    {
+        self.code
     }
 
     /// Whether it is an entry of the new table.

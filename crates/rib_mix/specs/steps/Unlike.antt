@@ -1,6 +1,7 @@
 -- Routers that may treat two classes differently, as they are found.
-use Rattle.std.specs.Prelude.{◌≡◌, ℕ, ◌<◌, [], List, length, slice_index_or, Option, Some, None}
+use Rattle.std.specs.Prelude.{◌≡◌, ℕ, ◌<◌, ◌^◌, ◌%◌, ◌/◌, [], List, length, slice_index_or, Option, Some, None}
 use Rattle.rib_mix.specs.Cells.{cell_at}
+use Rattle.rib_mix.specs.steps.Codes.{use_of_code}
 use Rattle.rib_mix.specs.declared.cell.Cell.{Cell}
 
 -- another class is known, and these are the sorts of a class and of that one
@@ -17,3 +18,7 @@ HaveSameCells cells sorts = cell_at cells (Some sorts.0) ≡ cell_at cells (Some
 -- each router has a cell of this sort
 abbrev pub HaveCells : List (List Cell) → ℕ → Type 0
 HaveCells rows sort = (u : ℕ) → u < length rows → sort < length (slice_index_or rows u [])
+
+-- the cell that a number stands for, of the codes of its uses
+abbrev pub cell_of_number : ℕ → Cell
+cell_of_number number = record { middle = use_of_code (number % 2 ^ 32); other = use_of_code (number / 2 ^ 32) }

@@ -1,8 +1,7 @@
 use Rattle.std.proofs.lemmas.Grind.{common_steps}
 use Rattle.std.proofs.Common.{ap, ◌<◌, IfSome, List, None, Option, arith, get_or, length, subst, sym, ℕ}
-use Rattle.net_addr.specs.Addresses.{Block}
 use Rattle.prefix_atoms.proofs.Pushed.{at_place}
-use Rattle.rib_mix.specs.steps.Features.{AreFeatures, HaveSameFeatures}
+use Rattle.rib_mix.specs.steps.Features.{AreLanesOf, HaveSameFeatures}
 use Rattle.rib_mix.specs.declared.features.Features.{Features}
 use Rattle.rib_mix.specs.steps.Likeness.{AreLike}
 use Rattle.rib_mix.specs.steps.Sorts.{AreSorts}
@@ -30,13 +29,13 @@ returns-clause-sorts c =
     let parents : List (Option ℕ) = c.args.atoms.now.parents in
     let like : List (List ℕ) → ℕ → ℕ → Type 0 =
     λ homes. AreLike (record { spots = c.args.spots.now; homes = homes }) c.args.tables.now in
-    let are : AreFeatures c.args.atoms.now.prefixes c.args.subnets.now c.args.tables.now features =
-    subst (λ (ps : List Block). AreFeatures ps c.args.subnets.now c.args.tables.now features)
-    c.prefixes.ensures.prefixes c.in_ok-features.ensures.are in
+    let lanes : AreLanesOf c.args.tables.now (length c.args.tables.now) features.lanes.now =
+    subst (AreLanesOf c.args.tables.now (length c.args.tables.now)) (sym c.in_ok-features.ensures.lanes)
+    c.in_ok-lanes.ensures in
     subst (λ (homes : List (List ℕ)). AreSorts (like homes) parents (length parents) c.in_ok-sorts.sorts) (sym c.into_homes.ensures)
     (subst (λ (ps : List (Option ℕ)). AreSorts (like features.homes.items) ps (length ps) c.in_ok-sorts.sorts)
     c.parents.ensures.parents
     (sorts_along (HaveSameFeatures features) (like features.homes.items) c.parents.result.now (length c.parents.result.now)
     c.in_ok-sorts.sorts
-    (λ i j. features_alike c.args.atoms.now.prefixes c.args.subnets.now c.args.tables.now features c.args.spots.now i j are
-    c.in_ok-features.ensures.spots) c.in_ok-sorts.ensures))
+    (λ i j. features_alike c.args.tables.now features c.args.spots.now i j lanes c.in_ok-features.ensures.spots)
+    c.in_ok-sorts.ensures))

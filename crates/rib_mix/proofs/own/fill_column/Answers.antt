@@ -1,6 +1,6 @@
 use Rattle.std.proofs.Common.{◌≡◌, ◌<◌, ◌∙◌, ℕ, List, None, Some, ap, arith, get_or, length, length-set, refl, set}
 use Rattle.std.proofs.Common.{slice_get, subst, sym}
-use Rattle.std.proofs.lemmas.List.{get_or-set_other, get_or_default}
+use Rattle.std.proofs.lemmas.List.{get_or-set_other}
 use Rattle.std.proofs.lemmas.Option.{same_Some, slice_get_read}
 use Rattle.rib_mix.specs.Cells.{no_cell}
 use Rattle.rib_mix.specs.declared.cell.Cell.{Cell}
@@ -31,10 +31,8 @@ loop-router-preserved c =
     let made : cell ≡ entry_cell own spots (get_or up router no_cell) =
     c.own_cell.ensures
     ∙ ap (λ (k : Kinds). cell_of_two (get_or own.olds.now k.old None) (get_or own.news.now k.new None) own.old_first
-    c.index-column-router.result) kinds_are
-    ∙ ap (entry_cell own spots) (c.index-column-router.is
-    ∙ get_or_default column router c.index-column-router.result no_cell within
-    ∙ c.loop-router.invariant.rest router (omega arith)) in
+    (get_or column router no_cell)) kinds_are
+    ∙ ap (entry_cell own spots) (c.loop-router.invariant.rest router (omega arith)) in
     record {
       count = length-set column router cell ∙ c.loop-router.invariant.count;
       cells = entry_cells_more all spots up column (set column router cell) router own cell here within made refl

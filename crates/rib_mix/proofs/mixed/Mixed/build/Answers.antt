@@ -18,7 +18,7 @@ use Rattle.rib_mix.proofs.mixed.Mixed.build.Goals as goal
 pub columns_of-requires-clause-occur : goal.columns_of-requires-clause-occur
 columns_of-requires-clause-occur g c =
     subst (λ (ts : List BothTables). AllOccur c.in_ok-atoms.atoms.prefixes (record { net = c.args.net.now; tables = ts }))
-    (sym c.as_slice-5.ensures.value)
+    (sym c.as_slice-6.ensures.value)
     (all_occur _ _ _ _ (record { net = c.args.net.now; tables = c.in_ok-tables.tables.items }) c.in_ok-atoms.atoms
     (c.requires.new_routers ∙ sym c.requires.old_routers) c.in_ok-atoms.ensures c.in_ok-tables.ensures.tables)
 
@@ -57,9 +57,9 @@ invariant_of-result g c =
     let rows : AreRows kept.ground kept.classes.samples kept.sorts kept.rows =
     subst (λ (ts : List BothTables). AreRows
     (record { net = c.args.net.now; tables = ts }) kept.classes.samples kept.sorts kept.rows)
-    c.as_slice-5.ensures.value
+    c.as_slice-6.ensures.value
     (subst (λ (ss : List (Option ℕ)). AreRows
-    (record { net = c.args.net.now; tables = c.as_slice-5.result.now }) kept.classes.samples ss kept.rows)
+    (record { net = c.args.net.now; tables = c.as_slice-6.result.now }) kept.classes.samples ss kept.rows)
     (sym c.in_ok-class_sorts.ensures) c.in_ok-columns.ensures) in
     let long : length kept.sorts ≡ length kept.classes.samples =
     omega (
