@@ -23,6 +23,7 @@ use ospf_routes::OspfRoutes;
 use plan_theory::EndFault;
 use rib_mix::Mixed;
 use std::alloc::{AllocError, Global};
+use std::mem;
 use step_scripts::{OrderRefusal, Version, WaveFile, read_waves};
 use wave_oracle::whole_fault;
 
@@ -64,7 +65,7 @@ pub(crate) fn check_over(
     }
 }
 
-/// What is decided of the waves of an order file.
+/// What is decided of the waves of an order file. The program ends soon after, so the tables aren't given back.
 pub(crate) fn check_read(
     alloc: Global,
     read: &WaveFile,
@@ -75,9 +76,20 @@ pub(crate) fn check_read(
         IfOk result (IsCheckOver (move_of of.now) order) }
 {
     let tables = Tables::of(alloc, of)?;
+    let decision = judge_file(alloc, &tables, read);
+    mem::forget(tables);
+    decision
+}
+
+/// What is decided of the waves of an order file, by the tables before and after.
+fn judge_file(alloc: Global, tables: &Tables<'_>, read: &WaveFile) -> Result<Decision, OutOfMemory>
+    requires { length read.now.waves ≡ length tables.now.net }
+    ensures { (order : NamedText) → NamesWaves tables.now.net order.text read.now.version read.now.waves →
+        IfOk result (IsCheckOver (move_of tables.now) order) }
+{
     match read.version {
-        Version::One => judge_order(alloc, &tables, read.waves.flat()),
-        Version::Two => judge_waves(alloc, &tables, &read.waves),
+        Version::One => judge_order(alloc, tables, read.waves.flat()),
+        Version::Two => judge_waves(alloc, tables, &read.waves),
     }
 }
 
@@ -87,8 +99,9 @@ fn judge_order(alloc: Global, tables: &Tables<'_>, order: &[u32]) -> Result<Deci
     ensures { IfOk result (IsOrderDecision (move_of tables.now) order.now) }
 {
     let mixed = tables.mix(alloc)?;
-    let decision = judge_mixed_order(alloc, &mixed, order)?;
-    Ok(decision)
+    let decision = judge_mixed_order(alloc, &mixed, order);
+    mem::forget(mixed);
+    decision
 }
 
 /// What is decided of an order, by mixed forwarding.
@@ -145,8 +158,9 @@ fn judge_waves(alloc: Global, tables: &Tables<'_>, waves: &Waves) -> Result<Deci
     ensures { IfOk result (IsWavesDecision (move_of tables.now) waves.now) }
 {
     let mixed = tables.mix(alloc)?;
-    let decision = judge_mixed_waves(alloc, &mixed, waves)?;
-    Ok(decision)
+    let decision = judge_mixed_waves(alloc, &mixed, waves);
+    mem::forget(mixed);
+    decision
 }
 
 /// What is decided of a wave list, by mixed forwarding.

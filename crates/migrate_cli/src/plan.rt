@@ -16,6 +16,7 @@ use ospf_routes::OspfRoutes;
 use plan_theory::Planned;
 use rib_mix::Mixed;
 use std::alloc::Global;
+use std::mem;
 use wave_oracle::plan_waves;
 
 /// What is decided of a network: what is planned of it with a budget of so many branches.
@@ -47,7 +48,8 @@ pub(crate) fn plan_network(alloc: Global, budget: u32, net: &Net) -> Result<Plan
     plan_move(alloc, budget, &Move::to_isis(net))
 }
 
-/// What is planned of a migration, by the tables before and after, with a budget of so many branches.
+/// What is planned of a migration, by the tables before and after, with a budget of so many branches. The program ends soon
+/// after, so the tables aren't given back.
 fn plan_move(alloc: Global, budget: u32, of: &Move<'_>) -> Result<Planned, OutOfMemory>
     requires budget { 1 ≤ budget }
     requires some { 0 < length of.now.net }
@@ -58,8 +60,10 @@ fn plan_move(alloc: Global, budget: u32, of: &Move<'_>) -> Result<Planned, OutOf
     prove!(routers > 0);
     let tables = Tables::of(alloc, of)?;
     let mixed = tables.mix(alloc)?;
-    let planned = plan_mixed(alloc, budget, &mixed)?;
-    Ok(planned)
+    let planned = plan_mixed(alloc, budget, &mixed);
+    mem::forget(mixed);
+    mem::forget(tables);
+    planned
 }
 
 /// What is planned of the network of mixed forwarding.
